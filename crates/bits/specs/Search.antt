@@ -1,0 +1,13 @@
+-- Tests of all numbers below a bound. Assumes nothing.
+use Prim.Native.Nat.{ℕ, zero, suc}
+use mathlib.Core.Bool.{Bool, true, false, _&&_, _||_}
+
+-- some number below n passes
+unfoldable pub some : ℕ → (ℕ → Bool) → Bool
+some zero p = false
+some (suc n) p = p n || some n p
+
+-- every number below n passes
+unfoldable pub every : ℕ → (ℕ → Bool) → Bool
+every zero p = true
+every (suc n) p = p n && every n p

@@ -1,0 +1,44 @@
+// A record as one number: a bit of it, and what is asked of the bits that a mask names.
+ghost use mathlib.Core.Path.{_≡_};
+ghost use Prim.Native.Nat.{_%_};
+ghost use lib.Dec.{eqb};
+ghost use Rattle.bits.specs.Bits.{bit, count, allSet};
+ghost use Rattle.bits.specs.Places.{places};
+
+// Bit k of the number; from 64 on there is none that is 1.
+pub fn bit(r: u64, k: u64) -> bool
+    ensures { λ b. ⌜ b ≡ bit r k ⌝ }
+{
+    if k < 64 {
+        return (r >> k) % 2 == 1;
+    }
+    false
+}
+
+// Each bit that the mask names is 1.
+pub fn all(r: u64, mask: u64) -> bool
+    ensures { λ b. ⌜ b ≡ allSet (places mask) (bit r) ⌝ }
+{
+    r & mask == mask
+}
+
+// None of them is 1.
+pub fn free(r: u64, mask: u64) -> bool
+    ensures { λ b. ⌜ b ≡ eqb (count (places mask) (bit r)) 0 ⌝ }
+{
+    r & mask == 0
+}
+
+// How many of them are 1.
+pub fn count(r: u64, mask: u64) -> u32
+    ensures { λ n. ⌜ n ≡ count (places mask) (bit r) ⌝ }
+{
+    u64::count_ones(r & mask)
+}
+
+// An even number of them is 1.
+pub fn even(r: u64, mask: u64) -> bool
+    ensures { λ b. ⌜ b ≡ eqb (count (places mask) (bit r) % 2) 0 ⌝ }
+{
+    count(r, mask) % 2 == 0
+}

@@ -1,0 +1,4 @@
+pub mod Floor
+pub mod Tests
+pub mod Cars
+pub mod Sound

@@ -1,0 +1,34 @@
+-- The five bytes that carry an instruction, and what the code answers about instructions, good and bad. Assumes nothing.
+use mathlib.Core.Bool.{Bool, true, false, cond, not, _&&_}
+use mathlib.Core.List.{List, [], _∷_}
+use Prim.Native.Nat.{ℕ}
+use lib.Dec.{eqb}
+use Rattle.bits.specs.Bits.{bit, image}
+use Rattle.rules.specs.declared.Instruction.{Instruction}
+use Rattle.rules.specs.declared.Instruction.the-variants.{Belts, Shuttles, Tilt, Lift, Rotate}
+use Rattle.rules.specs.declared.Code.{Code}
+use Rattle.rules.specs.declared.Reading.{Reading}
+use Rattle.rules.specs.declared.Reading.the-variants.{Good, Bad}
+use Rattle.rules.specs.Rules.{wellFormed}
+
+-- an instruction's five bytes: the op, its numbers, and zeros for what it doesn't use
+unfoldable pub codeOf : Instruction → Code
+codeOf (Belts row mask toward size) = record { op = 1; a = row; b = mask; c = toward; d = size }
+codeOf (Shuttles side mask orientation toward) = record { op = 2; a = side; b = mask; c = orientation; d = toward }
+codeOf (Tilt side row orientation) = record { op = 3; a = side; b = row; c = orientation; d = 0 }
+codeOf (Lift height) = record { op = 4; a = height; b = 0; c = 0; d = 0 }
+codeOf Rotate = record { op = 5; a = 0; b = 0; c = 0; d = 0 }
+
+-- an instruction that is well formed is read, any other is bad
+abbrev pub kept : Instruction → Reading
+kept i = cond (wellFormed i) (Good i) Bad
+
+-- what five bytes say
+unfoldable pub readCode : Code → Reading
+readCode x =
+    cond (eqb (x .op) 1) (kept (Belts (x .a) (x .b) (x .c) (x .d)))
+    (cond (eqb (x .op) 2) (kept (Shuttles (x .a) (x .b) (x .c) (x .d)))
+    (cond (eqb (x .op) 3) (cond (eqb (x .d) 0) (kept (Tilt (x .a) (x .b) (x .c))) Bad)
+    (cond (eqb (x .op) 4) (cond (eqb (x .b) 0 && eqb (x .c) 0 && eqb (x .d) 0) (kept (Lift (x .a))) Bad)
+    (cond (eqb (x .op) 5) (cond (eqb (x .a) 0 && eqb (x .b) 0 && eqb (x .c) 0 && eqb (x .d) 0) (Good Rotate) Bad)
+    Bad))))

@@ -1,0 +1,5 @@
+pub mod Named
+pub mod Rules
+pub mod Events
+pub mod Codes
+pub mod Verdicts
