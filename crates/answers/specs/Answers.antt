@@ -1,0 +1,50 @@
+-- Document 01's table of numbers: the number and the place of each answer. Assumes nothing.
+use Prim.Native.Nat.{ℕ}
+use Rattle.answers.specs.declared.Answer.{Answer}
+use Rattle.answers.specs.declared.Answer.the-variants.{Taken, TooFewBytes, BadLength, UnknownKind, BadField, TooMany, SetOutstanding, EmptySet, Overlap, NotAllowed, EventImpossible, NoSet, NotInSet, AlreadyAnswered, NowNotAllowed, Unsound, Unfit, NoRoom}
+
+-- the number of an answer
+abbrev pub numberOf : Answer → ℕ
+numberOf Taken = 0
+numberOf TooFewBytes = 1
+numberOf BadLength = 2
+numberOf UnknownKind = 3
+numberOf (BadField p) = 4
+numberOf TooMany = 5
+numberOf SetOutstanding = 6
+numberOf EmptySet = 7
+numberOf (Overlap p) = 8
+numberOf (NotAllowed p) = 9
+numberOf EventImpossible = 10
+numberOf NoSet = 11
+numberOf NotInSet = 12
+numberOf AlreadyAnswered = 13
+numberOf NowNotAllowed = 14
+numberOf Unsound = 15
+numberOf Unfit = 16
+numberOf NoRoom = 17
+
+-- the place where an answer names no instruction
+abbrev pub nowhere : ℕ
+nowhere = 255
+
+-- the place of an answer: the least instruction that is bad, overlaps an earlier one or is not allowed; else nowhere
+abbrev pub placeOf : Answer → ℕ
+placeOf Taken = nowhere
+placeOf TooFewBytes = nowhere
+placeOf BadLength = nowhere
+placeOf UnknownKind = nowhere
+placeOf (BadField p) = p
+placeOf TooMany = nowhere
+placeOf SetOutstanding = nowhere
+placeOf EmptySet = nowhere
+placeOf (Overlap p) = p
+placeOf (NotAllowed p) = p
+placeOf EventImpossible = nowhere
+placeOf NoSet = nowhere
+placeOf NotInSet = nowhere
+placeOf AlreadyAnswered = nowhere
+placeOf NowNotAllowed = nowhere
+placeOf Unsound = nowhere
+placeOf Unfit = nowhere
+placeOf NoRoom = nowhere

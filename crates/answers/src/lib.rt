@@ -1,0 +1,99 @@
+// What the station answers: a case for each number of document 01's table, with the place of an instruction where it has one.
+ghost use mathlib.Core.Path.{_≡_};
+ghost use Rattle.answers.specs.Answers.{numberOf, placeOf};
+
+pub enum Answer {
+    // 0: taken
+    Taken,
+    // 1: fewer bytes than the message says
+    TooFewBytes,
+    // 2: length below 2, above 43, or not the kind's
+    BadLength,
+    // 3: unknown kind
+    UnknownKind,
+    // 4: a field out of range, or a spare byte not zero
+    BadField(u8),
+    // 5: more than eight instructions
+    TooMany,
+    // 6: a set is outstanding
+    SetOutstanding,
+    // 7: empty set
+    EmptySet,
+    // 8: overlap
+    Overlap(u8),
+    // 9: not allowed
+    NotAllowed(u8),
+    // 10: event impossible
+    EventImpossible,
+    // 11: result with no set outstanding
+    NoSet,
+    // 12: result's number not in the set
+    NotInSet,
+    // 13: already answered
+    AlreadyAnswered,
+    // 14: success reported, instruction not allowed on the present record
+    NowNotAllowed,
+    // 15: image not sound
+    Unsound,
+    // 16: station state unfit
+    Unfit,
+    // 17: lent output room too small
+    NoRoom,
+}
+
+// The place that an answer gives where it names no instruction.
+pub const NOWHERE: u8 = 255;
+
+impl Answer {
+    // Its number in the table.
+    pub fn number(self) -> u8
+        ensures { λ n. ⌜ n ≡ numberOf self ⌝ }
+    {
+        match self {
+            Answer::Taken => 0,
+            Answer::TooFewBytes => 1,
+            Answer::BadLength => 2,
+            Answer::UnknownKind => 3,
+            Answer::BadField(_) => 4,
+            Answer::TooMany => 5,
+            Answer::SetOutstanding => 6,
+            Answer::EmptySet => 7,
+            Answer::Overlap(_) => 8,
+            Answer::NotAllowed(_) => 9,
+            Answer::EventImpossible => 10,
+            Answer::NoSet => 11,
+            Answer::NotInSet => 12,
+            Answer::AlreadyAnswered => 13,
+            Answer::NowNotAllowed => 14,
+            Answer::Unsound => 15,
+            Answer::Unfit => 16,
+            Answer::NoRoom => 17,
+        }
+    }
+
+    // The instruction that it names, from 0, or 255.
+    pub fn place(self) -> u8
+        ensures { λ p. ⌜ p ≡ placeOf self ⌝ }
+    {
+        match self {
+            Answer::Taken => NOWHERE,
+            Answer::TooFewBytes => NOWHERE,
+            Answer::BadLength => NOWHERE,
+            Answer::UnknownKind => NOWHERE,
+            Answer::BadField(p) => p,
+            Answer::TooMany => NOWHERE,
+            Answer::SetOutstanding => NOWHERE,
+            Answer::EmptySet => NOWHERE,
+            Answer::Overlap(p) => p,
+            Answer::NotAllowed(p) => p,
+            Answer::EventImpossible => NOWHERE,
+            Answer::NoSet => NOWHERE,
+            Answer::NotInSet => NOWHERE,
+            Answer::AlreadyAnswered => NOWHERE,
+            Answer::NowNotAllowed => NOWHERE,
+            Answer::Unsound => NOWHERE,
+            Answer::Unfit => NOWHERE,
+            Answer::NoRoom => NOWHERE,
+        }
+    }
+}
