@@ -3,12 +3,12 @@
 use mathlib.Core.Path.{_≡_, refl, sym, ap, ap₂, _∙_}
 use mathlib.Core.Bool.{Bool, true, false}
 use Prim.Native.Nat.{ℕ, zero, suc, _+_, _-_, _*_, _/_, _%_, _^_, _≤_, _<_}
-use native.Mathlib.Nat.{mod-eq-of-lt, pow-suc, lt-of-lt-of-le, div-eq-of-lt}
+use native.Mathlib.Nat.{mod-eq-of-lt, pow-suc, pow-succ', lt-of-lt-of-le, div-eq-of-lt}
 use native.Mathlib.Numerals.{add-one}
 use native.Mathlib.Omega.{arith}
 use borrow.Author.Tests.{eqb-true, eqb-false, eq-eqb, ne-eqb}
-use lib.Dec.{eqb}
-use lib.Pow.{pow-mono, mod-pow-add, shr-shr}
+use lib.Dec.{eqb, eqb·zero-suc, eqb·suc-zero, eqb·suc-suc}
+use lib.Pow.{pow-mono, pow-pos, mod-pow-add, shr-shr}
 use Rattle.bits.specs.Bits.{Bits, bit, digit, packed, image}
 
 pub digit-lt : (b : Bool) → digit b < 2
@@ -79,19 +79,25 @@ unfolding packed
 packed-lt zero k f = omega arith
 packed-lt (suc n) k f = omega (arith, pow-suc 2 n, packed-lt n (suc k) f, digit-lt (f k))
 
--- ---- the same at 64 bits
+-- ---- numbers of n digits
+
+pub packed-all : (n r : ℕ) → r < 2 ^ n → packed n 0 (bit r) ≡ r
+packed-all n r h = packed-bit n 0 r ∙ mod-eq-of-lt (omega arith) ∙ omega arith
+
+-- equal bits, equal numbers
+pub bit-ext : (n r s : ℕ) → r < 2 ^ n → s < 2 ^ n → ((k : ℕ) → k < n → bit r k ≡ bit s k) → r ≡ s
+bit-ext n r s hr hs e = sym (packed-all n r hr) ∙ packed-ext n 0 (bit r) (bit s) (λ k l h. e k (omega arith)) ∙ packed-all n s hs
+
+-- ---- images
 
 pub bit-image : (f : Bits) (k : ℕ) → k < 64 → bit (image f) k ≡ f k
 bit-image f k h = bit-packed 64 0 f k h ∙ ap f (omega arith)
 
 pub image-bit : (r : ℕ) → r < 2 ^ 64 → image (bit r) ≡ r
-image-bit r h = packed-bit 64 0 r ∙ mod-eq-of-lt (omega arith) ∙ omega arith
+image-bit r h = packed-all 64 r h
 
 pub image-ext : (f g : Bits) → ((k : ℕ) → k < 64 → f k ≡ g k) → image f ≡ image g
 image-ext f g e = packed-ext 64 0 f g (λ k l h. e k (omega arith))
-
-pub same-bits : (r s : ℕ) → r < 2 ^ 64 → s < 2 ^ 64 → ((k : ℕ) → k < 64 → bit r k ≡ bit s k) → r ≡ s
-same-bits r s hr hs e = sym (image-bit r hr) ∙ image-ext (bit r) (bit s) e ∙ image-bit s hs
 
 -- past its digits a number has no bit
 pub bit-past : (x w k : ℕ) → x < 2 ^ w → w ≤ k → bit x k ≡ false
@@ -100,3 +106,20 @@ bit-past x w k h l = ap (λ (z : ℕ). eqb (z % 2) 1) (div-eq-of-lt (lt-of-lt-of
 -- a number whose bits are those of f carries f
 pub by-bits : (x : ℕ) (f : Bits) → x < 2 ^ 64 → ((k : ℕ) → k < 64 → bit x k ≡ f k) → x ≡ image f
 by-bits x f h e = sym (image-bit x h) ∙ image-ext (bit x) f e
+
+-- ---- 0, powers of two, all ones
+
+pub bit-none : (k : ℕ) → bit 0 k ≡ false
+bit-none zero = refl
+bit-none (suc k) = bit-suc 0 k ∙ bit-none k
+
+pub bit-pow : (j k : ℕ) → bit (2 ^ j) k ≡ eqb j k
+bit-pow zero zero = refl
+bit-pow zero (suc k) = bit-suc 1 k ∙ bit-none k ∙ sym (eqb·zero-suc k)
+bit-pow (suc j) zero = let e : 2 ^ suc j % 2 ≡ 0 = omega (arith, pow-succ' 2 j) in bit-zero (2 ^ suc j) ∙ rw (e, eqb·suc-zero)
+bit-pow (suc j) (suc k) = let e : 2 ^ suc j / 2 ≡ 2 ^ j = omega (arith, pow-succ' 2 j) in bit-suc (2 ^ suc j) k ∙ rw (e, eqb·suc-suc) (bit-pow j k)
+
+pub bit-ones : (n k : ℕ) → k < n → bit (2 ^ n - 1) k ≡ true
+bit-ones zero k h = absurd (omega arith)
+bit-ones (suc n) zero h = let e : (2 ^ suc n - 1) % 2 ≡ 1 = omega (arith, pow-succ' 2 n, pow-pos n) in bit-zero (2 ^ suc n - 1) ∙ rw e
+bit-ones (suc n) (suc k) h = let e : (2 ^ suc n - 1) / 2 ≡ 2 ^ n - 1 = omega (arith, pow-succ' 2 n, pow-pos n) in bit-suc (2 ^ suc n - 1) k ∙ rw e (bit-ones n k (omega arith))

@@ -5,3 +5,5 @@ pub mod Operations
 pub mod Masks
 pub mod Counts
 pub mod Packing
+pub mod Meeting
+pub mod Least

@@ -1,6 +1,6 @@
 -- Tests of all numbers below a bound. Assumes nothing.
 use Prim.Native.Nat.{ℕ, zero, suc}
-use mathlib.Core.Bool.{Bool, true, false, _&&_, _||_}
+use mathlib.Core.Bool.{Bool, true, false, cond, _&&_, _||_}
 
 -- some number below n passes
 unfoldable pub some : ℕ → (ℕ → Bool) → Bool
@@ -11,3 +11,8 @@ some (suc n) p = p n || some n p
 unfoldable pub every : ℕ → (ℕ → Bool) → Bool
 every zero p = true
 every (suc n) p = p n && every n p
+
+-- the least number below n that passes, or n where none does
+unfoldable pub least : ℕ → (ℕ → Bool) → ℕ
+least zero p = 0
+least (suc n) p = cond (p 0) 0 (suc (least n (λ j. p (suc j))))

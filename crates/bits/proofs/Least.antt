@@ -1,0 +1,70 @@
+-- The least number that passes a test, and the loop that searches for it upward: the invariant, where it starts, one turn, and what it
+-- says where the test passes and at the end. Assumes nothing.
+use Prim.Native.Nat.{ℕ, zero, suc, _+_, _≤_, _<_}
+use native.Mathlib.Omega.{arith}
+use mathlib.Core.Path.{_≡_, refl, sym, ap, _∙_}
+use mathlib.Core.Bool.{Bool, true, false, not, cond}
+use lib.Dec.{eqb}
+use borrow.Author.Tests.{eqb-true, eqb-false, eq-eqb, ne-eqb, not-false}
+use Rattle.bits.specs.Search.{every, least}
+use Rattle.bits.proofs.Cases.{split, clash}
+use Rattle.bits.proofs.Search.{every-at, every-is}
+
+pub least-is : (n i : ℕ) (p : ℕ → Bool) → i < n → ((j : ℕ) → j < i → p j ≡ false) → p i ≡ true → least n p ≡ i
+unfolding least
+least-is zero i p h none e = absurd (omega arith)
+least-is (suc n) zero p h none e = rw e
+least-is (suc n) (suc i) p h none e = rw (none 0 (omega arith)) (ap suc (least-is n i (λ j. p (suc j)) (omega arith) (λ j l. none (suc j) (omega arith)) e))
+
+pub least-none : (n : ℕ) (p : ℕ → Bool) → ((j : ℕ) → j < n → p j ≡ false) → least n p ≡ n
+unfolding least
+least-none zero p none = refl
+least-none (suc n) p none = rw (none 0 (omega arith)) (ap suc (least-none n (λ j. p (suc j)) (λ j l. none (suc j) (omega arith))))
+
+pub least-le : (n : ℕ) (p : ℕ → Bool) → least n p ≤ n
+unfolding least
+least-le zero p = omega arith
+least-le (suc n) p = split (p 0) (λ t. rw t (omega arith)) (λ t. rw t (omega (arith, least-le n (λ j. p (suc j)))))
+
+pub least-below : (n : ℕ) (p : ℕ → Bool) (j : ℕ) → j < least n p → p j ≡ false
+unfolding least
+least-below zero p j h = absurd (omega arith)
+least-below (suc n) p zero h = split (p 0) (λ t. let z : 0 < 0 = rw t at h in absurd (omega arith)) (λ t. t)
+least-below (suc n) p (suc j) h = split (p 0) (λ t. let z : suc j < 0 = rw t at h in absurd (omega arith)) (λ t. let z : suc j < suc (least n (λ j. p (suc j))) = rw t at h in least-below n (λ j. p (suc j)) j (omega arith))
+
+pub every-not : (n : ℕ) (p : ℕ → Bool) (j : ℕ) → j < n → p j ≡ false → every n p ≡ false
+every-not n p j h e = split (every n p) (λ t. clash (every-at n p t j h) e) (λ t. t)
+
+-- none below n fails
+pub every-least : (n : ℕ) (p : ℕ → Bool) → eqb (least n (λ j. not (p j))) n ≡ every n p
+every-least n p = split (every n p)
+    (λ t. rw t (eq-eqb _ _ (least-none n (λ j. not (p j)) (λ j h. rw (every-at n p t j h)))))
+    (λ t. rw t (ne-eqb _ _ (λ e. clash (every-is n p (λ j h. not-false (p j) (least-below n (λ j. not (p j)) j (up j h e)))) t)))
+  where
+    up : (j : ℕ) → j < n → least n (λ j. not (p j)) ≡ n → j < least n (λ j. not (p j))
+    up j h e = omega arith
+
+-- ---- the loop
+
+-- a search upward: none of the numbers below i passes
+pub record Passed (p : ℕ → Bool) (n i : ℕ) : Type 0 where
+  pub within : i ≤ n
+  pub none : (j : ℕ) → j < i → p j ≡ false
+
+pub start : (p : ℕ → Bool) (n : ℕ) → Passed p n 0
+start p n = record { within = omega arith; none = λ j h. absurd (omega arith) }
+
+pub turn : {p : ℕ → Bool} {n i : ℕ} → Passed p n i → i < n → p i ≡ false → Passed p n (i + 1)
+turn {p} {n} {i} v h e = record { within = omega arith; none = λ j l. split (eqb j i) (λ t. rw (eqb-is j i t) e) (λ t. v .none j (less j l t)) }
+  where
+    eqb-is : (j i : ℕ) → eqb j i ≡ true → j ≡ i
+    eqb-is j i t = eqb-true j i t
+
+    less : (j : ℕ) → j < i + 1 → eqb j i ≡ false → j < i
+    less j l t = let ne = eqb-false j i t in omega arith
+
+pub here : {p : ℕ → Bool} {n i : ℕ} → Passed p n i → i < n → p i ≡ true → i ≡ least n p
+here {p} {n} {i} v h e = sym (least-is n i p h (v .none) e)
+
+pub past : {p : ℕ → Bool} {n i : ℕ} → Passed p n i → n ≤ i → n ≡ least n p
+past {p} {n} {i} v h = sym (least-none n p (λ j l. v .none j (omega arith)))

@@ -1,0 +1,97 @@
+-- After any calls the station is in good order (`always-good`), so that no success is reported of an instruction that is
+-- not allowed (`never-fourteen`), and its cars are counted (`cars-counted`). Each is shown of one call and goes on from
+-- call to call. Assumes nothing.
+use Prim.Native.Nat.{ℕ, _<_}
+use native.Mathlib.Omega.{arith}
+use mathlib.Core.Path.{_≡_, sym, _∙_}
+use mathlib.Core.List.{List, [], _∷_}
+use mathlib.Core.Bool.{true, false, not, cond, _&&_}
+use lib.Dec.{eqb}
+use borrow.Author.Tests.{not-true, eqb-false}
+use Rattle.sets.specs.Rules.{Rules, Clear, Framed, KeepsCars}
+use Rattle.sets.specs.Machine.{Station, Outcome, failed, finished, result, event, Call, request, act, image, noted, released, outstanding, blocks, taken, takes, does, call, calls}
+use Rattle.sets.specs.Traces.{Good, Tally, Balanced, counted, tally}
+use Rattle.sets.specs.Statements.{GoodAtStart, AlwaysGood, NeverFourteen, CarsCounted}
+use Rattle.bits.proofs.Cases.{split, clash, both, neither}
+use Rattle.sets.proofs.Facts.{due, still-open, accepted-ready, blocks-clear}
+
+-- ---- what asks nothing of the rules
+
+module _ {W C I E : Type 0} (R : Rules W C I E) where
+  pub good-at-start : GoodAtStart R
+  good-at-start f s = record { sound = s; apart = λ i j h. absurd (omega arith); allowed = λ j h. absurd (omega arith) }
+
+  released-good : (s : Station W I) → Good R s → Good R (released R s)
+  released-good s G = split (outstanding s) (λ t. rw t G) (λ t. rw t (good-at-start (s .bits) (G .sound)))
+
+  released-bits : (s : Station W I) → released R s .bits ≡ s .bits
+  released-bits s = split (outstanding s) (λ t. rw t) (λ t. rw t)
+
+  pub never-fourteen : NeverFourteen R
+  never-fourteen s G i o t = let (h, free) = due (s .set .size) (s .answered) i t in G .allowed i h free
+
+-- ---- in good order
+
+module _ {W C O P I E : Type 0} (R : Rules W C I E) (view : I → W → O) (glance : E → W → P) (F : Framed R view glance) where
+  -- what is allowed stays so after a change in another area
+  pub next-allowed : (f : W) → R .sound f ≡ true → (i j : I) → R .allowed j f ≡ true → Clear (R .width) (R .area i) (R .area j) → R .allowed i (R .next j f) ≡ R .allowed i f
+  next-allowed f z i j t c = F .instruction i .reads _ f (F .instruction j .safe f z t) z (λ k m a. F .instruction j .keeps f z t k m (c k m a)) (F .view-next i j c f z t)
+
+  pub after-allowed : (f : W) → R .sound f ≡ true → (i : I) (e : E) → R .possible e f ≡ true → Clear (R .width) (R .area i) (R .lift) → R .allowed i (R .after e f) ≡ R .allowed i f
+  after-allowed f z i e t c = F .instruction i .reads _ f (F .event e .safe f z t) z (λ k m a. F .event e .keeps f z t k m (c k m a)) (F .view-after i e c f z t)
+
+  does-good : (s : Station W I) → Good R s → (c : Call W I E) → takes R s c ≡ true → Good R (does R s c)
+  does-good s G (request b) t =
+      let A = accepted-ready R b (s .bits) (both (not (outstanding s)) _ t .1) in
+      record { sound = G .sound; apart = A .apart; allowed = λ j h u. A .allowed j h }
+  does-good s G (image f) t =
+      let (n, z) = both (not (outstanding s)) (R .sound f) t in
+      record { sound = z; apart = G .apart; allowed = λ j h u. clash (still-open s j h u) (not-true (outstanding s) n) }
+  does-good s G (act (result i failed)) t = released-good R (noted R s i failed) (record { sound = G .sound; apart = G .apart; allowed = λ j h u. G .allowed j h (neither (eqb i j) _ u .1) })
+  does-good s G (act (result i finished)) t =
+      let (n, free) = due (s .set .size) (s .answered) i t in
+      let ok = G .allowed i n free in
+      released-good R (noted R s i finished) (record {
+        sound = F .instruction (s .set .at i) .safe (s .bits) (G .sound) ok;
+        apart = G .apart;
+        allowed = λ j h u.
+            let (ne, old) = neither (eqb i j) (s .answered j) u in
+            next-allowed (s .bits) (G .sound) (s .set .at j) (s .set .at i) ok (G .apart j i h n (λ e. eqb-false i j ne (sym e))) ∙ G .allowed j h old;
+      })
+  does-good s G (act (event e)) t =
+      let (n, p) = both (not (outstanding s && blocks R (s .set))) (R .possible e (s .bits)) t in
+      record {
+        sound = F .event e .safe (s .bits) (G .sound) p;
+        apart = G .apart;
+        allowed = λ j h u.
+            let q : blocks R (s .set) ≡ false = rw (still-open s j h u) at (not-true (outstanding s && blocks R (s .set)) n) in
+            after-allowed (s .bits) (G .sound) (s .set .at j) e p (blocks-clear R (s .set) q j h) ∙ G .allowed j h u;
+      }
+
+  pub call-good : (s : Station W I) → Good R s → (c : Call W I E) → Good R (call R s c)
+  call-good s G c = split (takes R s c) (λ t. rw t (does-good s G c t)) (λ t. rw t G)
+
+  pub always-good : AlwaysGood R
+  always-good s G [] = G
+  always-good s G (c ∷ l) = always-good (call R s c) (call-good s G c) l
+
+  -- ---- the cars
+
+  module _ (cars : W → ℕ) (gains loses : E → W → ℕ) (K : KeepsCars R cars gains loses) where
+    does-balanced : (s : Station W I) → Good R s → (c : Call W I E) → takes R s c ≡ true → (t : Tally) → Balanced cars s t → Balanced cars (does R s c) (counted R cars gains loses s c t)
+    does-balanced s G (request b) y t r = r
+    does-balanced s G (image f) y t r = omega arith
+    does-balanced s G (act (result i failed)) y t r = rw (released-bits R (noted R s i failed)) r
+    does-balanced s G (act (result i finished)) y t r = rw (released-bits R (noted R s i finished), K .instruction (s .set .at i) (s .bits) (G .sound) (never-fourteen R s G i finished y)) r
+    does-balanced s G (act (event e)) y t r = omega (arith, K .event e (s .bits) (G .sound) (both (not (outstanding s && blocks R (s .set))) _ y .1))
+
+    pub call-balanced : (s : Station W I) → Good R s → (c : Call W I E) (t : Tally) → Balanced cars s t → Balanced cars (call R s c) (cond (takes R s c) (counted R cars gains loses s c t) t)
+    call-balanced s G c t r = split (takes R s c) (λ y. rw y (does-balanced s G c y t r)) (λ y. rw y r)
+
+    -- from any count that is right
+    pub calls-balanced : (s : Station W I) → Good R s → (l : List (Call W I E)) (t : Tally) → Balanced cars s t → Balanced cars (calls R s l) (tally R cars gains loses s l t)
+    calls-balanced s G [] t r = r
+    calls-balanced s G (c ∷ l) t r = calls-balanced (call R s c) (call-good s G c) l _ (call-balanced s G c t r)
+
+    pub cars-counted : CarsCounted R cars gains loses
+    cars-counted s G l = calls-balanced s G l _ (omega arith)
