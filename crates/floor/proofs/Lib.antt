@@ -1,2 +1,9 @@
 pub mod Reading
 pub mod Rows
+pub mod Layouts
+pub mod Tally
+pub mod Belts
+pub mod Scanning
+pub mod Judging
+pub mod Promises
+pub mod Examples

@@ -2,3 +2,4 @@ pub mod Floor
 pub mod Tests
 pub mod Cars
 pub mod Sound
+pub mod Promises

@@ -1,7 +1,13 @@
 // The floor in code: the belt under a cell, whether a record is sound, and how many cars it has.
 ghost use mathlib.Core.Path.{_≡_};
-ghost use Rattle.floor.specs.Floor.{beltOf};
-ghost use Rattle.floor.specs.Sound.{sound, total};
+ghost use mathlib.Core.Bool.{false};
+ghost use mathlib.Core.List.{[], _∷_};
+ghost use Rattle.bits.specs.Bits.{bit};
+ghost use Rattle.bits.specs.Places.{places};
+ghost use Rattle.floor.specs.Floor.{beltOf, left, right};
+ghost use Rattle.floor.specs.Tests.{set, exactly, free, both, either, holds, allHold};
+ghost use Rattle.floor.specs.Cars.{cars};
+ghost use Rattle.floor.specs.Sound.{carried, onLift, onRaisedLift, soundRules, paired, sound, total};
 
 // The belt under a cell: its row, and its number in the row from the left.
 pub enum Belt {
@@ -15,6 +21,7 @@ pub enum Total {
     Unsound,
 }
 
+// A cell's belt by ranges of its number.
 pub fn belt_of(cell: u64) -> Belt
     ensures { λ b. ⌜ b ≡ beltOf cell ⌝ }
 {
@@ -32,4 +39,122 @@ pub fn belt_of(cell: u64) -> Belt
         39 => Belt::On(3, 2),
         _ => Belt::NoCell,
     }
+}
+
+// The cells of row 1, where two are one car: bits 0 to 19.
+const ROW_1: u64 = 0xF_FFFF;
+
+// The cells of rows 2 and 3: bits 20 to 39.
+const ROWS_2_3: u64 = 0xFF_FFF0_0000;
+
+// The lift's cells in row 1: bits 11 and 12.
+const LIFT_CELLS: u64 = 0x1800;
+
+// The slots of the left shuttles: bits 40 to 42 and, tilted, 46 to 48.
+const LEFT_SLOTS: u64 = 0x1_C700_0000_0000;
+
+const LEFT_TILTED: u64 = 0x1_C000_0000_0000;
+
+// The slots of the right shuttles: bits 43 to 45 and, tilted, 49 to 51.
+const RIGHT_SLOTS: u64 = 0xE_3800_0000_0000;
+
+const RIGHT_TILTED: u64 = 0xE_0000_0000_0000;
+
+// The lift: bits 52 to 54.
+const RAISED_CAR: u64 = 0x10_0000_0000_0000;
+
+const HEIGHT_LOW: u64 = 0x20_0000_0000_0000;
+
+const HEIGHT_HIGH: u64 = 0x40_0000_0000_0000;
+
+// What stands for nothing: bits 55 to 63.
+const SPARE: u64 = 0xFF80_0000_0000_0000;
+
+// Row 1 splits into cars: from the left, half says that the cell before k is the lower half of one.
+fn row_paired(r: u64) -> bool
+    ensures { λ b. ⌜ b ≡ paired 20 0 false (bit r) ⌝ }
+{
+    let mut ok = true;
+    let mut half = false;
+    let mut k: u64 = 0;
+    while k < 20 {
+        let b = bits::bit(r, k);
+        ok = ok & (!half | b);
+        half = b & !half;
+        k += 1;
+    }
+    ok & !half
+}
+
+// The cells of a shuttle are free, or it is there.
+fn carries(r: u64, cells: u64, slot: u64) -> bool
+    ensures { λ b. ⌜ b ≡ holds (either (free (places cells)) (set (places slot))) (bit r) ⌝ }
+{
+    bits::free(r, cells) | bits::all(r, slot)
+}
+
+// The same of all six lowered slots: left rows 1 to 3, right rows 1 to 3.
+fn all_carry(r: u64) -> bool
+    ensures { λ b. ⌜ b ≡ allHold (carried left 1 ∷ carried left 2 ∷ carried left 3 ∷ carried right 1 ∷ carried right 2 ∷ carried right 3 ∷ []) (bit r) ⌝ }
+{
+    carries(r, 0x3, 0x100_0000_0000)
+        & carries(r, 0x10_0000, 0x200_0000_0000)
+        & carries(r, 0x4000_0000, 0x400_0000_0000)
+        & carries(r, 0xC_0000, 0x800_0000_0000)
+        & carries(r, 0x2000_0000, 0x1000_0000_0000)
+        & carries(r, 0x80_0000_0000, 0x2000_0000_0000)
+}
+
+// What stands on the lift fits its height: in the basement it stands on the lift's cells, elsewhere it is raised.
+fn lift_fits(r: u64) -> bool
+    ensures { λ b. ⌜ b ≡ allHold (onLift ∷ onRaisedLift ∷ []) (bit r) ⌝ }
+{
+    let basement = bits::free(r, HEIGHT_LOW) & bits::all(r, HEIGHT_HIGH);
+    (bits::free(r, LIFT_CELLS) | basement) & (bits::free(r, RAISED_CAR) | !basement)
+}
+
+// Three shuttles are at the slots of a side, and at most one at its tilted slots.
+fn three(r: u64, slots: u64, tilted: u64) -> bool
+    ensures { λ b. ⌜ b ≡ holds (both (exactly 3 (places slots)) (either (free (places tilted)) (exactly 1 (places tilted)))) (bit r) ⌝ }
+{
+    (bits::count(r, slots) == 3) & (bits::free(r, tilted) | (bits::count(r, tilted) == 1))
+}
+
+// What a sound record keeps besides its layout.
+fn rules_kept(r: u64) -> bool
+    ensures { λ b. ⌜ b ≡ allHold soundRules (bit r) ⌝ }
+{
+    all_carry(r)
+        & lift_fits(r)
+        & three(r, LEFT_SLOTS, LEFT_TILTED)
+        & three(r, RIGHT_SLOTS, RIGHT_TILTED)
+        & !(bits::all(r, HEIGHT_LOW) & bits::all(r, HEIGHT_HIGH))
+        & bits::free(r, SPARE)
+}
+
+// Whether the image is a sound record.
+pub fn sound(r: u64) -> bool
+    ensures { λ b. ⌜ b ≡ sound r ⌝ }
+{
+    row_paired(r) & rules_kept(r)
+}
+
+// The number of cars of a record: two cells of row 1 are one car.
+fn cars_in(r: u64) -> u64
+    ensures { λ n. ⌜ n ≡ cars (bit r) ⌝ }
+{
+    let halves = bits::count(r, ROW_1) as u64;
+    let wholes = bits::count(r, ROWS_2_3) as u64;
+    let raised = bits::count(r, RAISED_CAR) as u64;
+    halves / 2 + wholes + raised
+}
+
+// How many cars the image has, if it is a sound record.
+pub fn cars(r: u64) -> Total
+    ensures { λ t. ⌜ t ≡ total r ⌝ }
+{
+    if sound(r) {
+        return Total::Cars(cars_in(r));
+    }
+    Total::Unsound
 }

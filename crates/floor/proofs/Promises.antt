@@ -1,0 +1,17 @@
+-- The promises of specs/Promises.antt kept: each is a law of another file. Assumes nothing.
+use Rattle.floor.specs.Promises.{LayoutExactly, LayoutCars, SoundExactly, BeltsExactly}
+use Rattle.floor.proofs.Layouts.{layout-iff-paired, sound-iff}
+use Rattle.floor.proofs.Tally as tally
+use Rattle.floor.proofs.Belts.{belt-iff-cell}
+
+pub layout-exactly : LayoutExactly
+layout-exactly = layout-iff-paired
+
+pub layout-cars : LayoutCars
+layout-cars = tally.layout-cars
+
+pub sound-exactly : SoundExactly
+sound-exactly = sound-iff
+
+pub belts-exactly : BeltsExactly
+belts-exactly = belt-iff-cell

@@ -1,0 +1,16 @@
+-- `floor::carries` meets its contract: each of the two answers is what the bits say. Assumes nothing.
+use borrow.Author.Needs.{needs}
+use Rattle.floor.proofs.carries.Statement.{statement}
+use Rattle.floor.proofs.carries.Tie as tie
+
+free-requires : tie.Need-free-requires
+free-requires c κs = search needs
+
+all-requires : tie.Need-all-requires
+all-requires c κs = search needs
+
+returns : tie.Need-returns
+returns c = cc
+
+pub carries-spec : {M : Type 1} → statement M
+carries-spec = tie.close (tie.spec free-requires all-requires returns)
