@@ -7,3 +7,4 @@ pub mod Counts
 pub mod Packing
 pub mod Meeting
 pub mod Least
+pub mod Sharing

@@ -10,7 +10,8 @@ use borrow.Author.Tests.{eqb-true}
 use Rattle.bits.specs.Bits.{Bits, count, allSet}
 use Rattle.bits.specs.Places.{elem}
 use Rattle.bits.proofs.Cases.{split, clash, and-l, and-r, T→true}
-use Rattle.bits.proofs.Counts.{count-agree, set-agree, elem-here, elem-there}
+use Rattle.bits.proofs.Counts.{count-agree, set-agree}
+use Rattle.bits.proofs.Sharing.{allPass, pass-at}
 use Rattle.floor.specs.Tests.{Test, fact, set, exactly, even, no, both, either, holds, allHold, Change, _≔_, changed}
 
 -- ---- the places that are read
@@ -27,14 +28,10 @@ reads (either t u) = reads t ++ reads u
 
 -- each of the places ks is one of a
 abbrev pub inside : List ℕ → List ℕ → Bool
-inside a [] = true
-inside a (k ∷ ks) = elem k a && inside a ks
+inside a ks = allPass (λ k. elem k a) ks
 
 pub inside-at : (a ks : List ℕ) → T (inside a ks) → (k : ℕ) → T (elem k ks) → T (elem k a)
-inside-at a [] h k m = absurd m
-inside-at a (j ∷ js) h k m = split (eqb j k)
-    (λ e. subst (λ (x : ℕ). T (elem x a)) (eqb-true j k e) (and-l (elem j a) (inside a js) h))
-    (λ e. inside-at a js (and-r (elem j a) (inside a js) h) k (subst (λ (b : Bool). T (b || elem k js)) e m))
+inside-at a ks h k m = pass-at (λ k. elem k a) ks h k m
 
 -- a test reads only places of a
 abbrev pub readsIn : List ℕ → Test → Bool

@@ -1,11 +1,10 @@
 -- A test that is computed at every well-formed instruction, 272 of them, holds at each. Assumes nothing.
-use mathlib.Core.Path.{_≡_, refl, sym, subst}
 use mathlib.Core.Bool.{Bool, true, false, cond, _&&_}
 use Prim.Native.Nat.{ℕ, suc, _<_}
 use native.Mathlib.Omega.{arith}
 use lib.Dec.{T, eqb, leb, leb→le}
 use Rattle.bits.specs.Search.{every}
-use Rattle.bits.proofs.Cases.{and-l, and-r, under, T→true}
+use Rattle.bits.proofs.Cases.{and-l, and-r}
 use Rattle.bits.proofs.Search.{each as each-below}
 use Rattle.rules.specs.declared.Instruction.{Instruction}
 use Rattle.rules.specs.declared.Instruction.the-variants.{Belts, Shuttles, Tilt, Lift, Rotate}

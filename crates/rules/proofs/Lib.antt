@@ -1,2 +1,5 @@
 pub mod Every
 pub mod Frame
+pub mod CodeLaws
+pub mod Examples
+pub mod Overlaps

@@ -1,14 +1,17 @@
 -- The five bytes that carry an instruction, and what the code answers about instructions, good and bad. Assumes nothing.
-use mathlib.Core.Bool.{Bool, true, false, cond, not, _&&_}
-use mathlib.Core.List.{List, [], _∷_}
+use mathlib.Core.Bool.{cond, _&&_}
+use mathlib.Core.List.{List}
 use Prim.Native.Nat.{ℕ}
-use lib.Dec.{eqb}
-use Rattle.bits.specs.Bits.{bit, image}
+use lib.Dec.{eqb, ltb}
+use lib.ListN.{length, getD}
 use Rattle.rules.specs.declared.Instruction.{Instruction}
 use Rattle.rules.specs.declared.Instruction.the-variants.{Belts, Shuttles, Tilt, Lift, Rotate}
 use Rattle.rules.specs.declared.Code.{Code}
 use Rattle.rules.specs.declared.Reading.{Reading}
 use Rattle.rules.specs.declared.Reading.the-variants.{Good, Bad}
+use Rattle.rules.specs.declared.Event.{Event}
+use Rattle.rules.specs.declared.Event.the-variants.{CarIn, CarOut}
+use Rattle.rules.specs.declared.EventReading.{EventReading}
 use Rattle.rules.specs.Rules.{wellFormed}
 
 -- an instruction's five bytes: the op, its numbers, and zeros for what it doesn't use
@@ -32,3 +35,20 @@ readCode x =
     (cond (eqb (x .op) 4) (cond (eqb (x .b) 0 && eqb (x .c) 0 && eqb (x .d) 0) (kept (Lift (x .a))) Bad)
     (cond (eqb (x .op) 5) (cond (eqb (x .a) 0 && eqb (x .b) 0 && eqb (x .c) 0 && eqb (x .d) 0) (Good Rotate) Bad)
     Bad))))
+
+-- five bytes from the start of a run of bytes
+abbrev pub codeAt : List ℕ → Code
+codeAt s = record { op = getD s 0 0; a = getD s 1 0; b = getD s 2 0; c = getD s 3 0; d = getD s 4 0 }
+
+-- what a run of bytes says: fewer than five say nothing, and those past the fifth are not looked at
+unfoldable pub readBytes : List ℕ → Reading
+readBytes s = cond (ltb (length s) 5) Bad (readCode (codeAt s))
+
+-- the byte of an event
+abbrev pub eventCode : Event → ℕ
+eventCode CarIn = 1
+eventCode CarOut = 2
+
+-- what an event's byte says
+unfoldable pub readEvent : ℕ → EventReading
+readEvent b = cond (eqb b 1) (EventReading.Good CarIn) (cond (eqb b 2) (EventReading.Good CarOut) EventReading.Bad)

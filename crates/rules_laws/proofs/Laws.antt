@@ -1,0 +1,129 @@
+-- The laws of specs/Laws.antt, from the frame laws of the rules, the rules kept, and the moves. Assumes nothing.
+use mathlib.Core.Path.{_≡_, sym, subst, _∙_}
+use mathlib.Core.Bool.{Bool, true, false}
+use mathlib.Core.List.{List, [], _∷_, _++_}
+use Prim.Native.Nat.{ℕ, suc, _+_, _/_, _<_}
+use native.Mathlib.Omega.{arith}
+use lib.Dec.{T, eqb→eq}
+use borrow.Author.Tests.{ne-eqb}
+use Rattle.bits.specs.Bits.{Bits, bit, image, digit, count}
+use Rattle.bits.specs.Places.{from, elem}
+use Rattle.bits.proofs.Cases.{both, and-l, T→true, true→T}
+use Rattle.bits.proofs.Digits.{bit-image}
+use Rattle.bits.proofs.Counts.{count-agree, from-elem}
+use Rattle.floor.specs.Floor.{rowCells, raisedCar, heightLow, heightHigh, lift}
+use Rattle.floor.specs.Tests.{allHold}
+use Rattle.floor.specs.Cars.{Car, Layout, cars}
+use Rattle.floor.specs.Sound.{Sound, sound, soundRules}
+use Rattle.floor.proofs.Reading.{inside, inside-at, all-agree, nth-holds}
+use Rattle.floor.proofs.Rows.{Whole, whole-iff-paired}
+use Rattle.floor.proofs.Promises.{layout-exactly, sound-exactly}
+use Rattle.rules.specs.declared.Instruction.{Instruction}
+use Rattle.rules.specs.declared.Event.the-variants.{CarIn, CarOut}
+use Rattle.rules.specs.Rules.{wellFormed, conditions, allowed, next}
+use Rattle.rules.specs.Events.{eventConditions, possible, after}
+use Rattle.rules.proofs.Frame as frame
+use Rattle.rules_laws.specs.Laws.{SameVerdict, SameBits, KeptOutside, EventsLocal, StaysSound, SameCars, EventSound, Counted, EventCars, ImageSound, ImageCars, EventImageSound, EventImageCars}
+use Rattle.rules_laws.proofs.Shift.{whole-same}
+use Rattle.rules_laws.proofs.RulesKept.{instruction-rules, event-rules}
+use Rattle.rules_laws.proofs.Moves.{Safe, safe, cars-same}
+
+-- ---- areas
+
+pub same-verdict : SameVerdict
+same-verdict i f g e = frame.same-verdict i f g e
+
+pub same-bits : SameBits
+same-bits i w f g e = frame.same-next i (true→T w) f g e
+
+pub kept-outside : KeptOutside
+kept-outside i w f k o = frame.kept-outside i (true→T w) f k o
+
+pub events-local : EventsLocal
+events-local = record {
+  sameVerdict = λ e f g a. frame.same-possible e f g (λ k m. a k (T→true (elem k lift) m));
+  sameBits = λ e f g a k m. frame.same-after e f g (λ j n. a j (T→true (elem j lift) n)) k (true→T m);
+  keptOutside = frame.after-outside;
+}
+
+-- ---- sound records and cars
+
+-- a layout exists exactly if row 1 is whole
+layout-whole : (f : Bits) → (l : List Car) × Layout f l → Whole 20 f
+layout-whole f l = whole-iff-paired f .0 (layout-exactly f .1 l)
+
+whole-layout : (f : Bits) → Whole 20 f → (l : List Car) × Layout f l
+whole-layout f w = layout-exactly f .0 (whole-iff-paired f .1 w)
+
+module _ (i : Instruction) (f : Bits) (s : Sound f) (ok : allowed i f ≡ true) where
+  passed : (wellFormed i ≡ true) × (allHold (conditions i) f ≡ true)
+  unfolding allowed
+  passed = both (wellFormed i) (allHold (conditions i) f) ok
+
+  moved : Safe f (next i f)
+  unfolding next
+  moved = safe i f (true→T (passed .0)) (true→T (passed .1)) (true→T (s .rules)) (layout-whole f (s .layout))
+
+  kept : allHold soundRules (next i f) ≡ true
+  unfolding next
+  kept = T→true (allHold soundRules (next i f)) (instruction-rules i (true→T (passed .0)) f (true→T (passed .1)) (true→T (s .rules)))
+
+pub stays-sound : StaysSound
+stays-sound i f s ok = record { layout = whole-layout (next i f) (moved i f s ok .whole); rules = kept i f s ok }
+
+pub same-cars : SameCars
+same-cars i f s ok = moved i f s ok .same
+
+-- ---- events
+
+pub event-sound : EventSound
+unfolding possible after
+event-sound e f s ok = record { layout = whole-layout (after e f) (whole-same f (after e f) 20 row (layout-whole f (s .layout))); rules = rules }
+  where
+    row : (k : ℕ) → k < 20 → after e f k ≡ f k
+    row k h = frame.after-outside e f k (simp (ne-eqb raisedCar k (λ p. omega arith), ne-eqb heightLow k (λ p. omega arith), ne-eqb heightHigh k (λ p. omega arith)))
+
+    rules : allHold soundRules (after e f) ≡ true
+    rules = T→true (allHold soundRules (after e f)) (event-rules e f (true→T ok) (true→T (s .rules)))
+
+pub event-cars : EventCars
+unfolding possible after cars
+event-cars CarIn f ok = more (count (rowCells 1) f / 2 + count (rowCells 2 ++ rowCells 3) f) (f raisedCar) (eqb→eq (count (raisedCar ∷ []) f) 0 (nth-holds f (eventConditions CarIn) (true→T ok) 1))
+  where
+    more : (n : ℕ) (b : Bool) → digit b + 0 ≡ 0 → n + 1 ≡ suc (n + digit b)
+    more n b e = omega arith
+event-cars CarOut f ok = less (count (rowCells 1) f / 2 + count (rowCells 2 ++ rowCells 3) f) (f raisedCar) (and-l (f raisedCar) true (nth-holds f (eventConditions CarOut) (true→T ok) 1))
+  where
+    less : (n : ℕ) (b : Bool) → T b → suc (n + 0) ≡ n + digit b
+    less n true t = omega arith
+    less n false t = absurd t
+
+-- ---- records as numbers
+
+module _ (g : Bits) where
+  in-image : (k : ℕ) → T (elem k (from 0 64)) → bit (image g) k ≡ g k
+  in-image k m = bit-image g k (from-elem k 0 64 m .1)
+
+  count-image : (l : List ℕ) → T (inside (from 0 64) l) → count l (bit (image g)) ≡ count l g
+  count-image l t = count-agree l (bit (image g)) g (λ k m. in-image k (inside-at (from 0 64) l t k m))
+
+  cars-image : cars (bit (image g)) ≡ cars g
+  cars-image = cars-same g (bit (image g)) (count-image (rowCells 1) tt) (count-image (rowCells 2 ++ rowCells 3) tt) (in-image raisedCar tt)
+
+  sound-image : Sound g → sound (image g) ≡ true
+  sound-image s = sound-exactly (image g) .1 (record {
+    layout = whole-layout (bit (image g)) (whole-same g (bit (image g)) 20 (λ k h. bit-image g k (omega arith)) (layout-whole g (s .layout)));
+    rules = all-agree (from 0 64) (bit (image g)) g in-image soundRules tt ∙ s .rules;
+  })
+
+pub image-sound : ImageSound
+image-sound i r s ok = sound-image (next i (bit r)) (stays-sound i (bit r) (sound-exactly r .0 s) ok)
+
+pub image-cars : ImageCars
+image-cars i r s ok = cars-image (next i (bit r)) ∙ same-cars i (bit r) (sound-exactly r .0 s) ok
+
+pub event-image-sound : EventImageSound
+event-image-sound e r s ok = sound-image (after e (bit r)) (event-sound e (bit r) (sound-exactly r .0 s) ok)
+
+pub event-image-cars : EventImageCars
+event-image-cars e r ok = subst (λ (n : ℕ). Counted e n (cars (bit r))) (sym (cars-image (after e (bit r)))) (event-cars e (bit r) ok)

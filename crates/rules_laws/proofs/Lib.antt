@@ -1,0 +1,9 @@
+pub mod Shift
+pub mod Spans
+pub mod BeltMove
+pub mod Tried
+pub mod RulesKept
+pub mod Pair
+pub mod CarsKept
+pub mod Moves
+pub mod Laws
