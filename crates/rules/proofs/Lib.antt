@@ -3,3 +3,4 @@ pub mod Frame
 pub mod CodeLaws
 pub mod Examples
 pub mod Overlaps
+pub mod Answering

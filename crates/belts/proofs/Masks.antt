@@ -1,0 +1,57 @@
+-- The shape of a belt mask and the slots that it needs, by the numbers that the code computes: tests at every row and mask. Assumes nothing.
+use mathlib.Core.Path.{_≡_, refl}
+use mathlib.Core.Bool.{Bool, cond, not, _&&_, Bool·beq}
+use mathlib.Core.List.{[], _∷_}
+use Prim.Native.Nat.{ℕ, _+_, _-_, _*_, _/_, _%_}
+use lib.Bits.{bitAnd}
+use lib.Dec.{T, eqb}
+use Rattle.bits.specs.Places.{isEmpty, adjacent, places}
+use Rattle.bits.specs.Search.{every}
+use Rattle.bits.proofs.Cases.{beq→eq}
+use Rattle.floor.specs.Floor.{heightLow, heightHigh}
+use Rattle.rules.specs.Named.{cells, neededSlots}
+use Rattle.rules.specs.Rules.{beltsNamed}
+use Rattle.rules.proofs.Every.{rows, each-row}
+use Rattle.belts.proofs.Spans.{same, same-eq}
+
+-- a mask is a run of ones if adding its lowest one clears them all
+abbrev run : ℕ → Bool
+run m = not (eqb m 0) && eqb (bitAnd (m + bitAnd m (32 - m)) m) 0
+
+-- such a mask names at least one belt and leaves no gap
+abbrev runRight : ℕ → ℕ → Bool
+runRight row mask = Bool·beq (run mask) (not (isEmpty (cells row mask)) && adjacent (cells row mask))
+
+run-test : T (rows runRight)
+unfolding rows every
+run-test = tt
+
+pub run-is : (row mask : ℕ) → T (beltsNamed row mask) → run mask ≡ not (isEmpty (cells row mask)) && adjacent (cells row mask)
+run-is row mask w = beq→eq (run mask) _ (each-row runRight run-test row mask w)
+
+-- the lowered slots of the named shuttle belts, as the code has them
+abbrev slots : ℕ → ℕ → ℕ
+slots row m =
+    cond (eqb row 1) (m % 2 * 0x10000000000 + m / 16 % 2 * 0x80000000000)
+    (cond (eqb row 2) (m % 2 * 0x20000000000 + m / 4 % 2 * 0x100000000000)
+    (m % 2 * 0x40000000000 + m / 4 % 2 * 0x200000000000))
+
+-- their places are those that the rules ask for
+abbrev slotsRight : ℕ → ℕ → Bool
+slotsRight row mask = same (places (slots row mask)) (neededSlots row mask)
+
+slots-test : T (rows slotsRight)
+unfolding rows every places
+slots-test = tt
+
+pub slots-are : (row mask : ℕ) → T (beltsNamed row mask) → places (slots row mask) ≡ neededSlots row mask
+slots-are row mask w = same-eq _ _ (each-row slotsRight slots-test row mask w)
+
+-- the two digits of the lift's height
+pub low-place : places 0x20000000000000 ≡ heightLow ∷ []
+unfolding places
+low-place = refl
+
+pub high-place : places 0x40000000000000 ≡ heightHigh ∷ []
+unfolding places
+high-place = refl

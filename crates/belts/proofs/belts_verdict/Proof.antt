@@ -1,0 +1,29 @@
+-- `belts::belts_verdict` meets its contract: each answer is the definition's. Assumes nothing.
+use borrow.Author.Needs.{needs}
+use Rattle.bits.proofs.Cases.{true→T}
+use Rattle.rules.proofs.Answering.{passed, failed, ill-formed, not-allowed, is-allowed}
+use Rattle.belts.proofs.belts_verdict.Statement.{statement}
+use Rattle.belts.proofs.belts_verdict.Tie as tie
+
+well-formed-requires : tie.Need-well-formed-requires
+well-formed-requires c κs = search needs
+
+returns : tie.Need-returns
+returns c = ill-formed _ _ (failed (c .before .well-formed .ensures) (c .if1 .taken)) .0
+
+row-copy-requires : tie.Need-row-copy-requires
+row-copy-requires c κs = search needs
+
+allowed-requires : tie.Need-allowed-requires
+allowed-requires c κs = (true→T (passed (c .before .before .before .well-formed .ensures) (c .before .before .if1 .left)), c .before .row-copy .ensures)
+
+returns-2 : tie.Need-returns-2
+returns-2 c = not-allowed _ _ (passed (c .before .before .before .before .before .well-formed .ensures) (c .before .before .before .before .if1 .left)) (failed (c .before .allowed .ensures) (c .if2 .taken)) .0
+
+returns-3 : tie.Need-returns-3
+returns-3 c = is-allowed _ _ (passed (c .before .before .before .before .before .well-formed .ensures) (c .before .before .before .before .if1 .left)) (passed (c .before .allowed .ensures) (c .if2 .left))
+
+pub belts-verdict-spec : {M : Type 1} → statement M
+belts-verdict-spec =
+    tie.close
+    (tie.spec well-formed-requires returns row-copy-requires allowed-requires returns-2 returns-3)
