@@ -1,0 +1,8 @@
+pub mod Lists
+pub mod Naming
+pub mod Settings
+pub mod Nexts
+pub mod Shuttling
+pub mod Tilting
+pub mod Lifting
+pub mod Answers

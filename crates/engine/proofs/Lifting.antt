@@ -1,0 +1,105 @@
+-- The lift in code: the conditions of its moves, of rotating and of the car events, and the next records. Assumes nothing.
+use mathlib.Core.Path.{_≡_, refl, sym, ap, _∙_}
+use mathlib.Core.Bool.{Bool, true, false, cond, not, _&&_, _||_, and-true}
+use mathlib.Core.List.{[], _∷_}
+use Prim.Native.Nat.{ℕ, _+_, _*_, _%_, _^_, _<_}
+use native.Mathlib.Omega.{arith}
+use lib.Dec.{T, eqb, leb→le}
+use Rattle.bits.specs.Bits.{Bits, bit, image, count, allSet}
+use Rattle.bits.specs.Places.{places}
+use Rattle.bits.specs.Search.{every}
+use Rattle.bits.proofs.Cases.{and-l, and-r, T→true}
+use Rattle.bits.proofs.Search.{each}
+use Rattle.floor.specs.Floor.{raisedCar}
+use Rattle.floor.specs.Tests.{holds, allHold, heightIs, atBasement}
+use Rattle.rules.specs.declared.Instruction.the-variants.{Lift, Rotate}
+use Rattle.rules.specs.declared.Event.the-variants.{CarIn, CarOut}
+use Rattle.rules.specs.Rules.{wellFormed, conditions, allowed, next}
+use Rattle.rules.specs.Events.{possible, after}
+use Rattle.engine.specs.Private.{laid, liftBits}
+use Rattle.engine.proofs.Lists.{same, same-eq, bit-list}
+use Rattle.engine.proofs.Settings.{laid-right}
+use Rattle.engine.proofs.Nexts.{liftTouched, liftCar, lift-right, event-right}
+
+-- a well-formed height
+pub height-below : (height : ℕ) → T (wellFormed (Lift height)) → height < 3
+height-below height w = omega (arith, leb→le height 2 w)
+
+-- ---- conditions
+
+-- none of the places of a mask, and an even number
+abbrev noneOf : ℕ → Bits → Bool
+noneOf m f = eqb (count (places m) f) 0
+
+abbrev evenOf : ℕ → Bits → Bool
+evenOf m f = eqb (count (places m) f % 2) 0
+
+-- the code's tests are the conditions
+pub lift-law : (height : ℕ) (f : Bits) → T (wellFormed (Lift height))
+    → (not (holds (heightIs height) f) && (not (holds atBasement f) || (noneOf 0x1800 f || (evenOf 0x7FF f && evenOf 0xFE000 f)))) ≡ allowed (Lift height) f
+unfolding allowed places
+lift-law height f w =
+    ap (λ (b : Bool). not (holds (heightIs height) f) && b) (sym (and-true (not (holds atBasement f) || (noneOf 0x1800 f || (evenOf 0x7FF f && evenOf 0xFE000 f)))))
+    ∙ sym (ap (λ (b : Bool). b && allHold (conditions (Lift height)) f) (T→true (wellFormed (Lift height)) w))
+
+pub rotate-law : (f : Bits) → (holds (heightIs 1) f && noneOf 0xE700 f) ≡ allowed Rotate f
+unfolding allowed places
+rotate-law f = ap (λ (b : Bool). holds (heightIs 1) f && b) (sym (and-true (noneOf 0xE700 f)))
+
+pub in-law : (f : Bits) → (holds (heightIs 0) f && noneOf 0x10000000000000 f) ≡ possible CarIn f
+unfolding possible places
+in-law f = ap (λ (b : Bool). holds (heightIs 0) f && b) (sym (and-true (noneOf 0x10000000000000 f)))
+
+pub out-law : (f : Bits) → (holds (heightIs 0) f && allSet (places 0x10000000000000) f) ≡ possible CarOut f
+unfolding possible places
+out-law f = ap (λ (b : Bool). holds (heightIs 0) f && b) (sym (and-true (allSet (places 0x10000000000000) f)))
+
+-- ---- next records
+
+-- the bits of the lift as a number
+abbrev pub liftMask : ℕ → Bool → ℕ
+liftMask height car =
+    let here = height * 2 ^ 53 % 2 ^ 64 in
+    cond car (cond (eqb height 2) (here + 0x1800) (here + 0x10000000000000)) here
+
+-- it names them
+all-lifts : T (every 3 λ height. same (places (liftMask height true)) (liftBits height true) && same (places (liftMask height false)) (liftBits height false))
+unfolding every places
+all-lifts = tt
+
+pub bits-law : (height : ℕ) (car : Bool) (m : ℕ) → height < 3 → liftMask height car ≡ m → places m ≡ liftBits height car
+bits-law height car m h e = ap places (sym e) ∙ go car
+  where
+    with : Bool
+    with = same (places (liftMask height true)) (liftBits height true)
+
+    without : Bool
+    without = same (places (liftMask height false)) (liftBits height false)
+
+    t : T (with && without)
+    t = each 3 _ all-lifts height h
+
+    go : (car : Bool) → places (liftMask height car) ≡ liftBits height car
+    go true = same-eq _ _ (and-l with without t)
+    go false = same-eq _ _ (and-r with without t)
+
+-- masks that name what the lift touches and makes 1 make its next record
+pub lift-laid : (r height t n : ℕ) (car : Bool) → T (wellFormed (Lift height)) → t < 2 ^ 64 → n < 2 ^ 64
+    → places n ≡ liftBits height car → places t ≡ liftTouched height (bit r) → car ≡ liftCar height (bit r)
+    → image (laid r t n) ≡ image (next (Lift height) (bit r))
+lift-laid r height t n car w ht hn q p e =
+    laid-right r t n (liftTouched height (bit r)) (liftBits height (liftCar height (bit r))) (next (Lift height) (bit r))
+    (bit-list t (liftTouched height (bit r)) ht p) (bit-list n (liftBits height (liftCar height (bit r))) hn (q ∙ ap (liftBits height) e)) (lift-right height w (bit r))
+
+-- the same for the two events
+pub in-laid : (r : ℕ) → image (laid r 0x10000000000000 0x10000000000000) ≡ image (after CarIn (bit r))
+unfolding places
+in-laid r =
+    laid-right r 0x10000000000000 0x10000000000000 (raisedCar ∷ []) (raisedCar ∷ []) (after CarIn (bit r))
+    (bit-list 0x10000000000000 (raisedCar ∷ []) (omega arith) refl) (bit-list 0x10000000000000 (raisedCar ∷ []) (omega arith) refl) (event-right CarIn (bit r))
+
+pub out-laid : (r : ℕ) → image (laid r 0x10000000000000 0) ≡ image (after CarOut (bit r))
+unfolding places
+out-laid r =
+    laid-right r 0x10000000000000 0 (raisedCar ∷ []) [] (after CarOut (bit r))
+    (bit-list 0x10000000000000 (raisedCar ∷ []) (omega arith) refl) (bit-list 0 [] (omega arith) refl) (event-right CarOut (bit r))

@@ -1,0 +1,13 @@
+use Rattle.engine.proofs.Naming.{height-law}
+use borrow.Author.Needs.{needs}
+use Rattle.engine.proofs.masks.height_is.Statement.{statement}
+use Rattle.engine.proofs.masks.height_is.Tie as tie
+
+cast-result : tie.Need-cast-result
+cast-result c = search needs
+
+returns : tie.Need-returns
+returns c = height-law (c .args .r) (c .args .height)
+
+pub height-is-spec : {M : Type 1} → statement M
+height-is-spec = tie.close (tie.spec cast-result returns)

@@ -1,0 +1,139 @@
+// What an instruction or a car event does to a record: whether it is allowed, and the next record.
+ghost use mathlib.Core.Path.{_≡_};
+ghost use Rattle.bits.specs.Bits.{bit, image};
+ghost use Rattle.rules.specs.declared.Instruction.{Instruction};
+ghost use Rattle.rules.specs.Events.{possible, after};
+ghost use Rattle.rules.specs.Verdicts.{verdictOf, movedOf, drivenOf, codeVerdict, codeMoved};
+ghost use Rattle.engine.specs.Private.{told};
+use rules::Code;
+use rules::Event;
+use rules::Instruction;
+use rules::Moved;
+use rules::Reading;
+use rules::Verdict;
+
+mod lifts;
+mod masks;
+mod shuttles;
+mod tilts;
+
+use lifts::lift_moved;
+use lifts::rotate_moved;
+use masks::RAISED_CAR;
+use masks::height_is;
+use masks::laid;
+use shuttles::shuttles_moved;
+use tilts::tilt_moved;
+
+// ---- instructions
+
+// The record after an instruction, where it is allowed.
+pub fn moved(i: Instruction, r: u64) -> Moved
+    ensures { λ m. ⌜ m ≡ movedOf i r ⌝ }
+{
+    if !rules::well_formed(i) {
+        return Moved::IllFormed;
+    }
+    match i {
+        Instruction::Belts {
+            row,
+            mask,
+            toward,
+            size,
+        } => belts::belts_moved(r, row, mask, toward, size),
+        Instruction::Shuttles {
+            side,
+            mask,
+            orientation,
+            toward,
+        } => shuttles_moved(r, side, mask, orientation, toward),
+        Instruction::Tilt {
+            side,
+            row,
+            orientation,
+        } => tilt_moved(r, side, row, orientation),
+        Instruction::Lift { height } => lift_moved(r, height),
+        Instruction::Rotate => rotate_moved(r),
+    }
+}
+
+// The same of five bytes.
+pub fn code_moved(x: Code, r: u64) -> Moved
+    ensures { λ m. ⌜ m ≡ codeMoved x r ⌝ }
+{
+    let y = rules::read(x);
+    match y {
+        Reading::Good(i) => moved(i, r),
+        Reading::Bad => Moved::IllFormed,
+    }
+}
+
+// What a next record, or none, says of the instruction.
+fn told(m: Moved) -> Verdict
+    ensures { λ v. ⌜ v ≡ told m ⌝ }
+{
+    match m {
+        Moved::Record(_) => Verdict::Allowed,
+        Moved::NotAllowed => Verdict::NotAllowed,
+        Moved::IllFormed => Verdict::IllFormed,
+    }
+}
+
+// Whether an instruction is allowed: it is where it has a next record. A belt move's is not worked out for that.
+pub fn verdict(i: Instruction, r: u64) -> Verdict
+    ensures { λ v. ⌜ v ≡ verdictOf i r ⌝ }
+{
+    if let Instruction::Belts {
+        row,
+        mask,
+        toward,
+        size,
+    } = i
+    {
+        return belts::belts_verdict(r, row, mask, toward, size);
+    }
+    told(moved(i, r))
+}
+
+// The same of five bytes.
+pub fn code_verdict(x: Code, r: u64) -> Verdict
+    ensures { λ v. ⌜ v ≡ codeVerdict x r ⌝ }
+{
+    let y = rules::read(x);
+    match y {
+        Reading::Good(i) => verdict(i, r),
+        Reading::Bad => Verdict::IllFormed,
+    }
+}
+
+// ---- car events
+
+// A car can be driven in at street height if the lift is empty, and out if it is not.
+pub fn possible(e: Event, r: u64) -> bool
+    ensures { λ b. ⌜ b ≡ possible e (bit r) ⌝ }
+{
+    match e {
+        Event::CarIn => height_is(r, 0) & bits::free(r, RAISED_CAR),
+        Event::CarOut => height_is(r, 0) & bits::all(r, RAISED_CAR),
+    }
+}
+
+// Then the raised lift has a car, or none.
+fn after(e: Event, r: u64) -> u64
+    ensures { λ x. ⌜ x ≡ image (after e (bit r)) ⌝ }
+{
+    match e {
+        Event::CarIn => laid(r, RAISED_CAR, RAISED_CAR),
+        Event::CarOut => laid(r, RAISED_CAR, 0),
+    }
+}
+
+// The record after a car event, where it is possible.
+pub fn driven(e: Event, r: u64) -> Moved
+    ensures { λ m. ⌜ m ≡ drivenOf e r ⌝ }
+{
+    if possible(e, r) {
+        return Moved::Record(after(e, r));
+    }
+    Moved::NotAllowed
+}

@@ -1,0 +1,87 @@
+// The lift: moving it, and rotating it.
+ghost use mathlib.Core.Path.{_≡_};
+ghost use Prim.Native.Nat.{_<_};
+ghost use lib.Dec.{T};
+ghost use Rattle.bits.specs.Bits.{bit, image};
+ghost use Rattle.bits.specs.Places.{places};
+ghost use Rattle.rules.specs.declared.Instruction.{Instruction};
+ghost use Rattle.rules.specs.Rules.{wellFormed, allowed, next};
+ghost use Rattle.rules.specs.Verdicts.{movedOf};
+ghost use Rattle.engine.specs.Private.{liftBits};
+use super::masks::HEIGHT;
+use super::masks::LEFT_OF_LIFT;
+use super::masks::LIFT;
+use super::masks::LIFT_CELLS;
+use super::masks::RAISED_CAR;
+use super::masks::RIGHT_OF_LIFT;
+use super::masks::TURNING_CELLS;
+use super::masks::height_is;
+use super::masks::laid;
+use rules::Moved;
+
+// The height differs; in the basement the lift's two cells are free, or no car stands half on it: the cells on either side
+// hold an even number each.
+fn lift_allowed(r: u64, height: u8) -> bool
+    requires { ⌜ T (wellFormed (Instruction.Lift height)) ⌝ }
+    ensures { λ b. ⌜ b ≡ allowed (Instruction.Lift height) (bit r) ⌝ }
+{
+    let whole = bits::even(r, LEFT_OF_LIFT) & bits::even(r, RIGHT_OF_LIFT);
+    !height_is(r, height) & (!height_is(r, 2) | (bits::free(r, LIFT_CELLS) | whole))
+}
+
+// The bits of the lift at a height, with a car or without: in the basement the car stands on its two cells.
+fn lift_bits(height: u8, car: bool) -> u64
+    requires { ⌜ height < 3 ⌝ }
+    ensures { λ m. ⌜ places m ≡ liftBits height car ⌝ }
+{
+    let at = (height as u64) << 53;
+    if car {
+        if height == 2 {
+            return at + LIFT_CELLS;
+        }
+        return at + RAISED_CAR;
+    }
+    at
+}
+
+// Arriving in the basement, and leaving it, the car is taken along; between street and rotation only the height changes.
+fn lift_next(r: u64, height: u8) -> u64
+    requires { ⌜ T (wellFormed (Instruction.Lift height)) ⌝ }
+    ensures { λ x. ⌜ x ≡ image (next (Instruction.Lift height) (bit r)) ⌝ }
+{
+    if height == 2 {
+        return laid(r, LIFT, lift_bits(height, bits::bit(r, 52)));
+    }
+    if height_is(r, 2) {
+        return laid(r, LIFT, lift_bits(height, bits::all(r, LIFT_CELLS)));
+    }
+    laid(r, HEIGHT, lift_bits(height, false))
+}
+
+// The record after moving the lift, where that is allowed.
+pub fn lift_moved(r: u64, height: u8) -> Moved
+    requires { ⌜ T (wellFormed (Instruction.Lift height)) ⌝ }
+    ensures { λ m. ⌜ m ≡ movedOf (Instruction.Lift height) r ⌝ }
+{
+    if lift_allowed(r, height) {
+        return Moved::Record(lift_next(r, height));
+    }
+    Moved::NotAllowed
+}
+
+// At rotation height with its six cells free.
+fn rotate_allowed(r: u64) -> bool
+    ensures { λ b. ⌜ b ≡ allowed Instruction.Rotate (bit r) ⌝ }
+{
+    height_is(r, 1) & bits::free(r, TURNING_CELLS)
+}
+
+// Rotating keeps the record.
+pub fn rotate_moved(r: u64) -> Moved
+    ensures { λ m. ⌜ m ≡ movedOf Instruction.Rotate r ⌝ }
+{
+    if rotate_allowed(r) {
+        return Moved::Record(r);
+    }
+    Moved::NotAllowed
+}

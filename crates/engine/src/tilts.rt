@@ -1,0 +1,55 @@
+// Tilting: one shuttle of a side goes from lowered to tilted or back.
+ghost use mathlib.Core.Path.{_≡_};
+ghost use mathlib.Core.List.{[], _∷_};
+ghost use Prim.Native.Nat.{_<_, _≤_};
+ghost use lib.Dec.{T};
+ghost use Rattle.bits.specs.Bits.{bit, image};
+ghost use Rattle.rules.specs.declared.Instruction.{Instruction};
+ghost use Rattle.rules.specs.Named.{rowsOf};
+ghost use Rattle.rules.specs.Rules.{wellFormed, allowed, next};
+ghost use Rattle.rules.specs.Verdicts.{movedOf};
+use super::masks::cells;
+use super::masks::laid;
+use super::masks::slots;
+use rules::Moved;
+
+// One row as a mask of rows.
+fn only(row: u8) -> u64
+    requires { ⌜ (1 ≤ row) × (row ≤ 3) ⌝ }
+    ensures { λ m. ⌜ (m < 8) × (rowsOf m ≡ row ∷ []) ⌝ }
+{
+    1 << (row - 1)
+}
+
+// From lowered: all three of the side are lowered and the position is free. From tilted: a tilted one is there and no lowered one.
+fn tilt_allowed(r: u64, side: u8, row: u8, orientation: u8) -> bool
+    requires { ⌜ T (wellFormed (Instruction.Tilt side row orientation)) ⌝ }
+    ensures { λ b. ⌜ b ≡ allowed (Instruction.Tilt side row orientation) (bit r) ⌝ }
+{
+    let here = only(row);
+    if orientation == 0 {
+        return bits::all(r, slots(side, 0, 7)) & bits::free(r, cells(side, here));
+    }
+    bits::all(r, slots(side, 1, here)) & bits::free(r, slots(side, 0, here))
+}
+
+// The shuttle has the other orientation.
+fn tilt_next(r: u64, side: u8, row: u8, orientation: u8) -> u64
+    requires { ⌜ T (wellFormed (Instruction.Tilt side row orientation)) ⌝ }
+    ensures { λ x. ⌜ x ≡ image (next (Instruction.Tilt side row orientation) (bit r)) ⌝ }
+{
+    let here = only(row);
+    let touched = slots(side, 0, here) | slots(side, 1, here);
+    laid(r, touched, slots(side, 1 - orientation, here))
+}
+
+// The record after a tilt, where it is allowed.
+pub fn tilt_moved(r: u64, side: u8, row: u8, orientation: u8) -> Moved
+    requires { ⌜ T (wellFormed (Instruction.Tilt side row orientation)) ⌝ }
+    ensures { λ m. ⌜ m ≡ movedOf (Instruction.Tilt side row orientation) r ⌝ }
+{
+    if tilt_allowed(r, side, row, orientation) {
+        return Moved::Record(tilt_next(r, side, row, orientation));
+    }
+    Moved::NotAllowed
+}
