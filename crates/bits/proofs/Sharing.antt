@@ -2,7 +2,7 @@
 use mathlib.Core.Path.{_≡_, refl, sym, ap₂, subst, _∙_}
 use mathlib.Core.Bool.{Bool, true, false, not, _&&_, _||_, or-true}
 use mathlib.Core.List.{List, [], _∷_}
-use Prim.Native.Nat.{ℕ}
+use Prim.Native.Nat.{ℕ, _<_}
 use lib.Bits.{bitAnd}
 use lib.Dec.{T, eqb, ltb, ltb→lt}
 use borrow.Author.Tests.{eqb-true}
@@ -44,15 +44,22 @@ share-is (i ∷ is) js k p q = split (eqb i k)
     (λ e. rw (eqb-true i k e, q))
     (λ e. rw (share-is is js k (rw e at p) q) (or-true (elem i js)))
 
+-- the places of a list are bits of a record
+abbrev pub Small : List ℕ → Type 0
+Small ks = (k : ℕ) → elem k ks ≡ true → k < 64
+
+pub are-small : (ks : List ℕ) → T (areBits ks) → Small ks
+are-small ks t k m = ltb→lt k 64 (pass-at (λ k. ltb k 64) ks t k (true→T m))
+
 -- some bit is in both
-pub share-some : (ks js : List ℕ) → T (areBits ks) → share ks js ≡ some 64 (λ k. elem k ks && elem k js)
-share-some ks js t = alike (share ks js) (some 64 (λ k. elem k ks && elem k js))
-    (λ e. let (k, p, q) = share-at ks js e in some-at 64 _ k (ltb→lt k 64 (pass-at (λ k. ltb k 64) ks t k (true→T p))) (and-intro p q))
+pub share-some : (ks js : List ℕ) → Small ks → share ks js ≡ some 64 (λ k. elem k ks && elem k js)
+share-some ks js small = alike (share ks js) (some 64 (λ k. elem k ks && elem k js))
+    (λ e. let (k, p, q) = share-at ks js e in some-at 64 _ k (small k p) (and-intro p q))
     (λ e. let (k, l, m) = some-is 64 _ e in let (p, q) = both (elem k ks) (elem k js) m in share-is ks js k p q)
 
 -- the same of their masks: `&` isn't 0
-pub share-masks : (ks js : List ℕ) → T (areBits ks) → share ks js ≡ not (eqb (bitAnd (image (λ k. elem k ks)) (image (λ k. elem k js))) 0)
-share-masks ks js t =
-    share-some ks js t
+pub share-masks : (ks js : List ℕ) → Small ks → share ks js ≡ not (eqb (bitAnd (image (λ k. elem k ks)) (image (λ k. elem k js))) 0)
+share-masks ks js small =
+    share-some ks js small
     ∙ some-same 64 _ _ (λ k l. sym (ap₂ _&&_ (bit-image (λ k. elem k ks) k l) (bit-image (λ k. elem k js) k l)))
     ∙ meet 64 (image (λ k. elem k ks)) (image (λ k. elem k js)) (packed-lt 64 0 (λ k. elem k ks))

@@ -9,6 +9,7 @@ use Rattle.bits.specs.Bits.{Bits}
 use Rattle.bits.specs.Places.{elem}
 use Rattle.bits.specs.Search.{every}
 use Rattle.bits.proofs.Cases.{and-l, and-r, split, T→true, true→T}
+use Rattle.bits.proofs.Sharing.{areBits, Small, are-small}
 use Rattle.floor.specs.Floor.{lift}
 use Rattle.floor.proofs.Reading.{allReadIn, changeIn, all-agree, changed-agree, changed-outside}
 use Rattle.rules.specs.declared.Instruction.{Instruction}
@@ -25,6 +26,20 @@ framed i = allReadIn (areaOf i) (conditions i) && changeIn (areaOf i) (changes i
 all-framed : T (everywhere framed)
 unfolding everywhere every
 all-framed = tt
+
+-- ---- every place of an area is a bit of a record
+
+abbrev areaBits : Instruction → Bool
+areaBits i = areBits (areaOf i)
+
+all-bits : T (everywhere areaBits)
+unfolding everywhere every
+all-bits = tt
+
+pub area-small : (i : Instruction) → wellFormed i ≡ true → Small (areaOf i)
+area-small i w = are-small (areaOf i) (each areaBits all-bits i (true→T w))
+
+-- ---- the laws
 
 -- the two records hold the same in the area of i
 abbrev pub Agree : Instruction → Bits → Bits → Type 0

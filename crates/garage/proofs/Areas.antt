@@ -1,0 +1,103 @@
+-- The code gathers areas as one mask: an area meets one of several exactly if it meets all of them taken together. Assumes nothing.
+use Prim.Native.Nat.{ℕ, zero, suc, _+_, _^_, _<_}
+use native.Mathlib.Omega.{arith}
+use native.Mathlib.Numerals.{add-one}
+use mathlib.Core.Path.{_≡_, refl, sym, _∙_}
+use mathlib.Core.Bool.{Bool, true, false, not, _&&_, _||_}
+use mathlib.Core.List.{List, []}
+use lib.Dec.{eqb}
+use lib.Bits.{bitAnd, bitOr, and-zero-r, and-comm}
+use Rattle.bits.specs.Bits.{bit, packed}
+use Rattle.bits.specs.Places.{elem, share}
+use Rattle.bits.specs.Search.{some}
+use Rattle.bits.proofs.Search.{some-same}
+use Rattle.bits.proofs.Digits.{packed-lt}
+use Rattle.bits.proofs.Operations.{bit-or}
+use Rattle.bits.proofs.Meeting.{meet}
+use Rattle.floor.specs.Floor.{lift}
+use Rattle.rules.specs.declared.Code.{Code}
+use Rattle.rules.specs.declared.Reading.{Reading}
+use Rattle.rules.specs.declared.Reading.the-variants.{Good, Bad}
+use Rattle.rules.specs.Rules.{areaOf}
+use Rattle.rules.specs.Codes.{readCode}
+use Rattle.rules.specs.Verdicts.{onCode}
+use Rattle.rules.proofs.CodeLaws.{one-form}
+use Rattle.bits.proofs.Cases.{clash}
+use Rattle.bits.proofs.Sharing.{Small, share-masks}
+use Rattle.rules.proofs.Frame.{area-small}
+use Rattle.garage.specs.Held.{codeAt, heldArea, overlapsEarlier, liftIn}
+use Rattle.garage.specs.Private.{heldMask, areas}
+
+-- each place of an area is a bit of a record
+pub held-small : (x : Code) → Small (heldArea x)
+unfolding heldArea
+held-small x = read (readCode x) refl
+  where
+    read : (g : Reading) → readCode x ≡ g → Small (onCode areaOf [] g)
+    read (Good i) e = area-small i (one-form x i e .1)
+    read Bad e = λ k m. clash m refl
+
+-- ---- several areas as one
+
+some-or : (n : ℕ) (p q r : ℕ → Bool) → ((k : ℕ) → p k ≡ q k || r k) → some n p ≡ some n q || some n r
+unfolding some
+some-or zero p q r e = refl
+some-or (suc n) p q r e = rw (e n, some-or n p q r e) (swap (q n) (r n) (some n q) (some n r))
+  where
+    swap : (a b c d : Bool) → (a || b) || (c || d) ≡ (a || c) || (b || d)
+    swap true b c d = refl
+    swap false true true d = refl
+    swap false true false d = refl
+    swap false false true d = refl
+    swap false false false d = refl
+
+and-or : (a b c : Bool) → a && (b || c) ≡ (a && c) || (a && b)
+and-or false b c = refl
+and-or true true true = refl
+and-or true true false = refl
+and-or true false true = refl
+and-or true false false = refl
+
+meets-or : (m x y : ℕ) → m < 2 ^ 64 → not (eqb (bitAnd m (bitOr x y)) 0) ≡ not (eqb (bitAnd m y) 0) || not (eqb (bitAnd m x) 0)
+meets-or m x y h =
+    rw (← meet 64 m (bitOr x y) h, ← meet 64 m x h, ← meet 64 m y h)
+    (some-or 64 _ _ _ (λ k. rw (bit-or x y k) (and-or (bit m k) (bit x k) (bit y k))))
+
+-- a mask meets one of the first n areas, exactly if it meets all of them taken together
+meets-areas : (m : ℕ) (set : List ℕ) (n : ℕ) → m < 2 ^ 64 → some n (λ j. not (eqb (bitAnd m (heldMask (codeAt set j))) 0)) ≡ not (eqb (bitAnd m (areas set n)) 0)
+unfolding some areas
+meets-areas m set zero h = rw and-zero-r
+meets-areas m set (suc n) h = rw (meets-areas m set n h, meets-or m (areas set n) (heldMask (codeAt set n)) h)
+
+-- ---- the loops that gather them
+
+pub areas-start : (set : List ℕ) → 0 ≡ areas set 0
+unfolding areas
+areas-start set = refl
+
+pub areas-turn : (set : List ℕ) (i : ℕ) {seen m : ℕ} {x : Code} → seen ≡ areas set i → x ≡ codeAt set i → m ≡ heldMask x → bitOr seen m ≡ areas set (i + 1)
+unfolding areas
+areas-turn set i e d a = rw (add-one i, e, a, d)
+
+-- the code's test of instruction i
+pub overlapping : (set : List ℕ) (i : ℕ) {seen m : ℕ} {x : Code} → seen ≡ areas set i → x ≡ codeAt set i → m ≡ heldMask x → overlapsEarlier set i ≡ not (eqb (bitAnd m seen) 0)
+unfolding overlapsEarlier heldMask
+overlapping set i {seen} {m} {x} e d a =
+    some-same i _ _ (λ j l. share-masks (heldArea (codeAt set i)) (heldArea (codeAt set j)) (held-small (codeAt set i)))
+    ∙ meets-areas (heldMask (codeAt set i)) set i (packed-lt 64 0 (λ k. elem k (heldArea (codeAt set i))))
+    ∙ rw (a, d, e)
+
+-- the lift's bits, 52 to 54
+abbrev liftMask : ℕ
+liftMask = 0x70000000000000
+
+held-lift : (x : Code) → share (heldArea x) lift ≡ not (eqb (bitAnd liftMask (heldMask x)) 0)
+unfolding heldMask packed
+held-lift x = rw (and-comm liftMask (heldMask x)) (share-masks (heldArea x) lift (held-small x))
+
+pub lift-in : (set : List ℕ) (n : ℕ) {m : ℕ} → m ≡ areas set n → not (eqb (bitAnd m liftMask) 0) ≡ liftIn set n
+unfolding liftIn
+lift-in set n {m} e = sym
+    (some-same n (λ j. share (heldArea (codeAt set j)) lift) (λ j. not (eqb (bitAnd liftMask (heldMask (codeAt set j))) 0)) (λ j l. held-lift (codeAt set j))
+    ∙ meets-areas liftMask set n (omega arith)
+    ∙ rw (and-comm liftMask (areas set n), e))

@@ -1,0 +1,4 @@
+pub mod Areas
+pub mod Loops
+pub mod Marks
+pub mod Moves

@@ -1,0 +1,115 @@
+-- What the answers of the crates below say of held instructions and events: areas, verdicts, moves that are made or not, an event's byte.
+-- Assumes nothing.
+use Prim.Native.Nat.{ℕ}
+use mathlib.Core.Path.{_≡_, refl, sym, ap, _∙_}
+use mathlib.Core.Bool.{Bool, true, false, not, cond}
+use mathlib.Core.List.{[]}
+use lib.Dec.{eqb}
+use borrow.Author.Tests.{not-true, not-false}
+use Rattle.bits.specs.Bits.{Bits, bit, packed, image}
+use Rattle.bits.specs.Places.{elem}
+use Rattle.bits.proofs.Cases.{split}
+use Rattle.rules.specs.declared.Instruction.{Instruction}
+use Rattle.rules.specs.declared.Code.{Code}
+use Rattle.rules.specs.declared.Area.{Area}
+use Rattle.rules.specs.declared.Verdict.{Verdict}
+use Rattle.rules.specs.declared.Event.{Event}
+use Rattle.rules.specs.declared.EventReading.{EventReading}
+use Rattle.rules.specs.declared.Moved.{Moved}
+use Rattle.rules.specs.declared.Moved.the-variants.{Record, NotAllowed, IllFormed}
+use Rattle.rules.specs.declared.Reading.{Reading}
+use Rattle.rules.specs.declared.Reading.the-variants.{Good, Bad}
+use Rattle.rules.specs.Rules.{wellFormed, areaOf, area, allowed, next}
+use Rattle.rules.specs.Events.{possible}
+use Rattle.rules.specs.Codes.{readCode, readEvent}
+use Rattle.rules.specs.Verdicts.{onCode, maskOf, codeMask, verdictOf, codeVerdict, movedOf, codeMoved, drivenOf}
+use Rattle.rules.proofs.CodeLaws.{one-form}
+use Rattle.answers.specs.declared.Answer.the-variants.{BadField, EventImpossible, NowNotAllowed}
+use Rattle.answers.specs.Answers.{nowhere}
+use Rattle.garage.specs.declared.Station.{Station}
+use Rattle.garage.specs.Held.{codeAt, heldArea, heldAllowed, heldNext, liftIn}
+use Rattle.garage.specs.Station.{fit, holding, answering}
+use Rattle.garage.specs.Calls.{refused, taken, driven, succeeded, event}
+use Rattle.garage.specs.Private.{heldMask}
+
+-- a test whose answer the code negates
+pub failed : {b t : Bool} → b ≡ t → not b ≡ true → t ≡ false
+failed {b} e n = sym e ∙ not-true b n
+
+pub passed : {b t : Bool} → b ≡ t → not b ≡ false → t ≡ true
+passed {b} e n = sym e ∙ not-false b n
+
+-- ---- areas and verdicts
+
+abbrev pub maskIn : Area → ℕ
+maskIn (Area.Mask m) = m
+maskIn Area.IllFormed = 0
+
+pub held-area : (x : Code) {a : Area} → a ≡ codeMask x → maskIn a ≡ heldMask x
+unfolding heldMask heldArea codeMask maskOf area packed
+held-area x e = ap maskIn e ∙ read (readCode x) refl
+  where
+    read : (g : Reading) → readCode x ≡ g → maskIn (onCode maskOf Area.IllFormed g) ≡ image (λ k. elem k (onCode areaOf [] g))
+    read (Good i) d = rw (one-form x i d .1)
+    read Bad d = refl
+
+abbrev pub isAllowed : Verdict → Bool
+isAllowed Verdict.Allowed = true
+isAllowed Verdict.NotAllowed = false
+isAllowed Verdict.IllFormed = false
+
+-- what is ill formed is never allowed
+ill-formed : (i : Instruction) (f : Bits) → wellFormed i ≡ false → allowed i f ≡ false
+unfolding allowed
+ill-formed i f w = rw w
+
+pub held-verdict : (x : Code) (r : ℕ) {v : Verdict} → v ≡ codeVerdict x r → isAllowed v ≡ heldAllowed x (bit r)
+unfolding heldAllowed codeVerdict verdictOf
+held-verdict x r e = ap isAllowed e ∙ read (readCode x)
+  where
+    read : (g : Reading) → isAllowed (onCode (λ i. verdictOf i r) Verdict.IllFormed g) ≡ onCode (λ i. allowed i (bit r)) false g
+    read (Good i) = split (wellFormed i)
+        (λ w. split (allowed i (bit r)) (λ a. rw (w, a)) (λ a. rw (w, a)))
+        (λ w. rw (w, ill-formed i (bit r) w))
+    read Bad = refl
+
+-- ---- moves
+
+-- one answer where the move is made, another where it isn't
+abbrev pub onMoved : {A : Type 0} → (ℕ → A) → A → Moved → A
+onMoved made unmade (Record r) = made r
+onMoved made unmade NotAllowed = unmade
+onMoved made unmade IllFormed = unmade
+
+held-moved : {A : Type 0} (made : ℕ → A) (unmade : A) (x : Code) (r : ℕ)
+    → onMoved made unmade (codeMoved x r) ≡ cond (heldAllowed x (bit r)) (made (image (heldNext x (bit r)))) unmade
+unfolding heldAllowed heldNext codeMoved movedOf
+held-moved made unmade x r = read (readCode x)
+  where
+    read : (g : Reading) → onMoved made unmade (onCode (λ i. movedOf i r) IllFormed g) ≡ cond (onCode (λ i. allowed i (bit r)) false g) (made (image (onCode (λ i. next i (bit r)) (bit r) g))) unmade
+    read (Good i) = split (wellFormed i)
+        (λ w. split (allowed i (bit r)) (λ a. rw (w, a)) (λ a. rw (w, a)))
+        (λ w. rw (w, ill-formed i (bit r) w))
+    read Bad = refl
+
+-- success of instruction i
+pub success : (s : Station) (i : ℕ) {x : Code} {m : Moved} → x ≡ codeAt (s .set) i → m ≡ codeMoved x (s .bits)
+    → onMoved (λ r. taken (answering s i r)) (refused s NowNotAllowed) m ≡ succeeded s i
+success s i d e = rw (e, d) (held-moved (λ r. taken (answering s i r)) (refused s NowNotAllowed) (codeAt (s .set) i) (s .bits))
+
+-- a car event beside no set that holds the lift
+pub moved-event : (s : Station) (e : Event) {m : Moved} → liftIn (s .set) (s .count) ≡ false → m ≡ drivenOf e (s .bits)
+    → onMoved (λ r. taken (holding s r)) (refused s EventImpossible) m ≡ driven s e
+unfolding drivenOf
+moved-event s e l d = rw (l, d) (split (possible e (bit (s .bits))) (λ t. rw t) (λ t. rw t))
+
+-- ---- an event's byte
+
+-- one answer for the event that it says, another where it says none
+abbrev pub onEvent : {A : Type 0} → (Event → A) → A → EventReading → A
+onEvent known bad (EventReading.Good e) = known e
+onEvent known bad EventReading.Bad = bad
+
+pub event-read : (s : Station) (b : ℕ) {g : EventReading} → fit s ≡ true → g ≡ readEvent b → onEvent (driven s) (refused s (BadField nowhere)) g ≡ event s b
+unfolding event readEvent
+event-read s b f d = rw (f, d) (split (eqb b 1) (λ t. rw t) (λ t. split (eqb b 2) (λ u. rw (t, u)) (λ u. rw (t, u))))

@@ -1,0 +1,52 @@
+-- Instructions as a station holds them: the request's own five bytes each. Bytes that say no instruction have an empty area, are
+-- never allowed and change nothing. Assumes nothing.
+use mathlib.Core.Bool.{Bool, true, false, not}
+use mathlib.Core.List.{List, [], _∷_}
+use Prim.Native.Nat.{ℕ, _+_, _*_}
+use lib.ListN.{getD}
+use Rattle.bits.specs.Bits.{Bits, bit, image}
+use Rattle.bits.specs.Places.{share}
+use Rattle.bits.specs.Search.{some}
+use Rattle.floor.specs.Floor.{lift}
+use Rattle.rules.specs.declared.Code.{Code}
+use Rattle.rules.specs.Rules.{areaOf, allowed, next}
+use Rattle.rules.specs.Codes.{readCode}
+use Rattle.rules.specs.Verdicts.{onCode}
+
+-- instruction i of a set
+unfoldable pub codeAt : List ℕ → ℕ → Code
+codeAt set i =
+    record {
+      op = getD set (5 * i) 0;
+      a = getD set (5 * i + 1) 0;
+      b = getD set (5 * i + 2) 0;
+      c = getD set (5 * i + 3) 0;
+      d = getD set (5 * i + 4) 0;
+    }
+
+-- whether five bytes say an instruction; its area; whether a record allows it; the record after it
+unfoldable pub isGood : Code → Bool
+isGood x = onCode (λ i. true) false (readCode x)
+
+unfoldable pub heldArea : Code → List ℕ
+heldArea x = onCode areaOf [] (readCode x)
+
+unfoldable pub heldAllowed : Code → Bits → Bool
+heldAllowed x f = onCode (λ i. allowed i f) false (readCode x)
+
+unfoldable pub heldNext : Code → Bits → Bits
+heldNext x f = onCode (λ i. next i f) f (readCode x)
+
+-- instruction i of a set is bad; overlaps an earlier one; is not allowed on the record with this image
+abbrev pub bad : List ℕ → ℕ → Bool
+bad set i = not (isGood (codeAt set i))
+
+unfoldable pub overlapsEarlier : List ℕ → ℕ → Bool
+overlapsEarlier set i = some i (λ j. share (heldArea (codeAt set i)) (heldArea (codeAt set j)))
+
+abbrev pub barred : List ℕ → ℕ → ℕ → Bool
+barred set r i = not (heldAllowed (codeAt set i) (bit r))
+
+-- one of the first n instructions of a set has the lift in its area
+unfoldable pub liftIn : List ℕ → ℕ → Bool
+liftIn set n = some n (λ j. share (heldArea (codeAt set j)) lift)

@@ -1,0 +1,4 @@
+pub mod Held
+pub mod Station
+pub mod Calls
+pub mod Private

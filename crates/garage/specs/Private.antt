@@ -1,0 +1,17 @@
+-- What the contracts of private functions cite; no public one rests on it. Assumes nothing.
+use mathlib.Core.List.{List}
+use Prim.Native.Nat.{ℕ, zero, suc}
+use lib.Bits.{bitOr}
+use Rattle.bits.specs.Bits.{image}
+use Rattle.bits.specs.Places.{elem}
+use Rattle.rules.specs.declared.Code.{Code}
+use Rattle.garage.specs.Held.{codeAt, heldArea}
+
+-- the area of an instruction as a mask
+unfoldable pub heldMask : Code → ℕ
+heldMask x = image (λ k. elem k (heldArea x))
+
+-- all areas of the first n instructions, as one mask
+unfoldable pub areas : List ℕ → ℕ → ℕ
+areas set zero = 0
+areas set (suc n) = bitOr (areas set n) (heldMask (codeAt set n))

@@ -1,0 +1,58 @@
+-- The station: its record, the outstanding set, a mark for each instruction of it that is answered; and when a station is fit.
+-- Assumes nothing.
+use mathlib.Core.Bool.{Bool, true, false, not, cond, _&&_, _||_}
+use mathlib.Core.List.{List, _++_}
+use Prim.Native.Nat.{ℕ, _+_, _*_, _-_, _^_}
+use lib.Bits.{bitOr}
+use lib.Dec.{eqb, leb, ltb}
+use lib.ListN.{getD, take, replicate}
+use Rattle.bits.specs.Bits.{bit}
+use Rattle.bits.specs.Search.{some, every}
+use Rattle.floor.specs.Sound.{sound}
+use Rattle.garage.specs.declared.Station.{Station}
+use Rattle.garage.specs.Held.{bad}
+
+-- the largest set
+abbrev pub most : ℕ
+most = 8
+
+-- no set is outstanding: no instruction and no mark
+abbrev pub closed : ℕ → Station
+closed r = record { bits = r; count = 0; answered = 0; set = replicate 40 0 }
+
+-- the start: no cars, rows 1 and 2 lowered and row 3 tilted on both sides, lift at street, no set
+abbrev pub startOf : Station
+startOf = closed 0x00091B0000000000
+
+-- instruction i is answered
+abbrev pub marked : Station → ℕ → Bool
+marked s i = bit (s .answered) i
+
+-- a place of the set is used by one of its instructions
+abbrev pub used : Station → ℕ → Bool
+used s k = ltb k (5 * s .count)
+
+-- the record is sound; 0 to 8 instructions, well formed; marks only those; unused places zero; a non-empty set has one unanswered
+unfoldable pub fit : Station → Bool
+fit s =
+    sound (s .bits)
+    && (leb (s .count) most
+    && (every (s .count) (λ i. not (bad (s .set) i))
+    && (every 8 (λ i. not (marked s i) || ltb i (s .count))
+    && (every 40 (λ k. used s k || eqb (getD (s .set) k 0) 0)
+    && (eqb (s .count) 0 || some (s .count) (λ i. not (marked s i)))))))
+
+-- the same station with another record
+abbrev pub holding : Station → ℕ → Station
+holding s r = record { bits = r; count = s .count; answered = s .answered; set = s .set }
+
+-- a set of n instructions is outstanding, none answered; the record stays
+abbrev pub opened : Station → ℕ → List ℕ → Station
+opened s n set = record { bits = s .bits; count = n; answered = 0; set = take (5 * n) set ++ replicate (40 - 5 * n) 0 }
+
+-- instruction i answered, the record now r; with the last of them the station holds no instruction and no mark
+unfoldable pub answering : Station → ℕ → ℕ → Station
+answering s i r =
+    let marks = bitOr (s .answered) (2 ^ i) in
+    cond (every (s .count) (bit marks)) (closed r)
+    (record { bits = r; count = s .count; answered = marks; set = s .set })

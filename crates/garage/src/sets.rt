@@ -1,0 +1,136 @@
+// A set of instructions as the station holds it, and the searches through it.
+ghost use mathlib.Core.Path.{_≡_};
+ghost use mathlib.Core.Bool.{_||_};
+ghost use mathlib.Core.List.{_++_};
+ghost use Prim.Native.Nat.{_*_, _-_};
+ghost use lib.Dec.{eqb, ltb};
+ghost use lib.ListN.{getD, take, replicate};
+ghost use Rattle.bits.specs.Search.{every, least};
+ghost use Rattle.garage.specs.Held.{codeAt, bad, overlapsEarlier, barred, liftIn};
+ghost use Rattle.garage.specs.Private.{areas};
+use crate::held;
+use rules::Code;
+
+// Instruction i of a set; past the eighth there are only zeros.
+pub fn code_at(set: [u8; 40], i: u8) -> Code
+    ensures { λ x. ⌜ x ≡ codeAt set i ⌝ }
+{
+    if 8 <= i {
+        return Code {
+            op: 0,
+            a: 0,
+            b: 0,
+            c: 0,
+            d: 0,
+        };
+    }
+    let at = 5 * (i as usize);
+    Code {
+        op: set[at],
+        a: set[at + 1],
+        b: set[at + 2],
+        c: set[at + 3],
+        d: set[at + 4],
+    }
+}
+
+// The least instruction of the first n that is bad, or n.
+pub fn least_bad(set: [u8; 40], n: u8) -> u8
+    ensures { λ p. ⌜ p ≡ least n (bad set) ⌝ }
+{
+    let mut i = 0;
+    while i < n {
+        let x = code_at(set, i);
+        if !held::good(x) {
+            return i;
+        }
+        i += 1;
+    }
+    n
+}
+
+// The least instruction of the first n that overlaps an earlier one, or n.
+pub fn least_overlap(set: [u8; 40], n: u8) -> u8
+    ensures { λ p. ⌜ p ≡ least n (overlapsEarlier set) ⌝ }
+{
+    let mut seen: u64 = 0;
+    let mut i = 0;
+    while i < n {
+        let x = code_at(set, i);
+        let m = held::area(x);
+        if m & seen != 0 {
+            return i;
+        }
+        seen = seen | m;
+        i += 1;
+    }
+    n
+}
+
+// The least instruction of the first n that is not allowed on the record r, or n.
+pub fn least_barred(set: [u8; 40], n: u8, r: u64) -> u8
+    ensures { λ p. ⌜ p ≡ least n (barred set r) ⌝ }
+{
+    let mut i = 0;
+    while i < n {
+        let x = code_at(set, i);
+        if !held::allowed(x, r) {
+            return i;
+        }
+        i += 1;
+    }
+    n
+}
+
+// All areas of the first n instructions.
+fn areas(set: [u8; 40], n: u8) -> u64
+    ensures { λ m. ⌜ m ≡ areas set n ⌝ }
+{
+    let mut seen: u64 = 0;
+    let mut i = 0;
+    while i < n {
+        let x = code_at(set, i);
+        let m = held::area(x);
+        seen = seen | m;
+        i += 1;
+    }
+    seen
+}
+
+// One of the first n instructions has the lift in its area.
+pub fn lift_in(set: [u8; 40], n: u8) -> bool
+    ensures { λ b. ⌜ b ≡ liftIn set n ⌝ }
+{
+    areas(set, n) & 0x70_0000_0000_0000 != 0
+}
+
+// The places past the first n instructions are zero.
+pub fn rest_zero(set: [u8; 40], n: u8) -> bool
+    ensures { λ b. ⌜ b ≡ every 40 (λ k. ltb k (5 * n) || eqb (getD set k 0) 0) ⌝ }
+{
+    let mut k = 5 * (n as usize);
+    while k < 40 {
+        if set[k] != 0 {
+            return false;
+        }
+        k += 1;
+    }
+    true
+}
+
+// The bytes of the first n instructions, the unused places zero.
+pub fn only(set: [u8; 40], n: u8) -> [u8; 40]
+    ensures { λ kept. ⌜ kept ≡ take (5 * n) set ++ replicate (40 - 5 * n) 0 ⌝ }
+{
+    if 8 <= n {
+        return set;
+    }
+    let mut kept = [0u8; 40];
+    let end = 5 * (n as usize);
+    let mut k = 0;
+    while k < end {
+        kept[k] = set[k];
+        k += 1;
+    }
+    kept
+}

@@ -1,0 +1,111 @@
+-- What holds after any calls, images apart, from a station that begins: it is fit, so its record is sound; the record is a number of 64
+-- bits; and the cars are counted. Assumes nothing.
+use mathlib.Core.Path.{_∙_, _≡_, refl, ap}
+use mathlib.Core.Bool.{Bool, _&&_, true, cond, and-false, and-true}
+use mathlib.Core.List.{List, [], _∷_}
+use Prim.Native.Nat.{ℕ, _+_, _^_, _<_}
+use native.Mathlib.Omega.{arith}
+use lib.Dec.{eqb}
+use borrow.Author.Tests.{ne-eqb}
+use Rattle.bits.specs.Bits.{bit}
+use Rattle.bits.proofs.Cases.{clash}
+use Rattle.bits.proofs.Digits.{packed-lt}
+use Rattle.floor.specs.Cars.{cars}
+use Rattle.floor.proofs.Promises.{layout-cars, sound-exactly}
+use Rattle.rules.specs.declared.Event.the-variants.{CarIn, CarOut}
+use Rattle.rules.specs.declared.EventReading.{EventReading}
+use Rattle.rules.specs.declared.EventReading.the-variants.{Good as Told, Bad as Untold}
+use Rattle.rules.specs.Codes.{readEvent}
+use Rattle.rules.proofs.CodeLaws.{event-one-form}
+use Rattle.rules_laws.proofs.Laws.{event-image-cars}
+use Rattle.garage.specs.declared.Station.{Station}
+use Rattle.garage.specs.Station.{fit, holding}
+use Rattle.garage_laws.specs.Runs as run
+use Rattle.garage_laws.specs.Runs.{Call, said, left, calls, Begins, atStart, byImage, NoImages, drove, driven}
+use Rattle.garage_laws.specs.Demands.{AlwaysLaidOut, CarsCounted}
+use Rattle.garage_laws.proofs.Instance.{possibleAs, afterAs, next-sound, after-sound, next-cars}
+use Rattle.garage_laws.proofs.Fits.{fit-has, fit-start, fit-holding, fit-opened, fit-answering}
+use Rattle.garage_laws.proofs.Calls.{following, answering-bits, event-is, image-has, image-is}
+use Rattle.garage_laws.proofs.Steps.{Step, refuses, opens, fails, succeeds, drives, tells, steps, parts, along}
+
+-- ---- fit
+
+pub fit-step : (s t : Station) (c : Call) → Step s c t → fit s ≡ true → fit t ≡ true
+fit-step s t c (refuses n) f = f
+fit-step s t c (opens {n} {set} A) f = fit-opened s n set A
+fit-step s t c (fails {i} w) f = fit-answering s i (s .bits) f (w .1) (fit-has s f .sound)
+fit-step s t c (succeeds {i} w a) f = fit-answering s i (following s i) f (w .1) (next-sound _ (s .bits) (fit-has s f .sound) a)
+fit-step s t c (drives {e} d) f = fit-holding s _ f (after-sound (readEvent e) (s .bits) (fit-has s f .sound) (d .2))
+fit-step s t c tells f = f
+
+-- where it begins, it holds no set, and a record of 64 bits
+pub begins-has : (s : Station) → Begins s → (fit s ≡ true) × (s .count ≡ 0) × (s .bits < 2 ^ 64)
+begins-has s atStart = (fit-start, refl, (omega arith))
+begins-has s (byImage before r h e) =
+    let w = image-has before r e in
+    let l : left before (run.image r) ≡ holding before r = ap (λ o. o .station) (image-is before r w) in
+    rw l (fit-holding before r (w .0) (w .2), w .1, h)
+
+pub always-laid-out : AlwaysLaidOut
+always-laid-out s b l p = sound-exactly _ .0 (fit-has _ (along (λ s. fit s ≡ true) fit-step l p s (begins-has s b .0)) .sound)
+
+-- ---- of 64 bits
+
+-- its record is
+abbrev pub Small : Station → Type 0
+Small s = s .bits < 2 ^ 64
+
+after-small : (v : EventReading) (r : ℕ) → r < 2 ^ 64 → afterAs v r < 2 ^ 64
+after-small (Told e) r h = packed-lt 64 0 _
+after-small Untold r h = h
+
+pub small-step : (s t : Station) (c : Call) → Step s c t → Small s → Small t
+small-step s t c (refuses n) h = h
+small-step s t c (opens A) h = h
+small-step s t c (fails {i} w) h = rw (answering-bits s i (s .bits)) h
+small-step s t c (succeeds {i} w a) h = rw (answering-bits s i (following s i)) (packed-lt 64 0 _)
+small-step s t c (drives {e} d) h = after-small (readEvent e) (s .bits) h
+small-step s t c tells h = h
+
+-- ---- the cars
+
+-- those of its record
+abbrev carsOf : Station → ℕ
+carsOf s = cars (bit (s .bits))
+
+-- a call that is refused drives no car
+drove-none : (way : ℕ) (s : Station) (c : Call) → (said s c ≡ 0 → ⊥) → drove way s c ≡ 0
+drove-none way s (run.request n set) r = refl
+drove-none way s (run.result i done) r = refl
+drove-none way s (run.event e) r = ap (λ (b : Bool). cond {A = ℕ} b 1 0) (ap (λ (b : Bool). eqb e way && b) (ne-eqb (said s (run.event e)) 0 r) ∙ and-false (eqb e way))
+drove-none way s (run.image x) r = refl
+drove-none way s run.ask r = refl
+
+-- an event that is taken drives one, in or out
+drove-one : (way : ℕ) (s : Station) (e : ℕ) → said s (run.event e) ≡ 0 → drove way s (run.event e) ≡ cond (eqb e way) 1 0
+drove-one way s e z = rw (z, and-true (eqb e way))
+
+event-counted : (e r : ℕ) (v : EventReading) → readEvent e ≡ v → possibleAs v r ≡ true
+    → cars (bit (afterAs v r)) + cond (eqb e 2) 1 0 ≡ cars (bit r) + cond (eqb e 1) 1 0
+event-counted e r (Told CarIn) p t = let c = event-image-cars CarIn r t in rw (event-one-form e CarIn p) (omega arith)
+event-counted e r (Told CarOut) p t = let c = event-image-cars CarOut r t in rw (event-one-form e CarOut p) (omega arith)
+event-counted e r Untold p t = clash t refl
+
+counted-step : (s t : Station) (c : Call) → Step s c t → carsOf t + drove 2 s c ≡ carsOf s + drove 1 s c
+counted-step s t c (refuses n) = rw (drove-none 2 s c n, drove-none 1 s c n)
+counted-step s t c (opens A) = refl
+counted-step s t c (fails {i} w) = rw (answering-bits s i (s .bits))
+counted-step s t c (succeeds {i} w a) = rw (answering-bits s i (following s i)) (ap (λ (n : ℕ). n + 0) (next-cars _ (s .bits) (fit-has s (w .0) .sound) a))
+counted-step s t c (drives {e} d) =
+    let z : said s (run.event e) ≡ 0 = rw (event-is s e d) in
+    rw (drove-one 2 s e z, drove-one 1 s e z) (event-counted e (s .bits) (readEvent e) refl (d .2))
+counted-step s t c tells = refl
+
+counted : (l : List Call) → NoImages l → (s : Station) → carsOf (calls s l) + driven 2 s l ≡ carsOf s + driven 1 s l
+counted [] p s = refl
+counted (c ∷ l) p s =
+    let (a, b) = parts c l p in
+    omega (arith, counted-step s (left s c) c (steps s c a), counted l b (left s c))
+
+pub cars-counted : CarsCounted
+cars-counted s b l p before after u v = rw (layout-cars _ before u, layout-cars _ after v) (counted l p s)

@@ -1,0 +1,246 @@
+-- Each call taken apart: when it is taken, and what it then leaves. A call is one chain of refusals; what is taken has passed each of
+-- them, and what is refused leaves the station. Assumes nothing.
+use mathlib.Core.Path.{_≡_, refl, ap, _∙_}
+use mathlib.Core.Bool.{Bool, true, false, cond}
+use mathlib.Core.List.{List}
+use Prim.Native.Nat.{ℕ, _<_}
+use native.Mathlib.Omega.{arith}
+use lib.Dec.{eqb, leb, ltb}
+use borrow.Author.Tests.{ltb-false, le-ltb, leb-false, lt-leb, eqb-false, ne-eqb, not-false}
+use Rattle.bits.specs.Bits.{bit, image}
+use Rattle.bits.specs.Search.{least}
+use Rattle.bits.proofs.Cases.{split, clash}
+use Rattle.bits.proofs.Search.{none-at, none-is}
+use Rattle.bits.proofs.Least.{least-none, least-below}
+use Rattle.floor.specs.Sound.{sound}
+use Rattle.rules.specs.declared.EventReading.{EventReading}
+use Rattle.rules.specs.declared.EventReading.the-variants.{Good as Told, Bad as Untold}
+use Rattle.rules.specs.Events.{possible, after}
+use Rattle.rules.specs.Codes.{readEvent}
+use Rattle.answers.specs.declared.Answer.{Answer}
+use Rattle.answers.specs.declared.Answer.the-variants.{BadField, TooMany, SetOutstanding, EmptySet, Overlap, NotAllowed, EventImpossible, NoSet, NotInSet, AlreadyAnswered, NowNotAllowed, Unsound, Unfit}
+use Rattle.answers.specs.Answers.{numberOf, nowhere}
+use Rattle.garage.specs.declared.Station.{Station}
+use Rattle.garage.specs.declared.Outcome.{Outcome}
+use Rattle.garage.specs.Held.{codeAt, heldAllowed, heldNext, bad, overlapsEarlier, barred, liftIn}
+use Rattle.garage.specs.Station.{most, marked, fit, holding, opened, answering}
+use Rattle.garage.specs.Calls as station
+use Rattle.garage.specs.Calls.{refused, taken, onFit, driven, succeeded}
+use Rattle.garage_laws.specs.Runs as run
+use Rattle.garage_laws.specs.Runs.{Call, call, said, left}
+use Rattle.garage_laws.specs.Demands.{Acceptable, Waiting}
+use Rattle.garage_laws.proofs.Instance.{onEvent, possibleAs, afterAs}
+use Rattle.garage_laws.proofs.Fits.{after-result}
+
+-- an outcome that is answered 0
+abbrev Zero : Outcome → Type 0
+Zero o = numberOf (o .answer) ≡ 0
+
+-- ---- past a test
+
+-- whose refusal is no answer 0
+passed : (t : Bool) (s : Station) (a : Answer) (o : Outcome) → (numberOf a ≡ 0 → ⊥) → Zero (cond t (refused s a) o) → (t ≡ false) × Zero o
+passed true s a o other e = absurd (other e)
+passed false s a o other e = (refl, e)
+
+-- the same of a test that must pass
+met : (t : Bool) (s : Station) (a : Answer) (o : Outcome) → (numberOf a ≡ 0 → ⊥) → Zero (cond t o (refused s a)) → (t ≡ true) × Zero o
+met true s a o other e = (refl, e)
+met false s a o other e = absurd (other e)
+
+-- no instruction is at fault
+faultless : (n : ℕ) (fault : ℕ → Bool) → ltb (least n fault) n ≡ false → (i : ℕ) → i < n → fault i ≡ false
+faultless n fault e i h = let l = ltb-false (least n fault) n e in least-below n fault i (omega arith)
+
+no-fault : (n : ℕ) (fault : ℕ → Bool) → ((i : ℕ) → i < n → fault i ≡ false) → ltb (least n fault) n ≡ false
+no-fault n fault none = let e = least-none n fault none in le-ltb (least n fault) n (omega arith)
+
+-- ---- a request
+
+pub request-has : (s : Station) (n : ℕ) (set : List ℕ) → said s (run.request n set) ≡ 0 → Acceptable s n set
+unfolding station.request overlapsEarlier
+request-has s n set e =
+    let (a, e₁) = met (fit s) s Unfit _ (λ z. omega arith) e in
+    let (b, e₂) = passed (ltb 0 (s .count)) s SetOutstanding _ (λ z. omega arith) e₁ in
+    let (c, e₃) = passed (ltb most n) s TooMany _ (λ z. omega arith) e₂ in
+    let (d, e₄) = passed (eqb n 0) s EmptySet _ (λ z. omega arith) e₃ in
+    let (f, e₅) = passed (ltb (least n (bad set)) n) s (BadField (least n (bad set))) _ (λ z. omega arith) e₄ in
+    let (g, e₆) = passed (ltb (least n (overlapsEarlier set)) n) s (Overlap (least n (overlapsEarlier set))) _ (λ z. omega arith) e₅ in
+    let (h, e₇) = passed (ltb (least n (barred set (s .bits))) n) s (NotAllowed (least n (barred set (s .bits)))) _ (λ z. omega arith) e₆ in
+    record {
+      fits = a;
+      idle = (let l = ltb-false 0 (s .count) b in omega arith);
+      some = (let l = eqb-false n 0 d in omega arith);
+      few = ltb-false most n c;
+      good = λ i l. not-false _ (faultless n (bad set) f i l);
+      apart = λ i j l m. none-at i _ (faultless n (overlapsEarlier set) g i l) j (omega arith);
+      allowed = λ i l. not-false _ (faultless n (barred set (s .bits)) h i l);
+    }
+
+pub request-is : (s : Station) (n : ℕ) (set : List ℕ) → Acceptable s n set → station.request s n set ≡ taken (opened s n set)
+unfolding station.request overlapsEarlier
+request-is s n set A = rw (
+  A .fits,
+  le-ltb 0 (s .count) (let z = A .idle in omega arith),
+  le-ltb most n (A .few),
+  ne-eqb n 0 (λ z. (let l = A .some in omega arith)),
+  no-fault n (bad set) (λ i h. rw (A .good i h)),
+  no-fault n (overlapsEarlier set) (λ i h. none-is i _ (λ j l. A .apart i j h l)),
+  no-fault n (barred set (s .bits)) (λ i h. rw (A .allowed i h)),
+)
+
+-- ---- a result
+
+-- whatever is reported, the instruction waits
+waiting-has : (s : Station) (i done : ℕ) (o : Outcome) →
+    Zero (onFit s (cond (ltb 1 done) (refused s (BadField nowhere)) (cond (eqb (s .count) 0) (refused s NoSet) (cond (leb (s .count) i) (refused s NotInSet) (cond (marked s i) (refused s AlreadyAnswered) o)))))
+    → Waiting s i × Zero o
+waiting-has s i done o e =
+    let (a, e₁) = met (fit s) s Unfit _ (λ z. omega arith) e in
+    let (b, e₂) = passed (ltb 1 done) s (BadField nowhere) _ (λ z. omega arith) e₁ in
+    let (c, e₃) = passed (eqb (s .count) 0) s NoSet _ (λ z. omega arith) e₂ in
+    let (d, e₄) = passed (leb (s .count) i) s NotInSet _ (λ z. omega arith) e₃ in
+    let (f, e₅) = passed (marked s i) s AlreadyAnswered o (λ z. omega arith) e₄ in
+    ((a, leb-false (s .count) i d, f), e₅)
+
+module _ (s : Station) (i : ℕ) where
+  -- the record that its rule makes
+  abbrev pub following : ℕ
+  following = image (heldNext (codeAt (s .set) i) (bit (s .bits)))
+
+  pub success-has : said s (run.result i 1) ≡ 0 → Waiting s i × (heldAllowed (codeAt (s .set) i) (bit (s .bits)) ≡ true)
+  unfolding station.result
+  success-has e =
+      let (w, e₁) = waiting-has s i 1 (succeeded s i) e in
+      (w, met (heldAllowed (codeAt (s .set) i) (bit (s .bits))) s NowNotAllowed _ (λ z. omega arith) e₁ .0)
+
+  pub success-is : Waiting s i → heldAllowed (codeAt (s .set) i) (bit (s .bits)) ≡ true → station.result s i 1 ≡ taken (answering s i following)
+  unfolding station.result
+  success-is w t = let h = w .1 in rw (w .0, ne-eqb (s .count) 0 (λ z. omega arith), lt-leb (s .count) i h, w .2, t)
+
+  pub failure-has : said s (run.result i 0) ≡ 0 → Waiting s i
+  unfolding station.result
+  failure-has e = waiting-has s i 0 (taken (answering s i (s .bits))) e .0
+
+  pub failure-is : Waiting s i → station.result s i 0 ≡ taken (answering s i (s .bits))
+  unfolding station.result
+  failure-is w = let h = w .1 in rw (w .0, ne-eqb (s .count) 0 (λ z. omega arith), lt-leb (s .count) i h, w .2)
+
+  -- no other result is taken
+  pub done-has : (done : ℕ) → said s (run.result i done) ≡ 0 → done < 2
+  unfolding station.result
+  done-has done e =
+      let (a, e₁) = met (fit s) s Unfit _ (λ z. omega arith) e in
+      let (b, e₂) = passed (ltb 1 done) s (BadField nowhere) _ (λ z. omega arith) e₁ in
+      let l = ltb-false 1 done b in omega arith
+
+  -- the record after a result
+  pub answering-bits : (r : ℕ) → answering s i r .bits ≡ r
+  answering-bits r = after-result (λ t. t .bits ≡ r) s i r (λ t. refl) (λ t. refl)
+
+-- ---- a car event, by what its number says
+
+-- the number that a fit station answers
+abbrev pub numberAs : EventReading → Bool → Bool → ℕ
+numberAs v blocked ok = onEvent (λ e. cond blocked 6 (cond ok 0 10)) 4 v
+
+module _ (s : Station) where
+  -- what the station makes of it
+  abbrev drivenAs : EventReading → Outcome
+  drivenAs v = onFit s (onEvent (driven s) (refused s (BadField nowhere)) v)
+
+  event-as : (e : ℕ) → station.event s e ≡ drivenAs (readEvent e)
+  unfolding station.event readEvent
+  event-as e = split (eqb e 1) (λ t. rw t) (λ t. split (eqb e 2) (λ u. rw (t, u)) (λ u. rw (t, u)))
+
+  -- what a car event must have
+  abbrev pub Drivable : EventReading → Type 0
+  Drivable v = (fit s ≡ true) × (liftIn (s .set) (s .count) ≡ false) × (possibleAs v (s .bits) ≡ true)
+
+  driven-has : (v : EventReading) → Zero (drivenAs v) → Drivable v
+  driven-has (Told e) z =
+      let (a, z₁) = met (fit s) s Unfit (driven s e) (λ z. omega arith) z in
+      let (b, z₂) = passed (liftIn (s .set) (s .count)) s SetOutstanding _ (λ z. omega arith) z₁ in
+      let (c, z₃) = met (possible e (bit (s .bits))) s EventImpossible (taken (holding s (image (after e (bit (s .bits)))))) (λ z. omega arith) z₂ in
+      (a, b, c)
+  driven-has Untold z = let (a, z₁) = met (fit s) s Unfit (refused s (BadField nowhere)) (λ z. omega arith) z in absurd (omega arith)
+
+  driven-is : (v : EventReading) → Drivable v → drivenAs v ≡ taken (holding s (afterAs v (s .bits)))
+  driven-is (Told e) d = rw (d .0, d .1, d .2)
+  driven-is Untold d = clash (d .2) refl
+
+  driven-number : (v : EventReading) → fit s ≡ true → numberOf (drivenAs v .answer) ≡ numberAs v (liftIn (s .set) (s .count)) (possibleAs v (s .bits))
+  driven-number (Told e) f = rw f (split (liftIn (s .set) (s .count)) (λ t. rw t) (λ t. rw t (split (possible e (bit (s .bits))) (λ u. rw u) (λ u. rw u))))
+  driven-number Untold f = rw f
+
+  module _ (e : ℕ) where
+    pub event-has : said s (run.event e) ≡ 0 → Drivable (readEvent e)
+    event-has z = driven-has (readEvent e) (rw (event-as e) at z)
+
+    pub event-is : Drivable (readEvent e) → station.event s e ≡ taken (holding s (afterAs (readEvent e) (s .bits)))
+    event-is d = event-as e ∙ driven-is (readEvent e) d
+
+    pub event-number : fit s ≡ true → said s (run.event e) ≡ numberAs (readEvent e) (liftIn (s .set) (s .count)) (possibleAs (readEvent e) (s .bits))
+    event-number f = ap (λ (o : Outcome). numberOf (o .answer)) (event-as e) ∙ driven-number (readEvent e) f
+
+-- ---- an image
+
+pub image-has : (s : Station) (r : ℕ) → said s (run.image r) ≡ 0 → (fit s ≡ true) × (s .count ≡ 0) × (sound r ≡ true)
+unfolding station.takeImage
+image-has s r e =
+    let (a, e₁) = met (fit s) s Unfit _ (λ z. omega arith) e in
+    let (b, e₂) = passed (ltb 0 (s .count)) s SetOutstanding _ (λ z. omega arith) e₁ in
+    let (c, e₃) = met (sound r) s Unsound (taken (holding s r)) (λ z. omega arith) e₂ in
+    (a, (let l = ltb-false 0 (s .count) b in omega arith), c)
+
+pub image-is : (s : Station) (r : ℕ) → (fit s ≡ true) × (s .count ≡ 0) × (sound r ≡ true) → station.takeImage s r ≡ taken (holding s r)
+unfolding station.takeImage
+image-is s r w = rw (w .0, le-ltb 0 (s .count) (let z = w .1 in omega arith), w .2)
+
+-- ---- every call is refused with a number that is neither 0 nor 14, or taken, or a success of an instruction that waits
+
+-- a refusal other than 14
+abbrev Other : Answer → Type 0
+Other a = (numberOf a ≡ 0 → ⊥) × (numberOf a ≡ 14 → ⊥)
+
+module _ (P : Outcome → Type 0) (s : Station) (no : (a : Answer) → Other a → P (refused s a)) (done : (t : Station) → P (taken t)) (told : (i : ℕ) → Waiting s i → P (succeeded s i)) where
+  either : (t : Bool) {o p : Outcome} → (t ≡ true → P o) → (t ≡ false → P p) → P (cond t o p)
+  either true f g = f refl
+  either false f g = g refl
+
+  unless : (t : Bool) (a : Answer) {o : Outcome} → Other a → (t ≡ false → P o) → P (cond t (refused s a) o)
+  unless t a other f = either t (λ e. no a other) f
+
+  fitting : {o : Outcome} → (fit s ≡ true → P o) → P (onFit s o)
+  fitting f = either (fit s) f (λ e. no Unfit (omega arith))
+
+  driving : (v : EventReading) → P (drivenAs s v)
+  driving (Told e) = fitting (λ f. unless (liftIn (s .set) (s .count)) SetOutstanding (omega arith) (λ a. either (possible e (bit (s .bits))) (λ b. done _) (λ b. no EventImpossible (omega arith))))
+  driving Untold = fitting (λ f. no (BadField nowhere) (omega arith))
+
+  pub each-call : (c : Call) → P (call s c)
+  unfolding station.request station.result station.takeImage station.ask
+  each-call (run.request n set) =
+      fitting (λ f. unless (ltb 0 (s .count)) SetOutstanding (omega arith)
+      (λ a. unless (ltb most n) TooMany (omega arith)
+      (λ b. unless (eqb n 0) EmptySet (omega arith)
+      (λ c. unless (ltb (least n (bad set)) n) (BadField (least n (bad set))) (omega arith)
+      (λ d. unless (ltb (least n (overlapsEarlier set)) n) (Overlap (least n (overlapsEarlier set))) (omega arith)
+      (λ g. unless (ltb (least n (barred set (s .bits))) n) (NotAllowed (least n (barred set (s .bits)))) (omega arith)
+      (λ h. done (opened s n set))))))))
+  each-call (run.result i d) =
+      fitting (λ f. unless (ltb 1 d) (BadField nowhere) (omega arith)
+      (λ a. unless (eqb (s .count) 0) NoSet (omega arith)
+      (λ b. unless (leb (s .count) i) NotInSet (omega arith)
+      (λ c. unless (marked s i) AlreadyAnswered (omega arith)
+      (λ m. either (eqb d 0) (λ z. done (answering s i (s .bits))) (λ z. told i (f, leb-false (s .count) i c, m)))))))
+  each-call (run.event e) = rw (event-as s e) (driving (readEvent e))
+  each-call (run.image r) = fitting (λ f. unless (ltb 0 (s .count)) SetOutstanding (omega arith) (λ a. either (sound r) (λ b. done (holding s r)) (λ b. no Unsound (omega arith))))
+  each-call run.ask = fitting (λ f. done s)
+
+-- a refused call leaves the station as it was
+pub untouched : (s : Station) (c : Call) → (said s c ≡ 0 → ⊥) → left s c ≡ s
+untouched s c = each-call (λ o. (Zero o → ⊥) → o .station ≡ s) s (λ a h n. refl) (λ t n. absurd (n refl)) (λ i w. success i) c
+  where
+    success : (i : ℕ) → (Zero (succeeded s i) → ⊥) → succeeded s i .station ≡ s
+    success i = split (heldAllowed (codeAt (s .set) i) (bit (s .bits))) (λ t. rw t (λ n. absurd (n refl))) (λ t. rw t (λ n. refl))

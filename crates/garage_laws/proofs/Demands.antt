@@ -1,0 +1,78 @@
+-- The three demands of specs/Demands.antt, kept. Assumes nothing.
+use mathlib.Core.Path.{ap, subst, _∙_}
+use Prim.Native.Nat.{ℕ}
+use Rattle.rules.specs.declared.EventReading.{EventReading}
+use Rattle.rules.specs.Codes.{eventCode}
+use Rattle.rules.proofs.CodeLaws.{event-reads-back}
+use Rattle.floor.proofs.Promises.{sound-exactly}
+use Rattle.answers.specs.Answers.{numberOf}
+use Rattle.garage.specs.declared.Station.{Station}
+use Rattle.garage.specs.declared.Outcome.{Outcome}
+use Rattle.garage.specs.Station.{holding}
+use Rattle.garage_laws.specs.Demands.{RefusedUntouched, AcceptedExactly, ResultRecord, FailureKeeps, EventRecord, ImageTaken, AlwaysLaidOut, CarsCounted, AnyOrder, OrdersExist, NeverFourteen}
+use Rattle.garage_laws.proofs.Instance.{afterAs}
+use Rattle.garage_laws.proofs.Calls as calls
+use Rattle.garage_laws.proofs.Calls.{Drivable, request-has, request-is, success-has, success-is, failure-has, failure-is, answering-bits, event-has, event-is, image-has, image-is}
+use Rattle.garage_laws.proofs.Always as always
+use Rattle.garage_laws.proofs.Link as link
+use Rattle.garage_laws.proofs.Lists as lists
+use Rattle.garage_laws.proofs.AnyOrder as orders
+
+-- the parts of an outcome
+abbrev number : Outcome → ℕ
+number o = numberOf (o .answer)
+
+abbrev rest : Outcome → Station
+rest o = o .station
+
+-- ---- 1. It always answers
+
+pub refused-untouched : RefusedUntouched
+refused-untouched = calls.untouched
+
+-- ---- 2. It answers right
+
+pub accepted-exactly : AcceptedExactly
+accepted-exactly s n set = ((request-has s n set, λ A. ap number (request-is s n set A)), λ A. ap rest (request-is s n set A))
+
+pub result-record : ResultRecord
+result-record s i = (
+  (success-has s i, λ w. ap number (success-is s i (w .0) (w .1))),
+  λ e. let (w, t) = success-has s i e in let p = ap rest (success-is s i w t) in (p, ap (λ (t : Station). t .bits) p ∙ answering-bits s i _),
+)
+
+pub failure-keeps : FailureKeeps
+failure-keeps s i = (
+  (failure-has s i, λ w. ap number (failure-is s i w)),
+  λ e. let p = ap rest (failure-is s i (failure-has s i e)) in (p, ap (λ (t : Station). t .bits) p ∙ answering-bits s i _),
+)
+
+pub event-record : EventRecord
+event-record s e =
+    let r = event-reads-back e in (
+      (λ z. subst (Drivable s) r (event-has s (eventCode e) z), λ d. ap number (event-is s (eventCode e) (rw r d))),
+      λ z. ap rest (event-is s (eventCode e) (event-has s (eventCode e) z)) ∙ ap (λ (v : EventReading). holding s (afterAs v (s .bits))) r,
+    )
+
+pub image-taken : ImageTaken
+image-taken s r = (
+  (λ e. let w = image-has s r e in (w .0, w .1, sound-exactly r .0 (w .2)), λ w. ap number (image-is s r (w .0, w .1, sound-exactly r .1 (w .2)))),
+  λ e. ap rest (image-is s r (image-has s r e)),
+)
+
+-- ---- 3. Sets are safe in any order
+
+pub always-laid-out : AlwaysLaidOut
+always-laid-out = always.always-laid-out
+
+pub cars-counted : CarsCounted
+cars-counted = always.cars-counted
+
+pub any-order : AnyOrder
+any-order = orders.any-order
+
+pub orders-exist : OrdersExist
+orders-exist = lists.orders-exist
+
+pub never-fourteen : NeverFourteen
+never-fourteen = link.never-fourteen

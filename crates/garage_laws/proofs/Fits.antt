@@ -1,0 +1,116 @@
+-- What a fit station has, and that every call that is taken leaves one: the start, another record, a set opened, a result noted.
+-- Assumes nothing.
+use mathlib.Core.Path.{_≡_, refl, ap}
+use mathlib.Core.Bool.{Bool, true, false, not, _||_, or-true}
+use mathlib.Core.List.{List}
+use Prim.Native.Nat.{ℕ, zero, suc, _*_, _-_, _^_, _≤_, _<_}
+use lib.Bits.{bitOr}
+use lib.Dec.{eqb, ltb}
+use lib.ListN.{getD}
+use borrow.Author.Tests.{leb-true, le-leb, lt-ltb, ltb-false, eqb-true}
+use Rattle.bits.specs.Bits.{bit}
+use Rattle.bits.specs.Search.{some, every}
+use Rattle.bits.proofs.Cases.{split, both}
+use Rattle.bits.proofs.Digits.{bit-none}
+use Rattle.bits.proofs.Search.{every-at, every-is, some-at}
+use Rattle.floor.specs.Sound.{paired, sound}
+use Rattle.garage.specs.declared.Station.{Station}
+use Rattle.garage.specs.Held.{bad}
+use Rattle.garage.specs.Station.{most, fit, marked, used, closed, startOf, holding, opened, answering}
+use Rattle.sets.proofs.Marks.{marks}
+use Rattle.garage_laws.specs.Demands.{Acceptable}
+use Rattle.garage_laws.proofs.Padding.{kept-code, zero-past}
+
+pub record Fit (s : Station) : Type 0 where
+  pub sound : sound (s .bits) ≡ true
+  pub few : s .count ≤ most
+  pub good : every (s .count) (λ i. not (bad (s .set) i)) ≡ true
+  pub marks : every 8 (λ i. not (marked s i) || ltb i (s .count)) ≡ true
+  pub blank : every 40 (λ k. used s k || eqb (getD (s .set) k 0) 0) ≡ true
+  pub owed : eqb (s .count) 0 || some (s .count) (λ i. not (marked s i)) ≡ true
+
+pub fit-has : (s : Station) → fit s ≡ true → Fit s
+unfolding fit
+fit-has s e =
+    let (a, e₁) = both _ _ e in
+    let (b, e₂) = both _ _ e₁ in
+    let (c, e₃) = both _ _ e₂ in
+    let (d, e₄) = both _ _ e₃ in
+    let (f, g) = both _ _ e₄ in
+    record { sound = a; few = leb-true (s .count) most b; good = c; marks = d; blank = f; owed = g }
+
+has-fit : (s : Station) → Fit s → fit s ≡ true
+unfolding fit
+has-fit s F = rw (F .sound, le-leb (s .count) most (F .few), F .good, F .marks, F .blank, F .owed)
+
+-- ---- no set
+
+fit-closed : (r : ℕ) → sound r ≡ true → fit (closed r) ≡ true
+unfolding fit every
+fit-closed r e = rw e
+
+pub fit-start : fit startOf ≡ true
+unfolding sound paired
+fit-start = fit-closed (startOf .bits) refl
+
+-- ---- another record
+
+pub fit-holding : (s : Station) (r : ℕ) → fit s ≡ true → sound r ≡ true → fit (holding s r) ≡ true
+fit-holding s r f e =
+    let F = fit-has s f in
+    has-fit (holding s r) (record { sound = e; few = F .few; good = F .good; marks = F .marks; blank = F .blank; owed = F .owed })
+
+-- ---- a set
+
+pub fit-opened : (s : Station) (n : ℕ) (set : List ℕ) → Acceptable s n set → fit (opened s n set) ≡ true
+fit-opened s n set A = has-fit (opened s n set) (record {
+  sound = fit-has s (A .fits) .sound;
+  few = A .few;
+  good = every-is n _ (λ i h. rw (kept-code n (40 - 5 * n) set i h, A .good i h));
+  marks = every-is 8 _ (λ i h. rw (bit-none i));
+  blank = every-is 40 _ (λ k h. split (ltb k (5 * n)) (λ t. rw t) (λ t. rw (t, zero-past (5 * n) (40 - 5 * n) set k (ltb-false k (5 * n) t))));
+  owed = rw (some-at n (λ i. not (bit 0 i)) 0 (A .some) refl) (or-true (eqb n 0));
+})
+
+-- ---- a result
+
+-- one is missing, or each is there
+pub some-every : (n : ℕ) (p : ℕ → Bool) → some n (λ j. not (p j)) ≡ not (every n p)
+unfolding some every
+some-every zero p = refl
+some-every (suc n) p = split (p n) (λ t. rw t (some-every n p)) (λ t. rw t)
+
+-- the marks with that of instruction i, and a station that has them
+abbrev pub marksWith : Station → ℕ → ℕ
+marksWith s i = bitOr (s .answered) (2 ^ i)
+
+abbrev pub noted : Station → ℕ → ℕ → Station
+noted s i r = record { bits = r; count = s .count; answered = marksWith s i; set = s .set }
+
+-- what holds of it, and of a station with no set, holds after a result
+pub after-result : (P : Station → Type 0) (s : Station) (i r : ℕ)
+    → (every (s .count) (bit (marksWith s i)) ≡ true → P (closed r)) → (every (s .count) (bit (marksWith s i)) ≡ false → P (noted s i r)) → P (answering s i r)
+unfolding answering
+after-result P s i r last more = split (every (s .count) (bit (marksWith s i))) (λ t. rw t (last t)) (λ t. rw t (more t))
+
+pub fit-answering : (s : Station) (i r : ℕ) → fit s ≡ true → i < s .count → sound r ≡ true → fit (answering s i r) ≡ true
+fit-answering s i r f h e = after-result (λ t. fit t ≡ true) s i r (λ t. fit-closed r e) more
+  where
+    F : Fit s
+    F = fit-has s f
+
+    -- a mark is the new one or was there
+    within : (j : ℕ) → j < 8 → not (bit (marksWith s i) j) || ltb j (s .count) ≡ true
+    within j l = rw (ap (λ (g : ℕ → Bool). g j) (marks (s .answered) i)) (split (eqb i j)
+        (λ t. rw (t, ← eqb-true i j t, lt-ltb i (s .count) h))
+        (λ t. rw t (every-at 8 _ (F .marks) j l)))
+
+    more : every (s .count) (bit (marksWith s i)) ≡ false → fit (noted s i r) ≡ true
+    more t = has-fit _ (record {
+      sound = e;
+      few = F .few;
+      good = F .good;
+      marks = every-is 8 _ within;
+      blank = F .blank;
+      owed = rw (some-every (s .count) (bit (marksWith s i)), t) (or-true (eqb (s .count) 0));
+    })

@@ -1,0 +1,124 @@
+-- The garage's rules as rules of the crate `sets`: records are numbers, instructions five bytes, car events their numbers.
+-- Each instruction and each event reads and writes only its area and keeps records sound, so the rules are framed. Assumes nothing.
+use mathlib.Core.Path.{_≡_, refl, _∙_, sym}
+use mathlib.Core.Bool.{Bool, true, false}
+use mathlib.Core.List.{[]}
+use Prim.Native.Nat.{ℕ, _<_}
+use Rattle.bits.specs.Bits.{bit, image}
+use Rattle.bits.specs.Places.{elem}
+use Rattle.bits.proofs.Cases.{clash}
+use Rattle.bits.proofs.Digits.{bit-image}
+use Rattle.bits.proofs.Sharing.{Small, are-small}
+use Rattle.floor.specs.Floor.{lift}
+use Rattle.floor.specs.Cars.{cars}
+use Rattle.floor.specs.Sound.{sound}
+use Rattle.rules.specs.declared.Code.{Code}
+use Rattle.rules.specs.declared.Instruction.{Instruction}
+use Rattle.rules.specs.declared.Reading.{Reading}
+use Rattle.rules.specs.declared.Reading.the-variants.{Good, Bad}
+use Rattle.rules.specs.declared.Event.{Event}
+use Rattle.rules.specs.declared.EventReading.{EventReading}
+use Rattle.rules.specs.declared.EventReading.the-variants.{Good as Told, Bad as Untold}
+use Rattle.rules.specs.Rules.{wellFormed, areaOf, area, allowed, next}
+use Rattle.rules.specs.Events.{possible, after}
+use Rattle.rules.specs.Codes.{readCode, readEvent}
+use Rattle.rules.specs.Verdicts.{onCode}
+use Rattle.rules.proofs.Frame.{area-small}
+use Rattle.rules.proofs.CodeLaws.{one-form}
+use Rattle.rules_laws.proofs.Laws.{same-verdict, same-bits, kept-outside, events-local, image-sound, image-cars, event-image-sound}
+use Rattle.sets.specs.Rules.{Rules, Local, LocalRules, Framed, blind}
+use Rattle.sets.proofs.Frames.{local-framed}
+use Rattle.garage.specs.Held.{heldArea, heldAllowed, heldNext}
+
+-- what an event's number says, and what is said of a number that is no event's
+abbrev pub onEvent : {A : Type 0} → (Event → A) → A → EventReading → A
+onEvent f none (Told e) = f e
+onEvent f none Untold = none
+
+-- whether such an event is possible, and the record after it
+abbrev pub possibleAs : EventReading → ℕ → Bool
+possibleAs v r = onEvent (λ e. possible e (bit r)) false v
+
+abbrev pub afterAs : EventReading → ℕ → ℕ
+afterAs v r = onEvent (λ e. image (after e (bit r))) r v
+
+-- five zeros
+abbrev pub blank : Code
+blank = record { op = 0; a = 0; b = 0; c = 0; d = 0 }
+
+-- the rules of the garage
+abbrev pub rules : Rules ℕ Bool Code ℕ
+rules = record {
+  width = 64;
+  look = bit;
+  sound = sound;
+  blank = blank;
+  area = λ x k. elem k (heldArea x);
+  allowed = λ x r. heldAllowed x (bit r);
+  next = λ x r. image (heldNext x (bit r));
+  lift = λ k. elem k lift;
+  possible = λ e r. possibleAs (readEvent e) r;
+  after = λ e r. afterAs (readEvent e) r;
+}
+
+-- the places of the lift are bits of the record
+lift-small : Small lift
+lift-small = are-small lift tt
+
+-- what five bytes say is well formed
+module _ (x : Code) where
+  well : (i : Instruction) → readCode x ≡ Good i → wellFormed i ≡ true
+  well i e = one-form x i e .1
+
+-- ---- each reads and writes only its area
+
+read-local : (v : Reading) → ((i : Instruction) → v ≡ Good i → wellFormed i ≡ true)
+    → Local 64 bit (λ k. elem k (onCode areaOf [] v)) (λ r. onCode (λ i. allowed i (bit r)) false v) (λ r. image (onCode (λ i. next i (bit r)) (bit r) v))
+unfolding area
+read-local (Good i) w =
+    let well = w i refl in
+    record {
+      reads = λ f g e. same-verdict i (bit f) (bit g) (λ k m. e k (area-small i well k m) m);
+      writes = λ f g e t k h m. bit-image (next i (bit f)) k h ∙ same-bits i well (bit f) (bit g) (λ j n. e j (area-small i well j n) n) k m ∙ sym (bit-image (next i (bit g)) k h);
+      keeps = λ f t k h o. bit-image (next i (bit f)) k h ∙ kept-outside i well (bit f) k o;
+    }
+read-local Bad w = record { reads = λ f g e. refl; writes = λ f g e t. clash t refl; keeps = λ f t. clash t refl }
+
+event-local : (v : EventReading) → Local 64 bit (λ k. elem k lift) (possibleAs v) (afterAs v)
+event-local (Told e) = record {
+  reads = λ f g a. events-local .sameVerdict e (bit f) (bit g) (λ k m. a k (lift-small k m) m);
+  writes = λ f g a t k h m. bit-image (after e (bit f)) k h ∙ events-local .sameBits e (bit f) (bit g) (λ j n. a j (lift-small j n) n) k m ∙ sym (bit-image (after e (bit g)) k h);
+  keeps = λ f t k h o. bit-image (after e (bit f)) k h ∙ events-local .keptOutside e (bit f) k o;
+}
+event-local Untold = record { reads = λ f g e. refl; writes = λ f g e t. clash t refl; keeps = λ f t. clash t refl }
+
+local : LocalRules rules
+unfolding heldArea heldAllowed heldNext
+local = record { instruction = λ x. read-local (readCode x) (well x); event = λ e. event-local (readEvent e) }
+
+-- ---- and keeps records sound
+
+pub next-sound : (x : Code) (r : ℕ) → sound r ≡ true → heldAllowed x (bit r) ≡ true → sound (image (heldNext x (bit r))) ≡ true
+unfolding heldAllowed heldNext
+next-sound x r s = go (readCode x)
+  where
+    go : (v : Reading) → onCode (λ i. allowed i (bit r)) false v ≡ true → sound (image (onCode (λ i. next i (bit r)) (bit r) v)) ≡ true
+    go (Good i) t = image-sound i r s t
+    go Bad t = clash t refl
+
+pub after-sound : (v : EventReading) (r : ℕ) → sound r ≡ true → possibleAs v r ≡ true → sound (afterAs v r) ≡ true
+after-sound (Told e) r s t = event-image-sound e r s t
+after-sound Untold r s t = clash t refl
+
+pub framed : Framed rules blind blind
+framed = local-framed rules local (record { instruction = next-sound; event = λ e. after-sound (readEvent e) })
+
+-- ---- and an instruction keeps the number of cars
+
+pub next-cars : (x : Code) (r : ℕ) → sound r ≡ true → heldAllowed x (bit r) ≡ true → cars (bit (image (heldNext x (bit r)))) ≡ cars (bit r)
+unfolding heldAllowed heldNext
+next-cars x r s = go (readCode x)
+  where
+    go : (v : Reading) → onCode (λ i. allowed i (bit r)) false v ≡ true → cars (bit (image (onCode (λ i. next i (bit r)) (bit r) v))) ≡ cars (bit r)
+    go (Good i) t = image-cars i r s t
+    go Bad t = clash t refl

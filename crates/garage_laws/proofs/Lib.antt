@@ -1,0 +1,11 @@
+pub mod Instance
+pub mod Padding
+pub mod Fits
+pub mod Calls
+pub mod Steps
+pub mod Always
+pub mod Link
+pub mod Lists
+pub mod Follow
+pub mod AnyOrder
+pub mod Demands

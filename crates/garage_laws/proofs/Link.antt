@@ -1,0 +1,126 @@
+-- The station shows the machine of the crate `sets`: what a station holds is a machine's station (`view`), and each call that is taken is
+-- the machine's. So a station that is reached is in good order, and never answers 14. Assumes nothing.
+use mathlib.Core.Path.{_≡_, sym, ap, subst, _∙_}
+use mathlib.Core.Bool.{Bool, true, cond, _&&_, and-false}
+use mathlib.Core.List.{List, _++_}
+use Prim.Native.Nat.{ℕ, _*_, _-_, _<_}
+use native.Mathlib.Omega.{arith}
+use lib.ListN.{take, replicate}
+use borrow.Author.Tests.{lt-ltb}
+use Rattle.bits.specs.Bits.{bit}
+use Rattle.bits.specs.Places.{elem, share}
+use Rattle.bits.specs.Search.{some}
+use Rattle.bits.proofs.Cases.{both, and-intro, alike}
+use Rattle.bits.proofs.Search.{some-at, some-is, some-same}
+use Rattle.floor.specs.Floor.{lift}
+use Rattle.floor.specs.Sound.{sound}
+use Rattle.rules.specs.declared.Code.{Code}
+use Rattle.bits.proofs.Sharing.{share-some}
+use Rattle.garage.proofs.Areas.{held-small}
+use Rattle.answers.specs.Answers.{numberOf}
+use Rattle.sets.specs.Machine as machine
+use Rattle.sets.specs.Machine.{Batch, Outcome, failed, finished, moves, result, event, request, act, mark, outstanding, blocks, accepted, released, idle, takes, does}
+use Rattle.sets.specs.Rules.{blind}
+use Rattle.sets.specs.Traces.{Good}
+use Rattle.sets.proofs.Facts.{is-accepted}
+use Rattle.sets.proofs.Marks.{marks, unmarked}
+use Rattle.sets.proofs.Trace.{call-good}
+use Rattle.garage.specs.declared.Station.{Station}
+use Rattle.garage.specs.Held.{codeAt, heldArea, liftIn}
+use Rattle.garage.specs.Station.{closed, opened, answering}
+use Rattle.garage_laws.specs.Runs.{Call, Begins}
+use Rattle.garage_laws.specs.Demands.{Acceptable, Waiting, NeverFourteen}
+use Rattle.garage_laws.proofs.Instance.{rules, framed}
+use Rattle.garage_laws.proofs.Padding.{kept-code, no-code}
+use Rattle.garage_laws.proofs.Fits.{fit-has, some-every, marksWith, after-result}
+use Rattle.garage_laws.proofs.Calls.{following, each-call}
+use Rattle.garage_laws.proofs.Always.{begins-has}
+use Rattle.garage_laws.proofs.Steps.{Step, refuses, opens, fails, succeeds, drives, tells, reached}
+
+-- ---- what a station holds
+
+-- so many instructions, by their bytes
+abbrev pub batchOf : ℕ → List ℕ → Batch Code
+batchOf n set = record { size = n; at = codeAt set }
+
+-- a station as the machine's
+abbrev pub view : Station → machine.Station ℕ Code
+view s = record { bits = s .bits; set = batchOf (s .count) (s .set); answered = bit (s .answered) }
+
+-- ---- areas that share a place meet
+
+pub blocks-lift : (n : ℕ) (set : List ℕ) → blocks rules (batchOf n set) ≡ liftIn set n
+unfolding liftIn
+blocks-lift n set = some-same n _ _ (λ j h. sym (share-some (heldArea (codeAt set j)) lift (held-small (codeAt set j))))
+
+-- ---- a request
+
+module _ (s : Station) (n : ℕ) (set : List ℕ) (A : Acceptable s n set) where
+  -- the set as it is kept
+  abbrev pub kept : Batch Code
+  kept = batchOf n (take (5 * n) set ++ replicate (40 - 5 * n) 0)
+
+  same : (i : ℕ) → i < n → codeAt (take (5 * n) set ++ replicate (40 - 5 * n) 0) i ≡ codeAt set i
+  same = kept-code n (40 - 5 * n) set
+
+  pub request-accepted : accepted rules kept (s .bits) ≡ true
+  request-accepted = is-accepted rules kept (s .bits) (A .some) (A .few)
+      (λ i h j l. rw (same i h, same j (omega arith)) (sym (share-some (heldArea (codeAt set i)) (heldArea (codeAt set j)) (held-small (codeAt set i))) ∙ A .apart i j h l))
+      (λ i h. rw (same i h) (A .allowed i h))
+
+  pub request-view : view (opened s n set) ≡ machine.opened kept (s .bits)
+  request-view = ap (λ (g : ℕ → Bool). record { bits = s .bits; set = kept; answered = g }) unmarked
+
+-- ---- a result
+
+closed-view : (r : ℕ) → view (closed r) ≡ idle rules r
+closed-view r = λ i. record { bits = r; set = record { size = 0; at = no-code 40 i }; answered = unmarked i }
+
+module _ (s : Station) (i r : ℕ) where
+  -- the station with the record r, and these marks
+  abbrev with-marks : (ℕ → Bool) → machine.Station ℕ Code
+  with-marks g = record { bits = r; set = batchOf (s .count) (s .set); answered = g }
+
+  answering-view : view (answering s i r) ≡ released rules (with-marks (mark i (bit (s .answered))))
+  answering-view = after-result (λ t. view t ≡ released rules (with-marks (bit (marksWith s i)))) s i r
+      (λ t. rw (some-every (s .count) (bit (marksWith s i)), t) (closed-view r))
+      (λ t. rw (some-every (s .count) (bit (marksWith s i)), t))
+      ∙ ap (λ (g : ℕ → Bool). released rules (with-marks g)) (marks (s .answered) i)
+
+-- the record after a result
+abbrev pub resulting : Station → ℕ → Outcome → ℕ
+resulting s i o = cond (moves o) (following s i) (s .bits)
+
+result-taken : (s : Station) (i : ℕ) (o : Outcome) → Waiting s i → machine.taken rules (view s) (result i o) ≡ true
+result-taken s i o w = rw (lt-ltb i (s .count) (w .1), w .2)
+
+pub result-view : (s : Station) (i : ℕ) (o : Outcome) → Waiting s i → view (answering s i (resulting s i o)) ≡ machine.step rules (view s) (result i o)
+result-view s i o w = rw (result-taken s i o w) (answering-view s i (resulting s i o))
+
+-- ---- in good order
+
+module _ (s : Station) (G : Good rules (view s)) where
+  -- what the machine takes leaves it so
+  takes-good : (c : machine.Call ℕ Code ℕ) → takes rules (view s) c ≡ true → Good rules (does rules (view s) c)
+  takes-good c t = subst (λ (b : Bool). Good rules (cond b (does rules (view s) c) (view s))) t (call-good rules blind blind framed (view s) G c)
+
+  good-step : (t : Station) (c : Call) → Step s c t → Good rules (view t)
+  unfolding some
+  good-step t c (refuses n) = G
+  good-step t c (opens {n} {set} A) = rw (request-view s n set A) (takes-good (request (kept s n set A)) (rw (A .idle) (request-accepted s n set A)))
+  good-step t c (fails {i} w) = rw (answering-view s i (s .bits)) (takes-good (act (result i failed)) (result-taken s i failed w))
+  good-step t c (succeeds {i} w a) = rw (answering-view s i (following s i)) (takes-good (act (result i finished)) (result-taken s i finished w))
+  good-step t c (drives {e} d) = takes-good (act (event e)) (rw (blocks-lift (s .count) (s .set), d .1, and-false (outstanding (view s)), d .2))
+  good-step t c tells = G
+
+-- ---- a station that is reached
+
+begins-good : (s : Station) → Begins s → Good rules (view s)
+begins-good s b =
+    let (f, n, h) = begins-has s b in
+    record { sound = fit-has s f .sound; apart = λ i j h. absurd (omega arith); allowed = λ j h. absurd (omega arith) }
+
+pub never-fourteen : NeverFourteen
+never-fourteen s R =
+    let G = reached (λ t. Good rules (view t)) (λ t u c p g. good-step t g u c p) begins-good s R in
+    each-call (λ o. numberOf (o .answer) ≡ 14 → ⊥) s (λ a h. h .1) (λ t z. omega arith) (λ i w. rw (G .allowed i (w .1) (w .2)) (λ z. omega arith))

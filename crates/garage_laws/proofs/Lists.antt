@@ -1,0 +1,132 @@
+-- Lists of results and car events, as the machine's acts and as calls of the station: an order of the one is an order of the other, and
+-- orders exist. Assumes nothing.
+use mathlib.Core.Path.{_≡_, refl, sym, ap, ap₂, subst, _∙_}
+use mathlib.Core.Bool.{Bool, true, false, cond}
+use mathlib.Core.List.{List, [], _∷_, _++_, map}
+use Prim.Native.Nat.{ℕ, _+_}
+use native.Mathlib.Omega.{arith}
+use lib.Dec.{eqb}
+use Rattle.bits.specs.Bits.{digit}
+use Rattle.sets.specs.Machine.{Outcome, failed, finished, moves, Act, result, event}
+use Rattle.sets.specs.Orders as machine-orders
+use Rattle.sets.proofs.Exists as exists
+use Rattle.garage_laws.specs.Runs as run
+use Rattle.garage_laws.specs.Runs.{Call, NoImages}
+use Rattle.garage_laws.specs.Orders.{resultsOf, eventsOf, AsChosen, Order}
+use Rattle.garage_laws.specs.Demands.{OrdersExist}
+
+-- what is reported, by whether it succeeds
+abbrev pub outcome : Bool → Outcome
+outcome true = finished
+outcome false = failed
+
+-- an act as a call
+abbrev pub asCall : Act ℕ → Call
+asCall (result j o) = run.result j (digit (moves o))
+asCall (event e) = run.event e
+
+pub no-images : (l : List (Act ℕ)) → NoImages (map asCall l)
+no-images [] = tt
+no-images (result j o ∷ l) = no-images l
+no-images (event e ∷ l) = no-images l
+
+-- ---- counts, events and choices are the same
+
+same-results : (i : ℕ) (l : List (Act ℕ)) → resultsOf i (map asCall l) ≡ machine-orders.resultsOf i l
+same-results i [] = refl
+same-results i (result j o ∷ l) = ap (λ (n : ℕ). cond (eqb j i) 1 0 + n) (same-results i l)
+same-results i (event e ∷ l) = same-results i l
+
+same-events : (l : List (Act ℕ)) → eventsOf (map asCall l) ≡ machine-orders.eventsOf l
+same-events [] = refl
+same-events (result j o ∷ l) = same-events l
+same-events (event e ∷ l) = ap (λ (es : List ℕ). e ∷ es) (same-events l)
+
+moves-outcome : (b : Bool) → moves (outcome b) ≡ b
+moves-outcome true = refl
+moves-outcome false = refl
+
+by-digit : (o : Outcome) (b : Bool) → digit (moves o) ≡ digit b → o ≡ outcome b
+by-digit failed true e = absurd (omega arith)
+by-digit failed false e = refl
+by-digit finished true e = refl
+by-digit finished false e = absurd (omega arith)
+
+module _ (succeeds : ℕ → Bool) where
+  abbrev pub choice : ℕ → Outcome
+  choice j = outcome (succeeds j)
+
+  heard : (l : List (Act ℕ)) → AsChosen succeeds (map asCall l) → machine-orders.AsChosen choice l
+  heard [] c = tt
+  heard (result j o ∷ l) c = (by-digit o (succeeds j) (c .0), heard l (c .1))
+  heard (event e ∷ l) c = heard l c
+
+  spoken : (l : List (Act ℕ)) → machine-orders.AsChosen choice l → AsChosen succeeds (map asCall l)
+  spoken [] c = tt
+  spoken (result j o ∷ l) c = (ap (λ (o : Outcome). digit (moves o)) (c .0) ∙ ap digit (moves-outcome (succeeds j)), spoken l (c .1))
+  spoken (event e ∷ l) c = spoken l c
+
+  -- results and events as chosen are acts
+  pub acts : (l : List Call) → AsChosen succeeds l → (a : List (Act ℕ)) × (l ≡ map asCall a)
+  acts [] c = ([], refl)
+  acts (run.request n set ∷ l) c = absurd c
+  acts (run.result j done ∷ l) c =
+      let (a, e) = acts l (c .1) in
+      (result j (choice j) ∷ a, ap₂ (λ (d : ℕ) (m : List Call). run.result j d ∷ m) (c .0 ∙ ap digit (sym (moves-outcome (succeeds j)))) e)
+  acts (run.event x ∷ l) c = let (a, e) = acts l c in (event x ∷ a, ap (λ (m : List Call). run.event x ∷ m) e)
+  acts (run.image r ∷ l) c = absurd c
+  acts (run.ask ∷ l) c = absurd c
+
+-- ---- the last
+
+map-append : (l m : List (Act ℕ)) → map asCall (l ++ m) ≡ map asCall l ++ map asCall m
+map-append [] m = refl
+map-append (a ∷ l) m = ap (λ (n : List Call). asCall a ∷ n) (map-append l m)
+
+-- where the calls end with a result, so do the acts
+abbrev pub Last : List (Act ℕ) → Type 0
+Last l = (front : List (Act ℕ)) × (j : ℕ) × (o : Outcome) × (l ≡ front ++ (result j o ∷ []))
+
+never : {A : Type 0} → _≡_ {A = ℕ} 0 1 → A
+never z = absurd (omega arith)
+
+later : {l : List (Act ℕ)} (a : Act ℕ) → Last l → Last (a ∷ l)
+later a p = (a ∷ p .0, p .1, p .2, ap (λ (m : List (Act ℕ)). a ∷ m) (p .3))
+
+last-of : (l : List (Act ℕ)) (front : List Call) (i done : ℕ) → map asCall l ≡ front ++ (run.result i done ∷ []) → Last l
+last-of [] [] i done e = never (cc)
+last-of [] (c ∷ front) i done e = never (cc)
+last-of (result j o ∷ []) [] i done e = ([], j, o, refl)
+last-of (event x ∷ []) [] i done e = never (cc)
+last-of (a ∷ b ∷ l) [] i done e = never (cc)
+last-of (a ∷ l) (c ∷ front) i done e =
+    let t : map asCall l ≡ front ++ (run.result i done ∷ []) = cc in
+    later a (last-of l front i done t)
+
+-- ---- orders
+
+module _ {n : ℕ} {succeeds : ℕ → Bool} {events : List ℕ} {l : List (Act ℕ)} where
+  pub order-heard : Order n succeeds events (map asCall l) → machine-orders.Order n (choice succeeds) events l
+  order-heard O = record {
+    once = λ i h. sym (same-results i l) ∙ O .once i h;
+    only = λ i h. sym (same-results i l) ∙ O .only i h;
+    chosen = heard succeeds l (O .chosen);
+    events = sym (same-events l) ∙ O .those;
+    last = (let (front, i, done, e) = O .last in last-of l front i done e);
+  }
+
+  order-spoken : machine-orders.Order n (choice succeeds) events l → (front : List Call) (i done : ℕ) → map asCall l ≡ front ++ (run.result i done ∷ []) → Order n succeeds events (map asCall l)
+  order-spoken O front i done e = record {
+    once = λ i h. same-results i l ∙ O .once i h;
+    only = λ i h. same-results i l ∙ O .only i h;
+    chosen = spoken succeeds l (O .chosen);
+    those = same-events l ∙ O .events;
+    last = (front, i, done, e);
+  }
+
+pub orders-exist : OrdersExist
+orders-exist n i h succeeds events =
+    let (f, O) = exists.orders-exist ℕ n i h (choice succeeds) events in
+    let e : map asCall (f ++ (result i (choice succeeds i) ∷ [])) ≡ map asCall f ++ (run.result i (digit (succeeds i)) ∷ []) =
+    map-append f (result i (choice succeeds i) ∷ []) ∙ ap (λ (b : Bool). map asCall f ++ (run.result i (digit b) ∷ [])) (moves-outcome (succeeds i)) in
+    (map asCall f, subst (Order n succeeds events) e (order-spoken O (map asCall f) i (digit (succeeds i)) e))

@@ -1,0 +1,110 @@
+-- The three demands of the station, as statements about the calls that the code's contracts cite. Each is proved in proofs/Demands.antt.
+-- Assumes nothing.
+use mathlib.Core.Path.{_≡_}
+use mathlib.Core.Logic.{_↔_}
+use mathlib.Core.Bool.{Bool, true, false}
+use mathlib.Core.List.{List, [], _∷_, _++_}
+use Prim.Native.Nat.{ℕ, _+_, _≤_, _<_}
+use lib.ListN.{length}
+use Rattle.bits.specs.Bits.{bit, image, digit}
+use Rattle.bits.specs.Places.{share}
+use Rattle.floor.specs.Cars.{Car, Layout}
+use Rattle.floor.specs.Sound.{Sound}
+use Rattle.rules.specs.declared.Event.{Event}
+use Rattle.rules.specs.Events.{possible, after}
+use Rattle.rules.specs.Codes.{eventCode}
+use Rattle.garage.specs.declared.Station.{Station}
+use Rattle.garage.specs.Held.{codeAt, isGood, heldArea, heldAllowed, heldNext, liftIn}
+use Rattle.garage.specs.Station.{most, fit, marked, holding, opened, answering}
+use Rattle.garage_laws.specs.Runs as run
+use Rattle.garage_laws.specs.Runs.{Call, said, left, calls, Begins, NoImages, Reached, driven}
+use Rattle.garage_laws.specs.Orders.{Order, Alike}
+
+-- ---- 1. It always answers: a refused call leaves the station as it was
+
+abbrev pub RefusedUntouched : Type 0
+RefusedUntouched = (s : Station) (c : Call) → (said s c ≡ 0 → ⊥) → left s c ≡ s
+
+-- ---- 2. It answers right
+
+-- what a request must have: no set outstanding, 1 to 8 instructions, all well formed, no two overlapping, each allowed on the present record
+pub record Acceptable (s : Station) (n : ℕ) (set : List ℕ) : Type 0 where
+  pub fits : fit s ≡ true
+  pub idle : s .count ≡ 0
+  pub some : 1 ≤ n
+  pub few : n ≤ most
+  pub good : (i : ℕ) → i < n → isGood (codeAt set i) ≡ true
+  pub apart : (i j : ℕ) → i < n → j < i → share (heldArea (codeAt set i)) (heldArea (codeAt set j)) ≡ false
+  pub allowed : (i : ℕ) → i < n → heldAllowed (codeAt set i) (bit (s .bits)) ≡ true
+
+-- a request is taken exactly if it is acceptable; then the set is outstanding with no mark, and the record as it was
+abbrev pub AcceptedExactly : Type 0
+AcceptedExactly =
+    (s : Station) (n : ℕ) (set : List ℕ)
+    → ((said s (run.request n set) ≡ 0) ↔ Acceptable s n set) × (Acceptable s n set → left s (run.request n set) ≡ opened s n set)
+
+-- an instruction of the outstanding set that has no result yet
+abbrev pub Waiting : Station → ℕ → Type 0
+Waiting s i = (fit s ≡ true) × (i < s .count) × (marked s i ≡ false)
+
+-- a success is taken exactly if its instruction waits and is allowed now; the record is then what its rule makes of the present one
+abbrev pub ResultRecord : Type 0
+ResultRecord =
+    (s : Station) (i : ℕ)
+    → ((said s (run.result i 1) ≡ 0) ↔ (Waiting s i × (heldAllowed (codeAt (s .set) i) (bit (s .bits)) ≡ true)))
+    × (said s (run.result i 1) ≡ 0
+    → (left s (run.result i 1) ≡ answering s i (image (heldNext (codeAt (s .set) i) (bit (s .bits)))))
+    × (left s (run.result i 1) .bits ≡ image (heldNext (codeAt (s .set) i) (bit (s .bits)))))
+
+-- a failure is taken exactly if its instruction waits; the record stays
+abbrev pub FailureKeeps : Type 0
+FailureKeeps =
+    (s : Station) (i : ℕ)
+    → ((said s (run.result i 0) ≡ 0) ↔ Waiting s i)
+    × (said s (run.result i 0) ≡ 0
+    → (left s (run.result i 0) ≡ answering s i (s .bits)) × (left s (run.result i 0) .bits ≡ s .bits))
+
+-- a car event is taken exactly if no outstanding set has the lift in an area and the event is possible; only the record changes
+abbrev pub EventRecord : Type 0
+EventRecord =
+    (s : Station) (e : Event)
+    → ((said s (run.event (eventCode e)) ≡ 0) ↔ ((fit s ≡ true) × (liftIn (s .set) (s .count) ≡ false) × (possible e (bit (s .bits)) ≡ true)))
+    × (said s (run.event (eventCode e)) ≡ 0 → left s (run.event (eventCode e)) ≡ holding s (image (after e (bit (s .bits)))))
+
+-- an image is taken exactly if no set is outstanding and it is sound; it becomes the record
+abbrev pub ImageTaken : Type 0
+ImageTaken =
+    (s : Station) (r : ℕ)
+    → ((said s (run.image r) ≡ 0) ↔ ((fit s ≡ true) × (s .count ≡ 0) × Sound (bit r)))
+    × (said s (run.image r) ≡ 0 → left s (run.image r) ≡ holding s r)
+
+-- ---- 3. Sets are safe in any order
+
+-- whatever calls follow, the record is sound: its occupied places can be laid out as whole cars, none on another, each on belts that are there
+abbrev pub AlwaysLaidOut : Type 0
+AlwaysLaidOut = (s : Station) → Begins s → (l : List Call) → NoImages l → Sound (bit (calls s l .bits))
+
+-- with as many cars as at the start, plus those driven in, less those driven out
+abbrev pub CarsCounted : Type 0
+CarsCounted =
+    (s : Station) → Begins s → (l : List Call) → NoImages l
+    → (before after : List Car) → Layout (bit (s .bits)) before → Layout (bit (calls s l .bits)) after
+    → length after + driven 2 s l ≡ length before + driven 1 s l
+
+-- of an accepted set: whichever instructions succeed, two orders of their results with the same car events come to the same
+abbrev pub AnyOrder : Type 0
+AnyOrder =
+    (s : Station) → Reached s → (n : ℕ) (set : List ℕ) → said s (run.request n set) ≡ 0
+    → (succeeds : ℕ → Bool) (events : List ℕ) (l m : List Call)
+    → Order n succeeds events l → Order n succeeds events m
+    → Alike (left s (run.request n set)) l m
+
+-- such orders exist for every size, with any instruction answered last
+abbrev pub OrdersExist : Type 0
+OrdersExist =
+    (n i : ℕ) → i < n → (succeeds : ℕ → Bool) (events : List ℕ)
+    → (front : List Call) × Order n succeeds events (front ++ (run.result i (digit (succeeds i)) ∷ []))
+
+-- a station reached so never answers 14
+abbrev pub NeverFourteen : Type 0
+NeverFourteen = (s : Station) → Reached s → (c : Call) → said s c ≡ 14 → ⊥

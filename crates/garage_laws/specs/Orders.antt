@@ -1,0 +1,73 @@
+-- What "in every order" says of a set: results and car events in two lists, and when the two come to the same. Assumes nothing.
+use mathlib.Core.Path.{_≡_}
+use mathlib.Core.Bool.{Bool, true, cond}
+use mathlib.Core.List.{List, [], _∷_, _++_}
+use Prim.Native.Nat.{ℕ, _+_, _≤_, _<_}
+use lib.Dec.{eqb}
+use Rattle.bits.specs.Bits.{bit, digit}
+use Rattle.garage.specs.declared.Station.{Station}
+use Rattle.garage.specs.Held.{codeAt, heldAllowed}
+use Rattle.garage_laws.specs.Runs.{Call, request, result, event, image, ask, call, said, left, calls}
+
+-- how many results of instruction i a list has
+abbrev pub resultsOf : ℕ → List Call → ℕ
+resultsOf i [] = 0
+resultsOf i (request n set ∷ l) = resultsOf i l
+resultsOf i (result j done ∷ l) = cond (eqb j i) 1 0 + resultsOf i l
+resultsOf i (event e ∷ l) = resultsOf i l
+resultsOf i (image r ∷ l) = resultsOf i l
+resultsOf i (ask ∷ l) = resultsOf i l
+
+-- its car events, in their order
+abbrev pub eventsOf : List Call → List ℕ
+eventsOf [] = []
+eventsOf (request n set ∷ l) = eventsOf l
+eventsOf (result j done ∷ l) = eventsOf l
+eventsOf (event e ∷ l) = e ∷ eventsOf l
+eventsOf (image r ∷ l) = eventsOf l
+eventsOf (ask ∷ l) = eventsOf l
+
+-- it has only results and car events, and each result is as chosen: 1 for an instruction that succeeds, 0 for one that fails
+abbrev pub AsChosen : (ℕ → Bool) → List Call → Type 0
+AsChosen succeeds [] = Unit {0}
+AsChosen succeeds (request n set ∷ l) = ⊥
+AsChosen succeeds (result j done ∷ l) = (done ≡ digit (succeeds j)) × AsChosen succeeds l
+AsChosen succeeds (event e ∷ l) = AsChosen succeeds l
+AsChosen succeeds (image r ∷ l) = ⊥
+AsChosen succeeds (ask ∷ l) = ⊥
+
+-- an order of the results of n instructions with these car events: one result for each as chosen, no other, the events in this order, a result last
+pub record Order (n : ℕ) (succeeds : ℕ → Bool) (events : List ℕ) (l : List Call) : Type 0 where
+  pub once : (i : ℕ) → i < n → resultsOf i l ≡ 1
+  pub only : (i : ℕ) → n ≤ i → resultsOf i l ≡ 0
+  pub chosen : AsChosen succeeds l
+  pub those : eventsOf l ≡ events
+  pub last : (front : List Call) × (i : ℕ) × (done : ℕ) × (l ≡ front ++ (result i done ∷ []))
+
+-- each result is taken, and each success was allowed on the record at its turn
+abbrev pub Fair : Station → List Call → Type 0
+Fair s [] = Unit {0}
+Fair s (request n set ∷ l) = Fair (left s (request n set)) l
+Fair s (result i done ∷ l) =
+    (said s (result i done) ≡ 0)
+    × (done ≡ 1 → heldAllowed (codeAt (s .set) i) (bit (s .bits)) ≡ true)
+    × Fair (left s (result i done)) l
+Fair s (event e ∷ l) = Fair (left s (event e)) l
+Fair s (image r ∷ l) = Fair (left s (image r)) l
+Fair s (ask ∷ l) = Fair (left s ask) l
+
+-- the numbers that the car events are answered with, in their order
+abbrev pub replies : Station → List Call → List ℕ
+replies s [] = []
+replies s (request n set ∷ l) = replies (left s (request n set)) l
+replies s (result i done ∷ l) = replies (left s (result i done)) l
+replies s (event e ∷ l) = said s (event e) ∷ replies (left s (event e)) l
+replies s (image r ∷ l) = replies (left s (image r)) l
+replies s (ask ∷ l) = replies (left s ask) l
+
+-- two lists come to the same: both fair, each event answered alike, the set closed, and the stations at the end equal, their records with them
+pub record Alike (s : Station) (l m : List Call) : Type 0 where
+  pub fair : Fair s l × Fair s m
+  pub answered : replies s l ≡ replies s m
+  pub closed : (calls s l .count ≡ 0) × (calls s m .count ≡ 0)
+  pub same : calls s l ≡ calls s m

@@ -1,0 +1,75 @@
+-- A call of the station, lists of calls, each on the station that the last one left, and the stations that are reached so.
+-- Assumes nothing.
+use mathlib.Core.Path.{_≡_}
+use mathlib.Core.Bool.{Bool, true, false, cond, _&&_}
+use mathlib.Core.List.{List, [], _∷_}
+use Prim.Native.Nat.{ℕ, _+_, _^_, _<_}
+use lib.Dec.{eqb}
+use Rattle.answers.specs.Answers.{numberOf}
+use Rattle.garage.specs.declared.Station.{Station}
+use Rattle.garage.specs.declared.Outcome.{Outcome}
+use Rattle.garage.specs.Station.{startOf}
+use Rattle.garage.specs.Calls as station
+
+-- a request of so many instructions by their bytes; the result of an instruction; a car event; an image; the record asked for
+pub data Call : Type 0 where
+  request : ℕ → List ℕ → Call
+  result : ℕ → ℕ → Call
+  event : ℕ → Call
+  image : ℕ → Call
+  ask : Call
+
+-- what a call hands back: the functions that the contracts of the code cite
+abbrev pub call : Station → Call → Outcome
+call s (request n set) = station.request s n set
+call s (result i done) = station.result s i done
+call s (event e) = station.event s e
+call s (image r) = station.takeImage s r
+call s ask = station.ask s
+
+-- the number that it is answered with, and the station that it leaves
+abbrev pub said : Station → Call → ℕ
+said s c = numberOf (call s c .answer)
+
+abbrev pub left : Station → Call → Station
+left s c = call s c .station
+
+-- the station after several calls
+abbrev pub calls : Station → List Call → Station
+calls s [] = s
+calls s (c ∷ l) = calls (left s c) l
+
+-- where it begins: the start, or an image of 64 bits that was taken
+pub data Begins : Station → Type 0 where
+  atStart : Begins startOf
+  byImage : (before : Station) (r : ℕ) → r < 2 ^ 64 → said before (image r) ≡ 0 → Begins (left before (image r))
+
+-- calls but an image
+abbrev pub NoImages : List Call → Type 0
+NoImages [] = Unit {0}
+NoImages (request n set ∷ l) = NoImages l
+NoImages (result i done ∷ l) = NoImages l
+NoImages (event e ∷ l) = NoImages l
+NoImages (image r ∷ l) = ⊥
+NoImages (ask ∷ l) = NoImages l
+
+-- a station reached from there by such calls
+pub record Reached (s : Station) : Type 0 where
+  pub origin : Station
+  pub begins : Begins origin
+  pub since : List Call
+  pub noImages : NoImages since
+  pub here : s ≡ calls origin since
+
+-- 1 for a car event of this number that is taken
+abbrev pub drove : ℕ → Station → Call → ℕ
+drove way s (request n set) = 0
+drove way s (result i done) = 0
+drove way s (event e) = cond (eqb e way && eqb (said s (event e)) 0) 1 0
+drove way s (image r) = 0
+drove way s ask = 0
+
+-- how many cars were driven in (way 1) or out (way 2)
+abbrev pub driven : ℕ → Station → List Call → ℕ
+driven way s [] = 0
+driven way s (c ∷ l) = drove way s c + driven way (left s c) l

@@ -1,0 +1,1 @@
+// The station's three demands, stated in specs/ and proved in proofs/: no code.

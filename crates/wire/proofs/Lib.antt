@@ -1,0 +1,4 @@
+pub mod Least
+pub mod Parts
+pub mod Frames
+pub mod Room

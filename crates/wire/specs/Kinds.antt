@@ -1,0 +1,110 @@
+-- The seven kinds of messages. Here and nowhere else stand their numbers, the layouts of their bodies and the ranges of their fields.
+-- Assumes nothing.
+use mathlib.Core.Bool.{Bool, true, _&&_, _||_}
+use mathlib.Core.List.{List, [], _∷_, _++_}
+use Prim.Native.Nat.{ℕ, zero, suc, _+_, _*_, _-_, _/_, _%_}
+use lib.Dec.{leb, eqb}
+use lib.ListN.{getD, take, replicate}
+use Rattle.answers.specs.declared.Answer.the-variants.{NoRoom}
+use Rattle.answers.specs.Answers.{numberOf, nowhere}
+use Rattle.wire.specs.declared.What.{What}
+use Rattle.wire.specs.declared.What.the-variants.{Request, Event, Result, Image, Ask, Answer, Held}
+use Rattle.wire.specs.declared.Message.{Message}
+
+-- n bytes that say a number, the lowest first
+abbrev pub littleEndian : ℕ → ℕ → List ℕ
+littleEndian zero x = []
+littleEndian (suc n) x = x % 256 ∷ littleEndian n (x / 256)
+
+-- the number that n bytes say, from place i of a run on
+abbrev pub fromLittleEndian : ℕ → ℕ → List ℕ → ℕ
+fromLittleEndian zero i s = 0
+fromLittleEndian (suc n) i s = getD s i 0 + 256 * fromLittleEndian n (suc i) s
+
+-- the largest number of instructions in a request
+abbrev pub most : ℕ
+most = 8
+
+-- the place of its first instruction
+abbrev pub first : ℕ
+first = 5
+
+-- a kind whose body has one size: its number, that size, and what a message of this kind says; its body starts at place 4
+pub record Kind : Type 0 where
+  pub number : ℕ
+  pub size : ℕ
+  pub says : List ℕ → What
+
+-- 1: a request; its body is a count, then five bytes for each instruction
+abbrev pub request : ℕ
+request = 1
+
+-- 2: an event, 1 in or 2 out
+abbrev pub event : Kind
+event = record { number = 2; size = 1; says = λ m. Event (getD m 4 0) }
+
+-- 3: a result, the number of the instruction and 0 failed or 1 done
+abbrev pub result : Kind
+result = record { number = 3; size = 2; says = λ m. Result (getD m 4 0) (getD m 5 0) }
+
+-- 4: an image to take
+abbrev pub image : Kind
+image = record { number = 4; size = 8; says = λ m. Image (fromLittleEndian 8 4 m) }
+
+-- 5: the image is asked for
+abbrev pub ask : Kind
+ask = record { number = 5; size = 0; says = λ m. Ask }
+
+-- 128: an answer, its number and its place
+abbrev pub answer : Kind
+answer = record { number = 128; size = 2; says = λ m. Answer (getD m 4 0) (getD m 5 0) }
+
+-- 129: the image that was asked for
+abbrev pub held : Kind
+held = record { number = 129; size = 8; says = λ m. Held (fromLittleEndian 8 4 m) }
+
+-- the kinds that a station reads besides requests
+abbrev pub asked : List Kind
+asked = event ∷ result ∷ image ∷ ask ∷ []
+
+-- those that the library reads
+abbrev pub known : List Kind
+known = answer ∷ held ∷ asked
+
+-- the number of the kind that says this
+abbrev pub kindOf : What → ℕ
+kindOf Request = request
+kindOf (Event way) = event .number
+kindOf (Result number done) = result .number
+kindOf (Image x) = image .number
+kindOf Ask = ask .number
+kindOf (Answer number place) = answer .number
+kindOf (Held x) = held .number
+
+-- the body that says this: of a request, a count and the bytes of so many instructions
+abbrev pub bodyOf : What → ℕ → List ℕ → List ℕ
+bodyOf Request count set = count ∷ take (5 * count) set
+bodyOf (Event way) count set = way ∷ []
+bodyOf (Result number done) count set = number ∷ done ∷ []
+bodyOf (Image x) count set = littleEndian 8 x
+bodyOf Ask count set = []
+bodyOf (Answer number place) count set = number ∷ place ∷ []
+bodyOf (Held x) count set = littleEndian 8 x
+
+-- the fields are in their ranges, the number of an answer one of the table's; a request's instructions have ranges of their own
+abbrev pub inRange : What → Bool
+inRange Request = true
+inRange (Event way) = leb 1 way && leb way 2
+inRange (Result number done) = leb done 1
+inRange (Image x) = true
+inRange Ask = true
+inRange (Answer number place) = leb number (numberOf NoRoom) && (leb place 7 || eqb place nowhere)
+inRange (Held x) = true
+
+-- a message that holds no instruction
+abbrev pub plain : What → Message
+plain w = record { what = w; count = 0; set = replicate 40 0 }
+
+-- a request of so many instructions: their bytes, and zeros in the unused places
+abbrev pub requesting : ℕ → List ℕ → Message
+requesting n s = record { what = Request; count = n; set = take (5 * n) s ++ replicate (40 - 5 * n) 0 }

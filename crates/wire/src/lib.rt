@@ -1,0 +1,471 @@
+// Messages: read from bytes, written into lent room. What they mean stands in specs/.
+use answers::Answer;
+use rules::Reading;
+ghost use mathlib.Core.Path.{_≡_};
+ghost use mathlib.Core.List.{[], _∷_, _++_};
+ghost use Prim.Native.Nat.{_≤_, _+_, _-_, _*_, _%_};
+ghost use lib.ListN.{getD, length, drop, replicate};
+ghost use Rattle.bits.specs.Search.{least};
+ghost use Rattle.wire.specs.Kinds.{littleEndian, fromLittleEndian, first, event, result, answer, known, asked, inRange, plain};
+ghost use Rattle.wire.specs.Reads.{frameOf, refused, sized, isBad, badIn, readRequest, readWhole, readMessage, readAsked};
+ghost use Rattle.wire.specs.Writes.{Leaves, put, writing};
+
+// What a message asks or tells; a request's instructions stand beside it, in Message.
+pub enum What {
+    Request,
+    Event { way: u8 },
+    Result { number: u8, done: u8 },
+    Image(u64),
+    Ask,
+    Answer { number: u8, place: u8 },
+    Held(u64),
+}
+
+// A message: a request's instructions are held as their own five bytes each, the unused places zero.
+pub struct Message {
+    pub what: What,
+    pub count: u8,
+    pub set: [u8; 40],
+}
+
+// What a reader answers: how many bytes the message took, none where they can't be told, and what it says, a blank one if refused.
+pub struct Received {
+    pub answer: Answer,
+    pub used: usize,
+    pub message: Message,
+}
+
+// What a call that writes answers, and how many bytes it wrote.
+pub struct Written {
+    pub answer: Answer,
+    pub size: usize,
+}
+
+// How far the first message of some bytes goes, by its length alone: cut short, of a wrong length, or so many bytes.
+pub enum Frame {
+    Cut,
+    Wrong,
+    Whole(usize),
+}
+
+// ---- bytes and numbers
+
+// Two bytes as a number, the lower first.
+fn word(low: u8, high: u8) -> usize
+    ensures { λ r. ⌜ r ≡ fromLittleEndian 2 0 (low ∷ high ∷ []) ⌝ }
+{
+    low as usize + 256 * (high as usize)
+}
+
+// A byte of a run, or zero past its end.
+fn byte(s: &[u8], i: usize) -> u8
+    ensures { λ r. ⌜ r ≡ getD (now (s .entry)) i 0 ⌝ }
+{
+    if i < s.len() {
+        return s[i];
+    }
+    0
+}
+
+// The number that the first eight bytes say, the lowest first; bytes that are not there count as zero.
+pub fn image_of(s: &[u8]) -> u64
+    ensures { λ r. ⌜ r ≡ fromLittleEndian 8 0 (now (s .entry)) ⌝ }
+{
+    joined(
+        byte(s, 0),
+        byte(s, 1),
+        byte(s, 2),
+        byte(s, 3),
+        byte(s, 4),
+        byte(s, 5),
+        byte(s, 6),
+        byte(s, 7),
+    )
+}
+
+fn joined(a: u8, b: u8, c: u8, d: u8, e: u8, f: u8, g: u8, h: u8) -> u64
+    ensures { λ r. ⌜ r ≡ fromLittleEndian 8 0 (a ∷ b ∷ c ∷ d ∷ e ∷ f ∷ g ∷ h ∷ []) ⌝ }
+{
+    a as u64
+        + 256
+            * (b as u64
+                + 256
+                    * (c as u64
+                        + 256
+                            * (d as u64
+                                + 256
+                                    * (e as u64
+                                        + 256 * (f as u64 + 256 * (g as u64 + 256 * (h as u64)))))))
+}
+
+fn low(x: u64) -> u8
+    ensures { λ r. ⌜ r ≡ x % 256 ⌝ }
+{
+    (x % 256) as u8
+}
+
+// The eight bytes that say a number, the lowest first.
+pub fn image_bytes(x: u64) -> [u8; 8]
+    ensures { λ r. ⌜ r ≡ littleEndian 8 x ⌝ }
+{
+    let b = x / 256;
+    let c = b / 256;
+    let d = c / 256;
+    let e = d / 256;
+    let f = e / 256;
+    let g = f / 256;
+    let h = g / 256;
+    [
+        low(x),
+        low(b),
+        low(c),
+        low(d),
+        low(e),
+        low(f),
+        low(g),
+        low(h),
+    ]
+}
+
+// ---- reading
+
+// How far the first message of s goes.
+pub fn framed(s: &[u8]) -> Frame
+    ensures { λ r. ⌜ r ≡ frameOf (now (s .entry)) ⌝ }
+{
+    if s.len() < 2 {
+        return Frame::Cut;
+    }
+    let n = word(s[0], s[1]);
+    if n < 2 {
+        return Frame::Wrong;
+    }
+    if 43 < n {
+        return Frame::Wrong;
+    }
+    if s.len() < n + 2 {
+        return Frame::Cut;
+    }
+    Frame::Whole(n + 2)
+}
+
+// A message that holds no instruction.
+pub fn plain(what: What) -> Message
+    ensures { λ r. ⌜ r ≡ plain what ⌝ }
+{
+    Message {
+        what,
+        count: 0,
+        set: [0; 40],
+    }
+}
+
+fn refused(answer: Answer, used: usize) -> Received
+    ensures { λ r. ⌜ r ≡ refused answer used ⌝ }
+{
+    let message = plain(What::Ask);
+    Received {
+        answer,
+        used,
+        message,
+    }
+}
+
+// Whether the fields of a message are in their ranges, a request's instructions aside.
+fn in_range(what: What) -> bool
+    ensures { λ r. ⌜ r ≡ inRange what ⌝ }
+{
+    match what {
+        What::Request => true,
+        What::Event { way } => (1 <= way) & (way <= 2),
+        What::Result { number: _, done } => done <= 1,
+        What::Image(_) => true,
+        What::Ask => true,
+        What::Answer { number, place } => (number <= 17)
+            & ((place <= 7) | (place == answers::NOWHERE)),
+        What::Held(_) => true,
+    }
+}
+
+// A message of a kind whose body has one size: taken if it is n bytes long and its fields are in their ranges.
+fn sized(m: &[u8], n: usize, what: What) -> Received
+    ensures { λ r. ⌜ r ≡ sized (now (m .entry)) n what ⌝ }
+{
+    let used = m.len();
+    if used != n {
+        return refused(Answer::BadLength, used);
+    }
+    if in_range(what) {
+        let message = plain(what);
+        return Received {
+            answer: Answer::Taken,
+            used,
+            message,
+        };
+    }
+    refused(Answer::BadField(answers::NOWHERE), used)
+}
+
+fn is_bad(one: Reading) -> bool
+    ensures { λ r. ⌜ r ≡ isBad one ⌝ }
+{
+    match one {
+        Reading::Good(_) => false,
+        Reading::Bad => true,
+    }
+}
+
+// The least bad instruction of a request of n, or n where none is: each is read from its own five bytes.
+fn least_bad(m: &[u8], n: u8) -> u8
+    requires { ⌜ (n ≤ 8) × (5 + 5 * n ≤ length (now m)) ⌝ }
+    ensures { λ r. ⌜ r ≡ least n (badIn (drop first (now (m .entry)))) ⌝ }
+{
+    let mut i: u8 = 0;
+    while i < n {
+        let at = 5 + 5 * (i as usize);
+        let one = rules::read_bytes(&m[at..]);
+        if is_bad(one) {
+            return i;
+        }
+        i += 1;
+    }
+    n
+}
+
+// The bytes of a set, and zeros in its unused places.
+fn held(s: &[u8]) -> [u8; 40]
+    requires { ⌜ length (now s) ≤ 40 ⌝ }
+    ensures { λ r. ⌜ r ≡ now (s .entry) ++ replicate (40 - length (now (s .entry))) 0 ⌝ }
+{
+    let mut set = [0u8; 40];
+    bytes::copy(s, &mut set);
+    set
+}
+
+fn read_request(m: &[u8]) -> Received
+    ensures { λ r. ⌜ r ≡ readRequest (now (m .entry)) ⌝ }
+{
+    let used = m.len();
+    if used < 5 {
+        return refused(Answer::BadLength, used);
+    }
+    let count = m[4];
+    if 8 < count {
+        return refused(Answer::TooMany, used);
+    }
+    if used != 5 + 5 * (count as usize) {
+        return refused(Answer::BadLength, used);
+    }
+    let bad = least_bad(m, count);
+    if bad < count {
+        return refused(Answer::BadField(bad), used);
+    }
+    let set = held(&m[5..]);
+    let message = Message {
+        what: What::Request,
+        count,
+        set,
+    };
+    Received {
+        answer: Answer::Taken,
+        used,
+        message,
+    }
+}
+
+fn read_event(m: &[u8]) -> Received
+    ensures { λ r. ⌜ r ≡ sized (now (m .entry)) (4 + event .size) (event .says (now (m .entry))) ⌝ }
+{
+    sized(m, 5, What::Event { way: byte(m, 4) })
+}
+
+fn read_result(m: &[u8]) -> Received
+    ensures { λ r. ⌜ r ≡ sized (now (m .entry)) (4 + result .size) (result .says (now (m .entry))) ⌝ }
+{
+    sized(
+        m,
+        6,
+        What::Result {
+            number: byte(m, 4),
+            done: byte(m, 5),
+        },
+    )
+}
+
+fn read_answer(m: &[u8]) -> Received
+    ensures { λ r. ⌜ r ≡ sized (now (m .entry)) (4 + answer .size) (answer .says (now (m .entry))) ⌝ }
+{
+    sized(
+        m,
+        6,
+        What::Answer {
+            number: byte(m, 4),
+            place: byte(m, 5),
+        },
+    )
+}
+
+// A message whose bytes are exactly m, of a kind that a station reads.
+fn whole_asked(m: &[u8]) -> Received
+    requires { ⌜ 4 ≤ length (now m) ⌝ }
+    ensures { λ r. ⌜ r ≡ readWhole asked (now (m .entry)) ⌝ }
+{
+    let kind = word(m[2], m[3]);
+    match kind {
+        1 => read_request(m),
+        2 => read_event(m),
+        3 => read_result(m),
+        4 => sized(m, 12, What::Image(image_of(&m[4..]))),
+        5 => sized(m, 4, What::Ask),
+        _ => refused(Answer::UnknownKind, m.len()),
+    }
+}
+
+// The same for any kind.
+fn whole(m: &[u8]) -> Received
+    requires { ⌜ 4 ≤ length (now m) ⌝ }
+    ensures { λ r. ⌜ r ≡ readWhole known (now (m .entry)) ⌝ }
+{
+    let kind = word(m[2], m[3]);
+    match kind {
+        128 => read_answer(m),
+        129 => sized(m, 12, What::Held(image_of(&m[4..]))),
+        _ => whole_asked(m),
+    }
+}
+
+// The first message of s, of any kind; what stands after it is not looked at.
+pub fn read(s: &[u8]) -> Received
+    ensures { λ r. ⌜ r ≡ readMessage (now (s .entry)) ⌝ }
+{
+    let frame = framed(s);
+    match frame {
+        Frame::Cut => refused(Answer::TooFewBytes, 0),
+        Frame::Wrong => refused(Answer::BadLength, 0),
+        Frame::Whole(n) => whole(&s[..n]),
+    }
+}
+
+// The same for a station, to which kinds 128 and 129 are unknown.
+pub fn read_asked(s: &[u8]) -> Received
+    ensures { λ r. ⌜ r ≡ readAsked (now (s .entry)) ⌝ }
+{
+    let frame = framed(s);
+    match frame {
+        Frame::Cut => refused(Answer::TooFewBytes, 0),
+        Frame::Wrong => refused(Answer::BadLength, 0),
+        Frame::Whole(n) => whole_asked(&s[..n]),
+    }
+}
+
+// ---- writing
+
+// Puts all of src at the start of room, or refuses with 17 and writes nothing.
+fn put(src: &[u8], room: &mut [u8]) -> Written
+    ensures { λ r. ⌜ Leaves (put (now (src .entry)) (now (room .entry))) r (now (room .exit)) ⌝ }
+{
+    if room.len() < src.len() {
+        return Written {
+            answer: Answer::NoRoom,
+            size: 0,
+        };
+    }
+    let size = bytes::copy(src, room);
+    Written {
+        answer: Answer::Taken,
+        size,
+    }
+}
+
+// An image of this kind.
+fn put_image(kind: u8, x: u64, room: &mut [u8]) -> Written
+    ensures { λ r. ⌜ Leaves (put (10 ∷ 0 ∷ kind ∷ 0 ∷ littleEndian 8 x) (now (room .entry))) r (now (room .exit)) ⌝ }
+{
+    let b = image_bytes(x);
+    put(
+        &[
+            10,
+            0,
+            kind,
+            0,
+            b[0],
+            b[1],
+            b[2],
+            b[3],
+            b[4],
+            b[5],
+            b[6],
+            b[7],
+        ],
+        room,
+    )
+}
+
+// The first bytes of a request of so many instructions, and then those of the set.
+fn request_bytes(count: u8, set: [u8; 40]) -> [u8; 45]
+    requires { ⌜ count ≤ 8 ⌝ }
+    ensures { λ r. ⌜ r ≡ (3 + 5 * count) ∷ 0 ∷ 1 ∷ 0 ∷ count ∷ set ⌝ }
+{
+    let mut m = [0u8; 45];
+    bytes::copy(&set, &mut m[5..]);
+    m[0] = 3 + 5 * count;
+    m[2] = 1;
+    m[4] = count;
+    m
+}
+
+// Writes a request: 5, 4 at the least bad instruction, then 17, or all of it.
+fn write_request(count: u8, set: [u8; 40], room: &mut [u8]) -> Written
+    ensures { λ r. ⌜ Leaves (writing (record { what = What.Request; count = count; set = set }) (now (room .entry))) r (now (room .exit)) ⌝ }
+{
+    if 8 < count {
+        return Written {
+            answer: Answer::TooMany,
+            size: 0,
+        };
+    }
+    let m = request_bytes(count, set);
+    let bad = least_bad(&m, count);
+    if bad < count {
+        return Written {
+            answer: Answer::BadField(bad),
+            size: 0,
+        };
+    }
+    let size = 5 + 5 * (count as usize);
+    put(&m[..size], room)
+}
+
+// Writes a message at the start of room: 5, 4, then 17, or all of it; bytes past it keep their values.
+pub fn write(m: Message, room: &mut [u8]) -> Written
+    ensures { λ r. ⌜ Leaves (writing m (now (room .entry))) r (now (room .exit)) ⌝ }
+{
+    let what = m.what;
+    if in_range(what) {
+        match what {
+            What::Request => {
+                let set = m.set;
+                write_request(m.count, set, room)
+            }
+            What::Event { way } => put(&[3, 0, 2, 0, way], room),
+            What::Result { number, done } => put(&[4, 0, 3, 0, number, done], room),
+            What::Image(x) => put_image(4, x, room),
+            What::Ask => put(&[2, 0, 5, 0], room),
+            What::Answer { number, place } => put(&[4, 0, 128, 0, number, place], room),
+            What::Held(x) => put_image(129, x, room),
+        }
+    } else {
+        Written {
+            answer: Answer::BadField(answers::NOWHERE),
+            size: 0,
+        }
+    }
+}
+
+// Writes a message that holds no instruction.
+pub fn write_plain(what: What, room: &mut [u8]) -> Written
+    ensures { λ r. ⌜ Leaves (writing (plain what) (now (room .entry))) r (now (room .exit)) ⌝ }
+{
+    let m = plain(what);
+    write(m, room)
+}

@@ -1,0 +1,66 @@
+-- Document 01's session and its lengths, computed: the definitions say on them what the paper says. Assumes nothing.
+use mathlib.Core.Path.{_≡_, refl}
+use mathlib.Core.List.{[], _∷_}
+use lib.ListN.{replicate}
+use Rattle.bits.specs.Search.{least}
+use Rattle.answers.specs.declared.Answer.the-variants.{TooFewBytes, BadLength, UnknownKind, BadField, TooMany}
+use Rattle.rules.specs.Codes.{readCode, readBytes}
+use Rattle.wire.specs.declared.What.the-variants.{Event, Ask, Answer, Held}
+use Rattle.wire.specs.Kinds.{plain}
+use Rattle.wire.specs.Reads.{refused, taken, readRequest, readWhole, readMessage, readAsked}
+use Rattle.wire.specs.Writes.{messageBytes}
+
+-- in: a car comes, then the image is asked for
+car-in : readAsked (3 ∷ 0 ∷ 2 ∷ 0 ∷ 1 ∷ 2 ∷ 0 ∷ 5 ∷ 0 ∷ []) ≡ taken (plain (Event 1)) 5
+unfolding readAsked readWhole
+car-in = refl
+
+then-ask : readAsked (2 ∷ 0 ∷ 5 ∷ 0 ∷ []) ≡ taken (plain Ask) 4
+unfolding readAsked readWhole
+then-ask = refl
+
+-- out: taken, then the image
+answered : messageBytes (plain (Answer 0 255)) ≡ 4 ∷ 0 ∷ 0x80 ∷ 0 ∷ 0 ∷ 0xFF ∷ []
+answered = refl
+
+image-sent : messageBytes (plain (Held 0x00191B0000000000)) ≡ 0x0A ∷ 0 ∷ 0x81 ∷ 0 ∷ 0 ∷ 0 ∷ 0 ∷ 0 ∷ 0 ∷ 0x1B ∷ 0x19 ∷ 0 ∷ []
+image-sent = refl
+
+-- a count of nine: 5 at length 43, 2 at length 48
+nine-at-43 : readAsked (43 ∷ 0 ∷ 1 ∷ 0 ∷ 9 ∷ replicate 40 0) ≡ refused TooMany 45
+unfolding readAsked readWhole readRequest
+nine-at-43 = refl
+
+nine-at-48 : readAsked (48 ∷ 0 ∷ 1 ∷ 0 ∷ 9 ∷ replicate 45 0) ≡ refused BadLength 0
+unfolding readAsked
+nine-at-48 = refl
+
+-- length 44, whatever follows; a message cut short; a request with no count; a bad instruction after a good one
+length-44 : readAsked (44 ∷ 0 ∷ []) ≡ refused BadLength 0
+unfolding readAsked
+length-44 = refl
+
+cut-short : readAsked (2 ∷ 0 ∷ 5 ∷ []) ≡ refused TooFewBytes 0
+unfolding readAsked
+cut-short = refl
+
+no-count : readAsked (2 ∷ 0 ∷ 1 ∷ 0 ∷ []) ≡ refused BadLength 4
+unfolding readAsked readWhole readRequest
+no-count = refl
+
+second-bad : readAsked (13 ∷ 0 ∷ 1 ∷ 0 ∷ 2 ∷ 5 ∷ 0 ∷ 0 ∷ 0 ∷ 0 ∷ 5 ∷ 0 ∷ 0 ∷ 0 ∷ 1 ∷ []) ≡ refused (BadField 1) 15
+unfolding readAsked readWhole readRequest least readBytes readCode
+second-bad = refl
+
+-- kind 128 with a wrong length: unknown to the station, a bad length to the library; kind 257 is not kind 1
+answer-asked : readAsked (2 ∷ 0 ∷ 128 ∷ 0 ∷ []) ≡ refused UnknownKind 4
+unfolding readAsked readWhole
+answer-asked = refl
+
+answer-read : readMessage (2 ∷ 0 ∷ 128 ∷ 0 ∷ []) ≡ refused BadLength 4
+unfolding readMessage readWhole
+answer-read = refl
+
+kind-257 : readMessage (3 ∷ 0 ∷ 1 ∷ 1 ∷ 0 ∷ []) ≡ refused UnknownKind 5
+unfolding readMessage readWhole
+kind-257 = refl

@@ -1,0 +1,8 @@
+pub mod Numbers
+pub mod Instructions
+pub mod Messages
+pub mod Back
+pub mod Form
+pub mod Carried
+pub mod Asked
+pub mod Examples

@@ -1,0 +1,82 @@
+-- What is promised of messages and of record images: what was written reads back as what was meant, and bytes that read as a meaning
+-- are exactly the bytes that writing it gives. Of the station's reader: it says what the library's says, but of kinds above 5.
+-- Proved in proofs/. Assumes nothing.
+use mathlib.Core.Path.{_≡_}
+use mathlib.Core.Bool.{true}
+use mathlib.Core.List.{List, [], _∷_, _++_}
+use Prim.Native.Nat.{ℕ, _≤_, _*_, _<_, _^_}
+use lib.ListN.{getD, length, take, drop}
+use Rattle.rules.specs.declared.Instruction.{Instruction}
+use Rattle.rules.specs.Rules.{wellFormed}
+use Rattle.rules.specs.Codes.{codeOf}
+use Rattle.answers.specs.declared.Answer.the-variants.{Taken, UnknownKind}
+use Rattle.wire.specs.declared.What.{What}
+use Rattle.wire.specs.declared.What.the-variants.{Request, Event, Result, Image, Ask, Answer, Held}
+use Rattle.wire.specs.declared.Message.{Message}
+use Rattle.wire.specs.declared.Frame.the-variants.{Whole}
+use Rattle.wire.specs.Kinds.{littleEndian, fromLittleEndian}
+use Rattle.wire.specs.Reads.{frameOf, kindAt, refused, taken, readMessage, readAsked}
+use Rattle.wire.specs.Writes.{messageBytes, isRequest, writing, oneForm}
+
+-- each number of a run is a byte
+abbrev pub Bytes : List ℕ → Type 0
+Bytes s = (i : ℕ) → getD s i 0 < 256
+
+-- the image that a message carries, or zero
+abbrev pub carried : What → ℕ
+carried Request = 0
+carried (Event way) = 0
+carried (Result number done) = 0
+carried (Image x) = x
+carried Ask = 0
+carried (Answer number place) = 0
+carried (Held x) = x
+
+-- a message as code holds it: the image is one of 64 bits, the set has forty places
+pub record Typed (m : Message) : Type 0 where
+  pub image : carried (m .what) < 2 ^ 64
+  pub places : length (m .set) ≡ 40
+
+-- an image written in eight bytes reads back, whatever follows it
+abbrev pub ImageReadsBack : Type 0
+ImageReadsBack = (x : ℕ) (t : List ℕ) → x < 2 ^ 64 → fromLittleEndian 8 0 (littleEndian 8 x ++ t) ≡ x
+
+-- eight bytes are those of the image that they say
+abbrev pub ImageOneForm : Type 0
+ImageOneForm = (s : List ℕ) → Bytes s → 8 ≤ length s → take 8 s ≡ littleEndian 8 (fromLittleEndian 8 0 s)
+
+-- a message that was written reads back as what was meant, whatever stands after it in the room
+abbrev pub ReadsBack : Type 0
+ReadsBack = (m : Message) (room : List ℕ) → Typed m → writing m room .says .answer ≡ Taken
+    → readMessage (writing m room .leaves) ≡ taken (oneForm m) (writing m room .says .size)
+
+-- a message that was read: its bytes are those of its meaning, its unused places are zero, and writing it over them changes nothing
+pub record Form (s : List ℕ) (m : Message) (n : ℕ) : Type 0 where
+  pub bytes : take n s ≡ messageBytes m
+  pub unused : oneForm m ≡ m
+  pub written : writing m s ≡ record { says = record { answer = Taken; size = n }; leaves = s }
+
+-- bytes that read as a meaning are exactly the bytes that writing it gives
+abbrev pub OneForm : Type 0
+OneForm = (s : List ℕ) (m : Message) (n : ℕ) → Bytes s → readMessage s ≡ taken m n → Form s m n
+
+-- the five bytes of instruction i of a message
+abbrev pub fiveOf : Message → ℕ → List ℕ
+fiveOf m i = take 5 (drop (5 * i) (m .set))
+
+-- the five bytes that carry an instruction
+abbrev pub bytesOf : Instruction → List ℕ
+bytesOf j = let x = codeOf j in x .op ∷ x .a ∷ x .b ∷ x .c ∷ x .d ∷ []
+
+-- each instruction of a request that was read is well formed and stands in its one form
+abbrev pub InstructionsOneForm : Type 0
+InstructionsOneForm = (s : List ℕ) (m : Message) (n : ℕ) → Bytes s → readMessage s ≡ taken m n → isRequest m ≡ true
+    → (i : ℕ) → i < m .count → (j : Instruction) × (wellFormed j ≡ true) × (fiveOf m i ≡ bytesOf j)
+
+-- on kinds up to 5 the station's reader says what the library's says
+abbrev pub AskedAlike : Type 0
+AskedAlike = (s : List ℕ) → kindAt s ≤ 5 → readAsked s ≡ readMessage s
+
+-- and any other kind is unknown to it, whatever its length
+abbrev pub AskedUnknown : Type 0
+AskedUnknown = (s : List ℕ) (n : ℕ) → frameOf s ≡ Whole n → 5 < kindAt s → readAsked s ≡ refused UnknownKind n
