@@ -1,4 +1,3 @@
-pub mod Least
 pub mod Parts
 pub mod Frames
 pub mod Room

@@ -1,5 +1,5 @@
 use Rattle.wire.proofs.Parts.{at-five}
-use Rattle.wire.proofs.Least.{Passed, start, turn, here, past}
+use Rattle.bits.proofs.Least.{Passed, start, turn, here, past}
 use Rattle.wire.specs.Reads.{isBad, badIn}
 use Rattle.rules.specs.Codes.{readBytes}
 use lib.ListN.{drop}
