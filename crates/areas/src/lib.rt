@@ -9,18 +9,11 @@ use rules::Instruction;
 use rules::Reading;
 use rules::Sharing;
 
-// A shuttle's position: its lowered slot and its cells.
-const LEFT_1: u64 = 0x10000000003;
-
-const LEFT_2: u64 = 0x20000100000;
-
-const LEFT_3: u64 = 0x40040000000;
-
-const RIGHT_1: u64 = 0x800000C0000;
-
-const RIGHT_2: u64 = 0x100020000000;
-
-const RIGHT_3: u64 = 0x208000000000;
+use floor::masks::{
+    LEFT_1, LEFT_2, LEFT_3, LEFT_BELT, LEFT_LOWERED, LEFT_TILTED_1, LIFT_AND_CELLS, LIFT_AND_ROW_1,
+    LIFT_AND_TURNING_CELLS, MIDDLE_BELT_2, MIDDLE_BELT_3, RIGHT_1, RIGHT_2, RIGHT_3, RIGHT_BELT,
+    RIGHT_LOWERED, RIGHT_TILTED_1,
+};
 
 // ---- the parts
 
@@ -31,15 +24,15 @@ fn belts_mask(row: u8, mask: u8) -> u64
     let m = mask as u64;
     if row == 1 {
         return m % 2 * LEFT_1
-            | m / 2 % 2 * 0x7FC
-            | m / 4 % 2 * 0x70000000001800
-            | m / 8 % 2 * 0x3E000
+            | m / 2 % 2 * LEFT_BELT
+            | m / 4 % 2 * LIFT_AND_CELLS
+            | m / 8 % 2 * RIGHT_BELT
             | m / 16 % 2 * RIGHT_1;
     }
     if row == 2 {
-        return m % 2 * LEFT_2 | m / 2 % 2 * 0x1FE00000 | m / 4 % 2 * RIGHT_2;
+        return m % 2 * LEFT_2 | m / 2 % 2 * MIDDLE_BELT_2 | m / 4 % 2 * RIGHT_2;
     }
-    m % 2 * LEFT_3 | m / 2 % 2 * 0x7F80000000 | m / 4 % 2 * RIGHT_3
+    m % 2 * LEFT_3 | m / 2 % 2 * MIDDLE_BELT_3 | m / 4 % 2 * RIGHT_3
 }
 
 // The rows that a mask names with the row next to each, as a mask of rows.
@@ -68,9 +61,9 @@ fn tilted_slots(side: u8, rows: u64) -> u64
     ensures { λ x. ⌜ x ≡ tiltedSlots side rows ⌝ }
 {
     if side == 0 {
-        return rows % 8 * 0x400000000000;
+        return rows % 8 * LEFT_TILTED_1;
     }
-    rows % 8 * 0x2000000000000
+    rows % 8 * RIGHT_TILTED_1
 }
 
 // One row as a mask of rows.
@@ -109,9 +102,9 @@ fn tilt_mask(side: u8, row: u8, orientation: u8) -> u64
         return here;
     }
     if side == 0 {
-        return here | 0x70000000000;
+        return here | LEFT_LOWERED;
     }
-    here | 0x380000000000
+    here | RIGHT_LOWERED
 }
 
 // The area of each; the lift's with all of row 1, rotate's with its six cells.
@@ -136,8 +129,8 @@ fn area_mask(i: Instruction) -> u64
             row,
             orientation,
         } => tilt_mask(side, row, orientation),
-        Instruction::Lift { height: _ } => 0x700000000FFFFF,
-        Instruction::Rotate => 0x7000000000E700,
+        Instruction::Lift { height: _ } => LIFT_AND_ROW_1,
+        Instruction::Rotate => LIFT_AND_TURNING_CELLS,
     }
 }
 

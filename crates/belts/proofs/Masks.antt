@@ -12,7 +12,7 @@ use Rattle.floor.specs.Floor.{heightLow, heightHigh}
 use Rattle.rules.specs.Named.{cells, neededSlots}
 use Rattle.rules.specs.Rules.{beltsNamed}
 use Rattle.rules.proofs.Every.{rows, each-row}
-use Rattle.belts.proofs.Spans.{same, same-eq}
+use Rattle.bits.proofs.Lists.{same, same-eq}
 
 -- a mask is a run of ones if adding its lowest one clears them all
 abbrev run : ℕ → Bool

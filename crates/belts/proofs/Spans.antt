@@ -8,6 +8,7 @@ use lib.Dec.{T, eqb, eqb→eq}
 use Rattle.bits.specs.Places.{adjacent}
 use Rattle.bits.specs.Search.{every}
 use Rattle.bits.proofs.Cases.{and-l, and-r, under}
+use Rattle.bits.proofs.Lists.{same, same-eq}
 use Rattle.floor.specs.Floor.{beltOf, rowCells}
 use Rattle.rules.specs.declared.Instruction.{Instruction}
 use Rattle.rules.specs.declared.Instruction.the-variants.{Belts, Shuttles, Tilt, Lift, Rotate}
@@ -16,19 +17,6 @@ use Rattle.rules.specs.Rules.{beltsNamed, wellFormed}
 use Rattle.rules.proofs.Every.{everywhere, each, rows, each-row}
 use Rattle.belts.specs.Private.{cellNamed, along, leaves}
 use Rattle.belts.proofs.Walks.{keep}
-
--- whether two lists are the same
-abbrev pub same : List ℕ → List ℕ → Bool
-same [] [] = true
-same [] (j ∷ js) = false
-same (k ∷ ks) [] = false
-same (k ∷ ks) (j ∷ js) = eqb k j && same ks js
-
-pub same-eq : (ks js : List ℕ) → T (same ks js) → ks ≡ js
-same-eq [] [] t = refl
-same-eq [] (j ∷ js) t = absurd t
-same-eq (k ∷ ks) [] t = absurd t
-same-eq (k ∷ ks) (j ∷ js) t = ap₂ _∷_ (eqb→eq k j (and-l (eqb k j) (same ks js) t)) (same-eq ks js (and-r (eqb k j) (same ks js) t))
 
 -- a test of belt moves alone
 abbrev pub ofBelts : (ℕ → ℕ → ℕ → ℕ → Bool) → Instruction → Bool

@@ -11,6 +11,10 @@ ghost use Rattle.rules.specs.Rules.{wellFormed, beltsNamed, allowed, next};
 ghost use Rattle.rules.specs.Verdicts.{verdictOf, movedOf};
 ghost use Rattle.belts.specs.Private.{firstCell, endCell, cellNamed, along, leaves, source, copied, standing, clear, renewed};
 use floor::Belt;
+use floor::masks::{
+    HEIGHT_HIGH, HEIGHT_LOW, LEFT_SLOT_1, LEFT_SLOT_2, LEFT_SLOT_3, RIGHT_SLOT_1, RIGHT_SLOT_2,
+    RIGHT_SLOT_3,
+};
 use rules::Instruction;
 use rules::Moved;
 use rules::Verdict;
@@ -179,9 +183,9 @@ fn slots_mask(row: u8, mask: u8) -> u64
 {
     let m = mask as u64;
     match row {
-        1 => (m % 2) * 0x10000000000 + (m / 16 % 2) * 0x80000000000,
-        2 => (m % 2) * 0x20000000000 + (m / 4 % 2) * 0x100000000000,
-        _ => (m % 2) * 0x40000000000 + (m / 4 % 2) * 0x200000000000,
+        1 => (m % 2) * LEFT_SLOT_1 + (m / 16 % 2) * RIGHT_SLOT_1,
+        2 => (m % 2) * LEFT_SLOT_2 + (m / 4 % 2) * RIGHT_SLOT_2,
+        _ => (m % 2) * LEFT_SLOT_3 + (m / 4 % 2) * RIGHT_SLOT_3,
     }
 }
 
@@ -192,7 +196,7 @@ fn available(r: u64, row: u8, mask: u8) -> bool
 {
     let slots = bits::all(r, slots_mask(row, mask));
     if (row == 1) & (mask / 4 % 2 == 1) {
-        return slots & (bits::free(r, 0x20000000000000) & bits::all(r, 0x40000000000000));
+        return slots & (bits::free(r, HEIGHT_LOW) & bits::all(r, HEIGHT_HIGH));
     }
     slots
 }

@@ -8,3 +8,5 @@ pub mod Packing
 pub mod Meeting
 pub mod Least
 pub mod Sharing
+pub mod Lists
+pub mod Fills

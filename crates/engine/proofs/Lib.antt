@@ -1,4 +1,3 @@
-pub mod Lists
 pub mod Naming
 pub mod Settings
 pub mod Nexts

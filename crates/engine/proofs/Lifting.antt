@@ -17,7 +17,7 @@ use Rattle.rules.specs.declared.Event.the-variants.{CarIn, CarOut}
 use Rattle.rules.specs.Rules.{wellFormed, conditions, allowed, next}
 use Rattle.rules.specs.Events.{possible, after}
 use Rattle.engine.specs.Private.{laid, liftBits}
-use Rattle.engine.proofs.Lists.{same, same-eq, bit-list}
+use Rattle.bits.proofs.Lists.{same, same-eq, bit-list}
 use Rattle.engine.proofs.Settings.{laid-right}
 use Rattle.engine.proofs.Nexts.{liftTouched, liftCar, lift-right, event-right}
 

@@ -16,7 +16,7 @@ use Rattle.bits.proofs.Operations.{bit-and, bit-or, bit-not}
 use Rattle.bits.proofs.Masks.{half}
 use Rattle.floor.specs.Tests.{holds, heightIs, set, free, both}
 use Rattle.engine.specs.Private.{laid, slotsOf, cellsOf}
-use Rattle.engine.proofs.Lists.{same, same-eq}
+use Rattle.bits.proofs.Lists.{same, same-eq}
 
 -- ---- bits made anew
 

@@ -23,7 +23,7 @@ use Rattle.rules.specs.Events.{eventChanges, after}
 use Rattle.rules.specs.Rules.{wellFormed, conditions, changes, allowed, next}
 use Rattle.rules.proofs.Every.{everywhere, each}
 use Rattle.engine.specs.Private.{slotsOf, cellsOf, onto, carsOf, liftBits}
-use Rattle.engine.proofs.Lists.{in-left, in-right}
+use Rattle.bits.proofs.Lists.{in-left, in-right}
 use Rattle.engine.proofs.Settings.{right, renewed, renewed-right}
 
 -- ---- shuttles

@@ -10,41 +10,10 @@ use Rattle.bits.specs.Bits.{Bits, bit, image}
 use Rattle.bits.specs.Places.{elem}
 use Rattle.bits.proofs.Cases.{split, clash, and-l, and-r, under, T→true, true→T, beq→eq, off}
 use Rattle.bits.proofs.Digits.{image-ext}
+use Rattle.bits.proofs.Fills.{fill, allFills, at-fill, fill-agree}
 use Rattle.floor.specs.Tests.{Test, allHold, Change, changed}
 use Rattle.floor.proofs.Reading.{inside, inside-at, allReadIn, changeIn, all-agree, changed-agree, changed-outside}
 use Rattle.engine.specs.Private.{laid}
-
--- the record that has these bits at these places, and no other
-abbrev pub fill : List ℕ → List Bool → Bits
-fill [] bs k = false
-fill (j ∷ js) [] k = false
-fill (j ∷ js) (b ∷ bs) k = cond (eqb j k) b (fill js bs k)
-
--- a test at every setting of the bits at these places
-abbrev pub allFills : List ℕ → (List Bool → Bool) → Bool
-allFills [] p = p []
-allFills (j ∷ js) p = allFills js (λ bs. p (true ∷ bs)) && allFills js (λ bs. p (false ∷ bs))
-
--- then it holds of the bits of any record
-at-fill : (ks : List ℕ) (p : List Bool → Bool) → T (allFills ks p) → (f : Bits) → T (p (map f ks))
-at-fill [] p t f = t
-at-fill (j ∷ js) p t f =
-    go (f j)
-    (at-fill js (λ bs. p (true ∷ bs)) (and-l (allFills js (λ bs. p (true ∷ bs))) (allFills js (λ bs. p (false ∷ bs))) t) f)
-    (at-fill js (λ bs. p (false ∷ bs)) (and-r (allFills js (λ bs. p (true ∷ bs))) (allFills js (λ bs. p (false ∷ bs))) t) f)
-  where
-    go : (b : Bool) → T (p (true ∷ map f js)) → T (p (false ∷ map f js)) → T (p (b ∷ map f js))
-    go true x y = x
-    go false x y = y
-
--- a record filled with the bits of another agrees with it there
-fill-agree : (ks : List ℕ) (f : Bits) (k : ℕ) → T (elem k ks) → fill ks (map f ks) k ≡ f k
-fill-agree [] f k m = absurd m
-fill-agree (j ∷ js) f k m = go (eqb j k) refl m (fill-agree js f k)
-  where
-    go : (b : Bool) → eqb j k ≡ b → T (b || elem k js) → (T (elem k js) → fill js (map f js) k ≡ f k) → cond b (f j) (fill js (map f js) k) ≡ f k
-    go true e m r = ap f (eqb-true j k e)
-    go false e m r = r m
 
 -- two records have the same bits at these places
 abbrev pub alike : List ℕ → Bits → Bits → Bool

@@ -21,7 +21,7 @@ use Rattle.rules.specs.declared.Instruction.the-variants.{Shuttles}
 use Rattle.rules.specs.Rules.{wellFormed, conditions, allowed, next}
 use Rattle.rules.specs.Named.{rowsOf, ahead}
 use Rattle.engine.specs.Private.{laid, slotsOf, cellsOf, onto, carsOf}
-use Rattle.engine.proofs.Lists.{same, same-eq, bit-list, or-list}
+use Rattle.bits.proofs.Lists.{same, same-eq, bit-list, or-list}
 use Rattle.engine.proofs.Settings.{laid-right}
 use Rattle.engine.proofs.Nexts.{withCells, rowsTouched, shuttlesTouched, carsTaken, shuttlesNew, shuttles-right}
 

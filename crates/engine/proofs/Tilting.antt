@@ -18,7 +18,7 @@ use Rattle.rules.specs.declared.Instruction.the-variants.{Tilt}
 use Rattle.rules.specs.Named.{rowsOf}
 use Rattle.rules.specs.Rules.{wellFormed, conditions, allowed, next}
 use Rattle.engine.specs.Private.{laid, slotsOf, cellsOf}
-use Rattle.engine.proofs.Lists.{same, same-eq, bit-list, or-list}
+use Rattle.bits.proofs.Lists.{same, same-eq, bit-list, or-list}
 use Rattle.engine.proofs.Settings.{laid-right}
 use Rattle.engine.proofs.Nexts.{tilt-right}
 

@@ -19,7 +19,7 @@ mod tilts;
 
 use lifts::lift_moved;
 use lifts::rotate_moved;
-use masks::RAISED_CAR;
+use floor::masks::RAISED_CAR;
 use masks::height_is;
 use masks::laid;
 use shuttles::shuttles_moved;

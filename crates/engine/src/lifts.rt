@@ -8,13 +8,9 @@ ghost use Rattle.rules.specs.declared.Instruction.{Instruction};
 ghost use Rattle.rules.specs.Rules.{wellFormed, allowed, next};
 ghost use Rattle.rules.specs.Verdicts.{movedOf};
 ghost use Rattle.engine.specs.Private.{liftBits};
-use super::masks::HEIGHT;
-use super::masks::LEFT_OF_LIFT;
-use super::masks::LIFT;
-use super::masks::LIFT_CELLS;
-use super::masks::RAISED_CAR;
-use super::masks::RIGHT_OF_LIFT;
-use super::masks::TURNING_CELLS;
+use floor::masks::{
+    HEIGHT, HEIGHT_AT, LEFT_OF_LIFT, LIFT_AND_CELLS, LIFT_CELLS, RAISED, RAISED_CAR, RIGHT_OF_LIFT, TURNING_CELLS,
+};
 use super::masks::height_is;
 use super::masks::laid;
 use rules::Moved;
@@ -34,7 +30,7 @@ fn lift_bits(height: u8, car: bool) -> u64
     requires { ⌜ height < 3 ⌝ }
     ensures { λ m. ⌜ places m ≡ liftBits height car ⌝ }
 {
-    let at = (height as u64) << 53;
+    let at = (height as u64) << HEIGHT_AT;
     if car {
         if height == 2 {
             return at + LIFT_CELLS;
@@ -50,10 +46,10 @@ fn lift_next(r: u64, height: u8) -> u64
     ensures { λ x. ⌜ x ≡ image (next (Instruction.Lift height) (bit r)) ⌝ }
 {
     if height == 2 {
-        return laid(r, LIFT, lift_bits(height, bits::bit(r, 52)));
+        return laid(r, LIFT_AND_CELLS, lift_bits(height, bits::bit(r, RAISED)));
     }
     if height_is(r, 2) {
-        return laid(r, LIFT, lift_bits(height, bits::all(r, LIFT_CELLS)));
+        return laid(r, LIFT_AND_CELLS, lift_bits(height, bits::all(r, LIFT_CELLS)));
     }
     laid(r, HEIGHT, lift_bits(height, false))
 }

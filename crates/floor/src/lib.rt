@@ -9,6 +9,15 @@ ghost use Rattle.floor.specs.Tests.{set, exactly, free, both, either, ho
 ghost use Rattle.floor.specs.Cars.{cars};
 ghost use Rattle.floor.specs.Sound.{carried, onLift, onRaisedLift, soundRules, paired, sound, total};
 
+pub mod masks;
+
+use masks::{
+    HEIGHT_HIGH, HEIGHT_LOW, LEFT_CELLS_1, LEFT_CELLS_2, LEFT_CELLS_3, LEFT_SLOT_1, LEFT_SLOT_2,
+    LEFT_SLOT_3, LEFT_SLOTS, LEFT_TILTED, LIFT_CELLS, RAISED_CAR, RIGHT_CELLS_1, RIGHT_CELLS_2,
+    RIGHT_CELLS_3, RIGHT_SLOT_1, RIGHT_SLOT_2, RIGHT_SLOT_3, RIGHT_SLOTS, RIGHT_TILTED, ROW_1,
+    ROWS_2_3, SPARE,
+};
+
 // The belt under a cell: its row, and its number in the row from the left.
 pub enum Belt {
     On(u8, u8),
@@ -41,35 +50,6 @@ pub fn belt_of(cell: u64) -> Belt
     }
 }
 
-// The cells of row 1, where two are one car: bits 0 to 19.
-const ROW_1: u64 = 0xF_FFFF;
-
-// The cells of rows 2 and 3: bits 20 to 39.
-const ROWS_2_3: u64 = 0xFF_FFF0_0000;
-
-// The lift's cells in row 1: bits 11 and 12.
-const LIFT_CELLS: u64 = 0x1800;
-
-// The slots of the left shuttles: bits 40 to 42 and, tilted, 46 to 48.
-const LEFT_SLOTS: u64 = 0x1_C700_0000_0000;
-
-const LEFT_TILTED: u64 = 0x1_C000_0000_0000;
-
-// The slots of the right shuttles: bits 43 to 45 and, tilted, 49 to 51.
-const RIGHT_SLOTS: u64 = 0xE_3800_0000_0000;
-
-const RIGHT_TILTED: u64 = 0xE_0000_0000_0000;
-
-// The lift: bits 52 to 54.
-const RAISED_CAR: u64 = 0x10_0000_0000_0000;
-
-const HEIGHT_LOW: u64 = 0x20_0000_0000_0000;
-
-const HEIGHT_HIGH: u64 = 0x40_0000_0000_0000;
-
-// What stands for nothing: bits 55 to 63.
-const SPARE: u64 = 0xFF80_0000_0000_0000;
-
 // Row 1 splits into cars: from the left, half says that the cell before k is the lower half of one.
 fn row_paired(r: u64) -> bool
     ensures { λ b. ⌜ b ≡ paired 20 0 false (bit r) ⌝ }
@@ -97,12 +77,12 @@ fn carries(r: u64, cells: u64, slot: u64) -> bool
 fn all_carry(r: u64) -> bool
     ensures { λ b. ⌜ b ≡ allHold (carried left 1 ∷ carried left 2 ∷ carried left 3 ∷ carried right 1 ∷ carried right 2 ∷ carried right 3 ∷ []) (bit r) ⌝ }
 {
-    carries(r, 0x3, 0x100_0000_0000)
-        & carries(r, 0x10_0000, 0x200_0000_0000)
-        & carries(r, 0x4000_0000, 0x400_0000_0000)
-        & carries(r, 0xC_0000, 0x800_0000_0000)
-        & carries(r, 0x2000_0000, 0x1000_0000_0000)
-        & carries(r, 0x80_0000_0000, 0x2000_0000_0000)
+    carries(r, LEFT_CELLS_1, LEFT_SLOT_1)
+        & carries(r, LEFT_CELLS_2, LEFT_SLOT_2)
+        & carries(r, LEFT_CELLS_3, LEFT_SLOT_3)
+        & carries(r, RIGHT_CELLS_1, RIGHT_SLOT_1)
+        & carries(r, RIGHT_CELLS_2, RIGHT_SLOT_2)
+        & carries(r, RIGHT_CELLS_3, RIGHT_SLOT_3)
 }
 
 // What stands on the lift fits its height: in the basement it stands on the lift's cells, elsewhere it is raised.

@@ -8,6 +8,7 @@ ghost use lib.ListN.{getD, take, replicate};
 ghost use Rattle.bits.specs.Search.{every, least};
 ghost use Rattle.garage.specs.Held.{codeAt, bad, overlapsEarlier, barred, liftIn};
 ghost use Rattle.garage.specs.Private.{areas};
+use floor::masks::LIFT;
 use crate::held;
 use rules::Code;
 
@@ -101,7 +102,7 @@ fn areas(set: [u8; 40], n: u8) -> u64
 pub fn lift_in(set: [u8; 40], n: u8) -> bool
     ensures { λ b. ⌜ b ≡ liftIn set n ⌝ }
 {
-    areas(set, n) & 0x70_0000_0000_0000 != 0
+    areas(set, n) & LIFT != 0
 }
 
 // The places past the first n instructions are zero.

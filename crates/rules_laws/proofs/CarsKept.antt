@@ -21,7 +21,8 @@ use Rattle.rules.specs.declared.Instruction.{Instruction}
 use Rattle.rules.specs.declared.Instruction.the-variants.{Belts, Shuttles, Tilt, Lift, Rotate}
 use Rattle.rules.specs.Rules.{wellFormed, conditions, changes}
 use Rattle.rules.proofs.Every.{everywhere, each}
-use Rattle.rules_laws.proofs.Tried.{On, those, tried, tried-law, sources, targets, not-target}
+use Rattle.bits.proofs.Fills.{On}
+use Rattle.rules_laws.proofs.Tried.{those, tried, tried-law, sources, targets, not-target}
 use Rattle.rules_laws.proofs.RulesKept.{both-lists}
 
 -- ---- the places that are counted

@@ -1,8 +1,15 @@
 use Rattle.engine.proofs.Lifting.{bits-law}
 use borrow.Author.Tests.{eq-eqb, ne-eqb}
+use Rattle.engine.proofs.lifts.lift_bits.Tie as tie
 use borrow.Author.Needs.{needs}
 use Rattle.engine.proofs.lifts.lift_bits.Statement.{statement}
 use Rattle.engine.proofs.lifts.lift_bits.Tie as tie
+
+cast-at : tie.Need-cast-at
+cast-at c = search needs
+
+shl-at : tie.Need-shl-at
+shl-at c = search needs
 
 add-result : tie.Need-add-result
 add-result c = search needs
@@ -20,4 +27,5 @@ returns-3 : tie.Need-returns-3
 returns-3 c = bits-law (c .before .args .height) (c .before .args .car) _ (c .before .pre) (simp (c .if1 .left))
 
 pub lift-bits-spec : {M : Type 1} → statement M
-lift-bits-spec = tie.close (tie.spec add-result returns add-result-2 returns-2 returns-3)
+lift-bits-spec =
+    tie.close (tie.spec cast-at shl-at add-result returns add-result-2 returns-2 returns-3)

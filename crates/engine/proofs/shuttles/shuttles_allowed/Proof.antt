@@ -1,4 +1,4 @@
-use Rattle.engine.proofs.Lists.{all-list, free-list, even-list}
+use Rattle.bits.proofs.Lists.{all-list, free-list, even-list}
 use lib.Dec.{eqb}
 use mathlib.Core.Bool.{Bool, not, _&&_, _||_}
 use mathlib.Core.Path.{ap₂, _∙_}

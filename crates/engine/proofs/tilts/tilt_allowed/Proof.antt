@@ -1,5 +1,5 @@
 use mathlib.Core.Bool.{_&&_}
-use Rattle.engine.proofs.Lists.{all-list, free-list}
+use Rattle.bits.proofs.Lists.{all-list, free-list}
 use mathlib.Core.Path.{ap₂, _∙_}
 use Rattle.engine.proofs.Tilting.{bounds, lowered-law, tilted-law}
 use Rattle.bits.specs.Bits.{bit}
