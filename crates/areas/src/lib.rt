@@ -3,17 +3,28 @@
 ghost use mathlib.Core.Path.{_≡_};
 ghost use Rattle.rules.specs.Verdicts.{maskOf, sharingOf, codeMask, codeSharing};
 ghost use Rattle.areas.specs.Private.{beltsMask, rowsMask, positions, tiltedSlots, shuttlesMask, rowBit, tiltMask, areaMask};
+use floor::masks::LEFT_1;
+use floor::masks::LEFT_2;
+use floor::masks::LEFT_3;
+use floor::masks::LEFT_BELT;
+use floor::masks::LEFT_LOWERED;
+use floor::masks::LEFT_TILTED_1;
+use floor::masks::LIFT_AND_CELLS;
+use floor::masks::LIFT_AND_ROW_1;
+use floor::masks::LIFT_AND_TURNING_CELLS;
+use floor::masks::MIDDLE_BELT_2;
+use floor::masks::MIDDLE_BELT_3;
+use floor::masks::RIGHT_1;
+use floor::masks::RIGHT_2;
+use floor::masks::RIGHT_3;
+use floor::masks::RIGHT_BELT;
+use floor::masks::RIGHT_LOWERED;
+use floor::masks::RIGHT_TILTED_1;
 use rules::Area;
 use rules::Code;
 use rules::Instruction;
 use rules::Reading;
 use rules::Sharing;
-
-use floor::masks::{
-    LEFT_1, LEFT_2, LEFT_3, LEFT_BELT, LEFT_LOWERED, LEFT_TILTED_1, LIFT_AND_CELLS, LIFT_AND_ROW_1,
-    LIFT_AND_TURNING_CELLS, MIDDLE_BELT_2, MIDDLE_BELT_3, RIGHT_1, RIGHT_2, RIGHT_3, RIGHT_BELT,
-    RIGHT_LOWERED, RIGHT_TILTED_1,
-};
 
 // ---- the parts
 

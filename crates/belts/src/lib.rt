@@ -11,10 +11,14 @@ ghost use Rattle.rules.specs.Rules.{wellFormed, beltsNamed, allowed, next};
 ghost use Rattle.rules.specs.Verdicts.{verdictOf, movedOf};
 ghost use Rattle.belts.specs.Private.{firstCell, endCell, cellNamed, along, leaves, source, copied, standing, clear, renewed};
 use floor::Belt;
-use floor::masks::{
-    HEIGHT_HIGH, HEIGHT_LOW, LEFT_SLOT_1, LEFT_SLOT_2, LEFT_SLOT_3, RIGHT_SLOT_1, RIGHT_SLOT_2,
-    RIGHT_SLOT_3,
-};
+use floor::masks::HEIGHT_HIGH;
+use floor::masks::HEIGHT_LOW;
+use floor::masks::LEFT_SLOT_1;
+use floor::masks::LEFT_SLOT_2;
+use floor::masks::LEFT_SLOT_3;
+use floor::masks::RIGHT_SLOT_1;
+use floor::masks::RIGHT_SLOT_2;
+use floor::masks::RIGHT_SLOT_3;
 use rules::Instruction;
 use rules::Moved;
 use rules::Verdict;

@@ -17,9 +17,9 @@ mod masks;
 mod shuttles;
 mod tilts;
 
+use floor::masks::RAISED_CAR;
 use lifts::lift_moved;
 use lifts::rotate_moved;
-use floor::masks::RAISED_CAR;
 use masks::height_is;
 use masks::laid;
 use shuttles::shuttles_moved;
@@ -88,8 +88,7 @@ pub fn verdict(i: Instruction, r: u64) -> Verdict
         mask,
         toward,
         size,
-    } = i
-    {
+    } = i {
         return belts::belts_verdict(r, row, mask, toward, size);
     }
     told(moved(i, r))

@@ -8,11 +8,17 @@ ghost use Rattle.rules.specs.declared.Instruction.{Instruction};
 ghost use Rattle.rules.specs.Rules.{wellFormed, allowed, next};
 ghost use Rattle.rules.specs.Verdicts.{movedOf};
 ghost use Rattle.engine.specs.Private.{liftBits};
-use floor::masks::{
-    HEIGHT, HEIGHT_AT, LEFT_OF_LIFT, LIFT_AND_CELLS, LIFT_CELLS, RAISED, RAISED_CAR, RIGHT_OF_LIFT, TURNING_CELLS,
-};
 use super::masks::height_is;
 use super::masks::laid;
+use floor::masks::HEIGHT;
+use floor::masks::HEIGHT_AT;
+use floor::masks::LEFT_OF_LIFT;
+use floor::masks::LIFT_AND_CELLS;
+use floor::masks::LIFT_CELLS;
+use floor::masks::RAISED;
+use floor::masks::RAISED_CAR;
+use floor::masks::RIGHT_OF_LIFT;
+use floor::masks::TURNING_CELLS;
 use rules::Moved;
 
 // The height differs; in the basement the lift's two cells are free, or no car stands half on it: the cells on either side
@@ -49,7 +55,11 @@ fn lift_next(r: u64, height: u8) -> u64
         return laid(r, LIFT_AND_CELLS, lift_bits(height, bits::bit(r, RAISED)));
     }
     if height_is(r, 2) {
-        return laid(r, LIFT_AND_CELLS, lift_bits(height, bits::all(r, LIFT_CELLS)));
+        return laid(
+            r,
+            LIFT_AND_CELLS,
+            lift_bits(height, bits::all(r, LIFT_CELLS)),
+        );
     }
     laid(r, HEIGHT, lift_bits(height, false))
 }

@@ -5,10 +5,14 @@ ghost use Rattle.bits.specs.Bits.{bit, image};
 ghost use Rattle.bits.specs.Places.{places};
 ghost use Rattle.floor.specs.Tests.{holds, heightIs};
 ghost use Rattle.engine.specs.Private.{laid, slotsOf, cellsOf};
-use floor::masks::{
-    FIRST_SLOT, HEIGHT_AT, LEFT_CELLS_1, LEFT_CELLS_2, LEFT_CELLS_3, RIGHT_CELLS_1, RIGHT_CELLS_2,
-    RIGHT_CELLS_3,
-};
+use floor::masks::FIRST_SLOT;
+use floor::masks::HEIGHT_AT;
+use floor::masks::LEFT_CELLS_1;
+use floor::masks::LEFT_CELLS_2;
+use floor::masks::LEFT_CELLS_3;
+use floor::masks::RIGHT_CELLS_1;
+use floor::masks::RIGHT_CELLS_2;
+use floor::masks::RIGHT_CELLS_3;
 
 // The record with the touched bits made anew: 1 where `new` has a 1.
 pub fn laid(r: u64, touched: u64, new: u64) -> u64

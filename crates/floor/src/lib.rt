@@ -11,12 +11,29 @@ ghost use Rattle.floor.specs.Sound.{carried, onLift, onRaisedLift, sound
 
 pub mod masks;
 
-use masks::{
-    HEIGHT_HIGH, HEIGHT_LOW, LEFT_CELLS_1, LEFT_CELLS_2, LEFT_CELLS_3, LEFT_SLOT_1, LEFT_SLOT_2,
-    LEFT_SLOT_3, LEFT_SLOTS, LEFT_TILTED, LIFT_CELLS, RAISED_CAR, RIGHT_CELLS_1, RIGHT_CELLS_2,
-    RIGHT_CELLS_3, RIGHT_SLOT_1, RIGHT_SLOT_2, RIGHT_SLOT_3, RIGHT_SLOTS, RIGHT_TILTED, ROW_1,
-    ROWS_2_3, SPARE,
-};
+use masks::HEIGHT_HIGH;
+use masks::HEIGHT_LOW;
+use masks::LEFT_CELLS_1;
+use masks::LEFT_CELLS_2;
+use masks::LEFT_CELLS_3;
+use masks::LEFT_SLOT_1;
+use masks::LEFT_SLOT_2;
+use masks::LEFT_SLOT_3;
+use masks::LEFT_SLOTS;
+use masks::LEFT_TILTED;
+use masks::LIFT_CELLS;
+use masks::RAISED_CAR;
+use masks::RIGHT_CELLS_1;
+use masks::RIGHT_CELLS_2;
+use masks::RIGHT_CELLS_3;
+use masks::RIGHT_SLOT_1;
+use masks::RIGHT_SLOT_2;
+use masks::RIGHT_SLOT_3;
+use masks::RIGHT_SLOTS;
+use masks::RIGHT_TILTED;
+use masks::ROW_1;
+use masks::ROWS_2_3;
+use masks::SPARE;
 
 // The belt under a cell: its row, and its number in the row from the left.
 pub enum Belt {

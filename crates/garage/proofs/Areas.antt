@@ -3,7 +3,7 @@ use Prim.Native.Nat.{ℕ, zero, suc, _+_, _^_, _<_}
 use native.Mathlib.Omega.{arith}
 use native.Mathlib.Numerals.{add-one}
 use mathlib.Core.Path.{_≡_, refl, sym, _∙_}
-use mathlib.Core.Bool.{Bool, true, false, not, _&&_, _||_}
+use mathlib.Core.Bool.{Bool, true, false, not, _&&_, _||_, or-comm, and-or-distrib-left}
 use mathlib.Core.List.{List, []}
 use lib.Dec.{eqb}
 use lib.Bits.{bitAnd, bitOr, and-zero-r, and-comm}
@@ -52,19 +52,18 @@ some-or (suc n) p q r e = rw (e n, some-or n p q r e) (swap (q n) (r n) (some n 
     swap false false false d = refl
 
 and-or : (a b c : Bool) → a && (b || c) ≡ (a && c) || (a && b)
-and-or false b c = refl
-and-or true true true = refl
-and-or true true false = refl
-and-or true false true = refl
-and-or true false false = refl
+and-or a b c = and-or-distrib-left a b c ∙ or-comm (a && b) (a && c)
 
-meets-or : (m x y : ℕ) → m < 2 ^ 64 → not (eqb (bitAnd m (bitOr x y)) 0) ≡ not (eqb (bitAnd m y) 0) || not (eqb (bitAnd m x) 0)
+-- a mask meets two taken together, exactly if it meets one of them
+meets-or : (m x y : ℕ) → m < 2 ^ 64
+    → not (eqb (bitAnd m (bitOr x y)) 0) ≡ not (eqb (bitAnd m y) 0) || not (eqb (bitAnd m x) 0)
 meets-or m x y h =
     rw (← meet 64 m (bitOr x y) h, ← meet 64 m x h, ← meet 64 m y h)
     (some-or 64 _ _ _ (λ k. rw (bit-or x y k) (and-or (bit m k) (bit x k) (bit y k))))
 
 -- a mask meets one of the first n areas, exactly if it meets all of them taken together
-meets-areas : (m : ℕ) (set : List ℕ) (n : ℕ) → m < 2 ^ 64 → some n (λ j. not (eqb (bitAnd m (heldMask (codeAt set j))) 0)) ≡ not (eqb (bitAnd m (areas set n)) 0)
+meets-areas : (m : ℕ) (set : List ℕ) (n : ℕ) → m < 2 ^ 64
+    → some n (λ j. not (eqb (bitAnd m (heldMask (codeAt set j))) 0)) ≡ not (eqb (bitAnd m (areas set n)) 0)
 unfolding some areas
 meets-areas m set zero h = rw and-zero-r
 meets-areas m set (suc n) h = rw (meets-areas m set n h, meets-or m (areas set n) (heldMask (codeAt set n)) h)
@@ -75,12 +74,14 @@ pub areas-start : (set : List ℕ) → 0 ≡ areas set 0
 unfolding areas
 areas-start set = refl
 
-pub areas-turn : (set : List ℕ) (i : ℕ) {seen m : ℕ} {x : Code} → seen ≡ areas set i → x ≡ codeAt set i → m ≡ heldMask x → bitOr seen m ≡ areas set (i + 1)
+pub areas-turn : (set : List ℕ) (i : ℕ) {seen m : ℕ} {x : Code} → seen ≡ areas set i → x ≡ codeAt set i → m ≡ heldMask x
+    → bitOr seen m ≡ areas set (i + 1)
 unfolding areas
 areas-turn set i e d a = rw (add-one i, e, a, d)
 
 -- the code's test of instruction i
-pub overlapping : (set : List ℕ) (i : ℕ) {seen m : ℕ} {x : Code} → seen ≡ areas set i → x ≡ codeAt set i → m ≡ heldMask x → overlapsEarlier set i ≡ not (eqb (bitAnd m seen) 0)
+pub overlapping : (set : List ℕ) (i : ℕ) {seen m : ℕ} {x : Code} → seen ≡ areas set i → x ≡ codeAt set i → m ≡ heldMask x
+    → overlapsEarlier set i ≡ not (eqb (bitAnd m seen) 0)
 unfolding overlapsEarlier heldMask
 overlapping set i {seen} {m} {x} e d a =
     some-same i _ _ (λ j l. share-masks (heldArea (codeAt set i)) (heldArea (codeAt set j)) (held-small (codeAt set i)))
@@ -95,9 +96,11 @@ held-lift : (x : Code) → share (heldArea x) lift ≡ not (eqb (bitAnd liftMask
 unfolding heldMask packed
 held-lift x = rw (and-comm liftMask (heldMask x)) (share-masks (heldArea x) lift (held-small x))
 
+-- the code's test of all areas
 pub lift-in : (set : List ℕ) (n : ℕ) {m : ℕ} → m ≡ areas set n → not (eqb (bitAnd m liftMask) 0) ≡ liftIn set n
 unfolding liftIn
 lift-in set n {m} e = sym
-    (some-same n (λ j. share (heldArea (codeAt set j)) lift) (λ j. not (eqb (bitAnd liftMask (heldMask (codeAt set j))) 0)) (λ j l. held-lift (codeAt set j))
+    (some-same n (λ j. share (heldArea (codeAt set j)) lift) (λ j. not (eqb (bitAnd liftMask (heldMask (codeAt set j))) 0))
+    (λ j l. held-lift (codeAt set j))
     ∙ meets-areas liftMask set n (omega arith)
     ∙ rw (and-comm liftMask (areas set n), e))

@@ -1,4 +1,4 @@
--- The loops over a set's forty bytes. Assumes nothing.
+-- Tests whose answer the code negates, and the loops over a set's forty bytes. Assumes nothing.
 use Prim.Native.Nat.{ℕ, suc, _+_, _*_, _-_, _≤_, _<_}
 use native.Mathlib.Omega.{arith}
 use native.Mathlib.Numerals.{add-one}
@@ -8,7 +8,7 @@ use mathlib.Core.List.{List, [], _∷_, _++_, append-nil}
 use lib.Dec.{eqb, ltb}
 use lib.ListN.{length, getD, take, set, replicate, List·getD-eq-default}
 use lib.Seq.{take-all, take-suc, length-take-le, set-at, append-snoc}
-use borrow.Author.Tests.{lt-ltb, le-ltb, eq-eqb, ne-eqb, eqb-true, eqb-false}
+use borrow.Author.Tests.{lt-ltb, le-ltb, eq-eqb, ne-eqb, eqb-true, eqb-false, not-true, not-false}
 use Rattle.bits.specs.Search.{every}
 use Rattle.bits.proofs.Cases.{split}
 use Rattle.bits.proofs.Search.{every-is}
@@ -16,15 +16,25 @@ use Rattle.bits.proofs.Least.{every-not}
 use Rattle.rules.specs.declared.Code.{Code}
 use Rattle.garage.specs.Held.{codeAt}
 
+-- ---- negated tests
+
+pub failed : {b t : Bool} → b ≡ t → not b ≡ true → t ≡ false
+failed {b} e n = sym e ∙ not-true b n
+
+pub passed : {b t : Bool} → b ≡ t → not b ≡ false → t ≡ true
+passed {b} e n = sym e ∙ not-false b n
+
 -- what code found of the instruction that it read
 pub judged : (f : Code → Bool) {x y : Code} {b v : Bool} → x ≡ y → b ≡ f x → not b ≡ v → not (f y) ≡ v
 judged f e d t = rw (← e, ← d, t)
 
 -- ---- the places past the first n instructions
 
+-- a place is used, or zero
 abbrev zeroAt : List ℕ → ℕ → ℕ → Bool
 zeroAt set n k = ltb k (5 * n) || eqb (getD set k 0) 0
 
+-- each place below k is used or zero
 pub record Zero (set : List ℕ) (n k : ℕ) : Type 0 where
   pub past : 5 * n ≤ k
   pub all : (j : ℕ) → j < k → zeroAt set n j ≡ true
@@ -59,7 +69,8 @@ pub record Copied (from kept : List ℕ) (n k : ℕ) : Type 0 where
 pub copy-start : (from : List ℕ) (n : ℕ) → Copied from (replicate 40 0) n 0
 copy-start from n = record { within = omega arith; holds = refl }
 
-pub copy-turn : {from kept : List ℕ} {n k : ℕ} → length from ≡ 40 → Copied from kept n k → k < 5 * n → k < 40 → Copied from (set kept k (getD from k 0)) n (k + 1)
+pub copy-turn : {from kept : List ℕ} {n k : ℕ} → length from ≡ 40 → Copied from kept n k → k < 5 * n → k < 40
+    → Copied from (set kept k (getD from k 0)) n (k + 1)
 copy-turn {from} {kept} {n} {k} e v h l = record {
   within = omega arith;
   holds =
@@ -82,7 +93,14 @@ all-used from n e h = let z : 40 - 5 * n ≡ 0 = omega arith in rw (z, take-all 
 -- past the eighth instruction there are only zeros
 pub past-eighth : (set : List ℕ) (i : ℕ) → length set ≡ 40 → 8 ≤ i → _≡_ {A = Code} (record { op = 0; a = 0; b = 0; c = 0; d = 0 }) (codeAt set i)
 unfolding codeAt
-past-eighth set i e h = rw (zero (5 * i) (omega arith), zero (5 * i + 1) (omega arith), zero (5 * i + 2) (omega arith), zero (5 * i + 3) (omega arith), zero (5 * i + 4) (omega arith))
+past-eighth set i e h =
+    rw (
+      zero (5 * i) (omega arith),
+      zero (5 * i + 1) (omega arith),
+      zero (5 * i + 2) (omega arith),
+      zero (5 * i + 3) (omega arith),
+      zero (5 * i + 4) (omega arith),
+    )
   where
     zero : (k : ℕ) → 40 ≤ k → getD set k 0 ≡ 0
     zero k l = List·getD-eq-default set 0 (omega arith)

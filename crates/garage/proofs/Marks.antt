@@ -3,12 +3,12 @@ use Prim.Native.Nat.{ℕ, zero, suc, _*_, _-_, _^_, _%_, _≤_, _<_}
 use native.Mathlib.Omega.{arith}
 use native.Mathlib.Nat.{mod-lt, lt-of-le-of-lt, mod-le}
 use mathlib.Core.Path.{_≡_, refl, sym, ap, _∙_, fun-ext}
-use mathlib.Core.Bool.{Bool, true, false, not, _&&_, _||_, and-assoc, and-false, Bool·not-not}
+use mathlib.Core.Bool.{Bool, true, false, not, _&&_, _||_, and-assoc, and-false, or-true, Bool·not-not}
 use lib.Dec.{eqb, ltb, leb}
 use lib.Pow.{pow-lt, pow-pos, pow-mono}
 use lib.Bits.{bitAnd, bitOr, and-le-r}
 use lib.ListN.{getD}
-use borrow.Author.Tests.{eq-eqb, ne-eqb, eqb-true, ltb-false, leb-true, not-false, le-leb, lt-leb}
+use borrow.Author.Tests.{eq-eqb, ne-eqb, eqb-true, ltb-false, leb-true, le-leb, lt-leb}
 use Rattle.bits.specs.Bits.{bit}
 use Rattle.bits.specs.Search.{some, every, least}
 use Rattle.bits.proofs.Cases.{split, clash, both, alike}
@@ -20,43 +20,45 @@ use Rattle.floor.specs.Sound.{sound}
 use Rattle.garage.specs.declared.Station.{Station}
 use Rattle.garage.specs.Held.{bad}
 use Rattle.garage.specs.Station.{closed, used, fit, answering}
+use Rattle.garage.proofs.Loops.{passed}
 
+-- n marks are a byte
 pub pow-small : (n : ℕ) → n ≤ 8 → (0 < 2 ^ n) × (2 ^ n ≤ 256)
 pow-small n h = (pow-pos n, pow-mono h)
 
--- 1 << n, in 64 bits and in a byte
-pub shifted : (n : ℕ) → n ≤ 8 → 1 * 2 ^ n % 2 ^ 64 ≡ 2 ^ n
-shifted n h = let l : 2 ^ n < 2 ^ 64 = pow-lt {j = 64} (omega arith) in omega arith
-
+-- 1 << i in a byte
 pub mark-of : (i : ℕ) → i < 8 → 1 * 2 ^ i % 256 ≡ 2 ^ i
 mark-of i h = let l : 2 ^ i < 2 ^ 8 = pow-lt h in omega arith
 
 -- of n marks each stands, exactly if the low n bits are all ones
-pub all-marked : (n a : ℕ) → every n (bit a) ≡ eqb (bitAnd a (2 ^ n - 1)) (2 ^ n - 1)
+all-marked : (n a : ℕ) → every n (bit a) ≡ eqb (bitAnd a (2 ^ n - 1)) (2 ^ n - 1)
 all-marked n a = alike (every n (bit a)) (eqb (bitAnd a (2 ^ n - 1)) (2 ^ n - 1))
     (λ t. eq-eqb _ _
     (bit-ext n (bitAnd a (2 ^ n - 1)) (2 ^ n - 1) (omega (arith, and-le-r a (2 ^ n - 1), pow-pos n)) (omega (arith, pow-pos n))
     (λ k l. rw (bit-and a (2 ^ n - 1) k, every-at n (bit a) t k l))))
-    (λ t. every-is n (bit a) (λ k l. both (bit a k) (bit (2 ^ n - 1) k) (sym (bit-and a (2 ^ n - 1) k) ∙ ap (λ (x : ℕ). bit x k) (eqb-true _ _ t) ∙ bit-ones n k l) .0))
+    (λ t. every-is n (bit a) (λ k l. both (bit a k) (bit (2 ^ n - 1) k) (ones t k l) .0))
+  where
+    ones : eqb (bitAnd a (2 ^ n - 1)) (2 ^ n - 1) ≡ true → (k : ℕ) → k < n → bit a k && bit (2 ^ n - 1) k ≡ true
+    ones t k l = sym (bit-and a (2 ^ n - 1) k) ∙ ap (λ (x : ℕ). bit x k) (eqb-true _ _ t) ∙ bit-ones n k l
 
--- only the first n of eight marks stand, exactly if the number is at most n ones
-pub only-marked : (n a : ℕ) → n ≤ 8 → a < 256 → every 8 (λ i. not (bit a i) || ltb i n) ≡ leb a (2 ^ n - 1)
-only-marked n a h l = alike (every 8 (λ i. not (bit a i) || ltb i n)) (leb a (2 ^ n - 1))
+-- a mark that stands is one of the first n
+abbrev inside : ℕ → ℕ → ℕ → Bool
+inside n a i = not (bit a i) || ltb i n
+
+-- of eight marks only the first n stand, exactly if the number is at most n ones
+only-marked : (n a : ℕ) → a < 2 ^ 8 → every 8 (inside n a) ≡ leb a (2 ^ n - 1)
+only-marked n a l = alike (every 8 (inside n a)) (leb a (2 ^ n - 1))
     (λ t. le-leb a (2 ^ n - 1) (low t))
-    (λ t. every-is 8 _ (λ i m. split (ltb i n)
-    (λ e. rw e (or-t (not (bit a i))))
+    (λ t. every-is 8 (inside n a) (λ i m. split (ltb i n)
+    (λ e. rw e (or-true (not (bit a i))))
     (λ e. rw (bit-past a n i (let z = leb-true a (2 ^ n - 1) t in omega (arith, pow-pos n)) (ltb-false i n e)))))
   where
-    or-t : (b : Bool) → b || true ≡ true
-    or-t true = refl
-    or-t false = refl
-
-    same : (t : every 8 (λ i. not (bit a i) || ltb i n) ≡ true) (k : ℕ) → k < 8 → bit a k ≡ ltb k n && bit a k
-    same t k m = let e = every-at 8 (λ i. not (bit a i) || ltb i n) t k m in split (ltb k n)
+    same : every 8 (inside n a) ≡ true → (k : ℕ) → k < 8 → bit a k ≡ ltb k n && bit a k
+    same t k m = let e = every-at 8 (inside n a) t k m in split (ltb k n)
         (λ u. rw u)
         (λ u. split (bit a k) (λ v. clash (rw (u, v) at e) refl) (λ v. rw (u, v)))
 
-    low : every 8 (λ i. not (bit a i) || ltb i n) ≡ true → a ≤ 2 ^ n - 1
+    low : every 8 (inside n a) ≡ true → a ≤ 2 ^ n - 1
     low t =
         let e : a ≡ a % 2 ^ n = bit-ext 8 a (a % 2 ^ n) l (lt-of-le-of-lt (mod-le a (2 ^ n)) l) (λ k m. same t k m ∙ sym (bit-low a n k)) in
         omega (arith, mod-lt a (pow-pos n))
@@ -73,17 +75,22 @@ some-not (suc n) p = rw (some-not n p) (de-morgan (p n) (every n p))
 
 -- ---- instruction i answered
 
-pub last-answer : (s : Station) (i r : ℕ) {mark all : ℕ} → mark ≡ 2 ^ i → all ≡ 2 ^ s .count - 1 → bitAnd (bitOr (s .answered) mark) all ≡ all → closed r ≡ answering s i r
+-- all marks stand: the set is closed
+pub last-answer : (s : Station) (i r : ℕ) {mark all : ℕ} → mark ≡ 2 ^ i → all ≡ 2 ^ s .count - 1 → bitAnd (bitOr (s .answered) mark) all ≡ all
+    → closed r ≡ answering s i r
 unfolding answering
 last-answer s i r m a e = rw (all-marked (s .count) (bitOr (s .answered) (2 ^ i)), ← m, ← a, eq-eqb _ _ e)
 
-pub one-answer : (s : Station) (i r : ℕ) {mark all : ℕ} → mark ≡ 2 ^ i → all ≡ 2 ^ s .count - 1 → (bitAnd (bitOr (s .answered) mark) all ≡ all → ⊥)
+-- one is missing
+pub one-answer : (s : Station) (i r : ℕ) {mark all : ℕ} → mark ≡ 2 ^ i → all ≡ 2 ^ s .count - 1
+    → (bitAnd (bitOr (s .answered) mark) all ≡ all → ⊥)
     → _≡_ {A = Station} (record { bits = r; count = s .count; answered = bitOr (s .answered) mark; set = s .set }) (answering s i r)
 unfolding answering
 one-answer s i r m a e = rw (all-marked (s .count) (bitOr (s .answered) (2 ^ i)), ← m, ← a, ne-eqb _ _ e)
 
 -- ---- a fit station
 
+-- the code's conjunction, grouped as the definition's
 and-assoc-5 : (a b c d e : Bool) → a && b && c && d && e ≡ a && (b && (c && (d && e)))
 and-assoc-5 false b c d e = refl
 and-assoc-5 true false c d e = refl
@@ -93,18 +100,32 @@ and-assoc-5 true true c d e = and-assoc c d e
 all-good : (n : ℕ) (p : ℕ → Bool) → eqb (least n p) n ≡ every n (λ i. not (p i))
 all-good n p = rw (← ap (λ (q : ℕ → Bool). least n q) (fun-ext (λ i. Bool·not-not (p i)))) (every-least n (λ i. not (p i)))
 
-pub fit-is : (s : Station) {fine rest : Bool} {worst all : ℕ} → s .count ≤ 8 → s .answered < 256 → fine ≡ sound (s .bits) → worst ≡ least (s .count) (bad (s .set)) → all ≡ 2 ^ s .count - 1
+-- what the code tests
+pub fit-is : (s : Station) {fine rest : Bool} {worst all : ℕ} → s .count ≤ 8 → s .answered < 2 ^ 8
+    → fine ≡ sound (s .bits) → worst ≡ least (s .count) (bad (s .set)) → all ≡ 2 ^ s .count - 1
     → rest ≡ every 40 (λ k. used s k || eqb (getD (s .set) k 0) 0)
     → fine && eqb worst (s .count) && leb (s .answered) all && rest && (eqb (s .count) 0 || not (eqb (bitAnd (s .answered) all) all)) ≡ fit s
 unfolding fit
 fit-is s {fine} {rest} {worst} {all} h l e₁ e₂ e₃ e₄ =
     and-assoc-5 fine (eqb worst (s .count)) (leb (s .answered) all) rest (eqb (s .count) 0 || not (eqb (bitAnd (s .answered) all) all))
-    ∙ rw (e₁, e₂, all-good (s .count) (bad (s .set)), e₃, e₄, le-leb _ _ h, only-marked (s .count) (s .answered) h l, some-not (s .count) (bit (s .answered)), all-marked (s .count) (s .answered))
+    ∙ rw (
+      e₁,
+      e₂,
+      all-good (s .count) (bad (s .set)),
+      e₃,
+      e₄,
+      le-leb _ _ h,
+      only-marked (s .count) (s .answered) l,
+      some-not (s .count) (bit (s .answered)),
+      all-marked (s .count) (s .answered),
+    )
 
+-- more than eight instructions
 pub unfit-is : (s : Station) → 8 < s .count → false ≡ fit s
 unfolding fit
 unfit-is s h = rw (lt-leb _ _ h) (sym (and-false (sound (s .bits))))
 
+-- a fit station holds at most eight
 pub fit-most : (s : Station) {b : Bool} → b ≡ fit s → not b ≡ false → s .count ≤ 8
 unfolding fit
-fit-most s e t = leb-true _ _ (both (leb (s .count) 8) _ (both (sound (s .bits)) _ (sym e ∙ not-false _ t) .1) .0)
+fit-most s e t = leb-true _ _ (both (leb (s .count) 8) _ (both (sound (s .bits)) _ (passed e t) .1) .0)

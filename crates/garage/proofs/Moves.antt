@@ -1,11 +1,10 @@
 -- What the answers of the crates below say of held instructions and events: areas, verdicts, moves that are made or not, an event's byte.
 -- Assumes nothing.
 use Prim.Native.Nat.{ℕ}
-use mathlib.Core.Path.{_≡_, refl, sym, ap, _∙_}
-use mathlib.Core.Bool.{Bool, true, false, not, cond}
+use mathlib.Core.Path.{_≡_, refl, ap, _∙_}
+use mathlib.Core.Bool.{Bool, true, false, cond}
 use mathlib.Core.List.{[]}
 use lib.Dec.{eqb}
-use borrow.Author.Tests.{not-true, not-false}
 use Rattle.bits.specs.Bits.{Bits, bit, packed, image}
 use Rattle.bits.specs.Places.{elem}
 use Rattle.bits.proofs.Cases.{split}
@@ -32,19 +31,14 @@ use Rattle.garage.specs.Station.{fit, holding, answering}
 use Rattle.garage.specs.Calls.{refused, taken, driven, succeeded, event}
 use Rattle.garage.specs.Private.{heldMask}
 
--- a test whose answer the code negates
-pub failed : {b t : Bool} → b ≡ t → not b ≡ true → t ≡ false
-failed {b} e n = sym e ∙ not-true b n
-
-pub passed : {b t : Bool} → b ≡ t → not b ≡ false → t ≡ true
-passed {b} e n = sym e ∙ not-false b n
-
 -- ---- areas and verdicts
 
+-- the mask that an answer gives, or none
 abbrev pub maskIn : Area → ℕ
 maskIn (Area.Mask m) = m
 maskIn Area.IllFormed = 0
 
+-- bad bytes have an empty area
 pub held-area : (x : Code) {a : Area} → a ≡ codeMask x → maskIn a ≡ heldMask x
 unfolding heldMask heldArea codeMask maskOf area packed
 held-area x e = ap maskIn e ∙ read (readCode x) refl
@@ -53,6 +47,7 @@ held-area x e = ap maskIn e ∙ read (readCode x) refl
     read (Good i) d = rw (one-form x i d .1)
     read Bad d = refl
 
+-- whether a verdict allows
 abbrev pub isAllowed : Verdict → Bool
 isAllowed Verdict.Allowed = true
 isAllowed Verdict.NotAllowed = false
@@ -63,6 +58,7 @@ ill-formed : (i : Instruction) (f : Bits) → wellFormed i ≡ false → allowed
 unfolding allowed
 ill-formed i f w = rw w
 
+-- and are never allowed
 pub held-verdict : (x : Code) (r : ℕ) {v : Verdict} → v ≡ codeVerdict x r → isAllowed v ≡ heldAllowed x (bit r)
 unfolding heldAllowed codeVerdict verdictOf
 held-verdict x r e = ap isAllowed e ∙ read (readCode x)
@@ -81,12 +77,14 @@ onMoved made unmade (Record r) = made r
 onMoved made unmade NotAllowed = unmade
 onMoved made unmade IllFormed = unmade
 
+-- an instruction's move is made exactly where it is allowed
 held-moved : {A : Type 0} (made : ℕ → A) (unmade : A) (x : Code) (r : ℕ)
     → onMoved made unmade (codeMoved x r) ≡ cond (heldAllowed x (bit r)) (made (image (heldNext x (bit r)))) unmade
 unfolding heldAllowed heldNext codeMoved movedOf
 held-moved made unmade x r = read (readCode x)
   where
-    read : (g : Reading) → onMoved made unmade (onCode (λ i. movedOf i r) IllFormed g) ≡ cond (onCode (λ i. allowed i (bit r)) false g) (made (image (onCode (λ i. next i (bit r)) (bit r) g))) unmade
+    read : (g : Reading) → onMoved made unmade (onCode (λ i. movedOf i r) IllFormed g)
+        ≡ cond (onCode (λ i. allowed i (bit r)) false g) (made (image (onCode (λ i. next i (bit r)) (bit r) g))) unmade
     read (Good i) = split (wellFormed i)
         (λ w. split (allowed i (bit r)) (λ a. rw (w, a)) (λ a. rw (w, a)))
         (λ w. rw (w, ill-formed i (bit r) w))
@@ -110,6 +108,9 @@ abbrev pub onEvent : {A : Type 0} → (Event → A) → A → EventReading → A
 onEvent known bad (EventReading.Good e) = known e
 onEvent known bad EventReading.Bad = bad
 
-pub event-read : (s : Station) (b : ℕ) {g : EventReading} → fit s ≡ true → g ≡ readEvent b → onEvent (driven s) (refused s (BadField nowhere)) g ≡ event s b
+-- an event on a fit station
+pub event-read : (s : Station) (b : ℕ) {g : EventReading} → fit s ≡ true → g ≡ readEvent b
+    → onEvent (driven s) (refused s (BadField nowhere)) g ≡ event s b
 unfolding event readEvent
-event-read s b f d = rw (f, d) (split (eqb b 1) (λ t. rw t) (λ t. split (eqb b 2) (λ u. rw (t, u)) (λ u. rw (t, u))))
+event-read s b f d =
+    rw (f, d) (split (eqb b 1) (λ t. rw t) (λ t. split (eqb b 2) (λ u. rw (t, u)) (λ u. rw (t, u))))

@@ -8,8 +8,8 @@ ghost use lib.ListN.{getD, take, replicate};
 ghost use Rattle.bits.specs.Search.{every, least};
 ghost use Rattle.garage.specs.Held.{codeAt, bad, overlapsEarlier, barred, liftIn};
 ghost use Rattle.garage.specs.Private.{areas};
-use floor::masks::LIFT;
 use crate::held;
+use floor::masks::LIFT;
 use rules::Code;
 
 // Instruction i of a set; past the eighth there are only zeros.

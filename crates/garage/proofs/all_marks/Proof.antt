@@ -1,7 +1,8 @@
 -- `garage::all_marks` meets its contract: a power of two up to 256. Assumes nothing.
 use native.Mathlib.Omega.{arith}
 use borrow.Author.Needs.{needs}
-use Rattle.garage.proofs.Marks.{pow-small, shifted}
+use Rattle.bits.proofs.Operations.{shl-one}
+use Rattle.garage.proofs.Marks.{pow-small}
 use Rattle.garage.proofs.all_marks.Statement.{statement}
 use Rattle.garage.proofs.all_marks.Tie as tie
 
@@ -9,13 +10,13 @@ shl-result : tie.Need-shl-result
 shl-result c = search needs
 
 sub-result : tie.Need-sub-result
-sub-result c = rw (shifted _ (c .pre)) (pow-small _ (c .pre) .0)
+sub-result c = rw (shl-one (c .args .n) (omega arith)) (pow-small _ (c .pre) .0)
 
 cast-result : tie.Need-cast-result
-cast-result c = rw (shifted _ (c .pre)) (let p = pow-small _ (c .pre) in record { fits = omega arith })
+cast-result c = rw (shl-one (c .args .n) (omega arith)) (let p = pow-small _ (c .pre) in record { fits = omega arith })
 
 returns : tie.Need-returns
-returns c = rw (shifted _ (c .pre))
+returns c = rw (shl-one (c .args .n) (omega arith))
 
 pub all-marks-spec : {M : Type 1} → statement M
 all-marks-spec = tie.close (tie.spec shl-result sub-result cast-result returns)

@@ -2,7 +2,7 @@
 use mathlib.Core.Path.{_∙_}
 use borrow.Author.Needs.{needs}
 use Rattle.garage.specs.Calls.{ask}
-use Rattle.garage.proofs.Moves.{failed, passed}
+use Rattle.garage.proofs.Loops.{failed, passed}
 use Rattle.garage.proofs.Station.ask.Statement.{statement}
 use Rattle.garage.proofs.Station.ask.Tie as tie
 

@@ -2,7 +2,8 @@
 use mathlib.Core.Path.{sym, _∙_}
 use borrow.Author.Needs.{needs}
 use Rattle.garage.specs.Calls.{event}
-use Rattle.garage.proofs.Moves.{failed, passed, event-read}
+use Rattle.garage.proofs.Moves.{event-read}
+use Rattle.garage.proofs.Loops.{failed, passed}
 use Rattle.garage.proofs.Station.event.Statement.{statement}
 use Rattle.garage.proofs.Station.event.Tie as tie
 

@@ -3,7 +3,7 @@ use mathlib.Core.Path.{_∙_}
 use borrow.Author.Tests.{lt-ltb, le-ltb}
 use borrow.Author.Needs.{needs}
 use Rattle.garage.specs.Calls.{takeImage}
-use Rattle.garage.proofs.Moves.{failed, passed}
+use Rattle.garage.proofs.Loops.{failed, passed}
 use Rattle.garage.proofs.Station.image.Statement.{statement}
 use Rattle.garage.proofs.Station.image.Tie as tie
 
