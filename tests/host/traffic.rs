@@ -1,0 +1,170 @@
+//! Seeded traffic: messages as a planner, its motors and its drivers would send them, and damaged ones.
+//! What is plausible next is judged by the reference station, which takes each message as it is made.
+#![allow(dead_code)] // each driver uses its own part of this module
+
+use crate::reference::{Call, Instruction, Station};
+
+/// A seeded generator of numbers (splitmix64).
+pub struct Numbers(pub u64);
+
+impl Numbers {
+    pub fn next(&mut self) -> u64 {
+        self.0 = self.0.wrapping_add(0x9E37_79B9_7F4A_7C15);
+        let mut z = self.0;
+        z = (z ^ (z >> 30)).wrapping_mul(0xBF58_476D_1CE4_E5B9);
+        z = (z ^ (z >> 27)).wrapping_mul(0x94D0_49BB_1331_11EB);
+        z ^ (z >> 31)
+    }
+
+    pub fn below(&mut self, n: u64) -> u64 { self.next() % n }
+
+    pub fn one_in(&mut self, n: u64) -> bool { self.below(n) == 0 }
+
+    pub fn byte(&mut self) -> u8 { self.next() as u8 }
+}
+
+/// Five bytes of a well-formed instruction, each op as likely as another; row 1 more often than the others.
+pub fn good_five(numbers: &mut Numbers) -> [u8; 5] {
+    let mut pick = |n| numbers.below(n) as u8;
+    match pick(8) {
+        0..=2 => match pick(2) {
+            0 => [1, 1, pick(32), pick(2), pick(2)],
+            _ => [1, 2 + pick(2), pick(8), pick(2), pick(2)],
+        },
+        3 | 4 => [2, pick(2), pick(8), pick(2), pick(2)],
+        5 => [3, pick(2), 1 + pick(3), pick(2), 0],
+        6 => [4, pick(3), 0, 0, 0],
+        _ => [5, 0, 0, 0, 0],
+    }
+}
+
+/// Five bytes, well formed more often than not.
+pub fn any_five(numbers: &mut Numbers) -> [u8; 5] {
+    let mut five = good_five(numbers);
+    if numbers.one_in(6) {
+        five[numbers.below(5) as usize] = if numbers.one_in(2) { numbers.byte() } else { numbers.below(6) as u8 };
+    }
+    five
+}
+
+/// Instructions that the record allows and that don't overlap, as many as are found in some tries.
+fn allowed_set(numbers: &mut Numbers, record: u64, wanted: usize) -> Vec<u8> {
+    let (mut bytes, mut taken) = (Vec::new(), 0);
+    for _ in 0..40 * wanted {
+        if bytes.len() == 5 * wanted { break; }
+        let five = good_five(numbers);
+        let instruction = Instruction::read(five).expect("good_five is well formed");
+        let area = instruction.area();
+        if area & taken == 0 && instruction.allowed(record) {
+            taken |= area;
+            bytes.extend_from_slice(&five);
+        }
+    }
+    bytes
+}
+
+fn message(kind: u8, body: &[u8]) -> Vec<u8> {
+    let mut bytes = vec![2 + body.len() as u8, 0, kind, 0];
+    bytes.extend_from_slice(body);
+    bytes
+}
+
+fn request(bytes: &[u8]) -> Vec<u8> {
+    let mut body = vec![(bytes.len() / 5) as u8];
+    body.extend_from_slice(bytes);
+    message(1, &body)
+}
+
+/// A request: mostly one that is allowed, of one to three instructions, now and then of up to eight.
+fn some_request(numbers: &mut Numbers, record: u64) -> Vec<u8> {
+    let wanted = if numbers.one_in(12) { 8 } else { 1 + numbers.below(3) as usize };
+    let mut bytes = allowed_set(numbers, record, wanted);
+    if numbers.one_in(8) {
+        for _ in 0..=numbers.below(2) {
+            if bytes.len() < 40 { bytes.extend_from_slice(&any_five(numbers)); }
+        }
+    }
+    request(&bytes)
+}
+
+/// A result: mostly of an instruction that waits, mostly a success.
+fn some_result(numbers: &mut Numbers, station: &Station) -> Vec<u8> {
+    let waiting: Vec<u8> = (0..station.count).filter(|at| station.answered >> at & 1 == 0).collect();
+    let number = match waiting.len() {
+        0 => numbers.below(9) as u8,
+        n if !numbers.one_in(16) => waiting[numbers.below(n as u64) as usize],
+        _ => numbers.below(10) as u8,
+    };
+    let outcome = if numbers.one_in(60) { numbers.byte() } else { u8::from(!numbers.one_in(6)) };
+    message(3, &[number, outcome])
+}
+
+/// Some record near the present one: itself, with bits flipped, or any number.
+pub fn near_record(numbers: &mut Numbers, record: u64) -> u64 {
+    match numbers.below(5) {
+        0 => numbers.next(),
+        1 => record,
+        2 => record ^ 3 << numbers.below(19),
+        3 => record ^ 1 << (20 + numbers.below(20)),
+        _ => record ^ 1 << numbers.below(64),
+    }
+}
+
+/// One message whose length is in its range, made for the station as it is.
+pub fn framed_message(numbers: &mut Numbers, station: &Station) -> Vec<u8> {
+    let idle = station.count == 0;
+    let mut bytes = match numbers.below(32) {
+        0..=17 if idle => some_request(numbers, station.record),
+        0..=22 if !idle => some_result(numbers, station),
+        18 => some_request(numbers, station.record),
+        19 => some_result(numbers, station),
+        20..=25 => message(2, &[1 + numbers.below(2) as u8]),
+        26 => message(2, &[numbers.below(5) as u8]),
+        27 => message(4, &near_record(numbers, station.record).to_le_bytes()),
+        28 => { let bytes: Vec<u8> = (0..numbers.below(9)).flat_map(|_| any_five(numbers)).collect(); request(&bytes) }
+        29 => { let size = numbers.below(42) as usize; let body: Vec<u8> = (0..size).map(|_| numbers.byte()).collect(); message(numbers.below(7) as u8, &body) }
+        _ => message(5, &[]),
+    };
+    // damage inside the frame: a byte of the kind or the body
+    if numbers.one_in(40) {
+        let at = 2 + numbers.below(bytes.len() as u64 - 2) as usize;
+        bytes[at] = if numbers.one_in(2) { numbers.byte() } else { bytes[at] ^ 1 << numbers.below(8) };
+    }
+    bytes
+}
+
+/// The station after a message, by the reference.
+pub fn after(station: &mut Station, bytes: &[u8]) {
+    if let Ok((call, _)) = crate::reference::read_call(bytes) {
+        station.take(call);
+    }
+}
+
+/// A whole input of so many messages, each whole: the program answers all of them.
+pub fn input(seed: u64, messages: usize) -> Vec<u8> {
+    let mut numbers = Numbers(seed);
+    let mut station = Station::start();
+    let mut bytes = Vec::with_capacity(messages * 12);
+    for _ in 0..messages {
+        let message = framed_message(&mut numbers, &station);
+        after(&mut station, &message);
+        bytes.extend_from_slice(&message);
+    }
+    bytes
+}
+
+/// A short input that may end in mid-message or have a length out of range somewhere.
+pub fn damaged_input(seed: u64, messages: usize) -> Vec<u8> {
+    let mut numbers = Numbers(seed);
+    let mut bytes = input(numbers.next(), messages);
+    match numbers.below(4) {
+        0 => bytes.truncate(numbers.below(bytes.len() as u64 + 1) as usize),
+        1 if !bytes.is_empty() => { let at = numbers.below(bytes.len() as u64) as usize; bytes[at] = numbers.byte(); }
+        2 => bytes.extend((0..numbers.below(50)).map(|_| numbers.byte())),
+        _ => {}
+    }
+    bytes
+}
+
+/// What a call says of itself, for a report of a difference.
+pub fn describe(call: &Call) -> String { format!("{call:?}") }
