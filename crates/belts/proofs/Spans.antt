@@ -1,13 +1,12 @@
 -- The cells that the code picks out of a row are those of the rules: each list is compared at every well-formed move, by a test that antt computes.
 -- Assumes nothing.
-use mathlib.Core.Path.{_≡_, refl, ap₂}
-use mathlib.Core.Bool.{Bool, true, false, cond, _&&_}
-use mathlib.Core.List.{List, [], _∷_}
+use mathlib.Core.Path.{_≡_}
+use mathlib.Core.Bool.{Bool, true, cond}
 use Prim.Native.Nat.{ℕ}
-use lib.Dec.{T, eqb, eqb→eq}
+use lib.Dec.{T}
 use Rattle.bits.specs.Places.{adjacent}
 use Rattle.bits.specs.Search.{every}
-use Rattle.bits.proofs.Cases.{and-l, and-r, under}
+use Rattle.bits.proofs.Cases.{under}
 use Rattle.bits.proofs.Lists.{same, same-eq}
 use Rattle.floor.specs.Floor.{beltOf, rowCells}
 use Rattle.rules.specs.declared.Instruction.{Instruction}

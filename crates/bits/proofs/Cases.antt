@@ -1,7 +1,7 @@
 -- Cases on a test: its two answers, each with its equation, and what the answers of `&&`, `||` and `not` say.
 -- Assumes nothing.
-use mathlib.Core.Path.{_≡_, refl, sym, ap, ap₂, _∙_, subst}
-use mathlib.Core.Bool.{Bool, true, false, not, cond, _&&_, _||_, true≢false, Bool·beq}
+use mathlib.Core.Path.{_≡_, refl, sym, ap₂, _∙_, subst}
+use mathlib.Core.Bool.{Bool, true, false, cond, _&&_, _||_, true≢false, Bool·beq}
 use lib.Dec.{T}
 
 -- a test with its equation; no test has two answers

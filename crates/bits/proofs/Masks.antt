@@ -1,16 +1,16 @@
 -- A mask names places: what `&` with it and the machine's count of ones say of a number's bits there. Assumes nothing.
 use mathlib.Core.Path.{_≡_, refl, sym, ap, ap₂, _∙_}
 use mathlib.Core.Bool.{Bool, true, false, cond, _&&_}
-use mathlib.Core.List.{List, [], _∷_}
-use Prim.Native.Nat.{ℕ, zero, suc, _+_, _*_, _/_, _%_, _^_, _<_, min}
+use mathlib.Core.List.{List, _∷_}
+use Prim.Native.Nat.{ℕ, zero, suc, _/_, _%_, _^_, _<_, min}
 use native.Mathlib.Nat.{pow-suc, div-div-eq-div-mul, div-one}
 use native.Mathlib.Omega.{arith}
 use lib.Arith.{bin-ind}
 use lib.Bits.{bitAnd, and-step, and-zero-r}
 use lib.Count.{ones, ones-step}
-use lib.Dec.{T, eqb}
+use lib.Dec.{eqb}
 use borrow.Author.Tests.{eqb-true, eqb-false, eq-eqb, ne-eqb}
-use Rattle.bits.specs.Bits.{Bits, bit, digit, count, allSet}
+use Rattle.bits.specs.Bits.{bit, count, allSet}
 use Rattle.bits.specs.Places.{from, named, places}
 use Rattle.bits.proofs.Cases.{split}
 use Rattle.bits.proofs.Digits.{digit-mod}

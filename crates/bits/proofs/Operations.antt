@@ -1,15 +1,15 @@
 -- What the machine's operations do to each bit: and, or, not, shifts, remainders. Assumes nothing.
 use mathlib.Core.Path.{_≡_, refl, sym, ap, ap₂, _∙_}
-use mathlib.Core.Bool.{Bool, true, false, _&&_, _||_, not}
+use mathlib.Core.Bool.{_&&_, _||_, not}
 use mathlib.Core.Logic.{⊎-elim}
-use Prim.Native.Nat.{ℕ, zero, suc, _+_, _-_, _*_, _/_, _%_, _^_, _≤_, _<_, min, max}
+use Prim.Native.Nat.{ℕ, zero, suc, _+_, _-_, _*_, _/_, _%_, _^_, _<_, min, max}
 use native.Mathlib.Nat.{mod-lt, zero-lt-suc, mul-one, one-mul, zero-add, pow-suc}
 use native.Mathlib.Omega.{arith}
 use borrow.Author.Tests.{lt-ltb, le-ltb, le-leb, eqb-true, eqb-false, eq-eqb, ne-eqb}
 use lib.Dec.{eqb, leb, ltb, leb·suc-suc, leb·suc-zero}
 use lib.Pow.{shr-shr, pow-pos, shl-exact}
 use lib.Bits.{bitAnd, bitOr, and-step, or-step, and-shr, or-shr, shifted-half, shifted-even}
-use Rattle.bits.specs.Bits.{Bits, bit, packed}
+use Rattle.bits.specs.Bits.{bit, packed}
 use Rattle.bits.proofs.Cases.{split}
 use Rattle.bits.proofs.Search.{lt-or-ge}
 use Rattle.bits.proofs.Digits.{bit-zero, bit-suc, bit-packed, packed-bit, bit-past}

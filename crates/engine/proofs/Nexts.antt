@@ -6,7 +6,7 @@ use mathlib.Core.List.{List, [], _∷_, _++_}
 use Prim.Native.Nat.{ℕ, _-_, _+_, _*_}
 use lib.Bits.{bitAnd, bitOr}
 use lib.Dec.{T, eqb}
-use Rattle.bits.specs.Bits.{Bits, bit, digit, allSet}
+use Rattle.bits.specs.Bits.{Bits, digit, allSet}
 use Rattle.bits.specs.Places.{elem}
 use Rattle.bits.specs.Search.{every}
 use Rattle.bits.proofs.Cases.{both}

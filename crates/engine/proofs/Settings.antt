@@ -1,6 +1,6 @@
 -- Changes that rest on a few bits are tried at every setting of these bits: where at each setting that passes the premises the bits
 -- made anew are those of the next record, they are so in every record that passes. Assumes nothing.
-use mathlib.Core.Path.{_≡_, refl, sym, ap, ap₂, subst, _∙_}
+use mathlib.Core.Path.{_≡_, sym, ap, ap₂, subst, _∙_}
 use mathlib.Core.Bool.{Bool, true, false, cond, _&&_, _||_, Bool·beq}
 use mathlib.Core.List.{List, [], _∷_, map}
 use Prim.Native.Nat.{ℕ}

@@ -1,15 +1,15 @@
 -- What a test reads: two records that agree on the places that a test reads give it the same answer, and likewise what changes make of them.
 -- Assumes nothing.
-use mathlib.Core.Path.{_≡_, refl, sym, ap, ap₂, subst, _∙_}
+use mathlib.Core.Path.{_≡_, refl, sym, ap, ap₂, subst}
 use mathlib.Core.Bool.{Bool, true, false, cond, not, _&&_, _||_, and-true}
 use mathlib.Core.List.{List, [], _∷_, _++_}
 use Prim.Native.Nat.{ℕ, zero, suc, _%_}
 use lib.Dec.{T, eqb}
 use lib.ListN.{getD}
 use borrow.Author.Tests.{eqb-true}
-use Rattle.bits.specs.Bits.{Bits, count, allSet}
+use Rattle.bits.specs.Bits.{Bits}
 use Rattle.bits.specs.Places.{elem}
-use Rattle.bits.proofs.Cases.{split, clash, and-l, and-r, T→true}
+use Rattle.bits.proofs.Cases.{and-l, and-r}
 use Rattle.bits.proofs.Counts.{count-agree, set-agree}
 use Rattle.bits.proofs.Sharing.{allPass, pass-at}
 use Rattle.floor.specs.Tests.{Test, fact, set, exactly, even, no, both, either, holds, allHold, Change, _≔_, changed}

@@ -1,8 +1,8 @@
 -- The floor of document 01: which bit of the record stands for what. No other file knows a bit's number. Assumes nothing.
-use mathlib.Core.Bool.{Bool, cond, _&&_}
+use mathlib.Core.Bool.{cond}
 use mathlib.Core.List.{List, [], _∷_, _++_}
 use Prim.Native.Nat.{ℕ, _+_, _*_}
-use lib.Dec.{eqb, leb, ltb}
+use lib.Dec.{eqb, ltb}
 use Rattle.bits.specs.Places.{from}
 use Rattle.floor.specs.declared.Belt.{Belt}
 use Rattle.floor.specs.declared.Belt.the-variants.{On, NoCell}

@@ -5,7 +5,7 @@ use mathlib.Core.List.{List, [], _∷_, _++_}
 use Prim.Native.Nat.{ℕ, zero, suc}
 use Rattle.bits.specs.Bits.{Bits, bit}
 use Rattle.floor.specs.Floor.{left, right, lowered, tilted, slot, place, raisedCar, liftCells, spare}
-use Rattle.floor.specs.Tests.{Test, set, free, exactly, even, no, both, either, allHold, heightIs, atBasement}
+use Rattle.floor.specs.Tests.{Test, set, free, exactly, no, both, either, allHold, heightIs, atBasement}
 use Rattle.floor.specs.Cars.{Car, Layout, cars}
 use Rattle.floor.specs.declared.Total.{Total}
 use Rattle.floor.specs.declared.Total.the-variants.{Cars, Unsound}

@@ -1,6 +1,6 @@
 -- What can be asked of a record, and what can be changed in it. A test is data, so that the places that it reads can be listed;
 -- a change gives bits of the next record by tests of the present one. Assumes nothing.
-use mathlib.Core.Bool.{Bool, true, false, cond, not, _&&_, _||_}
+use mathlib.Core.Bool.{Bool, true, cond, not, _&&_, _||_}
 use mathlib.Core.List.{List, [], _∷_}
 use Prim.Native.Nat.{ℕ, _%_}
 use lib.Dec.{eqb}

@@ -1,10 +1,10 @@
 -- Instructions as a station holds them: the request's own five bytes each. Bytes that say no instruction have an empty area, are
 -- never allowed and change nothing. Assumes nothing.
 use mathlib.Core.Bool.{Bool, true, false, not}
-use mathlib.Core.List.{List, [], _∷_}
+use mathlib.Core.List.{List, []}
 use Prim.Native.Nat.{ℕ, _+_, _*_}
 use lib.ListN.{getD}
-use Rattle.bits.specs.Bits.{Bits, bit, image}
+use Rattle.bits.specs.Bits.{Bits, bit}
 use Rattle.bits.specs.Places.{share}
 use Rattle.bits.specs.Search.{some}
 use Rattle.floor.specs.Floor.{lift}

@@ -1,6 +1,6 @@
 -- The station: its record, the outstanding set, a mark for each instruction of it that is answered; and when a station is fit.
 -- Assumes nothing.
-use mathlib.Core.Bool.{Bool, true, false, not, cond, _&&_, _||_}
+use mathlib.Core.Bool.{Bool, not, cond, _&&_, _||_}
 use mathlib.Core.List.{List, _++_}
 use Prim.Native.Nat.{ℕ, _+_, _*_, _-_, _^_}
 use lib.Bits.{bitOr}

@@ -17,7 +17,6 @@ use Rattle.sets.proofs.Order as machine-order
 use Rattle.garage.specs.declared.Station.{Station}
 use Rattle.garage.specs.Held.{liftIn}
 use Rattle.garage.specs.Station.{fit, closed, holding, opened, answering}
-use Rattle.garage_laws.specs.Runs as run
 use Rattle.garage_laws.specs.Runs.{Call, calls}
 use Rattle.garage_laws.specs.Orders.{Order, Alike}
 use Rattle.garage_laws.specs.Demands.{AnyOrder}

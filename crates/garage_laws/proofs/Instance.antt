@@ -3,7 +3,7 @@
 use mathlib.Core.Path.{_≡_, refl, _∙_, sym}
 use mathlib.Core.Bool.{Bool, true, false}
 use mathlib.Core.List.{[]}
-use Prim.Native.Nat.{ℕ, _<_}
+use Prim.Native.Nat.{ℕ}
 use Rattle.bits.specs.Bits.{bit, image}
 use Rattle.bits.specs.Places.{elem}
 use Rattle.bits.proofs.Cases.{clash}

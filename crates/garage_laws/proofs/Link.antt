@@ -1,17 +1,15 @@
 -- The station shows the machine of the crate `sets`: what a station holds is a machine's station (`view`), and each call that is taken is
 -- the machine's. So a station that is reached is in good order, and never answers 14. Assumes nothing.
 use mathlib.Core.Path.{_≡_, sym, ap, subst, _∙_}
-use mathlib.Core.Bool.{Bool, true, cond, _&&_, and-false}
+use mathlib.Core.Bool.{Bool, true, cond, and-false}
 use mathlib.Core.List.{List, _++_}
 use Prim.Native.Nat.{ℕ, _*_, _-_, _<_}
 use native.Mathlib.Omega.{arith}
 use lib.ListN.{take, replicate}
 use borrow.Author.Tests.{lt-ltb}
 use Rattle.bits.specs.Bits.{bit}
-use Rattle.bits.specs.Places.{elem, share}
 use Rattle.bits.specs.Search.{some}
-use Rattle.bits.proofs.Cases.{both, and-intro, alike}
-use Rattle.bits.proofs.Search.{some-at, some-is, some-same}
+use Rattle.bits.proofs.Search.{some-same}
 use Rattle.floor.specs.Floor.{lift}
 use Rattle.floor.specs.Sound.{sound}
 use Rattle.rules.specs.declared.Code.{Code}

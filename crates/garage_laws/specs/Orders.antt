@@ -7,7 +7,7 @@ use lib.Dec.{eqb}
 use Rattle.bits.specs.Bits.{bit, digit}
 use Rattle.garage.specs.declared.Station.{Station}
 use Rattle.garage.specs.Held.{codeAt, heldAllowed}
-use Rattle.garage_laws.specs.Runs.{Call, request, result, event, image, ask, call, said, left, calls}
+use Rattle.garage_laws.specs.Runs.{Call, request, result, event, image, ask, said, left, calls}
 
 -- how many results of instruction i a list has
 abbrev pub resultsOf : ℕ → List Call → ℕ

@@ -1,10 +1,9 @@
 -- The frame laws: an instruction's verdict and its new bits rest on its area alone, and it changes nothing outside; an event's on the lift.
 -- That each test reads only the area is a test itself, computed for every well-formed instruction. Assumes nothing.
-use mathlib.Core.Path.{_≡_, refl, ap, ap₂, subst, _∙_, sym}
-use mathlib.Core.Bool.{Bool, true, false, cond, not, _&&_, _||_}
-use mathlib.Core.List.{List, [], _∷_}
+use mathlib.Core.Path.{_≡_, ap}
+use mathlib.Core.Bool.{Bool, true, false, _&&_}
 use Prim.Native.Nat.{ℕ}
-use lib.Dec.{T, eqb}
+use lib.Dec.{T}
 use Rattle.bits.specs.Bits.{Bits}
 use Rattle.bits.specs.Places.{elem}
 use Rattle.bits.specs.Search.{every}

@@ -1,7 +1,6 @@
 -- The two car events of document 01: when each is possible, and the record after it. Assumes nothing.
 use mathlib.Core.Bool.{Bool, true, false}
 use mathlib.Core.List.{List, [], _∷_}
-use Prim.Native.Nat.{ℕ}
 use Rattle.bits.specs.Bits.{Bits}
 use Rattle.floor.specs.Floor.{raisedCar, street}
 use Rattle.floor.specs.Tests.{Test, fact, set, free, allHold, heightIs, Change, _≔_, changed}

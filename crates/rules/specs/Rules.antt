@@ -4,7 +4,7 @@ use mathlib.Core.Bool.{Bool, true, false, cond, not, _&&_, _||_}
 use mathlib.Core.List.{List, [], _∷_, _++_, map}
 use Prim.Native.Nat.{ℕ, _-_}
 use lib.Dec.{eqb, leb}
-use Rattle.bits.specs.Bits.{Bits, bit, image}
+use Rattle.bits.specs.Bits.{Bits, bit}
 use Rattle.bits.specs.Places.{elem, share, isEmpty, adjacent, join}
 use Rattle.floor.specs.Floor.{rowCells, lowered, slot, place, lift, liftCells, leftOfLift, rightOfLift, turningCells, raisedCar, heightLow, heightHigh, rotation, basement}
 use Rattle.floor.specs.Tests.{Test, fact, set, free, even, no, both, either, when, choose, allHold, heightIs, atBasement, Change, _≔_, changed}

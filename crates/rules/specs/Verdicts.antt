@@ -1,6 +1,6 @@
 -- What the code answers about an instruction, good or bad, on a record: the verdict, the next record, the area, the overlap of two.
 -- Assumes nothing.
-use mathlib.Core.Bool.{Bool, true, false, cond, _&&_}
+use mathlib.Core.Bool.{cond, _&&_}
 use Prim.Native.Nat.{ℕ}
 use Rattle.bits.specs.Bits.{bit, image}
 use Rattle.rules.specs.declared.Instruction.{Instruction}

@@ -1,7 +1,7 @@
 -- After any calls the station is in good order (`always-good`), so that no success is reported of an instruction that is
 -- not allowed (`never-fourteen`), and its cars are counted (`cars-counted`). Each is shown of one call and goes on from
 -- call to call. Assumes nothing.
-use Prim.Native.Nat.{ℕ, _<_}
+use Prim.Native.Nat.{ℕ}
 use native.Mathlib.Omega.{arith}
 use mathlib.Core.Path.{_≡_, sym, _∙_}
 use mathlib.Core.List.{List, [], _∷_}
@@ -9,7 +9,7 @@ use mathlib.Core.Bool.{true, false, not, cond, _&&_}
 use lib.Dec.{eqb}
 use borrow.Author.Tests.{not-true, eqb-false}
 use Rattle.sets.specs.Rules.{Rules, Clear, Framed, KeepsCars}
-use Rattle.sets.specs.Machine.{Station, Outcome, failed, finished, result, event, Call, request, act, image, noted, released, outstanding, blocks, taken, takes, does, call, calls}
+use Rattle.sets.specs.Machine.{Station, failed, finished, result, event, Call, request, act, image, noted, released, outstanding, blocks, takes, does, call, calls}
 use Rattle.sets.specs.Traces.{Good, Tally, Balanced, counted, tally}
 use Rattle.sets.specs.Statements.{GoodAtStart, AlwaysGood, NeverFourteen, CarsCounted}
 use Rattle.bits.proofs.Cases.{split, clash, both, neither}

@@ -2,8 +2,6 @@ use Rattle.bits.proofs.Masks.{all-places}
 use borrow.Author.Needs.{needs}
 use Rattle.bits.proofs.all.Statement.{statement}
 use Rattle.bits.proofs.all.Tie as tie
-use Rattle.bits.proofs.all.Reads as reads
-use Rattle.bits.proofs.all.Lts as lts
 
 returns : tie.Need-returns
 returns c = all-places (c .args .r) (c .args .mask) (search needs)

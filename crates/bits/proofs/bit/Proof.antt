@@ -3,8 +3,6 @@ use mathlib.Core.Path.{sym}
 use borrow.Author.Needs.{needs}
 use Rattle.bits.proofs.bit.Statement.{statement}
 use Rattle.bits.proofs.bit.Tie as tie
-use Rattle.bits.proofs.bit.Reads as reads
-use Rattle.bits.proofs.bit.Lts as lts
 
 shr-result : tie.Need-shr-result
 shr-result c = search needs

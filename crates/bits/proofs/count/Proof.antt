@@ -2,8 +2,6 @@ use Rattle.bits.proofs.Masks.{ones-places}
 use borrow.Author.Needs.{needs}
 use Rattle.bits.proofs.count.Statement.{statement}
 use Rattle.bits.proofs.count.Tie as tie
-use Rattle.bits.proofs.count.Reads as reads
-use Rattle.bits.proofs.count.Lts as lts
 
 returns : tie.Need-returns
 returns c = ones-places (c .args .r) (c .args .mask) (search needs)

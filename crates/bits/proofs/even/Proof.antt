@@ -4,9 +4,6 @@ use lib.Dec.{eqb}
 use borrow.Author.Needs.{needs}
 use Rattle.bits.proofs.even.Statement.{statement}
 use Rattle.bits.proofs.even.Tie as tie
-use Rattle.bits.proofs.even.Reads as reads
-use Rattle.bits.proofs.even.Lts as lts
-use Rattle.bits.proofs.count.Reads as count-reads
 
 count-requires : tie.Need-count-requires
 count-requires c κs = search needs

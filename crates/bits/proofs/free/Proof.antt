@@ -2,8 +2,6 @@ use Rattle.bits.proofs.Masks.{none-places}
 use borrow.Author.Needs.{needs}
 use Rattle.bits.proofs.free.Statement.{statement}
 use Rattle.bits.proofs.free.Tie as tie
-use Rattle.bits.proofs.free.Reads as reads
-use Rattle.bits.proofs.free.Lts as lts
 
 returns : tie.Need-returns
 returns c = none-places (c .args .r) (c .args .mask) (search needs)

@@ -1,0 +1,42 @@
+//! Runs the worked examples of a page: `sessions PROGRAM PAGE`. In each block marked `session`, the bytes of the `>` lines are given
+//! to the program and its output must be the bytes of the `<` lines.
+
+use std::io::Write;
+use std::process::{exit, Command, Stdio};
+
+fn bytes(line: &str) -> Vec<u8> {
+    line[1..].split_whitespace().map(|byte| u8::from_str_radix(byte, 16).expect("a byte in hexadecimal")).collect()
+}
+
+/// What the program writes for an input.
+fn answers(program: &str, input: &[u8]) -> Vec<u8> {
+    let mut child = Command::new(program).stdin(Stdio::piped()).stdout(Stdio::piped()).spawn().expect("the program starts");
+    child.stdin.take().expect("a pipe").write_all(input).expect("the program reads");
+    child.wait_with_output().expect("the program ends").stdout
+}
+
+fn main() {
+    let words: Vec<String> = std::env::args().collect();
+    let [_, program, page] = &words[..] else { panic!("usage: sessions PROGRAM PAGE") };
+    let text = std::fs::read_to_string(page).expect("the page is there");
+    let (mut inside, mut input, mut expected, mut run, mut failed) = (false, Vec::new(), Vec::new(), 0, 0);
+    for (at, line) in text.lines().enumerate() {
+        match line {
+            "```session" => { inside = true; input.clear(); expected.clear(); }
+            "```" if inside => {
+                inside = false;
+                run += 1;
+                let got = answers(program, &input);
+                if got != expected {
+                    failed += 1;
+                    eprintln!("{page}:{}: expected {expected:02X?}, got {got:02X?}", at + 1);
+                }
+            }
+            _ if inside && line.starts_with('>') => input.extend(bytes(line)),
+            _ if inside && line.starts_with('<') => expected.extend(bytes(line)),
+            _ => {}
+        }
+    }
+    println!("sessions: {run} of {page}, {failed} wrong");
+    if run == 0 || failed > 0 { exit(1); }
+}
