@@ -1,6 +1,6 @@
 -- The five bytes that carry an instruction, and what the code answers about instructions, good and bad. Assumes nothing.
 use mathlib.Core.Bool.{cond, _&&_}
-use mathlib.Core.List.{List}
+use mathlib.Core.List.{List, [], _∷_}
 use Prim.Native.Nat.{ℕ}
 use lib.Dec.{eqb, ltb}
 use lib.ListN.{length, getD}
@@ -21,6 +21,10 @@ codeOf (Shuttles side mask orientation toward) = record { op = 2; a = side; b = 
 codeOf (Tilt side row orientation) = record { op = 3; a = side; b = row; c = orientation; d = 0 }
 codeOf (Lift height) = record { op = 4; a = height; b = 0; c = 0; d = 0 }
 codeOf Rotate = record { op = 5; a = 0; b = 0; c = 0; d = 0 }
+
+-- the same as a run of bytes
+abbrev pub bytesOf : Instruction → List ℕ
+bytesOf i = let x = codeOf i in x .op ∷ x .a ∷ x .b ∷ x .c ∷ x .d ∷ []
 
 -- an instruction that is well formed is read, any other is bad
 abbrev pub kept : Instruction → Reading

@@ -18,7 +18,8 @@ use Rattle.rules.specs.Codes.{codeAt, readCode, readBytes}
 use Rattle.rules.proofs.CodeLaws.{one-form as code-form}
 use Rattle.wire.specs.Reads.{isBad, badIn}
 use Rattle.wire.specs.Writes.{Writing}
-use Rattle.wire_laws.specs.Statements.{bytesOf, InstructionsOneForm}
+use Rattle.rules.specs.Codes.{bytesOf}
+use Rattle.wire_laws.specs.Statements.{InstructionsOneForm}
 use Rattle.wire_laws.proofs.Back.{wrote}
 use Rattle.wire_laws.proofs.Form.{one-form}
 

@@ -8,7 +8,7 @@ use Prim.Native.Nat.{ℕ, _≤_, _*_, _<_, _^_}
 use lib.ListN.{getD, length, take, drop}
 use Rattle.rules.specs.declared.Instruction.{Instruction}
 use Rattle.rules.specs.Rules.{wellFormed}
-use Rattle.rules.specs.Codes.{codeOf}
+use Rattle.rules.specs.Codes.{bytesOf}
 use Rattle.answers.specs.declared.Answer.the-variants.{Taken, UnknownKind}
 use Rattle.wire.specs.declared.What.{What}
 use Rattle.wire.specs.declared.What.the-variants.{Request, Event, Result, Image, Ask, Answer, Held}
@@ -63,10 +63,6 @@ OneForm = (s : List ℕ) (m : Message) (n : ℕ) → Bytes s → readMessage s �
 -- the five bytes of instruction i of a message
 abbrev pub fiveOf : Message → ℕ → List ℕ
 fiveOf m i = take 5 (drop (5 * i) (m .set))
-
--- the five bytes that carry an instruction
-abbrev pub bytesOf : Instruction → List ℕ
-bytesOf j = let x = codeOf j in x .op ∷ x .a ∷ x .b ∷ x .c ∷ x .d ∷ []
 
 -- each instruction of a request that was read is well formed and stands in its one form
 abbrev pub InstructionsOneForm : Type 0

@@ -1,0 +1,17 @@
+-- The table is right: one computation over the definitions. Assumes nothing.
+use Rattle.examples.specs.Table.{Right, allRight, stepsRight}
+use Rattle.bits.specs.Bits.{packed}
+use Rattle.bits.specs.Search.{some, every, least}
+use Rattle.floor.specs.Cars.{cars}
+use Rattle.floor.specs.Sound.{paired, sound, total}
+use Rattle.rules.specs.Rules.{allowed, next}
+use Rattle.rules.specs.Events.{possible, after}
+use Rattle.rules.specs.Codes.{codeOf, readCode}
+use Rattle.garage.specs.Held.{codeAt, isGood, heldArea, heldAllowed, heldNext, overlapsEarlier, liftIn}
+use Rattle.garage.specs.Station.{fit, answering}
+use Rattle.garage.specs.Calls.{request, event, result, takeImage}
+
+pub right : Right
+unfolding allRight stepsRight cars paired sound total packed some every least codeOf readCode allowed next possible after
+    codeAt isGood heldArea heldAllowed heldNext overlapsEarlier liftIn fit answering request event result takeImage
+right = tt

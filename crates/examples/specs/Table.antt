@@ -1,0 +1,137 @@
+-- Document 01's floor examples P1 to P12 as one table: from the start, calls with what each is answered, and the record between them.
+-- The calls are those that the contracts of the code cite. One claim says that the whole table is right. Assumes nothing.
+use mathlib.Core.Bool.{Bool, true, false, _&&_}
+use mathlib.Core.List.{List, [], _∷_, _++_, map}
+use Prim.Native.Nat.{ℕ}
+use lib.Dec.{T, eqb}
+use lib.ListN.{length}
+use Rattle.bits.specs.Places.{join}
+use Rattle.floor.specs.Floor.{left, right, lowered, tilted, street, rotation, basement}
+use Rattle.floor.specs.Sound.{total}
+use Rattle.floor.specs.declared.Total.{Total}
+use Rattle.floor.specs.declared.Total.the-variants.{Cars, Unsound}
+use Rattle.rules.specs.declared.Instruction.{Instruction}
+use Rattle.rules.specs.declared.Instruction.the-variants.{Belts, Shuttles, Tilt, Lift, Rotate}
+use Rattle.rules.specs.Codes.{bytesOf}
+use Rattle.answers.specs.Answers.{numberOf, placeOf, nowhere}
+use Rattle.garage.specs.declared.Station.{Station}
+use Rattle.garage.specs.declared.Outcome.{Outcome}
+use Rattle.garage.specs.Station.{startOf}
+use Rattle.garage_laws.specs.Runs.{Call, request, result, event, image, call}
+
+-- ---- what an example is
+
+-- a step of an example: a call that is answered with this number and place; the record is now this image; it is sound with so many cars
+pub data Step : Type 0 where
+  answers : Call → ℕ → ℕ → Step
+  holds : ℕ → Step
+  cars : ℕ → Step
+
+-- a record's total is so many cars, so it is sound
+abbrev pub isTotal : Total → ℕ → Bool
+isTotal (Cars n) k = eqb n k
+isTotal Unsound k = false
+
+-- a call hands back this number and place
+abbrev pub isAnswer : Outcome → ℕ → ℕ → Bool
+isAnswer o number place = eqb (numberOf (o .answer)) number && eqb (placeOf (o .answer)) place
+
+-- the steps are right, one after the other from this station
+unfoldable pub stepsRight : Station → List Step → Bool
+stepsRight s [] = true
+stepsRight s (answers c number place ∷ l) = isAnswer (call s c) number place && stepsRight (call s c .station) l
+stepsRight s (holds r ∷ l) = eqb (s .bits) r && stepsRight s l
+stepsRight s (cars n ∷ l) = isTotal (total (s .bits)) n && stepsRight s l
+
+-- each example of a table is right from the start
+unfoldable pub allRight : List (List Step) → Bool
+allRight [] = true
+allRight (x ∷ xs) = stepsRight startOf x && allRight xs
+
+-- ---- words of the table
+
+-- a call is taken; it is refused with a number and no place
+abbrev pub taken : Call → Step
+taken c = answers c 0 nowhere
+
+abbrev pub refused : Call → ℕ → Step
+refused c number = answers c number nowhere
+
+-- a car in, a car out
+abbrev pub carIn : Call
+carIn = event 1
+
+abbrev pub carOut : Call
+carOut = event 2
+
+-- the request of a set of instructions
+abbrev pub asking : List Instruction → Call
+asking set = request (length set) (join (map bytesOf set))
+
+-- the result of an instruction of the set
+abbrev pub done : ℕ → Call
+done i = result i 1
+
+abbrev pub failed : ℕ → Call
+failed i = result i 0
+
+-- an instruction alone is accepted and done, and makes this record; alone, it is not allowed
+abbrev pub makes : Instruction → ℕ → List Step
+makes i r = taken (asking (i ∷ [])) ∷ taken (done 0) ∷ holds r ∷ []
+
+abbrev pub barred : Instruction → Step
+barred i = answers (asking (i ∷ [])) 9 0
+
+-- the start record
+abbrev pub S : ℕ
+S = 0x00091B0000000000
+
+-- the tilted shuttle of row 3 is lowered
+abbrev pub lowers : ℕ → Instruction
+lowers side = Tilt side 3 tilted
+
+-- ---- the table, with the paper's images: its bytes are written there lowest first, here as one number
+
+-- after P2 a car is on the lift; P4 brings it to the basement, P5 half onto the left belt
+abbrev pub p2 : List Step
+p2 = taken carIn ∷ refused carIn 10 ∷ []
+
+abbrev pub p4 : List Step
+p4 = p2 ++ makes (Lift basement) 0x00491B0000001800
+
+-- both row-3 shuttles lowered in one set, the second with this result
+abbrev pub p10 : Call → ℕ → List Step
+p10 second r = taken (asking (lowers left ∷ lowers right ∷ [])) ∷ taken (done 0) ∷ taken second ∷ holds r ∷ []
+
+abbrev pub table : List (List Step)
+table =
+    -- P1: S is sound, 0 cars
+    (holds S ∷ cars 0 ∷ [])
+    -- P2: car in on S, then car in again
+    ∷ p2
+    -- P3: car out on S
+    ∷ (refused carOut 10 ∷ [])
+    -- P4: after P2, lift to basement
+    ∷ p4
+    -- P5: then row 1 mask 6, lower, half; lift to street now
+    ∷ (p4 ++ makes (Belts 1 6 0 0) 0x00491B0000000C00 ++ barred (Lift street) ∷ [])
+    -- P6: sound, 2 cars; lift up
+    ∷ (taken (image 0x00491B0000003C00) ∷ cars 2 ∷ barred (Lift rotation) ∷ barred (Lift street) ∷ [])
+    -- P7: half a car
+    ∷ (refused (image 0x00091B0000000001) 15 ∷ [])
+    -- P8: left lowered rows 1 and 2 higher
+    ∷ (taken (image 0x00091B0000000003) ∷ makes (Shuttles left 3 lowered 1) 0x00091E0000100000)
+    -- P9: the same with 06 first
+    ∷ (taken (image 0x00091B0000000006) ∷ barred (Shuttles left 3 lowered 1) ∷ [])
+    -- P10: on S, lower both row-3 shuttles in one set; right one failing
+    ∷ (p10 (done 1) 0x00003F0000000000 ++ taken (image S) ∷ p10 (failed 1) 0x00081F0000000000)
+    -- P11: rotate, allowed; then with a car on one of its cells
+    ∷ (taken (image 0x00291B00000000C0) ∷ makes Rotate 0x00291B00000000C0 ++ taken (image 0x00291B0000000180) ∷ barred Rotate ∷ [])
+    -- P12: same tilt twice
+    ∷ (answers (asking (lowers left ∷ lowers left ∷ [])) 8 1 ∷ [])
+    ∷ []
+
+-- ---- the claim
+
+abbrev pub Right : Type 0
+Right = T (allRight table)

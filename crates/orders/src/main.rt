@@ -1,0 +1,144 @@
+// One set of eight instructions on a floor with ten cars. Its results come in several orders, with two car events among them, and the
+// last record is the same each time. The order is proved not to matter (garage_laws); here it is seen in the code.
+use garage::Outcome;
+use garage::Station;
+
+// The start's shuttles and lift. Row 1 has cars in cells 2-3, 6-7, 14-15 and 18-19, row 2 in 20, 22, 25 and 29, row 3 in 31 and 36.
+const FLOOR: u64 = 0x9_1B10_A25C_C0CC;
+
+// No two overlap, and none has the lift in its area, so that cars can come and go.
+const SET: [u8; 40] = [
+    // 0: belts of row 1, left shuttle and left belt, lower, full
+    1,
+    1,
+    3,
+    0,
+    1,
+    // 1: belts of row 1, right belt, higher, half
+    1,
+    1,
+    8,
+    1,
+    0,
+    // 2: belts of row 2, between the shuttles, lower, full; this one fails
+    1,
+    2,
+    2,
+    0,
+    1,
+    // 3: belts of row 3, between the shuttles, higher, full
+    1,
+    3,
+    2,
+    1,
+    1,
+    // 4: left lowered shuttle of row 2, higher, with its car
+    2,
+    0,
+    2,
+    0,
+    1,
+    // 5: left tilted shuttle of row 3, lower; this one fails
+    2,
+    0,
+    4,
+    1,
+    0,
+    // 6: right lowered shuttles of rows 1 and 2, higher, with their cars
+    2,
+    1,
+    3,
+    0,
+    1,
+    // 7: right tilted shuttle of row 3, lower
+    2,
+    1,
+    4,
+    1,
+    0,
+];
+
+// Instructions 2 and 5 fail in every order.
+fn reported(i: u8) -> u8 {
+    match i {
+        2 | 5 => 0,
+        _ => 1,
+    }
+}
+
+// A station, and whether each call so far was taken.
+struct Course {
+    station: Station,
+    taken: bool,
+}
+
+fn after(o: Outcome, before: bool) -> Course {
+    let answer = o.answer;
+    let station = o.station;
+    Course {
+        station,
+        taken: before & (answer.number() == 0),
+    }
+}
+
+// The set is outstanding.
+fn opened() -> Course {
+    let placed = after(Station::start().image(FLOOR), true);
+    let station = placed.station;
+    after(station.request(Station::MOST, SET), placed.taken)
+}
+
+// An act: a car in, a car out, or the result of the instruction with this digit.
+fn acted(r: Course, act: u8) -> Course {
+    let s = r.station;
+    match act {
+        b'+' => after(s.event(1), r.taken),
+        b'-' => after(s.event(2), r.taken),
+        b'0'..=b'7' => {
+            let i = act - b'0';
+            after(s.result(i, reported(i)), r.taken)
+        }
+        _ => Course {
+            station: s,
+            taken: false,
+        },
+    }
+}
+
+// The acts in this order.
+fn run(order: &[u8]) -> Course {
+    let mut r = opened();
+    let mut k = 0;
+    while k < order.len() {
+        r = acted(r, order[k]);
+        k += 1;
+    }
+    r
+}
+
+// Writes the order and the last record, which is answered too.
+fn shown(order: &[u8]) -> u64 {
+    let r = run(order);
+    let s = r.station;
+    io::write_all(1, order);
+    if !r.taken {
+        io::write_all(1, b" with a call refused");
+    }
+    io::write_all(1, b" ");
+    io::print_hex(1, s.bits, 16);
+    io::write_all(1, b"\n");
+    s.bits
+}
+
+fn main() {
+    let rising = shown(b"01+234-567");
+    let falling = shown(b"+7654321-0");
+    let odd_first = shown(b"1357+024-6");
+    let mixed = shown(b"63+-150742");
+    let late = shown(b"2705163+-4");
+    if (rising == falling) & (rising == odd_first) & (rising == mixed) & (rising == late) {
+        io::write_all(1, b"same\n");
+    } else {
+        io::write_all(1, b"different\n");
+    }
+}

@@ -1,0 +1,5 @@
+pub mod Replies
+pub mod Ranges
+pub mod Running
+mod Turns
+pub mod Pieces

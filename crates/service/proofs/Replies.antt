@@ -1,0 +1,92 @@
+-- Replies: what a message that isn't an ask is told; that the fields of every reply are in their ranges, so that it can be written; and
+-- what writing it leaves. Assumes nothing.
+use mathlib.Core.Path.{_≡_, refl, sym, ap, _∙_}
+use mathlib.Core.Bool.{true, false}
+use mathlib.Core.List.{List, [], _∷_, _++_}
+use Prim.Native.Nat.{ℕ, _-_, _/_, _≤_, _<_}
+use native.Mathlib.Omega.{arith}
+use borrow.Author.Tests.{leb-true, le-leb, lt-leb, le-ltb}
+use denote.Enum.Declared.{tagOf}
+use lib.Dec.{leb}
+use lib.ListN.{length, drop}
+use types.Run.{OneOf, miss}
+use Rattle.bits.specs.Search.{least}
+use Rattle.bits.proofs.Cases.{alike}
+use Rattle.answers.specs.declared.Answer.{Answer}
+use Rattle.answers.specs.declared.Answer.the-variants.{Taken, TooFewBytes}
+use Rattle.wire.proofs.What as what
+use Rattle.wire.specs.declared.What.{What}
+use Rattle.wire.specs.declared.What.the-variants.{Request, Event, Result, Image, Ask, Held}
+use Rattle.wire.specs.Kinds.{inRange, plain}
+use Rattle.wire.specs.declared.Written.{Written}
+use Rattle.wire.specs.Writes.{Writing, Leaves, put, writing}
+use Rattle.wire.proofs.Room.{ranged}
+use Rattle.garage.specs.declared.Outcome.{Outcome}
+use Rattle.service.specs.Service.{told, toldOf, said}
+use Rattle.service.specs.Runs.{enough, finishing}
+
+-- a message that isn't an ask is told its answer
+pub not-asked : (w : What) (o : Outcome) → OneOf (0 ∷ 1 ∷ 2 ∷ 3 ∷ 5 ∷ 6 ∷ []) (tagOf what.the-type w) → toldOf w o ≡ told (o .answer)
+not-asked Request o h = refl
+not-asked (Event way) o h = refl
+not-asked (Result number done) o h = refl
+not-asked (Image r) o h = refl
+not-asked Ask o h = absurd (miss (0 ∷ 1 ∷ 2 ∷ 3 ∷ 5 ∷ 6 ∷ []) 4 tt h)
+not-asked (What.Answer number place) o h = refl
+not-asked (Held r) o h = refl
+
+-- ---- writing
+
+-- a message that holds no instruction, its fields in their ranges
+pub plain-written : (w : What) (room : List ℕ) → inRange w ≡ true → writing (plain w) room ≡ put (said w) room
+unfolding said writing least
+plain-written Request room e = refl
+plain-written (Event way) room e = ranged (plain (Event way)) room (Event way) refl refl e
+plain-written (Result number done) room e = ranged (plain (Result number done)) room (Result number done) refl refl e
+plain-written (Image r) room e = refl
+plain-written Ask room e = refl
+plain-written (What.Answer number place) room e = ranged (plain (What.Answer number place)) room (What.Answer number place) refl refl e
+plain-written (Held r) room e = refl
+
+-- and room that is long enough for it
+pub wrote : (w : What) (room : List ℕ) {r : Written} {last : List ℕ} → inRange w ≡ true → length (said w) ≤ length room
+    → Leaves (writing (plain w) room) r last → (r .size ≡ length (said w)) × (last ≡ said w ++ drop (length (said w)) room)
+wrote w room f h (e, l) =
+    let p : put (said w) room ≡ record { says = record { answer = Taken; size = length (said w) }; leaves = said w ++ drop (length (said w)) room }
+    = simp (le-ltb (length room) (length (said w)) h) in
+    let q = plain-written w room f ∙ p in
+    (ap (λ (x : Written). x .size) (e ∙ ap (λ (x : Writing). x .says) q), l ∙ ap (λ (x : Writing). x .leaves) q)
+
+-- no reply has more than twelve bytes
+pub said-length : (w : What) → length (said w) ≤ 12
+unfolding said
+said-length Request = omega arith
+said-length (Event way) = omega arith
+said-length (Result number done) = omega arith
+said-length (Image r) = omega arith
+said-length Ask = omega arith
+said-length (What.Answer number place) = omega arith
+said-length (Held r) = omega arith
+
+-- a third of what is left beside the last answer
+pub fits-by-third : (n room : ℕ) → 12 ≤ room → leb n ((room - 12) / 3) ≡ leb (enough n) room
+fits-by-third n room h =
+    alike (leb n ((room - 12) / 3)) (leb (enough n) room)
+    (λ e. le-leb (enough n) room (let f = leb-true n ((room - 12) / 3) e in omega arith))
+    (λ e. le-leb n ((room - 12) / 3) (let f = leb-true (enough n) room e in omega arith))
+
+pub fits-not : (n room : ℕ) → room < 12 → false ≡ leb (enough n) room
+fits-not n room h = sym (lt-leb (enough n) room (omega arith))
+
+-- ---- the end of the input
+
+pub nothing-left : (held room : List ℕ) → length held ≡ 0 → Leaves (finishing held room) (record { answer = Taken; size = 0 }) room
+nothing-left [] room e = simp (le-ltb (length room) 0 (omega arith)) (refl, refl)
+nothing-left (b ∷ bs) room e = absurd (omega arith)
+
+pub something-left : (held room : List ℕ) {w : What} {r : Written} {last : List ℕ} → (length held ≡ 0 → ⊥) → w ≡ told TooFewBytes
+    → Leaves (writing (plain w) room) r last → Leaves (finishing held room) r last
+something-left [] room h e f = absurd (h refl)
+something-left (b ∷ bs) room {w} {r} {last} h e f =
+    let p : writing (plain w) room ≡ put (said (told TooFewBytes)) room = rw e (plain-written (told TooFewBytes) room refl) in
+    (f .0 ∙ ap (λ (x : Writing). x .says) p, f .1 ∙ ap (λ (x : Writing). x .leaves) p)

@@ -1,0 +1,89 @@
+-- What messages are answered with: one message on a station, and all that a whole input is answered with from the start on. This is
+-- document 01's program as a function of bytes. Assumes nothing.
+use mathlib.Core.Bool.{Bool, true, false, cond}
+use mathlib.Core.List.{List, [], _∷_, _++_}
+use Prim.Native.Nat.{ℕ, zero, suc}
+use lib.Dec.{eqb}
+use lib.ListN.{length, drop}
+use Rattle.answers.specs.declared.Answer.{Answer}
+use Rattle.answers.specs.declared.Answer.the-variants.{UnknownKind}
+use Rattle.answers.specs.Answers.{numberOf, placeOf}
+use Rattle.garage.specs.declared.Station.{Station}
+use Rattle.garage.specs.declared.Outcome.{Outcome}
+use Rattle.garage.specs.Station.{startOf}
+use Rattle.garage.specs.Calls.{refused, request, event, result, takeImage, ask}
+use Rattle.wire.specs.declared.What.{What}
+use Rattle.wire.specs.declared.What.the-variants.{Request, Event, Result, Image, Ask, Held}
+use Rattle.wire.specs.declared.Frame.{Frame}
+use Rattle.wire.specs.declared.Frame.the-variants.{Cut, Wrong, Whole}
+use Rattle.wire.specs.Kinds.{plain}
+use Rattle.wire.specs.Reads.{frameOf, readAsked}
+use Rattle.wire.specs.Writes.{messageBytes}
+use Rattle.service.specs.declared.Reply.{Reply}
+
+-- the call that a message makes; kinds 128 and 129 are unknown to a station
+abbrev pub called : What → Station → ℕ → List ℕ → Outcome
+called Request s count set = request s count set
+called (Event way) s count set = event s way
+called (Result number done) s count set = result s number done
+called (Image r) s count set = takeImage s r
+called Ask s count set = ask s
+called (What.Answer number place) s count set = refused s UnknownKind
+called (Held r) s count set = refused s UnknownKind
+
+-- an answer as a message
+abbrev pub told : Answer → What
+told a = What.Answer (numberOf a) (placeOf a)
+
+-- a call's answer as a message: the image after an ask that was taken
+abbrev pub toldOf : What → Outcome → What
+toldOf Request o = told (o .answer)
+toldOf (Event way) o = told (o .answer)
+toldOf (Result number done) o = told (o .answer)
+toldOf (Image r) o = told (o .answer)
+toldOf Ask o = cond (eqb (numberOf (o .answer)) 0) (Held (o .station .bits)) (told (o .answer))
+toldOf (What.Answer number place) o = told (o .answer)
+toldOf (Held r) o = told (o .answer)
+
+-- the reply to a call
+abbrev pub replyOf : What → Outcome → Reply
+replyOf w o = record { station = o .station; answer = toldOf w o }
+
+-- the reply to the first message of some bytes: what is refused in reading makes no call
+unfoldable pub respond : Station → List ℕ → Reply
+respond s bytes =
+    let r = readAsked bytes in
+    let m = r .message in
+    cond (eqb (numberOf (r .answer)) 0)
+    (replyOf (m .what) (called (m .what) s (m .count) (m .set)))
+    (record { station = s; answer = told (r .answer) })
+
+-- an answer in bytes
+unfoldable pub said : What → List ℕ
+said w = messageBytes (plain w)
+
+-- whether there are no bytes
+abbrev pub noBytes : List ℕ → Bool
+noBytes [] = true
+noBytes (b ∷ bs) = false
+
+-- after a message: on with the rest, but not after 1, nor after a length below 2 or above 43
+abbrev pub goOn : Frame → (ℕ → List ℕ) → List ℕ
+goOn Cut rest = []
+goOn Wrong rest = []
+goOn (Whole n) rest = rest n
+
+-- all answers on a station, message after message; where the input ends between messages there is none. Each message takes a byte at least
+unfoldable pub answersFor : ℕ → Station → List ℕ → List ℕ
+answersFor zero s input = []
+answersFor (suc k) s input =
+    cond (noBytes input) []
+    (said (respond s input .answer) ++ goOn (frameOf input) (λ n. answersFor k (respond s input .station) (drop n input)))
+
+-- all that a station answers to a whole input
+abbrev pub answersOn : Station → List ℕ → List ℕ
+answersOn s input = answersFor (length input) s input
+
+-- all that the program answers to a whole input
+abbrev pub answers : List ℕ → List ℕ
+answers input = answersOn startOf input

@@ -1,0 +1,210 @@
+// Messages answered on a station: one, and a run of them. What they are answered with stands in specs/.
+ghost use mathlib.Core.Path.{_≡_};
+ghost use mathlib.Core.Bool.{true, cond};
+ghost use mathlib.Core.List.{_++_};
+ghost use Prim.Native.Nat.{_≤_};
+ghost use lib.Dec.{eqb, leb};
+ghost use lib.ListN.{length, drop};
+ghost use Rattle.answers.specs.Answers.{numberOf};
+ghost use Rattle.wire.specs.declared.What.the-variants.{Held};
+ghost use Rattle.wire.specs.Kinds.{inRange};
+ghost use Rattle.wire.specs.Writes.{Leaves};
+ghost use Rattle.service.specs.Service.{called, told, replyOf, respond, said};
+ghost use Rattle.service.specs.Runs.{Serves, run, enough, served, serving, finishing};
+use answers::Answer;
+use garage::Outcome;
+use garage::Station;
+use wire::Frame;
+use wire::What;
+use wire::Written;
+
+// What a message leaves: the next station, and what it is answered with.
+pub struct Reply {
+    pub station: Station,
+    pub answer: What,
+}
+
+// What a run of messages leaves: Taken, or NoRoom and nothing done; the next station, how many bytes of the input were taken and of the
+// room written, and whether nothing more is to be read.
+pub struct Served {
+    pub answer: Answer,
+    pub station: Station,
+    pub used: usize,
+    pub made: usize,
+    pub stop: bool,
+}
+
+// ---- one message
+
+// The call that a message makes.
+fn call(what: What, s: Station, count: u8, set: [u8; 40]) -> Outcome
+    ensures { λ o. ⌜ o ≡ called what s count set ⌝ }
+{
+    match what {
+        What::Request => s.request(count, set),
+        What::Event { way } => s.event(way),
+        What::Result { number, done } => s.result(number, done),
+        What::Image(r) => s.image(r),
+        What::Ask => s.ask(),
+        What::Answer {
+            number: _,
+            place: _,
+        } => Outcome {
+            station: s,
+            answer: Answer::UnknownKind,
+        },
+        What::Held(_) => Outcome {
+            station: s,
+            answer: Answer::UnknownKind,
+        },
+    }
+}
+
+// An answer as a message.
+fn told(answer: Answer) -> What
+    ensures { λ w. ⌜ w ≡ told answer ⌝ }
+{
+    What::Answer {
+        number: answer.number(),
+        place: answer.place(),
+    }
+}
+
+// The image after an ask that was taken.
+fn image_or(s: Station, answer: Answer) -> What
+    ensures { λ w. ⌜ w ≡ cond (eqb (numberOf answer) 0) (Held (s .bits)) (told answer) ⌝ }
+{
+    if answer.number() == 0 {
+        return What::Held(s.bits);
+    }
+    told(answer)
+}
+
+// The reply to a call.
+fn in_reply(what: What, o: Outcome) -> Reply
+    ensures { λ r. ⌜ r ≡ replyOf what o ⌝ }
+{
+    let station = o.station;
+    let answer = o.answer;
+    match what {
+        What::Ask => {
+            let answer = image_or(station, answer);
+            Reply { station, answer }
+        }
+        _ => {
+            let answer = told(answer);
+            Reply { station, answer }
+        }
+    }
+}
+
+// The reply to the first message of m.
+pub fn respond(s: Station, m: &[u8]) -> Reply
+    ensures { λ r. ⌜ r ≡ respond s (now (m .entry)) ⌝ }
+{
+    let r = wire::read_asked(m);
+    let answer = r.answer;
+    if answer.number() != 0 {
+        let answer = told(answer);
+        return Reply { station: s, answer };
+    }
+    let message = r.message;
+    let what = message.what;
+    let set = message.set;
+    in_reply(what, call(what, s, message.count, set))
+}
+
+// ---- a run of messages
+
+// Puts a message that holds no instruction at the start of out, and says how many bytes it took.
+fn say(what: What, out: &mut [u8]) -> usize
+    requires { ⌜ (inRange what ≡ true) × (length (said what) ≤ length (now out)) ⌝ }
+    ensures { λ n. ⌜ (n ≡ length (said what)) × (now (out .exit) ≡ said what ++ drop (length (said what)) (now (out .entry))) ⌝ }
+{
+    let w = wire::write_plain(what, out);
+    w.size
+}
+
+// Answers every whole message of input, one after another, in room that is long enough.
+fn answer_all(s: Station, input: &[u8], out: &mut [u8]) -> Served
+    requires { ⌜ enough (length (now input)) ≤ length (now out) ⌝ }
+    ensures { λ r. ⌜ Serves (served (run s (now (input .entry))) (now (out .entry))) r (now (out .exit)) ⌝ }
+{
+    let mut s = s;
+    let mut at: usize = 0;
+    let mut made: usize = 0;
+    loop {
+        let rest = &input[at..];
+        let frame = wire::framed(rest);
+        match frame {
+            Frame::Cut => {
+                return Served {
+                    answer: Answer::Taken,
+                    station: s,
+                    used: at,
+                    made,
+                    stop: false,
+                };
+            }
+            Frame::Wrong => {
+                let answer = told(Answer::BadLength);
+                let n = say(answer, &mut out[made..]);
+                return Served {
+                    answer: Answer::Taken,
+                    station: s,
+                    used: at,
+                    made: made + n,
+                    stop: true,
+                };
+            }
+            Frame::Whole(n) => {
+                let r = respond(s, rest);
+                let answer = r.answer;
+                made += say(answer, &mut out[made..]);
+                s = r.station;
+                at += n;
+            }
+        }
+    }
+}
+
+// Whether a room is long enough for any input of n bytes.
+fn fits(n: usize, room: usize) -> bool
+    ensures { λ b. ⌜ b ≡ leb (enough n) room ⌝ }
+{
+    if room < 12 {
+        return false;
+    }
+    n <= (room - 12) / 3
+}
+
+// Answers every whole message of input into out, one after another. It asks for room of 3 bytes for each of the input and 12 besides;
+// where there is less it does nothing.
+pub fn serve(s: Station, input: &[u8], out: &mut [u8]) -> Served
+    ensures { λ r. ⌜ Serves (serving s (now (input .entry)) (now (out .entry))) r (now (out .exit)) ⌝ }
+{
+    if fits(input.len(), out.len()) {
+        return answer_all(s, input, out);
+    }
+    Served {
+        answer: Answer::NoRoom,
+        station: s,
+        used: 0,
+        made: 0,
+        stop: false,
+    }
+}
+
+// The end of the input: where bytes of a message that was cut short are left over, they are answered with 1.
+pub fn finish(held: &[u8], out: &mut [u8]) -> Written
+    ensures { λ r. ⌜ Leaves (finishing (now (held .entry)) (now (out .entry))) r (now (out .exit)) ⌝ }
+{
+    if held.len() == 0 {
+        return Written {
+            answer: Answer::Taken,
+            size: 0,
+        };
+    }
+    let answer = told(Answer::TooFewBytes);
+    wire::write_plain(answer, out)
+}
