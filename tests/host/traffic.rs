@@ -2,7 +2,7 @@
 //! What is plausible next is judged by the reference station, which takes each message as it is made.
 #![allow(dead_code)] // each driver uses its own part of this module
 
-use crate::reference::{Call, Instruction, Station};
+use crate::reference::{Instruction, Station};
 
 /// A seeded generator of numbers (splitmix64).
 pub struct Numbers(pub u64);
@@ -165,6 +165,3 @@ pub fn damaged_input(seed: u64, messages: usize) -> Vec<u8> {
     }
     bytes
 }
-
-/// What a call says of itself, for a report of a difference.
-pub fn describe(call: &Call) -> String { format!("{call:?}") }

@@ -1,27 +1,27 @@
 -- Replies: what a message that isn't an ask is told; that the fields of every reply are in their ranges, so that it can be written; and
 -- what writing it leaves. Assumes nothing.
 use mathlib.Core.Path.{_≡_, refl, sym, ap, _∙_}
-use mathlib.Core.Bool.{true, false}
+use mathlib.Core.Bool.{Bool, true, false, cond}
 use mathlib.Core.List.{List, [], _∷_, _++_}
 use Prim.Native.Nat.{ℕ, _-_, _/_, _≤_, _<_}
 use native.Mathlib.Omega.{arith}
 use borrow.Author.Tests.{leb-true, le-leb, lt-leb, le-ltb}
 use denote.Enum.Declared.{tagOf}
-use lib.Dec.{leb}
-use lib.ListN.{length, drop}
+use lib.Dec.{ltb, leb}
+use lib.ListN.{length, drop, length-append}
 use types.Run.{OneOf, miss}
 use Rattle.bits.specs.Search.{least}
 use Rattle.bits.proofs.Cases.{alike}
 use Rattle.answers.specs.declared.Answer.{Answer}
-use Rattle.answers.specs.declared.Answer.the-variants.{Taken, TooFewBytes}
+use Rattle.answers.specs.declared.Answer.the-variants.{Taken, TooFewBytes, NoRoom}
+use Rattle.garage.specs.declared.Outcome.{Outcome}
 use Rattle.wire.proofs.What as what
 use Rattle.wire.specs.declared.What.{What}
 use Rattle.wire.specs.declared.What.the-variants.{Request, Event, Result, Image, Ask, Held}
 use Rattle.wire.specs.Kinds.{inRange, plain}
 use Rattle.wire.specs.declared.Written.{Written}
-use Rattle.wire.specs.Writes.{Writing, Leaves, put, writing}
+use Rattle.wire.specs.Writes.{Writing, Leaves, kept, put, writing}
 use Rattle.wire.proofs.Room.{ranged}
-use Rattle.garage.specs.declared.Outcome.{Outcome}
 use Rattle.service.specs.Service.{told, toldOf, said}
 use Rattle.service.specs.Runs.{enough, finishing}
 
@@ -90,3 +90,13 @@ something-left [] room h e f = absurd (h refl)
 something-left (b ∷ bs) room {w} {r} {last} h e f =
     let p : writing (plain w) room ≡ put (said (told TooFewBytes)) room = rw e (plain-written (told TooFewBytes) room refl) in
     (f .0 ∙ ap (λ (x : Writing). x .says) p, f .1 ∙ ap (λ (x : Writing). x .leaves) p)
+
+-- what was put stands within the room
+pub put-within : (bytes room : List ℕ) {r : Written} {last : List ℕ} → Leaves (put bytes room) r last → r .size ≤ length last
+put-within bytes room (e, l) = rw (e, l) (within (ltb (length room) (length bytes)))
+  where
+    within : (t : Bool) → let w = cond t (kept NoRoom room)
+        (record { says = record { answer = Taken; size = length bytes }; leaves = bytes ++ drop (length bytes) room }) in
+        w .says .size ≤ length (w .leaves)
+    within true = omega arith
+    within false = rw length-append (omega arith)
