@@ -1,0 +1,73 @@
+-- A request rests on the five bytes of its instructions alone: zeros past them change nothing. Assumes nothing.
+use mathlib.Core.Path.{_≡_, refl, sym, _∙_, ap₂, fun-ext}
+use mathlib.Core.Bool.{not, cond}
+use mathlib.Core.List.{List, [], _∷_, _++_}
+use Prim.Native.Nat.{ℕ, zero, suc, _*_, _-_, _≤_, _<_}
+use native.Mathlib.Omega.{arith}
+use borrow.Author.Tests.{lt-ltb, le-ltb, le-leb, lt-leb}
+use lib.Dec.{eqb, ltb}
+use lib.ListN.{length, getD, take, replicate}
+use lib.Seq.{take-at, length-take-le, take-all}
+use Rattle.bits.specs.Bits.{bit}
+use Rattle.bits.specs.Places.{share}
+use Rattle.bits.specs.Search.{some}
+use Rattle.rules.specs.declared.Code.{Code}
+use Rattle.answers.specs.declared.Answer.the-variants.{TooFewBytes, TooMany, SetOutstanding, EmptySet, BadField, Overlap, NotAllowed}
+use Rattle.garage.specs.declared.Station.{Station}
+use Rattle.garage.specs.declared.Outcome.{Outcome}
+use Rattle.garage.specs.Held.{codeAt, isGood, heldArea, heldAllowed, overlapsEarlier}
+use Rattle.garage.specs.Calls.{refused, taken, onFit, unlessAny, request}
+use Rattle.station_c.specs.Entries.{requestOf}
+
+-- zeros at the end of a run are what its bytes past the end count as
+zeros-at : (m k : ℕ) → _≡_ {A = ℕ} (getD (replicate m 0) k 0) 0
+zeros-at zero k = refl
+zeros-at (suc m) zero = refl
+zeros-at (suc m) (suc k) = zeros-at m k
+
+padded-at : (l : List ℕ) (m k : ℕ) → getD (l ++ replicate m 0) k 0 ≡ getD l k 0
+padded-at [] m k = zeros-at m k
+padded-at (x ∷ l) m zero = refl
+padded-at (x ∷ l) m (suc k) = padded-at l m k
+
+padded-code : (l : List ℕ) (m : ℕ) → codeAt (l ++ replicate m 0) ≡ codeAt l
+unfolding codeAt
+padded-code l m = fun-ext (λ i. simp padded-at)
+
+module _ (s : Station) (n : ℕ) where
+  -- a request by its instructions and the bytes that are kept of them
+  form : (ℕ → Code) → List ℕ → Outcome
+  form code kept =
+      onFit s
+      (cond (ltb 0 (s .count)) (refused s SetOutstanding)
+      (cond (ltb 8 n) (refused s TooMany)
+      (cond (eqb n 0) (refused s EmptySet)
+      (unlessAny n (λ i. not (isGood (code i))) s BadField
+      (unlessAny n (λ i. some i (λ j. share (heldArea (code i)) (heldArea (code j)))) s Overlap
+      (unlessAny n (λ i. not (heldAllowed (code i) (bit (s .bits)))) s NotAllowed
+      (taken (record { bits = s .bits; count = n; answered = 0; set = kept ++ replicate (40 - 5 * n) 0 }))))))))
+
+  as-form : (set : List ℕ) → request s n set ≡ form (codeAt set) (take (5 * n) set)
+  unfolding request form overlapsEarlier
+  as-form set = refl
+
+  padded : (l : List ℕ) (m : ℕ) → length l ≡ 5 * n → request s n (l ++ replicate m 0) ≡ request s n l
+  padded l m e =
+      let kept : take (5 * n) (l ++ replicate m 0) ≡ take (5 * n) l = take-at l (replicate m 0) (5 * n) e ∙ sym (take-all (5 * n) l (omega arith)) in
+      as-form (l ++ replicate m 0) ∙ ap₂ form (padded-code l m) kept ∙ sym (as-form l)
+
+  module _ (set : List ℕ) where
+    -- more than eight: no byte is looked at
+    pub too-many : (a : List ℕ) → 8 < n → request s n a ≡ requestOf n set s
+    unfolding request requestOf
+    too-many a h = rw (lt-leb _ _ h, lt-ltb _ _ h)
+
+    -- fewer bytes than the count says
+    pub too-few : n ≤ 8 → length set < 5 * n → _≡_ {A = Outcome} (record { station = s; answer = TooFewBytes }) (requestOf n set s)
+    unfolding requestOf
+    too-few h l = rw (le-leb _ _ h, lt-ltb _ _ l)
+
+    -- the bytes of the instructions, with zeros past them
+    pub enough : {a : List ℕ} → n ≤ 8 → 5 * n ≤ length set → a ≡ take (5 * n) set ++ replicate (40 - length (take (5 * n) set)) 0 → request s n a ≡ requestOf n set s
+    unfolding requestOf
+    enough h l e = rw (le-leb _ _ h, le-ltb _ _ l, e) (padded (take (5 * n) set) (40 - length (take (5 * n) set)) (length-take-le (5 * n) set l))

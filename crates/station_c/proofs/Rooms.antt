@@ -1,0 +1,69 @@
+-- A station laid out in bytes, and what an entry leaves, case by case: one pair of laws serves every entry. Assumes nothing.
+use mathlib.Core.Path.{_≡_, refl, _∙_}
+use mathlib.Core.List.{List, [], _∷_, _++_, append-nil}
+use Prim.Native.Nat.{ℕ, _-_, _≤_, _<_}
+use native.Mathlib.Omega.{arith}
+use borrow.Author.Tests.{lt-ltb, le-ltb, eq-eqb, ne-eqb}
+use lib.ListN as list
+use lib.ListN.{length, take, drop, replicate}
+use lib.Seq.{take-length, length-take-le}
+use Rattle.answers.specs.declared.Answer.{Answer}
+use Rattle.answers.specs.declared.Answer.the-variants.{NoRoom}
+use Rattle.answers.specs.Answers.{numberOf}
+use Rattle.garage.specs.declared.Station.{Station}
+use Rattle.garage.specs.declared.Outcome.{Outcome}
+use Rattle.garage.specs.Calls.{ask}
+use Rattle.rules.specs.declared.Moved.{Moved}
+use Rattle.wire.specs.Kinds.{littleEndian}
+use Rattle.station_c.specs.Entries.{stationBytes, stationOf, said, Leaves, writes, entry, asking, moved, told, recordIn, nexting}
+
+-- ---- a station in bytes
+
+-- the set of a loaded station
+pub set-in : (m set : List ℕ) → 50 ≤ length m → set ≡ take 40 (drop 10 m) ++ replicate (40 - length (take 40 (drop 10 m))) 0 → set ≡ take 40 (drop 10 m)
+set-in m set h e =
+    let l : length (take 40 (drop 10 m)) ≡ 40 = length-take-le 40 (drop 10 m) (rw list.length-drop (omega arith)) in
+    e ∙ rw (l, append-nil)
+
+-- fifty places of zeros, into which the set, the record, the count and the marks were put
+pub laid-out : (s : Station) (image head rest : List ℕ) → image ≡ littleEndian 8 (s .bits)
+    → head ≡ take (length image) image ++ drop (length image) (replicate 8 0) → rest ++ [] ≡ s .set
+    → list.set (list.set (head ++ (0 ∷ 0 ∷ (rest ++ []))) 8 (s .count)) 9 (s .answered) ≡ stationBytes s
+unfolding stationBytes
+laid-out s image head rest e h r = rw (h, e, r)
+
+-- ---- what an entry leaves
+
+-- refused, nothing is written
+pub not-taken : (a : Answer) (bytes room : List ℕ) {n r : ℕ} → n ≡ numberOf a → (n ≡ 0 → ⊥) → r ≡ said a → Leaves (writes a bytes room) r room
+unfolding writes
+not-taken a bytes room e h f = (f, rw (← e, ne-eqb _ _ h))
+
+-- taken, the bytes are
+pub all-taken : (a : Answer) (bytes room : List ℕ) {n r : ℕ} {last : List ℕ} → n ≡ numberOf a → n ≡ 0 → r ≡ said a
+    → last ≡ take (length bytes) bytes ++ drop (length bytes) room → Leaves (writes a bytes room) r last
+unfolding writes
+all-taken a bytes room e h f l = (f, l ∙ rw (← e, eq-eqb _ _ h, take-length))
+
+-- an entry whose room is too short
+pub short : (call : Station → Outcome) (room : List ℕ) {r : ℕ} → length room < 50 → r ≡ said NoRoom → Leaves (entry call room) r room
+unfolding entry
+short call room h e = rw (lt-ltb _ _ h) (e, refl)
+
+-- any other leaves what its call's outcome says
+pub entered : (call : Station → Outcome) (room : List ℕ) {s : Station} {o : Outcome} {r : ℕ} {last : List ℕ} → 50 ≤ length room
+    → s ≡ stationOf room → o ≡ call s → Leaves (writes (o .answer) (stationBytes (o .station)) room) r last → Leaves (entry call room) r last
+unfolding entry
+entered call room h e f w = rw (le-ltb _ _ h, ← e, ← f) w
+
+-- the record that is asked for
+pub asked : (room image : List ℕ) {s : Station} {o : Outcome} {b : List ℕ} {r : ℕ} {last : List ℕ} → 50 ≤ length room → 8 ≤ length image
+    → s ≡ stationOf room → o ≡ ask s → b ≡ littleEndian 8 (s .bits) → Leaves (writes (o .answer) b image) r last → Leaves (asking room image) r last
+unfolding asking
+asked room image h k e f g w = rw (le-ltb _ _ h, le-ltb _ _ k, ← e, ← f, ← g) w
+
+-- the next record
+pub followed : (x : ℕ) (five room : List ℕ) {m : Moved} {a : Answer} {y : ℕ} {b : List ℕ} {r : ℕ} {last : List ℕ} → 8 ≤ length room
+    → m ≡ moved x five → a ≡ told m → y ≡ recordIn m → b ≡ littleEndian 8 y → Leaves (writes a b room) r last → Leaves (nexting x five room) r last
+unfolding nexting
+followed x five room h e f g k w = rw (le-ltb _ _ h, ← e, ← f, ← g, ← k) w

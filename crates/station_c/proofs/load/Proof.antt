@@ -1,0 +1,45 @@
+-- `station_c::load` meets its contract: field by field. Assumes nothing.
+use denote.Ref.{now}
+use borrow.Author.Needs.{needs}
+use Rattle.station_c.specs.Entries.{stationOf}
+use Rattle.station_c.proofs.Rooms.{set-in}
+use Rattle.station_c.proofs.load.Statement.{statement}
+use Rattle.station_c.proofs.load.Tie as tie
+
+sub-held : tie.Need-sub-held
+sub-held c = search needs
+
+part-held-start : tie.Need-part-held-start
+part-held-start c = search needs
+
+part-held-end : tie.Need-part-held-end
+part-held-end c = search needs
+
+held-requires : tie.Need-held-requires
+held-requires c κs = search needs
+
+image-of-requires : tie.Need-image-of-requires
+image-of-requires c κs = search needs
+
+shared-slice-read-t9 : tie.Need-shared-slice-read-t9
+shared-slice-read-t9 c = search needs
+
+shared-slice-read-t11 : tie.Need-shared-slice-read-t11
+shared-slice-read-t11 c = search needs
+
+returns : tie.Need-returns
+unfolding stationOf
+returns c = rw (c .before .before .image-of .ensures, set-in (now (c .before .before .before .before .before .before .args .room)) _ (c .before .before .before .before .before .before .pre) (c .before .before .before .held .ensures))
+
+pub load-spec : {M : Type 1} → statement M
+load-spec =
+    tie.close
+    (tie.spec
+    sub-held
+    part-held-start
+    part-held-end
+    held-requires
+    image-of-requires
+    shared-slice-read-t9
+    shared-slice-read-t11
+    returns)

@@ -1,0 +1,79 @@
+-- `station_c::station_message` meets its contract: either room too short, or the reply. Assumes nothing.
+use native.Mathlib.Omega.{arith}
+use borrow.Author.Needs.{needs}
+use Rattle.station_c.proofs.Exchanging.{short-room, short-reply, replied}
+use Rattle.station_c.proofs.station_message.Statement.{statement}
+use Rattle.station_c.proofs.station_message.Tie as tie
+
+say-requires : tie.Need-say-requires
+say-requires c κs = search needs
+
+returns : tie.Need-returns
+returns c = short-room _ _ _ (c .before .if1 .taken) (c .say .ensures)
+
+load-requires : tie.Need-load-requires
+load-requires c κs = search needs
+
+respond-requires : tie.Need-respond-requires
+respond-requires c κs = search needs
+
+write-plain-requires : tie.Need-write-plain-requires
+write-plain-requires c κs = search needs
+
+number-requires : tie.Need-number-requires
+number-requires c κs = search needs
+
+say-requires-2 : tie.Need-say-requires-2
+say-requires-2 c κs = search needs
+
+same-length : tie.Need-same-length
+same-length c = search needs
+
+same-length-2 : tie.Need-same-length-2
+same-length-2 c = search needs
+
+returns-2 : tie.Need-returns-2
+returns-2 c = short-reply _ _ _ (c .before .before .before .before .before .before .before .before .before .before .if1 .left) (c .before .before .before .before .before .before .before .before .load .ensures) (c .before .before .before .before .before .before .before .respond .ensures) (c .before .before .before .before .before .write-plain .ensures) (c .before .before .number .ensures) (c .before .if2 .taken) (c .say2 .ensures)
+
+stored-requires : tie.Need-stored-requires
+stored-requires c κs = search needs
+
+slice-aggregate-copy : tie.Need-slice-aggregate-copy
+slice-aggregate-copy c = search needs
+
+copy-requires : tie.Need-copy-requires
+copy-requires c κs = search needs
+
+said-of-requires : tie.Need-said-of-requires
+said-of-requires c κs = search needs
+
+same-length-3 : tie.Need-same-length-3
+same-length-3 c = search needs
+
+same-length-4 : tie.Need-same-length-4
+same-length-4 c = search needs
+
+returns-3 : tie.Need-returns-3
+returns-3 c = replied _ _ _ (c .before .before .before .before .before .before .before .before .before .before .before .before .before .before .before .before .before .before .if1 .left) (c .before .before .before .before .before .before .before .before .before .before .before .before .before .before .before .before .load .ensures) (c .before .before .before .before .before .before .before .before .before .before .before .before .before .before .before .respond .ensures) (c .before .before .before .before .before .before .before .before .before .before .before .before .before .write-plain .ensures) (c .before .before .before .before .before .before .before .before .before .before .number .ensures) (c .before .before .before .before .before .before .before .before .before .if2 .left) (c .before .before .before .before .before .before .stored .ensures) (omega arith) (c .before .before .before .copy .ensures .1) (c .said-of .ensures)
+
+pub station-message-spec : {M : Type 1} → statement M
+station-message-spec =
+    tie.close
+    (tie.spec
+    say-requires
+    returns
+    load-requires
+    respond-requires
+    write-plain-requires
+    number-requires
+    say-requires-2
+    same-length
+    same-length-2
+    returns-2
+    stored-requires
+    slice-aggregate-copy
+    copy-requires
+    said-of-requires
+    same-length-3
+    same-length-4
+    returns-3)

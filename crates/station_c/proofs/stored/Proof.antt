@@ -1,0 +1,65 @@
+-- `station_c::stored` meets its contract: the bytes as they were put. Assumes nothing.
+use native.Mathlib.Omega.{arith}
+use borrow.Author.Needs.{needs}
+use Rattle.wire.proofs.Parts.{set-filled}
+use Rattle.station_c.proofs.Rooms.{laid-out}
+use Rattle.station_c.proofs.stored.Statement.{statement}
+use Rattle.station_c.proofs.stored.Tie as tie
+
+slice-aggregate-copy : tie.Need-slice-aggregate-copy
+slice-aggregate-copy c = search needs
+
+sub-copy : tie.Need-sub-copy
+sub-copy c = search needs
+
+part-b-start : tie.Need-part-b-start
+part-b-start c = search needs
+
+part-b-end : tie.Need-part-b-end
+part-b-end c = search needs
+
+copy-requires : tie.Need-copy-requires
+copy-requires c κs = search needs
+
+image-bytes-requires : tie.Need-image-bytes-requires
+image-bytes-requires c κs = search needs
+
+slice-aggregate-copy-2 : tie.Need-slice-aggregate-copy-2
+slice-aggregate-copy-2 c = search needs
+
+array-borrow-prefix-b : tie.Need-array-borrow-prefix-b
+array-borrow-prefix-b c = search needs
+
+slice-aggregate-copy-3 : tie.Need-slice-aggregate-copy-3
+slice-aggregate-copy-3 c = search needs
+
+copy-requires-2 : tie.Need-copy-requires-2
+copy-requires-2 c κs = search needs
+
+array-write-b : tie.Need-array-write-b
+array-write-b c = search needs
+
+array-write-b-2 : tie.Need-array-write-b-2
+array-write-b-2 c = search needs
+
+returns : tie.Need-returns
+returns c = let a = c .before .before .before .before .before .before .before .before .before .args in
+    laid-out (record { bits = a .bits; count = a .count; answered = a .answered; set = a .t4 }) _ _ (c .before .before .before .before .before .before .copy .last .1 .0) (c .before .before .before .before .image-bytes .ensures) (c .before .copy2 .ensures .1) (set-filled (a .t4) _ (omega arith) (c .before .before .before .before .before .before .copy .ensures .1))
+
+pub stored-spec : {M : Type 1} → statement M
+stored-spec =
+    tie.close
+    (tie.spec
+    slice-aggregate-copy
+    sub-copy
+    part-b-start
+    part-b-end
+    copy-requires
+    image-bytes-requires
+    slice-aggregate-copy-2
+    array-borrow-prefix-b
+    slice-aggregate-copy-3
+    copy-requires-2
+    array-write-b
+    array-write-b-2
+    returns)

@@ -1,0 +1,137 @@
+-- What the entries for a planner in C or Rust answer, and what they leave in the room that is lent to them. Assumes nothing.
+use mathlib.Core.Path.{_≡_}
+use mathlib.Core.Bool.{cond, _&&_, _||_}
+use mathlib.Core.List.{List, _∷_, _++_}
+use Prim.Native.Nat.{ℕ, _+_, _*_}
+use lib.Dec.{eqb, leb, ltb}
+use lib.ListN.{length, getD, take, drop}
+use Rattle.floor.specs.declared.Total.{Total}
+use Rattle.floor.specs.declared.Total.the-variants.{Cars, Unsound}
+use Rattle.rules.specs.declared.Moved.{Moved}
+use Rattle.rules.specs.declared.Moved.the-variants.{Record, IllFormed}
+use Rattle.rules.specs.Codes.{readBytes}
+use Rattle.rules.specs.Verdicts.{onCode, movedOf}
+use Rattle.answers.specs.declared.Answer.{Answer}
+use Rattle.answers.specs.declared.Answer.the-variants.{Taken, TooFewBytes, BadField, NotAllowed, NoRoom}
+use Rattle.answers.specs.Answers.{numberOf, placeOf, nowhere}
+use Rattle.garage.specs.declared.Station.{Station}
+use Rattle.garage.specs.declared.Outcome.{Outcome}
+use Rattle.garage.specs.Station.{most}
+use Rattle.garage.specs.Calls.{refused, request, ask}
+use Rattle.wire.specs.declared.What.{What}
+use Rattle.wire.specs.declared.What.the-variants.{Request, Event, Result, Image, Ask, Held}
+use Rattle.wire.specs.Kinds.{littleEndian, fromLittleEndian}
+use Rattle.service.specs.Service as service
+use Rattle.service.specs.Service.{respond}
+
+-- ---- a station in bytes
+
+-- how many bytes a station takes
+abbrev pub stationSize : ℕ
+stationSize = 50
+
+-- its record, how many instructions the outstanding set has, their marks, and the set
+unfoldable pub stationBytes : Station → List ℕ
+stationBytes s = littleEndian 8 (s .bits) ++ (s .count ∷ s .answered ∷ s .set)
+
+-- the station that the first 50 bytes hold
+unfoldable pub stationOf : List ℕ → Station
+stationOf m = record { bits = fromLittleEndian 8 0 m; count = getD m 8 0; answered = getD m 9 0; set = take 40 (drop 10 m) }
+
+-- ---- what an entry does
+
+-- an answer as one number: that of the table, and 256 times its place
+abbrev pub said : Answer → ℕ
+said a = numberOf a + 256 * placeOf a
+
+-- what an entry answers, and what it leaves in the room that it may write
+pub record Entry : Type 0 where
+  pub says : ℕ
+  pub leaves : List ℕ
+
+-- what an entry says is returned, and what it leaves is left
+abbrev pub Leaves : Entry → ℕ → List ℕ → Type 0
+Leaves e r room = (r ≡ e .says) × (room ≡ e .leaves)
+
+-- taken, it writes these bytes at the start of the room and keeps what stands past them; refused, it writes nothing
+unfoldable pub writes : Answer → List ℕ → List ℕ → Entry
+writes a bytes room = record { says = said a; leaves = cond (eqb (numberOf a) 0) (bytes ++ drop (length bytes) room) room }
+
+-- the room is too short
+abbrev pub noRoom : List ℕ → Entry
+noRoom room = record { says = said NoRoom; leaves = room }
+
+-- a call on the lent station: 17, then the call's own answers
+unfoldable pub entry : (Station → Outcome) → List ℕ → Entry
+entry call room =
+    let o = call (stationOf room) in
+    cond (ltb (length room) stationSize) (noRoom room) (writes (o .answer) (stationBytes (o .station)) room)
+
+-- a request whose set is lent as a run of bytes: 1 where it is shorter than its count says; what stands past its instructions is not looked at
+unfoldable pub requestOf : ℕ → List ℕ → Station → Outcome
+requestOf n set s = cond (leb n most && ltb (length set) (5 * n)) (refused s TooFewBytes) (request s n (take (5 * n) set))
+
+-- the record is asked for: it is written to a room of its own
+unfoldable pub asking : List ℕ → List ℕ → Entry
+asking room image =
+    let s = stationOf room in
+    cond (ltb (length room) stationSize || ltb (length image) 8) (noRoom image) (writes (ask s .answer) (littleEndian 8 (s .bits)) image)
+
+-- ---- a message on a lent station
+
+-- what is said besides a message that answers: its number and place, or 0 with the image after an ask
+abbrev pub saidOf : What → ℕ
+saidOf (What.Answer number place) = number + 256 * place
+saidOf (Held r) = said Taken
+saidOf Request = said Taken
+saidOf (Event way) = said Taken
+saidOf (Result number done) = said Taken
+saidOf (Image r) = said Taken
+saidOf Ask = said Taken
+
+-- what the entry answers, and what it leaves in the station's room and in the reply's
+pub record Exchange : Type 0 where
+  pub says : ℕ
+  pub station : List ℕ
+  pub reply : List ℕ
+
+abbrev pub Exchanges : Exchange → ℕ → List ℕ → List ℕ → Type 0
+Exchanges e r room reply = (r ≡ e .says) × (room ≡ e .station) × (reply ≡ e .reply)
+
+-- the first message of a run is answered: 17 where either room is too short, and then neither is written
+unfoldable pub exchange : List ℕ → List ℕ → List ℕ → Exchange
+exchange room message reply =
+    let o = respond (stationOf room) message in
+    let bytes = service.said (o .answer) in
+    cond (ltb (length room) stationSize || ltb (length reply) (length bytes))
+    (record { says = said NoRoom; station = room; reply = reply })
+    (record { says = saidOf (o .answer); station = stationBytes (o .station) ++ drop stationSize room; reply = bytes ++ drop (length bytes) reply })
+
+-- ---- questions on a record, without a station
+
+-- the record after an instruction, given by its five bytes, where it is allowed on the record r
+unfoldable pub moved : ℕ → List ℕ → Moved
+moved r five = onCode (λ i. movedOf i r) IllFormed (readBytes five)
+
+-- what is answered: it is allowed; 9; 4 where the bytes are fewer than five or say no instruction
+abbrev pub told : Moved → Answer
+told (Record r) = Taken
+told Moved.NotAllowed = NotAllowed nowhere
+told IllFormed = BadField nowhere
+
+-- the record after it, if it is allowed
+abbrev pub recordIn : Moved → ℕ
+recordIn (Record r) = r
+recordIn Moved.NotAllowed = 0
+recordIn IllFormed = 0
+
+-- the next record is asked for
+unfoldable pub nexting : ℕ → List ℕ → List ℕ → Entry
+nexting r five room =
+    let m = moved r five in
+    cond (ltb (length room) 8) (noRoom room) (writes (told m) (littleEndian 8 (recordIn m)) room)
+
+-- the number of cars: 255 where the record isn't sound, which is no sound record's number, as a layout has at most 31 cars
+abbrev pub carsOr255 : Total → ℕ
+carsOr255 (Cars n) = n
+carsOr255 Unsound = 255

@@ -1,0 +1,42 @@
+-- What is promised of lent stations, and of answers as numbers. Proved in proofs/Promises.antt. Assumes nothing.
+use mathlib.Core.Path.{_≡_}
+use mathlib.Core.List.{List, _++_}
+use Prim.Native.Nat.{ℕ, _/_, _%_, _^_, _≤_, _<_}
+use lib.ListN.{length, take}
+use Rattle.floor.specs.declared.Total.the-variants.{Cars}
+use Rattle.floor.specs.Sound.{total}
+use Rattle.answers.specs.declared.Answer.{Answer}
+use Rattle.answers.specs.Answers.{numberOf, placeOf}
+use Rattle.garage.specs.declared.Station.{Station}
+use Rattle.garage.specs.declared.Outcome.{Outcome}
+use Rattle.wire_laws.specs.Statements.{Bytes}
+use Rattle.station_c.specs.Entries.{stationSize, stationBytes, stationOf, said, entry}
+
+-- a station as code holds it: the record is a number of 64 bits, the set has forty places
+pub record Typed (s : Station) : Type 0 where
+  pub image : s .bits < 2 ^ 64
+  pub places : length (s .set) ≡ 40
+
+-- it takes 50 bytes
+abbrev pub StationFits : Type 0
+StationFits = (s : Station) → Typed s → length (stationBytes s) ≡ stationSize
+
+-- a station that was written reads back, whatever stands past it
+abbrev pub StationReadsBack : Type 0
+StationReadsBack = (s : Station) (past : List ℕ) → Typed s → stationOf (stationBytes s ++ past) ≡ s
+
+-- and the bytes of a room are those of the station that they hold
+abbrev pub StationOneForm : Type 0
+StationOneForm = (room : List ℕ) → Bytes room → stationSize ≤ length room → stationBytes (stationOf room) ≡ take stationSize room
+
+-- an answer's number and place read back from what an entry says
+abbrev pub SaidReadsBack : Type 0
+SaidReadsBack = (a : Answer) → (said a % 256 ≡ numberOf a) × (said a / 256 ≡ placeOf a)
+
+-- an entry that refuses leaves the room as it was
+abbrev pub RefusedUntouched : Type 0
+RefusedUntouched = (call : Station → Outcome) (room : List ℕ) → (entry call room .says % 256 ≡ 0 → ⊥) → entry call room .leaves ≡ room
+
+-- no record has 255 cars
+abbrev pub FewCars : Type 0
+FewCars = (r n : ℕ) → total r ≡ Cars n → n ≤ 31

@@ -1,0 +1,311 @@
+// The entries for a planner in C or Rust: numbers and runs of bytes alone. A station is lent as 50 bytes, an answer is its number plus
+// 256 times its place, and a refused call writes nothing. What each answers and leaves stands in specs/Entries.antt.
+ghost use mathlib.Core.Path.{_≡_};
+ghost use mathlib.Core.List.{_++_};
+ghost use Prim.Native.Nat.{_-_, _*_, _≤_};
+ghost use lib.ListN.{length, replicate};
+ghost use Rattle.floor.specs.Sound.{sound, total};
+ghost use Rattle.garage.specs.Station.{startOf};
+ghost use Rattle.garage.specs.Calls.{taken, event, result, takeImage};
+ghost use Rattle.station_c.specs.Entries.{stationBytes, stationOf, said, Leaves, writes, entry, requestOf, asking, saidOf, Exchanges, exchange, moved, told, recordIn, nexting, carsOr255};
+use answers::Answer;
+use answers::NOWHERE;
+use floor::Total;
+use garage::Outcome;
+use garage::Station;
+use rules::Moved;
+use rules::Reading;
+use wire::What;
+
+// The bytes of a lent station, and of a record.
+const STATION: usize = 50;
+
+const RECORD: usize = 8;
+
+// ---- stations and answers in bytes and numbers
+
+// A run of at most forty bytes as a set, the unused places zero.
+fn held(s: &[u8]) -> [u8; 40]
+    requires { ⌜ length (now s) ≤ 40 ⌝ }
+    ensures { λ r. ⌜ r ≡ now (s .entry) ++ replicate (40 - length (now (s .entry))) 0 ⌝ }
+{
+    let mut set = [0u8; 40];
+    bytes::copy(s, &mut set);
+    set
+}
+
+// The station that the first 50 bytes hold.
+fn load(room: &[u8]) -> Station
+    requires { ⌜ 50 ≤ length (now room) ⌝ }
+    ensures { λ s. ⌜ s ≡ stationOf (now (room .entry)) ⌝ }
+{
+    let set = held(&room[10..50]);
+    Station {
+        bits: wire::image_of(room),
+        count: room[8],
+        answered: room[9],
+        set,
+    }
+}
+
+// A station as 50 bytes, by its fields.
+fn stored(bits: u64, count: u8, answered: u8, set: [u8; 40]) -> [u8; 50]
+    ensures { λ b. ⌜ b ≡ stationBytes (record { bits = bits; count = count; answered = answered; set = set }) ⌝ }
+{
+    let mut b = [0u8; 50];
+    bytes::copy(&set, &mut b[10..]);
+    let image = wire::image_bytes(bits);
+    bytes::copy(&image, &mut b[..8]);
+    b[8] = count;
+    b[9] = answered;
+    b
+}
+
+// An answer as one number.
+fn say(a: Answer) -> u32
+    ensures { λ r. ⌜ r ≡ said a ⌝ }
+{
+    a.number() as u32 + 256 * (a.place() as u32)
+}
+
+// Answers, and writes src to room if that is "taken".
+fn answer(a: Answer, src: &[u8], room: &mut [u8]) -> u32
+    requires { ⌜ length (now src) ≤ length (now room) ⌝ }
+    ensures { λ r. ⌜ Leaves (writes a (now (src .entry)) (now (room .entry))) r (now (room .exit)) ⌝ }
+{
+    if a.number() != 0 {
+        return say(a);
+    }
+    bytes::copy(src, room);
+    say(a)
+}
+
+// The same of a call's outcome.
+fn keep(o: Outcome, room: &mut [u8]) -> u32
+    requires { ⌜ 50 ≤ length (now room) ⌝ }
+    ensures { λ r. ⌜ Leaves (writes (o .answer) (stationBytes (o .station)) (now (room .entry))) r (now (room .exit)) ⌝ }
+{
+    let s = o.station;
+    let set = s.set;
+    let b = stored(s.bits, s.count, s.answered, set);
+    let a = o.answer;
+    answer(a, &b, room)
+}
+
+// ---- the calls on a lent station
+
+// Writes the start station.
+#[no_mangle]
+pub extern "C" fn station_start(room: &mut [u8]) -> u32
+    ensures { λ r. ⌜ Leaves (entry (λ s. taken startOf) (now (room .entry))) r (now (room .exit)) ⌝ }
+{
+    if room.len() < STATION {
+        return say(Answer::NoRoom);
+    }
+    let o = Outcome {
+        station: Station::start(),
+        answer: Answer::Taken,
+    };
+    keep(o, room)
+}
+
+// A request on a station, its set as a run of bytes.
+fn requested(s: Station, count: u8, set: &[u8]) -> Outcome
+    ensures { λ o. ⌜ o ≡ requestOf count (now (set .entry)) s ⌝ }
+{
+    if Station::MOST < count {
+        return s.request(count, [0; 40]);
+    }
+    let size = 5 * (count as usize);
+    if set.len() < size {
+        return Outcome {
+            station: s,
+            answer: Answer::TooFewBytes,
+        };
+    }
+    let five_each = held(&set[..size]);
+    s.request(count, five_each)
+}
+
+// A request of `count` instructions, five bytes each.
+#[no_mangle]
+pub extern "C" fn station_request(room: &mut [u8], count: u8, set: &[u8]) -> u32
+    ensures { λ r. ⌜ Leaves (entry (requestOf count (now (set .entry))) (now (room .entry))) r (now (room .exit)) ⌝ }
+{
+    if room.len() < STATION {
+        return say(Answer::NoRoom);
+    }
+    let s = load(room);
+    let o = requested(s, count, set);
+    keep(o, room)
+}
+
+// A car event: 1 in, 2 out.
+#[no_mangle]
+pub extern "C" fn station_event(room: &mut [u8], way: u8) -> u32
+    ensures { λ r. ⌜ Leaves (entry (λ s. event s way) (now (room .entry))) r (now (room .exit)) ⌝ }
+{
+    if room.len() < STATION {
+        return say(Answer::NoRoom);
+    }
+    let s = load(room);
+    let o = s.event(way);
+    keep(o, room)
+}
+
+// The result of an instruction, by its number from 0: 0 failed, 1 done.
+#[no_mangle]
+pub extern "C" fn station_result(room: &mut [u8], number: u8, done: u8) -> u32
+    ensures { λ r. ⌜ Leaves (entry (λ s. result s number done) (now (room .entry))) r (now (room .exit)) ⌝ }
+{
+    if room.len() < STATION {
+        return say(Answer::NoRoom);
+    }
+    let s = load(room);
+    let o = s.result(number, done);
+    keep(o, room)
+}
+
+// An image, which becomes the record.
+#[no_mangle]
+pub extern "C" fn station_image(room: &mut [u8], image: u64) -> u32
+    ensures { λ r. ⌜ Leaves (entry (λ s. takeImage s image) (now (room .entry))) r (now (room .exit)) ⌝ }
+{
+    if room.len() < STATION {
+        return say(Answer::NoRoom);
+    }
+    let s = load(room);
+    let o = s.image(image);
+    keep(o, room)
+}
+
+// The record's eight bytes, to a room of their own.
+#[no_mangle]
+pub extern "C" fn station_ask(room: &[u8], image: &mut [u8]) -> u32
+    ensures { λ r. ⌜ Leaves (asking (now (room .entry)) (now (image .entry))) r (now (image .exit)) ⌝ }
+{
+    if room.len() < STATION {
+        return say(Answer::NoRoom);
+    }
+    if image.len() < RECORD {
+        return say(Answer::NoRoom);
+    }
+    let s = load(room);
+    let b = wire::image_bytes(s.bits);
+    let o = s.ask();
+    let a = o.answer;
+    answer(a, &b, image)
+}
+
+// ---- a message on a lent station
+
+// What is said besides a message that answers.
+fn said_of(what: What) -> u32
+    ensures { λ r. ⌜ r ≡ saidOf what ⌝ }
+{
+    match what {
+        What::Answer { number, place } => number as u32 + 256 * (place as u32),
+        _ => say(Answer::Taken),
+    }
+}
+
+// Answers the first message of a run: the next station to room, the message that answers to reply.
+#[no_mangle]
+pub extern "C" fn station_message(room: &mut [u8], message: &[u8], reply: &mut [u8]) -> u32
+    ensures { λ r. ⌜ Exchanges (exchange (now (room .entry)) (now (message .entry)) (now (reply .entry))) r (now (room .exit)) (now (reply .exit)) ⌝ }
+{
+    if room.len() < STATION {
+        return say(Answer::NoRoom);
+    }
+    let o = service::respond(load(room), message);
+    let what = o.answer;
+    let w = wire::write_plain(what, reply);
+    let a = w.answer;
+    if a.number() != 0 {
+        return say(a);
+    }
+    let s = o.station;
+    let set = s.set;
+    let b = stored(s.bits, s.count, s.answered, set);
+    bytes::copy(&b, room);
+    said_of(what)
+}
+
+// ---- questions on a record
+
+// Whether an image is sound.
+#[no_mangle]
+pub extern "C" fn garage_sound(image: u64) -> bool
+    ensures { λ b. ⌜ b ≡ sound image ⌝ }
+{
+    floor::sound(image)
+}
+
+// The number of cars, 255 if the record isn't sound.
+#[no_mangle]
+pub extern "C" fn garage_cars(image: u64) -> u32
+    ensures { λ n. ⌜ n ≡ carsOr255 (total image) ⌝ }
+{
+    let t = floor::cars(image);
+    match t {
+        Total::Cars(n) => n as u32,
+        Total::Unsound => 255,
+    }
+}
+
+// The record after an instruction, given by its five bytes, where it is allowed.
+fn moved(image: u64, five: &[u8]) -> Moved
+    ensures { λ m. ⌜ m ≡ moved image (now (five .entry)) ⌝ }
+{
+    let one = rules::read_bytes(five);
+    match one {
+        Reading::Good(i) => engine::moved(i, image),
+        Reading::Bad => Moved::IllFormed,
+    }
+}
+
+// What is answered with a next record, or none.
+fn told(m: Moved) -> Answer
+    ensures { λ a. ⌜ a ≡ told m ⌝ }
+{
+    match m {
+        Moved::Record(_) => Answer::Taken,
+        Moved::NotAllowed => Answer::NotAllowed(NOWHERE),
+        Moved::IllFormed => Answer::BadField(NOWHERE),
+    }
+}
+
+fn record_in(m: Moved) -> u64
+    ensures { λ r. ⌜ r ≡ recordIn m ⌝ }
+{
+    match m {
+        Moved::Record(r) => r,
+        Moved::NotAllowed => 0,
+        Moved::IllFormed => 0,
+    }
+}
+
+// Whether a record allows an instruction.
+#[no_mangle]
+pub extern "C" fn garage_allowed(image: u64, five: &[u8]) -> u32
+    ensures { λ r. ⌜ r ≡ said (told (moved image (now (five .entry)))) ⌝ }
+{
+    let m = moved(image, five);
+    let a = told(m);
+    say(a)
+}
+
+// The eight bytes of the record after an instruction, to a room of their own.
+#[no_mangle]
+pub extern "C" fn garage_next(image: u64, five: &[u8], next: &mut [u8]) -> u32
+    ensures { λ r. ⌜ Leaves (nexting image (now (five .entry)) (now (next .entry))) r (now (next .exit)) ⌝ }
+{
+    if next.len() < RECORD {
+        return say(Answer::NoRoom);
+    }
+    let m = moved(image, five);
+    let a = told(m);
+    let r = record_in(m);
+    let b = wire::image_bytes(r);
+    answer(a, &b, next)
+}

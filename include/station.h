@@ -1,0 +1,160 @@
+/* station.h: the station's entries for a planner in C or C++.
+ *
+ * The station keeps the record of one garage: which cells are occupied, where the shuttles stand, the lift's height. A planner
+ * sends it sets of up to eight instructions; the station accepts a set or says why not, and changes its record only when an
+ * instruction is reported done. The entries below are proved to answer what the definitions in crates/station_c/specs/Entries.antt
+ * say, on every input; nothing checks this header or its caller, so:
+ *
+ * What the caller must see to
+ *   - Each pointer goes with the length that follows it, and is valid for that many bytes: to read where it is `const`, to read and
+ *     write where it isn't. It is never NULL, not even with a length of 0.
+ *   - Bytes lent for writing overlap nothing else that is lent to the same call.
+ *   - No two threads are in calls on one station at a time. Two stations are independent, and no entry keeps anything between calls.
+ *   - A station's bytes are written by these entries alone. Bytes that were damaged are refused with STATION_UNFIT wherever that
+ *     shows; they may be kept, copied and restored as they are.
+ * There is no other duty: any number and any bytes may be passed, and each call comes back with an answer. No entry allocates,
+ * prints, or waits.
+ *
+ * A station is lent as STATION_SIZE bytes, `room`: the record in eight bytes, the lowest first; how many instructions the
+ * outstanding set has; a bit for each of them that is answered; five bytes for each, and zeros in the unused places. A longer room
+ * is fine, and what stands past those bytes keeps its value.
+ *
+ * Answers. An entry that returns uint32_t answers with a number of the table below and a place: STATION_NUMBER and STATION_PLACE
+ * take them apart. The place is the instruction at fault, counted from 0, for STATION_BAD_FIELD in a request, STATION_OVERLAP and
+ * STATION_NOT_ALLOWED; else it is STATION_NOWHERE. A call that isn't taken writes nothing.
+ */
+#ifndef STATION_H
+#define STATION_H
+
+#include <stdbool.h>
+#include <stddef.h>
+#include <stdint.h>
+
+#ifdef __cplusplus
+extern "C" {
+#endif
+
+/* The two parts of an answer. */
+#define STATION_NUMBER(answer) ((uint8_t)((answer) & 0xFFu))
+#define STATION_PLACE(answer) ((uint8_t)(((answer) >> 8) & 0xFFu))
+
+/* What the numbers mean. */
+enum {
+    STATION_TAKEN = 0,              /* taken */
+    STATION_TOO_FEW_BYTES = 1,      /* fewer bytes than a message or a count says */
+    STATION_BAD_LENGTH = 2,         /* a message's length is below 2, above 43, or not its kind's */
+    STATION_UNKNOWN_KIND = 3,       /* a message of a kind that the station doesn't read */
+    STATION_BAD_FIELD = 4,          /* a field out of range, or a spare byte that isn't zero */
+    STATION_TOO_MANY = 5,           /* more than eight instructions */
+    STATION_SET_OUTSTANDING = 6,    /* a set still waits for results */
+    STATION_EMPTY_SET = 7,          /* no instruction */
+    STATION_OVERLAP = 8,            /* an instruction touches what an earlier one of the set touches */
+    STATION_NOT_ALLOWED = 9,        /* an instruction isn't allowed on the record */
+    STATION_EVENT_IMPOSSIBLE = 10,  /* no car can come in, or none can leave */
+    STATION_NO_SET = 11,            /* a result, and no set is outstanding */
+    STATION_NOT_IN_SET = 12,        /* a result for an instruction that the set doesn't have */
+    STATION_ALREADY_ANSWERED = 13,  /* a second result for one instruction */
+    STATION_NOW_NOT_ALLOWED = 14,   /* reported done, and the record doesn't allow it */
+    STATION_UNSOUND = 15,           /* the image is no possible garage */
+    STATION_UNFIT = 16,             /* the lent bytes are no station */
+    STATION_NO_ROOM = 17            /* lent room is too short */
+};
+
+/* The place where an answer names no instruction. */
+enum { STATION_NOWHERE = 255 };
+
+/* Sizes in bytes, and the largest set. */
+enum {
+    STATION_SIZE = 50,         /* a station */
+    STATION_IMAGE_SIZE = 8,    /* a record, the lowest byte first */
+    STATION_CODE_SIZE = 5,     /* an instruction */
+    STATION_MOST = 8,          /* instructions in a set */
+    STATION_MESSAGE_MOST = 45, /* the longest message */
+    STATION_REPLY_MOST = 12    /* the longest message that station_message writes */
+};
+
+/* The record of the start: no cars, rows 1 and 2 lowered and row 3 tilted on both sides, the lift at street height. */
+#define STATION_START_IMAGE UINT64_C(0x00091B0000000000)
+
+/* An instruction is five bytes, an opcode and four fields:
+ *   GARAGE_BELTS     row 1 to 3, mask of belts from the left (bit 0 the leftmost), toward, size
+ *   GARAGE_SHUTTLES  side, mask of rows (bit 0 is row 1), orientation, toward
+ *   GARAGE_TILT      side, row 1 to 3, orientation that it has now, 0
+ *   GARAGE_LIFT      height, 0, 0, 0
+ *   GARAGE_ROTATE    0, 0, 0, 0
+ * Row 1 has five belts (left shuttle, left, lift, right, right shuttle), rows 2 and 3 have three (left shuttle, belt, right shuttle). */
+enum { GARAGE_BELTS = 1, GARAGE_SHUTTLES = 2, GARAGE_TILT = 3, GARAGE_LIFT = 4, GARAGE_ROTATE = 5 };
+enum { GARAGE_LOWER = 0, GARAGE_HIGHER = 1 };                        /* toward lower or higher columns or rows */
+enum { GARAGE_HALF = 0, GARAGE_FULL = 1 };                           /* how far a belt moves; rows 2 and 3 move full only */
+enum { GARAGE_LEFT = 0, GARAGE_RIGHT = 1 };                          /* sides */
+enum { GARAGE_LOWERED = 0, GARAGE_TILTED = 1 };                      /* how a shuttle stands */
+enum { GARAGE_STREET = 0, GARAGE_ROTATION = 1, GARAGE_BASEMENT = 2 }; /* the lift's heights */
+
+/* Car events and results. */
+enum { STATION_CAR_IN = 1, STATION_CAR_OUT = 2 };
+enum { STATION_FAILED = 0, STATION_DONE = 1 };
+
+/* Kinds of messages: those that a station reads, and the two that it answers with. */
+enum {
+    STATION_KIND_REQUEST = 1,
+    STATION_KIND_EVENT = 2,
+    STATION_KIND_RESULT = 3,
+    STATION_KIND_IMAGE = 4,
+    STATION_KIND_ASK = 5,
+    STATION_KIND_ANSWER = 128,
+    STATION_KIND_HELD = 129
+};
+
+/* ---- calls on a lent station
+ *
+ * Each is refused with 17 where `room` has fewer than STATION_SIZE bytes, and (but for station_start) with 16 where its bytes are no
+ * station. Taken, it writes the next station to `room`. */
+
+/* Writes the start station, whatever was there. */
+uint32_t station_start(uint8_t *room, size_t room_length);
+
+/* Requests a set of `count` instructions: the first 5 * count bytes of `set`, and none past them. 17; 1 if count is at most eight and
+ * `set` is shorter than that; 16; then 6, 5, 7, 4, 8, 9. Taken, the set is outstanding and the record is as it was. */
+uint32_t station_request(uint8_t *room, size_t room_length, uint8_t count, const uint8_t *set, size_t set_length);
+
+/* A car came in (STATION_CAR_IN) or left (STATION_CAR_OUT). 17, 16, then 4, 6, 10. */
+uint32_t station_event(uint8_t *room, size_t room_length, uint8_t way);
+
+/* The result of instruction `number` of the outstanding set, counted from 0: STATION_DONE applies it to the record, STATION_FAILED
+ * leaves the record as it is. With the last result the set is no longer outstanding. 17, 16, then 4, 11, 12, 13, 14. */
+uint32_t station_result(uint8_t *room, size_t room_length, uint8_t number, uint8_t done);
+
+/* Takes an image as the record, as after somebody looked for themselves. 17, 16, then 6, 15. */
+uint32_t station_image(uint8_t *room, size_t room_length, uint64_t image);
+
+/* Writes the record's eight bytes to `image`; the station stays. 17 where either room is too short, 16. */
+uint32_t station_ask(const uint8_t *room, size_t room_length, uint8_t *image, size_t image_length);
+
+/* Answers the first message of `message`, as the program does: the message that answers is written to `answer` (its first two bytes
+ * say how many follow) and the next station to `room`. A message that is refused is answered too: it leaves the station as it was,
+ * and `answer` then has the refusal. 17 is returned where `room` or `answer` is too short, and then nothing is written; a room of
+ * STATION_REPLY_MOST bytes is always enough. Else returns the number and the place that were answered, or 0 with STATION_NOWHERE
+ * where the image was. What stands past the first message is not looked at. */
+uint32_t station_message(uint8_t *room, size_t room_length, const uint8_t *message, size_t message_length, uint8_t *answer,
+                         size_t answer_length);
+
+/* ---- questions on a record, for planning ahead; no station is needed and nothing is remembered */
+
+/* Whether an image is a possible garage. */
+bool garage_sound(uint64_t image);
+
+/* The number of cars of a sound record, at most 31; 255 if the image isn't sound. */
+uint32_t garage_cars(uint64_t image);
+
+/* Whether the record allows the instruction that the first five bytes of `five` say: 0, 9, or 4 where there are fewer or they say no
+ * instruction. The place is always STATION_NOWHERE. The image is not tested for soundness. */
+uint32_t garage_allowed(uint64_t image, const uint8_t *five, size_t five_length);
+
+/* The same, and if it is allowed the eight bytes of the record after it are written to `next`. 17 first where that is too short. */
+uint32_t garage_next(uint64_t image, const uint8_t *five, size_t five_length, uint8_t *next, size_t next_length);
+
+#ifdef __cplusplus
+}
+#endif
+
+#endif

@@ -1,0 +1,224 @@
+/* A small planner over station.h. It drives one car in, parks it on row 2, fetches it again and drives it out. Before each set it
+ * works out the record that must follow; after the motors' results (here every one succeeds at once) it holds the station's record
+ * against that. Every answer is checked: the first refusal ends the run with a message. */
+#include "station.h"
+
+#include <inttypes.h>
+#include <stdio.h>
+#include <stdlib.h>
+
+/* One instruction, as the five bytes that a request carries. */
+typedef struct {
+    uint8_t five[STATION_CODE_SIZE];
+} Instruction;
+
+static uint8_t room[STATION_SIZE];
+static unsigned steps;
+
+/* ---- instructions */
+
+static Instruction code(int op, int a, int b, int c, int d) {
+    Instruction i = {{(uint8_t)op, (uint8_t)a, (uint8_t)b, (uint8_t)c, (uint8_t)d}};
+    return i;
+}
+
+static Instruction belts(int row, int mask, int toward, int size) { return code(GARAGE_BELTS, row, mask, toward, size); }
+static Instruction shuttles(int side, int rows, int toward) { return code(GARAGE_SHUTTLES, side, rows, GARAGE_LOWERED, toward); }
+static Instruction lift(int height) { return code(GARAGE_LIFT, height, 0, 0, 0); }
+
+/* ---- in words */
+
+static const char *const numbers[] = {
+    "taken",
+    "fewer bytes than the message says",
+    "length below 2, above 43, or not the kind's",
+    "unknown kind",
+    "a field out of range",
+    "more than eight instructions",
+    "a set is outstanding",
+    "empty set",
+    "overlap",
+    "not allowed",
+    "event impossible",
+    "no set is outstanding",
+    "not in the set",
+    "already answered",
+    "not allowed on the present record",
+    "image not sound",
+    "station unfit",
+    "room too small",
+};
+
+static const char *const belts_of_row_1[] = {"left shuttle's", "left", "lift's", "right", "right shuttle's"};
+static const char *const belts_of_others[] = {"left shuttle's", "middle", "right shuttle's"};
+static const char *const heights[] = {"street", "rotation", "basement"};
+static const char *const sides[] = {"left", "right"};
+static const char *const ways[] = {"lower", "higher"};
+
+/* The parts that a mask names, with commas between them. */
+static void say_named(unsigned mask, const char *const *names, unsigned count) {
+    const char *between = "";
+    for (unsigned k = 0; k < count; k++) {
+        if (mask >> k & 1u) {
+            printf("%s%s", between, names[k]);
+            between = ", ";
+        }
+    }
+}
+
+static void say_rows(unsigned mask) {
+    static const char *const rows[] = {"1", "2", "3"};
+    say_named(mask, rows, 3);
+}
+
+static void say_instruction(const Instruction *i) {
+    const uint8_t *f = i->five;
+    switch (f[0]) {
+    case GARAGE_BELTS:
+        printf("row %u: belts (", f[1]);
+        if (f[1] == 1) {
+            say_named(f[2], belts_of_row_1, 5);
+        } else {
+            say_named(f[2], belts_of_others, 3);
+        }
+        printf(") %s by a %s\n", ways[f[3]], f[1] == 1 && f[4] == GARAGE_HALF ? "half cell" : "cell");
+        break;
+    case GARAGE_SHUTTLES:
+        printf("%s lowered shuttles of rows ", sides[f[1]]);
+        say_rows(f[2]);
+        printf(": one row %s\n", ways[f[4]]);
+        break;
+    case GARAGE_LIFT:
+        printf("lift to %s height\n", heights[f[1]]);
+        break;
+    default:
+        printf("instruction %u\n", f[0]);
+    }
+}
+
+/* ---- records */
+
+static uint64_t number_of(const uint8_t *eight) {
+    uint64_t image = 0;
+    for (int k = STATION_IMAGE_SIZE - 1; k >= 0; k--) image = image << 8 | eight[k];
+    return image;
+}
+
+static int bit(uint64_t image, unsigned k) { return (int)(image >> k & 1u); }
+
+/* A row as twenty signs: the cells of rows 2 and 3 are as wide as two of row 1. */
+static void show_row(uint64_t image, unsigned row) {
+    printf("  row %u ", row);
+    for (unsigned k = 0; k < 20; k++) putchar(bit(image, row == 1 ? k : 10 * row + k / 2) ? '#' : '.');
+    putchar('\n');
+}
+
+static void show(uint64_t image) {
+    for (unsigned row = 1; row <= 3; row++) show_row(image, row);
+    printf("  lift  %s%s\n", heights[image >> 53 & 3u], bit(image, 52) ? ", with a car" : "");
+    printf("  cars  %" PRIu32 "\n", garage_cars(image));
+}
+
+/* ---- the calls, each with its check */
+
+static void must(const char *call, uint32_t answer) {
+    unsigned number = STATION_NUMBER(answer);
+    if (number == STATION_TAKEN) return;
+    printf("stopped: %s is refused with %u (%s)", call, number, number <= STATION_NO_ROOM ? numbers[number] : "?");
+    if (STATION_PLACE(answer) != STATION_NOWHERE) printf(" at instruction %u", STATION_PLACE(answer));
+    putchar('\n');
+    exit(1);
+}
+
+static uint64_t record_now(void) {
+    uint8_t eight[STATION_IMAGE_SIZE];
+    must("ask", station_ask(room, sizeof room, eight, sizeof eight));
+    return number_of(eight);
+}
+
+static void headline(const char *what) { printf("step %u: %s\n", ++steps, what); }
+
+static void drive(const char *what, uint8_t way) {
+    headline(what);
+    must("event", station_event(room, sizeof room, way));
+    printf("  answer 0 (taken)\n");
+    show(record_now());
+}
+
+/* One set: planned, requested, carried out, and the record held against the plan. */
+static void carry_out(const char *what, const Instruction *set, uint8_t count) {
+    uint8_t bytes[STATION_MOST * STATION_CODE_SIZE], eight[STATION_IMAGE_SIZE];
+    uint64_t planned = record_now();
+    headline(what);
+    for (uint8_t i = 0; i < count; i++) {
+        for (int k = 0; k < STATION_CODE_SIZE; k++) bytes[STATION_CODE_SIZE * i + k] = set[i].five[k];
+        must("plan", garage_next(planned, set[i].five, STATION_CODE_SIZE, eight, sizeof eight));
+        planned = number_of(eight);
+        printf("  %u: ", i);
+        say_instruction(&set[i]);
+    }
+    must("request", station_request(room, sizeof room, count, bytes, (size_t)STATION_CODE_SIZE * count));
+    for (uint8_t i = 0; i < count; i++) must("result", station_result(room, sizeof room, i, STATION_DONE));
+    printf("  answer 0 (taken), %u done\n", count);
+    if (record_now() != planned) {
+        printf("stopped: the record isn't the planned one\n");
+        exit(1);
+    }
+    show(planned);
+}
+
+static void one(const char *what, Instruction i) { carry_out(what, &i, 1); }
+
+static void two(const char *what, Instruction i, Instruction j) {
+    Instruction set[2];
+    set[0] = i;
+    set[1] = j;
+    carry_out(what, set, 2);
+}
+
+/* ---- the plan */
+
+/* Belts of row 1 from the lift to the right shuttle, and of row 2 from its middle to the right shuttle. */
+enum { TO_SHUTTLE_1 = 1 << 2 | 1 << 3 | 1 << 4, MIDDLE_2 = 1 << 1, TO_SHUTTLE_2 = 1 << 1 | 1 << 2 };
+
+/* Rows that a shuttle move names. */
+enum { ROWS_1_2 = 1 << 0 | 1 << 1, ROWS_2_3 = 1 << 1 | 1 << 2 };
+
+/* From the lift's cells 11 and 12 to the right shuttle's 18 and 19 are seven half cells. */
+static void along_row_1(int toward) {
+    if (toward == GARAGE_LOWER) one("half a cell to begin with", belts(1, TO_SHUTTLE_1, toward, GARAGE_HALF));
+    for (int k = 0; k < 3; k++) one("along row 1", belts(1, TO_SHUTTLE_1, toward, GARAGE_FULL));
+    if (toward == GARAGE_HIGHER) one("half a cell more", belts(1, TO_SHUTTLE_1, toward, GARAGE_HALF));
+}
+
+static void park(void) {
+    drive("a car drives in", STATION_CAR_IN);
+    one("down with the lift", lift(GARAGE_BASEMENT));
+    along_row_1(GARAGE_HIGHER);
+    /* rows 1 and 2 go together, since row 2 has a shuttle of its own; row 3's is tilted and out of the way */
+    one("by the shuttle to row 2", shuttles(GARAGE_RIGHT, ROWS_1_2, GARAGE_HIGHER));
+    one("off the shuttle", belts(2, TO_SHUTTLE_2, GARAGE_LOWER, GARAGE_FULL));
+    two("further in, and the lift up for the next driver", belts(2, MIDDLE_2, GARAGE_LOWER, GARAGE_FULL), lift(GARAGE_STREET));
+    one("the shuttles back", shuttles(GARAGE_RIGHT, ROWS_2_3, GARAGE_LOWER));
+}
+
+static void fetch(void) {
+    two("the car toward the shuttle, and the lift down", belts(2, MIDDLE_2, GARAGE_HIGHER, GARAGE_FULL), lift(GARAGE_BASEMENT));
+    one("the shuttles to rows 2 and 3", shuttles(GARAGE_RIGHT, ROWS_1_2, GARAGE_HIGHER));
+    one("onto the shuttle", belts(2, TO_SHUTTLE_2, GARAGE_HIGHER, GARAGE_FULL));
+    one("by the shuttle to row 1", shuttles(GARAGE_RIGHT, ROWS_2_3, GARAGE_LOWER));
+    along_row_1(GARAGE_LOWER);
+    one("up with the lift", lift(GARAGE_STREET));
+    drive("the car drives out", STATION_CAR_OUT);
+}
+
+int main(void) {
+    must("start", station_start(room, sizeof room));
+    printf("start\n");
+    show(record_now());
+    park();
+    printf("parked\n");
+    fetch();
+    printf("%s\n", record_now() == STATION_START_IMAGE ? "the garage is as it was at the start" : "the garage differs from the start");
+    return record_now() == STATION_START_IMAGE ? 0 : 1;
+}

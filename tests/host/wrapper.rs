@@ -1,0 +1,233 @@
+//! A safe wrapper over the station's entries (include/station.h) for a planner in Rust, and its tests:
+//! `rustc --edition 2021 --test tests/host/wrapper.rs -L native=target/staticlib -l static=station_c`.
+//! A slice crosses as a pointer and a length, so its pointer is valid for that length; `&mut` slices overlap nothing; `&mut self`
+//! keeps two threads from one station. These are all the duties that the header names.
+
+use std::fmt;
+
+/// The entries as the archive has them.
+mod raw {
+    extern "C" {
+        pub fn station_start(room: *mut u8, room_length: usize) -> u32;
+        pub fn station_request(room: *mut u8, room_length: usize, count: u8, set: *const u8, set_length: usize) -> u32;
+        pub fn station_event(room: *mut u8, room_length: usize, way: u8) -> u32;
+        pub fn station_result(room: *mut u8, room_length: usize, number: u8, done: u8) -> u32;
+        pub fn station_image(room: *mut u8, room_length: usize, image: u64) -> u32;
+        pub fn station_ask(room: *const u8, room_length: usize, image: *mut u8, image_length: usize) -> u32;
+        pub fn station_message(
+            room: *mut u8,
+            room_length: usize,
+            message: *const u8,
+            message_length: usize,
+            answer: *mut u8,
+            answer_length: usize,
+        ) -> u32;
+        pub fn garage_sound(image: u64) -> bool;
+        pub fn garage_cars(image: u64) -> u32;
+        pub fn garage_allowed(image: u64, five: *const u8, five_length: usize) -> u32;
+        pub fn garage_next(image: u64, five: *const u8, five_length: usize, next: *mut u8, next_length: usize) -> u32;
+    }
+}
+
+/// A number of the table, and the place of the instruction that it names, or `NOWHERE`.
+#[derive(Clone, Copy, Debug, PartialEq, Eq)]
+pub struct Answer {
+    pub number: u8,
+    pub place: u8,
+}
+
+pub const NOWHERE: u8 = 255;
+pub const TAKEN: Answer = Answer { number: 0, place: NOWHERE };
+
+/// The record of the start.
+pub const START: u64 = 0x0009_1B00_0000_0000;
+
+/// An instruction's five bytes.
+pub type Five = [u8; 5];
+
+/// The longest message that a station answers with.
+const REPLY_MOST: usize = 12;
+
+impl Answer {
+    fn of(said: u32) -> Answer {
+        Answer { number: (said & 0xFF) as u8, place: (said >> 8 & 0xFF) as u8 }
+    }
+
+    pub fn taken(self) -> bool {
+        self.number == 0
+    }
+}
+
+impl fmt::Display for Answer {
+    fn fmt(&self, f: &mut fmt::Formatter) -> fmt::Result {
+        match self.place {
+            NOWHERE => write!(f, "{}", self.number),
+            place => write!(f, "{} at {}", self.number, place),
+        }
+    }
+}
+
+/// A station, held as the bytes that the entries read and write.
+#[derive(Clone, Debug, PartialEq, Eq)]
+pub struct Station([u8; 50]);
+
+impl Station {
+    pub fn start() -> Station {
+        let mut room = [0; 50];
+        let said = unsafe { raw::station_start(room.as_mut_ptr(), room.len()) };
+        debug_assert!(Answer::of(said).taken());
+        Station(room)
+    }
+
+    /// Bytes that were kept; if they are no station, every call is refused with 16.
+    pub fn from_bytes(room: [u8; 50]) -> Station {
+        Station(room)
+    }
+
+    pub fn bytes(&self) -> &[u8; 50] {
+        &self.0
+    }
+
+    /// A request of `count` instructions, five bytes each.
+    pub fn request(&mut self, count: u8, set: &[u8]) -> Answer {
+        Answer::of(unsafe { raw::station_request(self.0.as_mut_ptr(), self.0.len(), count, set.as_ptr(), set.len()) })
+    }
+
+    /// 1 a car in, 2 a car out.
+    pub fn event(&mut self, way: u8) -> Answer {
+        Answer::of(unsafe { raw::station_event(self.0.as_mut_ptr(), self.0.len(), way) })
+    }
+
+    /// The result of an instruction: 0 failed, 1 done.
+    pub fn result(&mut self, number: u8, done: u8) -> Answer {
+        Answer::of(unsafe { raw::station_result(self.0.as_mut_ptr(), self.0.len(), number, done) })
+    }
+
+    pub fn image(&mut self, image: u64) -> Answer {
+        Answer::of(unsafe { raw::station_image(self.0.as_mut_ptr(), self.0.len(), image) })
+    }
+
+    /// The record.
+    pub fn ask(&self) -> Result<u64, Answer> {
+        let mut image = [0; 8];
+        let said = unsafe { raw::station_ask(self.0.as_ptr(), self.0.len(), image.as_mut_ptr(), image.len()) };
+        image_if_taken(said, image)
+    }
+
+    /// The message that answers the first of `message`, and its number and place.
+    pub fn message(&mut self, message: &[u8]) -> (Answer, Vec<u8>) {
+        let mut answer = vec![0; REPLY_MOST];
+        let said = unsafe {
+            raw::station_message(self.0.as_mut_ptr(), self.0.len(), message.as_ptr(), message.len(), answer.as_mut_ptr(), answer.len())
+        };
+        answer.truncate(2 + usize::from(answer[0]));
+        (Answer::of(said), answer)
+    }
+}
+
+fn image_if_taken(said: u32, image: [u8; 8]) -> Result<u64, Answer> {
+    match Answer::of(said) {
+        TAKEN => Ok(u64::from_le_bytes(image)),
+        refusal => Err(refusal),
+    }
+}
+
+pub fn sound(image: u64) -> bool {
+    unsafe { raw::garage_sound(image) }
+}
+
+/// The number of cars, if the record is sound.
+pub fn cars(image: u64) -> Option<u32> {
+    Some(unsafe { raw::garage_cars(image) }).filter(|&n| n != 255)
+}
+
+pub fn allowed(image: u64, five: &Five) -> Answer {
+    Answer::of(unsafe { raw::garage_allowed(image, five.as_ptr(), five.len()) })
+}
+
+/// The record after an instruction.
+pub fn next(image: u64, five: &Five) -> Result<u64, Answer> {
+    let mut after = [0; 8];
+    let said = unsafe { raw::garage_next(image, five.as_ptr(), five.len(), after.as_mut_ptr(), after.len()) };
+    image_if_taken(said, after)
+}
+
+#[cfg(test)]
+mod tests {
+    use super::*;
+
+    const LIFT_DOWN: Five = [4, 2, 0, 0, 0];
+    const TO_THE_LEFT: Five = [1, 1, 6, 0, 0];
+
+    fn refusal(number: u8) -> Answer {
+        Answer { number, place: NOWHERE }
+    }
+
+    #[test]
+    fn a_car_goes_down_and_to_the_left() {
+        let mut s = Station::start();
+        assert_eq!(s.ask(), Ok(START));
+        assert_eq!((s.event(1), s.event(1)), (TAKEN, refusal(10)));
+        assert_eq!(s.request(1, &LIFT_DOWN), TAKEN);
+        assert_eq!(s.ask(), Ok(START | 1 << 52), "acceptance leaves the record");
+        assert_eq!((s.event(2), s.image(START)), (refusal(6), refusal(6)));
+        assert_eq!(s.result(0, 1), TAKEN);
+        assert_eq!(s.ask(), Ok(0x0049_1B00_0000_1800));
+        assert_eq!((s.request(1, &TO_THE_LEFT), s.result(0, 1)), (TAKEN, TAKEN));
+        assert_eq!(s.ask(), Ok(0x0049_1B00_0000_0C00));
+        assert_eq!(s.request(1, &[4, 0, 0, 0, 0]), Answer { number: 9, place: 0 });
+    }
+
+    #[test]
+    fn refusals_come_in_order_and_change_nothing() {
+        let mut s = Station::start();
+        assert_eq!(s.request(1, &LIFT_DOWN[..4]), refusal(1));
+        assert_eq!(s.request(9, &[]), refusal(5));
+        assert_eq!(s.request(0, &[]), refusal(7));
+        assert_eq!(s.request(2, &[LIFT_DOWN, [4, 3, 0, 0, 0]].concat()), Answer { number: 4, place: 1 });
+        assert_eq!(s.request(2, &[LIFT_DOWN, LIFT_DOWN].concat()), Answer { number: 8, place: 1 });
+        assert_eq!((s.result(0, 1), s.result(0, 2), s.event(3)), (refusal(11), refusal(4), refusal(4)));
+        assert_eq!(s.image(1), refusal(15));
+        assert_eq!(s, Station::start());
+        let mut damaged = Station::from_bytes([0xEE; 50]);
+        assert_eq!((damaged.event(1), damaged.ask()), (refusal(16), Err(refusal(16))));
+        assert_eq!(damaged.request(1, &[]), refusal(1), "before 16");
+        assert_eq!(damaged.bytes(), &[0xEE; 50]);
+    }
+
+    #[test]
+    fn short_rooms_are_refused_and_long_ones_keep_their_rest() {
+        let mut room = [0xEE; 52];
+        let said = |room: &mut [u8]| Answer::of(unsafe { raw::station_start(room.as_mut_ptr(), room.len()) });
+        assert_eq!(said(&mut room[..49]), refusal(17));
+        assert_eq!(room, [0xEE; 52]);
+        assert_eq!(said(&mut room), TAKEN);
+        assert_eq!((&room[..50], &room[50..]), (&Station::start().bytes()[..], &[0xEE; 2][..]));
+        let mut image = [0xEE; 9];
+        let said = |image: &mut [u8]| Answer::of(unsafe { raw::station_ask(room.as_ptr(), room.len(), image.as_mut_ptr(), image.len()) });
+        assert_eq!((said(&mut image[..7]), image), (refusal(17), [0xEE; 9]));
+        assert_eq!((said(&mut image), image), (TAKEN, [0, 0, 0, 0, 0, 0x1B, 9, 0, 0xEE]));
+    }
+
+    #[test]
+    fn questions_on_a_record() {
+        assert_eq!((sound(START), cars(START)), (true, Some(0)));
+        assert_eq!((sound(1), cars(1)), (false, None));
+        assert_eq!(cars(0x0049_1B00_0000_3C00), Some(2));
+        assert_eq!(allowed(0x0049_1B00_0000_3C00, &[4, 0, 0, 0, 0]), refusal(9));
+        assert_eq!(allowed(START, &[4, 0, 1, 0, 0]), refusal(4));
+        assert_eq!((next(START, &[6, 0, 0, 0, 0]), next(START, &[4, 0, 0, 0, 0])), (Err(refusal(4)), Err(refusal(9))));
+        assert_eq!((allowed(START | 3, &[2, 0, 3, 0, 1]), next(START | 3, &[2, 0, 3, 0, 1])), (TAKEN, Ok(0x0009_1E00_0010_0000)));
+    }
+
+    #[test]
+    fn the_session_of_the_rules() {
+        let mut s = Station::start();
+        assert_eq!(s.message(&[3, 0, 2, 0, 1, 2, 0, 5, 0]), (TAKEN, vec![4, 0, 128, 0, 0, 255]));
+        assert_eq!(s.message(&[2, 0, 5, 0]), (TAKEN, vec![10, 0, 129, 0, 0, 0, 0, 0, 0, 0x1B, 0x19, 0]));
+        let before = s.clone();
+        assert_eq!(s.message(&[]), (refusal(1), vec![4, 0, 128, 0, 1, 255]));
+        assert_eq!(s.message(&[8, 0, 1, 0, 1, 4, 0, 0, 0, 0]), (Answer { number: 9, place: 0 }, vec![4, 0, 128, 0, 9, 0]));
+        assert_eq!(s, before);
+    }
+}
