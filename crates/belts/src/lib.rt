@@ -6,10 +6,10 @@ ghost use lib.Dec.{T, eqb};
 ghost use Rattle.bits.specs.Bits.{bit, image};
 ghost use Rattle.bits.specs.Places.{places, isEmpty, adjacent};
 ghost use Rattle.floor.specs.Tests.{holds, both, set, when, atBasement};
-ghost use Rattle.rules.specs.Named.{step, cells, neededSlots, liftNamed};
+ghost use Rattle.rules.specs.Named.{higher, step, cells, neededSlots, liftNamed};
 ghost use Rattle.rules.specs.Rules.{wellFormed, beltsNamed, allowed, next};
 ghost use Rattle.rules.specs.Verdicts.{verdictOf, movedOf};
-ghost use Rattle.belts.specs.Private.{firstCell, endCell, cellNamed, along, leaves, source, copied, standing, clear, renewed};
+ghost use Rattle.belts.specs.Private.{firstCell, endCell, cellNamed, along, source, copied, standing, clear, renewed};
 use floor::Belt;
 use floor::masks::HEIGHT_HIGH;
 use floor::masks::HEIGHT_LOW;
@@ -76,11 +76,11 @@ fn along(cell: u8, up: bool, n: u8) -> u64
     (cell - n) as u64
 }
 
-// The move would take the cell's content out of the span.
-fn leaves(row: u8, mask: u8, toward: u8, size: u8, cell: u8) -> bool
-    ensures { λ b. ⌜ b ≡ leaves row mask toward size cell ⌝ }
+// The cell to which the move would take the cell's content is on such a belt.
+fn named_onward(row: u8, mask: u8, toward: u8, size: u8, cell: u8) -> bool
+    ensures { λ b. ⌜ b ≡ cellNamed row mask (along cell (higher toward) (step row size)) ⌝ }
 {
-    named(row, mask, cell as u64) & !named(row, mask, along(cell, toward == 1, step(row, size)))
+    named(row, mask, along(cell, toward == 1, step(row, size)))
 }
 
 // The cell whose content the cell takes: itself if the move doesn't reach it, 64 if nothing comes.
@@ -137,8 +137,10 @@ fn clear(old: &[bool; 20], row: u8, mask: u8, toward: u8, size: u8) -> bool
     let mut cell = first_cell(row);
     while cell < end {
         let occupied = standing(old, row, cell as u64);
-        free = free & !(leaves(row, mask, toward, size, cell) & occupied);
-        even = even != (named(row, mask, cell as u64) & occupied);
+        let here = named(row, mask, cell as u64);
+        let leaves = here & !named_onward(row, mask, toward, size, cell);
+        free = free & !(leaves & occupied);
+        even = even != (here & occupied);
         cell += 1;
     }
     free & (!(row == 1) | even)

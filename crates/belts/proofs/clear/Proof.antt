@@ -1,5 +1,6 @@
 -- `belts::clear` meets its contract: the loop walks the row's cells (proofs/Walks.antt). Assumes nothing.
-use mathlib.Core.Path.{_≡_}
+use mathlib.Core.Path.{_≡_, ap₂}
+use mathlib.Core.Bool.{Bool, not, _&&_}
 use Prim.Native.Nat.{_-_, _≤_}
 use native.Mathlib.Omega.{arith}
 use borrow.Author.Needs.{needs}
@@ -31,14 +32,14 @@ cast-standing c = omega arith
 standing-requires : tie.Need-standing-requires Inv-loop μ-loop
 standing-requires c κs = search needs
 
-leaves-requires : tie.Need-leaves-requires Inv-loop μ-loop
-leaves-requires c κs = search needs
-
 cast-named : tie.Need-cast-named Inv-loop μ-loop
 cast-named c = omega arith
 
 named-requires : tie.Need-named-requires Inv-loop μ-loop
 named-requires c κs = search needs
+
+named-onward-requires : tie.Need-named-onward-requires Inv-loop μ-loop
+named-onward-requires c κs = search needs
 
 add-cell : tie.Need-add-cell Inv-loop μ-loop
 add-cell c = omega arith
@@ -47,7 +48,10 @@ loop-less : tie.Need-loop-less Inv-loop μ-loop
 loop-less c = omega arith
 
 loop-again : tie.Need-loop-again Inv-loop μ-loop
-loop-again c = let v = c .before .before .before .before .loop .inv in (walks (v .0) (c .before .leaves .ensures) (c .named .ensures) (c .before .before .standing .ensures), (omega arith), v .2)
+unfolding leaves
+loop-again c =
+    let v = c .before .before .before .before .loop .inv in
+    (walks (v .0) (ap₂ (λ (x y : Bool). x && not y) (c .before .named .ensures) (c .named-onward .ensures)) (c .before .named .ensures) (c .before .before .standing .ensures), (omega arith), v .2)
 
 returns : tie.Need-returns Inv-loop μ-loop
 returns c = let a = c .before .before .before .before .args in
@@ -65,9 +69,9 @@ clear-spec =
     loop-holds
     cast-standing
     standing-requires
-    leaves-requires
     cast-named
     named-requires
+    named-onward-requires
     add-cell
     loop-less
     loop-again
