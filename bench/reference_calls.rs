@@ -1,0 +1,48 @@
+//! Times the reference's calls as bench/entries.c times the entries, each on the same station and arguments, lent as bytes.
+
+#[path = "../tests/host/reference.rs"]
+mod reference;
+
+use reference::{Call, Instruction, Station, START};
+use std::hint::black_box;
+use std::time::Instant;
+
+const CALLS: u32 = 200_000;
+const LEFT_BELT: [u8; 5] = [1, 1, 2, 0, 1];
+const BELTS: [u8; 5] = [1, 1, 27, 0, 1];
+const REQUEST: [u8; 10] = [8, 0, 1, 0, 1, 1, 1, 2, 0, 1];
+
+fn time(name: &str, mut call: impl FnMut()) {
+    let begun = Instant::now();
+    for _ in 0..CALLS { call(); }
+    println!("{name:<16} {:8.1} ns", begun.elapsed().as_secs_f64() * 1e9 / f64::from(CALLS));
+}
+
+/// A call on a station that is lent as bytes and written back if it is taken.
+fn lent(room: &[u8; 50], call: impl FnOnce(&mut Station) -> (u8, u8)) {
+    let mut room = *black_box(room);
+    let mut station = Station::from_bytes(&room);
+    if call(&mut station).0 == 0 { room = station.to_bytes(); }
+    black_box(room);
+}
+
+fn main() {
+    let start = Station::start().to_bytes();
+    let mut station = Station::start();
+    station.request(1, &LEFT_BELT);
+    let outstanding = station.to_bytes();
+    time("station_start", || { black_box(Station::start().to_bytes()); });
+    time("station_request", || lent(&start, |station| station.request(black_box(1), black_box(&LEFT_BELT))));
+    time("station_event", || lent(&start, |station| station.event(black_box(1))));
+    time("station_result", || lent(&outstanding, |station| station.result(black_box(0), black_box(1))));
+    time("station_image", || lent(&start, |station| station.image(black_box(START))));
+    time("station_ask", || lent(&start, |station| station.ask()));
+    time("station_message", || lent(&start, |station| match reference::read_call(black_box(&REQUEST)) {
+        Ok((call @ Call::Request { .. }, _)) => station.take(call),
+        _ => (4, 255),
+    }));
+    time("garage_sound", || { black_box(reference::sound(black_box(START))); });
+    time("garage_cars", || { black_box(reference::cars(black_box(START))); });
+    time("garage_allowed", || { black_box(Instruction::read(black_box(BELTS)).map(|belts| belts.allowed(black_box(START)))); });
+    time("garage_next", || { black_box(Instruction::read(black_box(LEFT_BELT)).filter(|belts| belts.allowed(START)).map(|belts| belts.next(black_box(START)))); });
+}
