@@ -1,5 +1,6 @@
 //! Times programs on one input, in turns: `compare INPUT MESSAGES NAME COMMAND.. [-- NAME COMMAND..]..`. The first is the measure of
-//! the others. Prints for each the least time of five runs, time for a message, the ratio to the first, and the most memory used.
+//! the others. Prints for each the least time of five runs, time for a message, throughput, the ratio to the
+//! first, and the most memory used.
 
 use std::fs::File;
 use std::process::{Command, Stdio};
@@ -27,6 +28,7 @@ fn main() {
     let [input, messages, programs @ ..] = &words[..] else { panic!("usage: compare INPUT MESSAGES NAME COMMAND.. [-- ..]") };
     let messages: f64 = messages.parse().expect("a number");
     let programs: Vec<&[String]> = programs.split(|word| word == "--").collect();
+    let length = std::fs::metadata(input).expect("the input is there").len() as f64;
     let mut best = vec![(f64::INFINITY, 0); programs.len()];
     for _ in 0..5 {
         for (best, program) in best.iter_mut().zip(&programs) {
@@ -35,6 +37,7 @@ fn main() {
         }
     }
     for ((seconds, memory), program) in best.iter().zip(&programs) {
-        println!("{:<12} {seconds:8.3} s {:8.1} ns/message {:6.2} times {:8} KB", program[0], seconds * 1e9 / messages, seconds / best[0].0, memory);
+        let (each, speed, ratio) = (seconds * 1e9 / messages, length / seconds / 1e6, seconds / best[0].0);
+        println!("{:<12} {seconds:8.3} s {each:8.1} ns/message {speed:8.0} MB/s {ratio:6.2} times {memory:8} KB", program[0]);
     }
 }

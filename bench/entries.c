@@ -1,6 +1,7 @@
 /* Time and stack of each entry of station.h: a line for each with nanoseconds a call and bytes of stack. The stack is measured by
  * running the call in a thread on a stack of our own: what lies MARGIN bytes and more below the thread's frame is filled with a
- * pattern before the call, and after it we look how far down the pattern is gone. So it is an upper bound, and never below MARGIN. */
+ * pattern before the call, and after it we look how far down the pattern is gone. So it is an upper bound, and never below MARGIN. With a
+ * name, only that entry's calls are made and nothing is printed, so that their instructions can be counted; with any other word none are. */
 #define _POSIX_C_SOURCE 200809L
 #include "station.h"
 
@@ -13,7 +14,6 @@
 enum { STACK = 256 * 1024, PATTERN = 0xA5, MARGIN = 256, CALLS = 200000 };
 
 static uint8_t start[STATION_SIZE], outstanding[STATION_SIZE], room[STATION_SIZE], image[STATION_IMAGE_SIZE], answer[STATION_REPLY_MOST];
-static const uint8_t belts[STATION_CODE_SIZE] = {GARAGE_BELTS, 1, 27, GARAGE_LOWER, GARAGE_FULL};
 static const uint8_t left_belt[STATION_CODE_SIZE] = {GARAGE_BELTS, 1, 2, GARAGE_LOWER, GARAGE_FULL};
 static const uint8_t request[10] = {8, 0, STATION_KIND_REQUEST, 0, 1, GARAGE_BELTS, 1, 2, GARAGE_LOWER, GARAGE_FULL};
 
@@ -26,7 +26,7 @@ static void call_ask(void) { station_ask(start, STATION_SIZE, image, sizeof imag
 static void call_message(void) { memcpy(room, start, STATION_SIZE); station_message(room, STATION_SIZE, request, sizeof request, answer, sizeof answer); }
 static void call_sound(void) { garage_sound(STATION_START_IMAGE); }
 static void call_cars(void) { garage_cars(STATION_START_IMAGE); }
-static void call_allowed(void) { garage_allowed(STATION_START_IMAGE, belts, sizeof belts); }
+static void call_allowed(void) { garage_allowed(STATION_START_IMAGE, left_belt, sizeof left_belt); }
 static void call_next(void) { garage_next(STATION_START_IMAGE, left_belt, sizeof left_belt, image, sizeof image); }
 
 static const struct {
@@ -80,11 +80,17 @@ static double nanoseconds_of(void (*call)(void)) {
     return ((double)(ended.tv_sec - begun.tv_sec) * 1e9 + (double)(ended.tv_nsec - begun.tv_nsec)) / CALLS;
 }
 
-int main(void) {
+int main(int words, char **word) {
     station_start(start, sizeof start);
     memcpy(outstanding, start, sizeof start);
     station_request(outstanding, sizeof outstanding, 1, left_belt, sizeof left_belt);
-    for (size_t at = 0; at < sizeof entries / sizeof *entries; at++)
+    for (size_t at = 0; at < sizeof entries / sizeof *entries; at++) {
+        if (words > 1) {
+            if (strcmp(word[1], entries[at].name) == 0)
+                nanoseconds_of(entries[at].call);
+            continue;
+        }
         printf("%-16s %8.1f ns, at most %5zu bytes of stack\n", entries[at].name, nanoseconds_of(entries[at].call), stack_of(entries[at].call));
+    }
     return 0;
 }

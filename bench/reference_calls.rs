@@ -1,4 +1,5 @@
-//! Times the reference's calls as bench/entries.c times the entries, each on the same station and arguments, lent as bytes.
+//! Times the reference's calls as bench/entries.c times the entries, each on the same station and arguments, lent as bytes. With a
+//! name, only those calls are made and nothing is printed.
 
 #[path = "../tests/host/reference.rs"]
 mod reference;
@@ -9,12 +10,14 @@ use std::time::Instant;
 
 const CALLS: u32 = 200_000;
 const LEFT_BELT: [u8; 5] = [1, 1, 2, 0, 1];
-const BELTS: [u8; 5] = [1, 1, 27, 0, 1];
 const REQUEST: [u8; 10] = [8, 0, 1, 0, 1, 1, 1, 2, 0, 1];
 
 fn time(name: &str, mut call: impl FnMut()) {
+    let only = std::env::args().nth(1);
+    if only.as_deref().is_some_and(|only| only != name) { return; }
     let begun = Instant::now();
     for _ in 0..CALLS { call(); }
+    if only.is_some() { return; }
     println!("{name:<16} {:8.1} ns", begun.elapsed().as_secs_f64() * 1e9 / f64::from(CALLS));
 }
 
@@ -43,6 +46,6 @@ fn main() {
     }));
     time("garage_sound", || { black_box(reference::sound(black_box(START))); });
     time("garage_cars", || { black_box(reference::cars(black_box(START))); });
-    time("garage_allowed", || { black_box(Instruction::read(black_box(BELTS)).map(|belts| belts.allowed(black_box(START)))); });
+    time("garage_allowed", || { black_box(Instruction::read(black_box(LEFT_BELT)).map(|belts| belts.allowed(black_box(START)))); });
     time("garage_next", || { black_box(Instruction::read(black_box(LEFT_BELT)).filter(|belts| belts.allowed(START)).map(|belts| belts.next(black_box(START)))); });
 }
