@@ -21,7 +21,8 @@
  *
  * Answers. An entry that returns uint32_t answers with a number of the table below and a place: STATION_NUMBER and STATION_PLACE
  * take them apart. The place is the instruction at fault, counted from 0, for STATION_BAD_FIELD in a request, STATION_OVERLAP and
- * STATION_NOT_ALLOWED; else it is STATION_NOWHERE. A call that isn't taken writes nothing.
+ * STATION_NOT_ALLOWED; else it is STATION_NOWHERE. A call that isn't taken writes nothing; of a message that isn't, the refusal is
+ * written as a message (station_message), and the station's bytes keep their values.
  */
 #ifndef STATION_H
 #define STATION_H

@@ -2,31 +2,50 @@
 //! as they come by calls and on damaged ones, in rooms long and short: what an entry returns and what it leaves in every room must be
 //! what the reference says. Each entry must have given every number that it can give, and no other.
 
+mod command;
 mod reference;
 mod traffic;
 
-use reference::{Instruction, Station};
-use std::collections::{BTreeMap, BTreeSet};
+use command::{Command, ENTRIES};
+use reference::Station;
+use std::collections::BTreeSet;
 use std::io::{BufReader, Read, Write};
-use std::process::{exit, Command, Stdio};
+use std::process::{exit, Stdio};
 use traffic::Numbers;
+
+/// What a command is made of.
+#[derive(Default)]
+struct Given {
+    entry: u8,
+    first: u8,
+    second: u8,
+    image: u64,
+    room: Vec<u8>,
+    input: Vec<u8>,
+    output: Vec<u8>,
+}
 
 /// A command in bytes, and what it must return and leave.
 struct Trial {
-    entry: &'static str,
+    entry: u8,
     sent: Vec<u8>,
     answer: u32,
     left: Vec<u8>,
 }
 
-fn said((number, place): (u8, u8)) -> u32 { u32::from(number) + 256 * u32::from(place) }
-
-const NO_ROOM: (u8, u8) = (17, 255);
-
-fn run_of(bytes: &[u8]) -> Vec<u8> {
-    let mut run = vec![bytes.len() as u8];
-    run.extend_from_slice(bytes);
-    run
+impl Given {
+    fn trial(mut self) -> Trial {
+        let mut sent = vec![self.entry, self.first, self.second];
+        sent.extend(self.image.to_le_bytes());
+        for run in [&self.room, &self.input, &self.output] {
+            sent.push(run.len() as u8);
+            sent.extend(run);
+        }
+        let Given { entry, first, second, image, .. } = self;
+        let (room, input, output) = (&mut self.room[..], &self.input[..], &mut self.output[..]);
+        let answer = command::call(&mut Command { entry, first, second, image, room, input, output });
+        Trial { entry, sent, answer, left: [self.room, self.output].concat() }
+    }
 }
 
 /// Bytes that stand for room: any at all.
@@ -66,90 +85,34 @@ fn damaged(numbers: &mut Numbers, station: &Station) -> Station {
     other
 }
 
-/// What a call on the lent station returns and leaves.
-fn on_station(room: &[u8], call: impl FnOnce(&mut Station) -> (u8, u8)) -> ((u8, u8), Vec<u8>) {
-    let Some(fifty) = room.first_chunk::<50>() else { return (NO_ROOM, room.to_vec()) };
-    let mut station = Station::from_bytes(fifty);
-    let answer = call(&mut station);
-    let mut left = room.to_vec();
-    if answer.0 == 0 { left[..50].copy_from_slice(&station.to_bytes()); }
-    (answer, left)
-}
-
-fn put(room: &[u8], bytes: &[u8]) -> Vec<u8> {
-    let mut left = room.to_vec();
-    left[..bytes.len()].copy_from_slice(bytes);
-    left
-}
-
-/// The reply to a message, as number and place and as bytes.
-fn reply(station: &mut Station, message: &[u8]) -> ((u8, u8), Vec<u8>) {
-    let told = |(number, place): (u8, u8)| ((number, place), vec![4, 0, 128, 0, number, place]);
-    match reference::read_call(message) {
-        Err(refused) => told((refused.number, refused.place)),
-        Ok((call, _)) => {
-            let answer = station.take(call);
-            if call == reference::Call::Ask && answer.0 == 0 {
-                let mut bytes = vec![10, 0, 129, 0];
-                bytes.extend_from_slice(&station.record.to_le_bytes());
-                (answer, bytes)
-            } else {
-                told(answer)
-            }
-        }
-    }
-}
-
-fn station_trial(numbers: &mut Numbers, station: &Station) -> Trial {
+fn station_call(numbers: &mut Numbers, station: &Station) -> Given {
     let room = station_room(numbers, station);
-    let mut sent = run_of(&room);
-    let (entry, command, (answer, left)): (_, u8, _) = match numbers.below(8) {
-        0 => ("station_start", 0, on_station(&room, |station| { *station = Station::start(); (0, 255) })),
+    match numbers.below(8) {
+        0 => Given { entry: 0, room, ..Given::default() },
         1 | 2 => {
             let count = if numbers.one_in(12) { numbers.byte() } else { numbers.below(4) as u8 };
             let mut set: Vec<u8> = (0..count.min(9)).flat_map(|_| traffic::any_five(numbers)).collect();
             if numbers.one_in(10) { set.truncate(numbers.below(set.len() as u64 + 1) as usize); }
-            sent.push(count);
-            sent.extend(run_of(&set));
-            let short = count <= 8 && set.len() < 5 * usize::from(count);
-            ("station_request", 1, on_station(&room, |station| if short { (1, 255) } else { station.request(count, &set) }))
+            Given { entry: 1, first: count, room, input: set, ..Given::default() }
         }
         3 => {
             let way = if numbers.one_in(8) { numbers.byte() } else { 1 + numbers.below(2) as u8 };
-            sent.push(way);
-            ("station_event", 2, on_station(&room, |station| station.event(way)))
+            Given { entry: 2, first: way, room, ..Given::default() }
         }
         4 | 5 => {
             let number = if numbers.one_in(8) { numbers.byte() } else { numbers.below(4) as u8 };
             let done = if numbers.one_in(20) { numbers.byte() } else { numbers.below(2) as u8 };
-            sent.extend([number, done]);
-            ("station_result", 3, on_station(&room, |station| station.result(number, done)))
+            Given { entry: 3, first: number, second: done, room, ..Given::default() }
         }
-        6 => {
-            let image = traffic::near_record(numbers, station.record);
-            sent.extend(image.to_le_bytes());
-            ("station_image", 4, on_station(&room, |station| station.image(image)))
-        }
+        6 => Given { entry: 4, image: traffic::near_record(numbers, station.record), room, ..Given::default() },
         _ => {
             let size = numbers.below(12) as usize;
-            let out = any_bytes(numbers, size);
-            sent.extend(run_of(&out));
-            let (answer, written) = match room.first_chunk::<50>() {
-                Some(fifty) if size >= 8 => {
-                    let mut station = Station::from_bytes(fifty);
-                    let answer = station.ask();
-                    (answer, if answer.0 == 0 { put(&out, &station.record.to_le_bytes()) } else { out })
-                }
-                _ => (NO_ROOM, out),
-            };
-            ("station_ask", 5, (answer, [room, written].concat()))
+            Given { entry: 5, room, output: any_bytes(numbers, size), ..Given::default() }
         }
-    };
-    sent.insert(0, command);
-    Trial { entry, sent, answer: said(answer), left }
+    }
 }
 
-fn message_trial(numbers: &mut Numbers, station: &Station) -> Trial {
+fn message_call(numbers: &mut Numbers, station: &Station) -> Given {
     let room = station_room(numbers, station);
     let mut message = traffic::framed_message(numbers, station);
     if numbers.one_in(10) { message[0] = numbers.byte(); }
@@ -157,56 +120,20 @@ fn message_trial(numbers: &mut Numbers, station: &Station) -> Trial {
     let more = numbers.below(3) as usize;
     message.extend(any_bytes(numbers, more));
     let size = if numbers.one_in(10) { numbers.below(14) } else { 12 + numbers.below(4) } as usize;
-    let out = any_bytes(numbers, size);
-    let sent = [vec![6], run_of(&room), run_of(&message), run_of(&out)].concat();
-    let (answer, left) = match room.first_chunk::<50>() {
-        None => (NO_ROOM, [room, out].concat()),
-        Some(fifty) => {
-            let mut station = Station::from_bytes(fifty);
-            let (answer, bytes) = reply(&mut station, &message);
-            if out.len() < bytes.len() {
-                (NO_ROOM, [room, out].concat())
-            } else {
-                (answer, [put(&room, &station.to_bytes()), put(&out, &bytes)].concat())
-            }
-        }
-    };
-    Trial { entry: "station_message", sent, answer: said(answer), left }
+    Given { entry: 6, room, input: message, output: any_bytes(numbers, size), ..Given::default() }
 }
 
-fn record_trial(numbers: &mut Numbers, record: u64) -> Trial {
+fn record_call(numbers: &mut Numbers, record: u64) -> Given {
     let image = if numbers.one_in(3) { record } else { traffic::near_record(numbers, record) };
-    let mut sent = vec![0];
-    sent.extend(image.to_le_bytes());
     let mut five = traffic::any_five(numbers).to_vec();
     if numbers.one_in(20) { five.truncate(numbers.below(5) as usize); }
-    let instruction = five.first_chunk::<5>().and_then(|&five| Instruction::read(five));
-    let verdict = match instruction {
-        None => (4, 255),
-        Some(instruction) if instruction.allowed(image) => (0, 255),
-        Some(_) => (9, 255),
-    };
-    let (entry, command, answer, left) = match numbers.below(5) {
-        0 => ("garage_sound", 7, u32::from(reference::sound(image)), vec![]),
-        1 => ("garage_cars", 8, reference::cars(image).unwrap_or(255), vec![]),
-        2 => {
-            sent.extend(run_of(&five));
-            ("garage_allowed", 9, said(verdict), vec![])
-        }
-        _ => {
-            let size = if numbers.one_in(20) { numbers.below(8) } else { 8 + numbers.below(3) } as usize;
-            let out = any_bytes(numbers, size);
-            sent.extend(run_of(&five));
-            sent.extend(run_of(&out));
-            match instruction {
-                _ if size < 8 => ("garage_next", 10, said(NO_ROOM), out),
-                Some(instruction) if verdict.0 == 0 => ("garage_next", 10, said(verdict), put(&out, &instruction.next(image).to_le_bytes())),
-                _ => ("garage_next", 10, said(verdict), out),
-            }
-        }
-    };
-    sent.insert(0, command);
-    Trial { entry, sent, answer, left }
+    let size = if numbers.one_in(20) { numbers.below(8) } else { 8 + numbers.below(3) } as usize;
+    match numbers.below(5) {
+        0 => Given { entry: 7, image, ..Given::default() },
+        1 => Given { entry: 8, image, ..Given::default() },
+        2 => Given { entry: 9, image, input: five, ..Given::default() },
+        _ => Given { entry: 10, image, input: five, output: any_bytes(numbers, size), ..Given::default() },
+    }
 }
 
 fn trials(count: usize) -> Vec<Trial> {
@@ -218,10 +145,11 @@ fn trials(count: usize) -> Vec<Trial> {
             traffic::after(&mut station, &message);
             let lent = if numbers.one_in(3) { damaged(&mut numbers, &station) } else { station };
             match numbers.below(4) {
-                0 => record_trial(&mut numbers, lent.record),
-                1 => message_trial(&mut numbers, &lent),
-                _ => station_trial(&mut numbers, &lent),
+                0 => record_call(&mut numbers, lent.record),
+                1 => message_call(&mut numbers, &lent),
+                _ => station_call(&mut numbers, &lent),
             }
+            .trial()
         })
         .collect()
 }
@@ -231,39 +159,28 @@ fn main() {
     let [_, count, program, rest @ ..] = &words[..] else { panic!("usage: entries COMMANDS PROGRAM..") };
     let trials = trials(count.parse().expect("a number"));
     let sent: Vec<u8> = trials.iter().flat_map(|trial| trial.sent.iter().copied()).collect();
-    let mut child = Command::new(program).args(rest).stdin(Stdio::piped()).stdout(Stdio::piped()).spawn().expect("the program starts");
+    let mut child = std::process::Command::new(program).args(rest).stdin(Stdio::piped()).stdout(Stdio::piped()).spawn().expect("the program starts");
     let mut pipe = child.stdin.take().expect("a pipe");
     let sender = std::thread::spawn(move || pipe.write_all(&sent).expect("the program reads"));
     let mut answers = BufReader::new(child.stdout.take().expect("a pipe"));
-    let mut seen: BTreeMap<&str, BTreeSet<u32>> = BTreeMap::new();
+    let mut seen = vec![BTreeSet::new(); ENTRIES.len()];
     for (at, trial) in trials.iter().enumerate() {
         let (mut answer, mut left) = ([0; 4], vec![0; trial.left.len()]);
         answers.read_exact(&mut answer).expect("an answer");
         answers.read_exact(&mut left).expect("the rooms");
         let answer = u32::from_le_bytes(answer);
+        let entry = usize::from(trial.entry);
         if answer != trial.answer || left != trial.left {
-            eprintln!("command {at}, {}: {:02X?}\nreturned {answer:#x}, expected {:#x}\nleft     {left:02X?}\nexpected {:02X?}", trial.entry, trial.sent, trial.answer, trial.left);
+            eprintln!("command {at}, {}: {:02X?}\nreturned {answer:#x}, expected {:#x}\nleft     {left:02X?}\nexpected {:02X?}", ENTRIES[entry].0, trial.sent, trial.answer, trial.left);
             exit(1);
         }
-        seen.entry(trial.entry).or_default().insert(answer % 256);
+        seen[entry].insert(answer as u8);
     }
     sender.join().expect("the sender ends");
     assert!(child.wait().expect("the program ends").success());
-    let wanted: [(&str, &[u32]); 9] = [
-        ("station_start", &[0, 17]),
-        ("station_request", &[0, 1, 4, 5, 6, 7, 8, 9, 16, 17]),
-        ("station_event", &[0, 4, 6, 10, 16, 17]),
-        ("station_result", &[0, 4, 11, 12, 13, 14, 16, 17]),
-        ("station_image", &[0, 6, 15, 16, 17]),
-        ("station_ask", &[0, 16, 17]),
-        ("station_message", &[0, 1, 2, 3, 4, 5, 6, 7, 8, 9, 10, 11, 12, 13, 14, 15, 16, 17]),
-        ("garage_allowed", &[0, 4, 9]),
-        ("garage_next", &[0, 4, 9, 17]),
-    ];
-    for (entry, numbers) in wanted {
-        let numbers: BTreeSet<u32> = numbers.iter().copied().collect();
-        if seen[entry] != numbers {
-            eprintln!("{entry} gave {:?}, expected {numbers:?}", seen[entry]);
+    for ((entry, numbers), seen) in ENTRIES.iter().zip(&seen) {
+        if !numbers.is_empty() && !seen.iter().eq(*numbers) {
+            eprintln!("{entry} gave {seen:?}, expected {numbers:?}");
             exit(1);
         }
     }

@@ -6,6 +6,12 @@
 use std::io::{self, ErrorKind, Read, Write};
 use std::ops::Range;
 
+/// The garage's floor; `--cfg reduced` puts the same rules on the paper's reduced one.
+#[cfg_attr(reduced, path = "reduced.rs")]
+#[cfg_attr(not(reduced), path = "floor.rs")]
+mod floor;
+use floor::{LEFT_BELT, LIFT_CELLS, OTHER_ROWS, RIGHT_BELT, ROTATION_CELLS, ROW_1};
+
 /// What a call answers: number and place.
 pub type Answer = (u8, u8);
 pub const NO_PLACE: u8 = 255;
@@ -24,8 +30,6 @@ const HIGHER: u8 = 1; // d
 const FULL: u8 = 1; // size
 const LIFT_CAR: u32 = 52;
 const LIFT: u64 = 0b111 << LIFT_CAR; // its car and its height
-const LIFT_CELLS: Range<u32> = 11..13;
-const ROTATION_CELLS: [Range<u32>; 2] = [8..11, 13..16];
 
 fn bit(image: u64, at: u32) -> bool { image >> at & 1 == 1 }
 fn with(image: u64, at: u32, value: bool) -> u64 { image & !(1 << at) | u64::from(value) << at }
@@ -38,16 +42,17 @@ fn height(image: u64) -> u8 { (image >> 53 & 3) as u8 }
 
 /// The cells of a belt, counted from the left: five belts in row 1, three in rows 2 and 3.
 fn belt_cells(row: u8, belt: u32) -> Range<u32> {
-    let first = 10 * u32::from(row);
+    let [second, third] = OTHER_ROWS;
+    let other = if row == 2 { second } else { third };
     match (row, belt) {
-        (1, 0) => 0..2,
-        (1, 1) => 2..11,
+        (1, 0) => ROW_1.start..LEFT_BELT.start,
+        (1, 1) => LEFT_BELT,
         (1, 2) => LIFT_CELLS,
-        (1, 3) => 13..18,
-        (1, 4) => 18..20,
-        (2 | 3, 0) => first..first + 1,
-        (2 | 3, 1) => first + 1..first + 9,
-        (2 | 3, 2) => first + 9..first + 10,
+        (1, 3) => RIGHT_BELT,
+        (1, 4) => RIGHT_BELT.end..ROW_1.end,
+        (2 | 3, 0) => other.start..other.start + 1,
+        (2 | 3, 1) => other.start + 1..other.end - 1,
+        (2 | 3, 2) => other.end - 1..other.end,
         _ => 0..0,
     }
 }
@@ -77,13 +82,14 @@ pub fn sound(image: u64) -> bool { cars(image).is_some() }
 /// The number of cars in a sound record's layout; nothing for one that isn't sound.
 pub fn cars(image: u64) -> Option<u32> {
     // In rows 2 and 3 a car is one cell; the raised lift bears one more.
-    let mut cars = occupied(image, 20..40) + u32::from(bit(image, LIFT_CAR));
+    let others: u32 = OTHER_ROWS.into_iter().map(|row| occupied(image, row)).sum();
+    let mut cars = others + u32::from(bit(image, LIFT_CAR));
     // In row 1 a car is two neighbours: from the left, a cell not yet covered pairs with the next.
-    let mut cell = 0;
-    while cell < 20 {
+    let mut cell = ROW_1.start;
+    while cell < ROW_1.end {
         if !bit(image, cell) {
             cell += 1;
-        } else if cell < 19 && bit(image, cell + 1) {
+        } else if cell + 1 < ROW_1.end && bit(image, cell + 1) {
             cars += 1;
             cell += 2;
         } else {
@@ -193,7 +199,7 @@ impl Instruction {
                 both | three | mask_of(position(side, row))
             }
             // The lift and all of row 1.
-            Lift { .. } => LIFT | mask_of(0..20),
+            Lift { .. } => LIFT | mask_of(ROW_1),
             // The lift and its six cells.
             Rotate => ROTATION_CELLS.into_iter().fold(LIFT, |area, cells| area | mask_of(cells)),
         }
@@ -235,7 +241,10 @@ impl Instruction {
             // To another height; out of the basement only with the lift's cells free, or an even
             // number of cells occupied on either side of it, so that no car is torn.
             Lift { height: to } => {
-                let whole = || free(image, LIFT_CELLS) || even(image, 0..11) && even(image, 13..20);
+                let whole = || {
+                    free(image, LIFT_CELLS)
+                        || even(image, ROW_1.start..LIFT_CELLS.start) && even(image, LIFT_CELLS.end..ROW_1.end)
+                };
                 height(image) != to && (height(image) != BASEMENT || whole())
             }
             // At rotation height, the six cells beside the lift free.

@@ -1,7 +1,8 @@
 -- Cases on a test: its two answers, each with its equation, and what the answers of `&&`, `||` and `not` say.
 -- Assumes nothing.
 use mathlib.Core.Path.{_≡_, refl, sym, ap₂, _∙_, subst}
-use mathlib.Core.Bool.{Bool, true, false, cond, _&&_, _||_, true≢false, Bool·beq}
+use mathlib.Core.Bool.{Bool, true, false, cond, not, _&&_, _||_, true≢false, Bool·beq}
+use borrow.Author.Tests.{not-true, not-false}
 use lib.Dec.{T}
 
 -- a test with its equation; no test has two answers
@@ -33,6 +34,13 @@ pub alike : (a b : Bool) → (a ≡ true → b ≡ true) → (b ≡ true → a �
 alike true b f g = sym (f refl)
 alike false true f g = g refl
 alike false false f g = refl
+
+-- what a test `if !b` has told of the definition that b meets
+pub passed : {b t : Bool} → b ≡ t → not b ≡ false → t ≡ true
+passed {b} e h = sym e ∙ not-false b h
+
+pub failed : {b t : Bool} → b ≡ t → not b ≡ true → t ≡ false
+failed {b} e h = sym e ∙ not-true b h
 
 -- a test that computes: `T b` is proved by tt
 pub T→true : (b : Bool) → T b → b ≡ true

@@ -6,7 +6,7 @@ use Prim.Native.Nat.{ℕ, _^_, _<_}
 use lib.Dec.{T}
 use borrow.Author.Tests.{not-false}
 use Rattle.bits.specs.Bits.{bit, image}
-use Rattle.bits.proofs.Cases.{T→true, true→T}
+use Rattle.bits.proofs.Cases.{T→true, true→T, failed}
 use Rattle.bits.proofs.Digits.{image-bit}
 use Rattle.rules.specs.declared.Instruction.{Instruction}
 use Rattle.rules.specs.declared.Instruction.the-variants.{Rotate}
@@ -17,7 +17,7 @@ use Rattle.rules.specs.Rules.{wellFormed, allowed, next}
 use Rattle.rules.specs.Events.{possible, after}
 use Rattle.rules.specs.Verdicts.{verdictOf, movedOf, drivenOf}
 use Rattle.rules.proofs.Answering as answering
-use Rattle.rules.proofs.Answering.{failed, not-allowed, has-moved}
+use Rattle.rules.proofs.Answering.{not-allowed, has-moved}
 use Rattle.engine.specs.Private.{told}
 
 -- what is known of an instruction is known of the variant that it is

@@ -2,6 +2,7 @@ pub mod Reading
 pub mod Rows
 pub mod Layouts
 pub mod Tally
+pub mod Few
 pub mod Belts
 pub mod Scanning
 pub mod Judging

@@ -1,7 +1,8 @@
 -- The promises of specs/Promises.antt kept: each is a law of another file. Assumes nothing.
-use Rattle.floor.specs.Promises.{LayoutExactly, LayoutCars, SoundExactly, BeltsExactly}
+use Rattle.floor.specs.Promises.{LayoutExactly, LayoutCars, FewCars, SoundExactly, BeltsExactly}
 use Rattle.floor.proofs.Layouts.{layout-iff-paired, sound-iff}
 use Rattle.floor.proofs.Tally as tally
+use Rattle.floor.proofs.Few as few
 use Rattle.floor.proofs.Belts.{belt-iff-cell}
 
 pub layout-exactly : LayoutExactly
@@ -9,6 +10,9 @@ layout-exactly = layout-iff-paired
 
 pub layout-cars : LayoutCars
 layout-cars = tally.layout-cars
+
+pub few-cars : FewCars
+few-cars = few.few-cars
 
 pub sound-exactly : SoundExactly
 sound-exactly = sound-iff

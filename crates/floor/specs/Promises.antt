@@ -4,15 +4,16 @@ use mathlib.Core.Path.{_≡_}
 use mathlib.Core.Logic.{_↔_}
 use mathlib.Core.Bool.{true, false}
 use mathlib.Core.List.{List, []}
-use Prim.Native.Nat.{ℕ, _<_}
+use Prim.Native.Nat.{ℕ, _≤_, _<_}
 use lib.Dec.{T}
 use lib.ListN.{length, getD}
 use Rattle.bits.specs.Bits.{Bits, bit}
 use Rattle.bits.specs.Places.{elem}
 use Rattle.floor.specs.declared.Belt.the-variants.{On}
+use Rattle.floor.specs.declared.Total.the-variants.{Cars}
 use Rattle.floor.specs.Floor.{beltCells, beltOf}
 use Rattle.floor.specs.Cars.{Car, Layout, cars}
-use Rattle.floor.specs.Sound.{Sound, paired, sound}
+use Rattle.floor.specs.Sound.{Sound, paired, sound, total}
 
 -- a layout of cars exists exactly if row 1 splits into pairs
 abbrev pub LayoutExactly : Type 0
@@ -21,6 +22,10 @@ LayoutExactly = (f : Bits) → (paired 20 0 false f ≡ true) ↔ ((l : List Car
 -- every layout of a record has as many cars as are counted
 abbrev pub LayoutCars : Type 0
 LayoutCars = (f : Bits) (l : List Car) → Layout f l → length l ≡ cars f
+
+-- no record that is counted has more than 31
+abbrev pub FewCars : Type 0
+FewCars = (r n : ℕ) → total r ≡ Cars n → n ≤ 31
 
 -- the test of an image passes exactly if it is a sound record
 abbrev pub SoundExactly : Type 0

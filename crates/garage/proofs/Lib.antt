@@ -1,4 +1,5 @@
 pub mod Areas
+pub mod Padding
 pub mod Loops
 pub mod Marks
 pub mod Moves

@@ -1,4 +1,4 @@
--- Tests whose answer the code negates, and the loops over a set's forty bytes. Assumes nothing.
+-- The loops over a set's forty bytes. Assumes nothing.
 use Prim.Native.Nat.{ℕ, suc, _+_, _*_, _-_, _≤_, _<_}
 use native.Mathlib.Omega.{arith}
 use native.Mathlib.Numerals.{add-one}
@@ -8,21 +8,14 @@ use mathlib.Core.List.{List, [], _∷_, _++_, append-nil}
 use lib.Dec.{eqb, ltb}
 use lib.ListN.{length, getD, take, set, replicate, List·getD-eq-default}
 use lib.Seq.{take-all, take-suc, length-take-le, set-at, append-snoc}
-use borrow.Author.Tests.{lt-ltb, le-ltb, eq-eqb, ne-eqb, eqb-true, eqb-false, not-true, not-false}
+use borrow.Author.Tests.{lt-ltb, le-ltb, eq-eqb, ne-eqb, eqb-true, eqb-false}
 use Rattle.bits.specs.Search.{every}
 use Rattle.bits.proofs.Cases.{split}
 use Rattle.bits.proofs.Search.{every-is}
 use Rattle.bits.proofs.Least.{every-not}
 use Rattle.rules.specs.declared.Code.{Code}
 use Rattle.garage.specs.Held.{codeAt}
-
--- ---- negated tests
-
-pub failed : {b t : Bool} → b ≡ t → not b ≡ true → t ≡ false
-failed {b} e n = sym e ∙ not-true b n
-
-pub passed : {b t : Bool} → b ≡ t → not b ≡ false → t ≡ true
-passed {b} e n = sym e ∙ not-false b n
+use Rattle.garage.proofs.Padding.{five-at}
 
 -- what code found of the instruction that it read
 pub judged : (f : Code → Bool) {x y : Code} {b v : Bool} → x ≡ y → b ≡ f x → not b ≡ v → not (f y) ≡ v
@@ -92,9 +85,9 @@ all-used from n e h = let z : 40 - 5 * n ≡ 0 = omega arith in rw (z, take-all 
 
 -- past the eighth instruction there are only zeros
 pub past-eighth : (set : List ℕ) (i : ℕ) → length set ≡ 40 → 8 ≤ i → _≡_ {A = Code} (record { op = 0; a = 0; b = 0; c = 0; d = 0 }) (codeAt set i)
-unfolding codeAt
 past-eighth set i e h =
     rw (
+      five-at set i,
       zero (5 * i) (omega arith),
       zero (5 * i + 1) (omega arith),
       zero (5 * i + 2) (omega arith),

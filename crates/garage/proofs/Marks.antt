@@ -11,7 +11,7 @@ use lib.ListN.{getD}
 use borrow.Author.Tests.{eq-eqb, ne-eqb, eqb-true, ltb-false, leb-true, le-leb, lt-leb}
 use Rattle.bits.specs.Bits.{bit}
 use Rattle.bits.specs.Search.{some, every, least}
-use Rattle.bits.proofs.Cases.{split, clash, both, alike}
+use Rattle.bits.proofs.Cases.{split, clash, both, alike, passed}
 use Rattle.bits.proofs.Search.{every-at, every-is}
 use Rattle.bits.proofs.Digits.{bit-ext, bit-past, bit-ones}
 use Rattle.bits.proofs.Operations.{bit-and, bit-low}
@@ -20,7 +20,6 @@ use Rattle.floor.specs.Sound.{sound}
 use Rattle.garage.specs.declared.Station.{Station}
 use Rattle.garage.specs.Held.{bad}
 use Rattle.garage.specs.Station.{closed, used, fit, answering}
-use Rattle.garage.proofs.Loops.{passed}
 
 -- n marks are a byte
 pub pow-small : (n : ℕ) → n ≤ 8 → (0 < 2 ^ n) × (2 ^ n ≤ 256)

@@ -9,13 +9,14 @@ use Rattle.floor.specs.Sound.{sound}
 use Rattle.rules.specs.declared.Event.{Event}
 use Rattle.rules.specs.declared.Event.the-variants.{CarIn, CarOut}
 use Rattle.rules.specs.Events.{possible, after}
+use Rattle.rules.specs.Codes.{most}
 use Rattle.answers.specs.declared.Answer.{Answer}
 use Rattle.answers.specs.declared.Answer.the-variants.{Taken, BadField, TooMany, SetOutstanding, EmptySet, Overlap, NotAllowed, EventImpossible, NoSet, NotInSet, AlreadyAnswered, NowNotAllowed, Unsound, Unfit}
 use Rattle.answers.specs.Answers.{nowhere}
 use Rattle.garage.specs.declared.Station.{Station}
 use Rattle.garage.specs.declared.Outcome.{Outcome}
 use Rattle.garage.specs.Held.{codeAt, heldAllowed, heldNext, bad, overlapsEarlier, barred, liftIn}
-use Rattle.garage.specs.Station.{most, marked, fit, holding, opened, answering}
+use Rattle.garage.specs.Station.{marked, fit, holding, opened, answering}
 
 -- the station as it was, and why; the next station, taken
 abbrev pub refused : Station → Answer → Outcome

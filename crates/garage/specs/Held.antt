@@ -2,27 +2,20 @@
 -- never allowed and change nothing. Assumes nothing.
 use mathlib.Core.Bool.{Bool, true, false, not}
 use mathlib.Core.List.{List, []}
-use Prim.Native.Nat.{ℕ, _+_, _*_}
-use lib.ListN.{getD}
+use Prim.Native.Nat.{ℕ, _*_}
+use lib.ListN.{drop}
 use Rattle.bits.specs.Bits.{Bits, bit}
 use Rattle.bits.specs.Places.{share}
 use Rattle.bits.specs.Search.{some}
 use Rattle.floor.specs.Floor.{lift}
 use Rattle.rules.specs.declared.Code.{Code}
 use Rattle.rules.specs.Rules.{areaOf, allowed, next}
-use Rattle.rules.specs.Codes.{readCode}
+use Rattle.rules.specs.Codes.{readCode, codeFrom}
 use Rattle.rules.specs.Verdicts.{onCode}
 
--- instruction i of a set
+-- instruction i of a set: its own five bytes
 unfoldable pub codeAt : List ℕ → ℕ → Code
-codeAt set i =
-    record {
-      op = getD set (5 * i) 0;
-      a = getD set (5 * i + 1) 0;
-      b = getD set (5 * i + 2) 0;
-      c = getD set (5 * i + 3) 0;
-      d = getD set (5 * i + 4) 0;
-    }
+codeAt set i = codeFrom (drop (5 * i) set)
 
 -- whether five bytes say an instruction; its area; whether a record allows it; the record after it
 unfoldable pub isGood : Code → Bool

@@ -9,12 +9,9 @@ use lib.ListN.{getD, take, replicate}
 use Rattle.bits.specs.Bits.{bit}
 use Rattle.bits.specs.Search.{some, every}
 use Rattle.floor.specs.Sound.{sound}
+use Rattle.rules.specs.Codes.{most}
 use Rattle.garage.specs.declared.Station.{Station}
 use Rattle.garage.specs.Held.{bad}
-
--- the largest set
-abbrev pub most : ℕ
-most = 8
 
 -- no set is outstanding: no instruction and no mark
 abbrev pub closed : ℕ → Station

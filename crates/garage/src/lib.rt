@@ -244,9 +244,9 @@ impl Station {
     pub fn ask(self) -> Outcome
         ensures { λ o. ⌜ o ≡ ask self ⌝ }
     {
-        if !self.fit() {
-            return refused(self, Answer::Unfit);
+        if self.fit() {
+            return taken(self);
         }
-        taken(self)
+        refused(self, Answer::Unfit)
     }
 }

@@ -1,14 +1,14 @@
--- What holds after any calls, images apart, from a station that begins: it is fit, so its record is sound; the record is a number of 64
--- bits; and the cars are counted. Assumes nothing.
+-- What holds after any calls: the station is fit, so its record is sound; images apart, the record is a number of 64 bits and the cars
+-- are counted. Assumes nothing.
 use mathlib.Core.Path.{_∙_, _≡_, refl, ap}
 use mathlib.Core.Bool.{Bool, _&&_, true, cond, and-false, and-true}
 use mathlib.Core.List.{List, [], _∷_}
 use Prim.Native.Nat.{ℕ, _+_, _^_, _<_}
 use native.Mathlib.Omega.{arith}
 use lib.Dec.{eqb}
-use borrow.Author.Tests.{ne-eqb}
+use borrow.Author.Tests.{ne-eqb, eqb-true, eqb-false}
 use Rattle.bits.specs.Bits.{bit}
-use Rattle.bits.proofs.Cases.{clash}
+use Rattle.bits.proofs.Cases.{split, clash}
 use Rattle.bits.proofs.Digits.{packed-lt}
 use Rattle.floor.specs.Cars.{cars}
 use Rattle.floor.proofs.Promises.{layout-cars, sound-exactly}
@@ -25,8 +25,8 @@ use Rattle.garage_laws.specs.Runs.{Call, said, left, calls, Begins, atSt
 use Rattle.garage_laws.specs.Demands.{AlwaysLaidOut, CarsCounted}
 use Rattle.garage_laws.proofs.Instance.{possibleAs, afterAs, next-sound, after-sound, next-cars}
 use Rattle.garage_laws.proofs.Fits.{fit-has, fit-start, fit-holding, fit-opened, fit-answering}
-use Rattle.garage_laws.proofs.Calls.{following, answering-bits, event-is, image-has, image-is}
-use Rattle.garage_laws.proofs.Steps.{Step, refuses, opens, fails, succeeds, drives, tells, steps, parts, along}
+use Rattle.garage_laws.proofs.Calls.{following, answering-bits, event-is, image-has, image-is, untouched}
+use Rattle.garage_laws.proofs.Steps.{Step, refuses, opens, fails, succeeds, drives, tells, steps, parts}
 
 -- ---- fit
 
@@ -46,8 +46,23 @@ begins-has s (byImage before r h e) =
     let l : left before (run.image r) ≡ holding before r = ap (λ o. o .station) (image-is before r w) in
     rw l (fit-holding before r (w .0) (w .2), w .1, h)
 
+-- every call keeps a station fit, an image too
+fit-kept : (s : Station) (c : Call) → fit s ≡ true → fit (left s c) ≡ true
+fit-kept s (run.request n set) f = fit-step s _ _ (steps s (run.request n set) tt) f
+fit-kept s (run.result i done) f = fit-step s _ _ (steps s (run.result i done) tt) f
+fit-kept s (run.event e) f = fit-step s _ _ (steps s (run.event e) tt) f
+fit-kept s run.ask f = fit-step s _ _ (steps s run.ask tt) f
+fit-kept s (run.image r) f = split (eqb (said s (run.image r)) 0)
+    (λ t. let w = image-has s r (eqb-true _ 0 t) in
+    rw (ap (λ o. o .station) (image-is s r w)) (fit-holding s r f (w .2)))
+    (λ t. rw (untouched s (run.image r) (eqb-false _ 0 t)) f)
+
+fit-always : (l : List Call) (s : Station) → fit s ≡ true → fit (calls s l) ≡ true
+fit-always [] s f = f
+fit-always (c ∷ l) s f = fit-always l (left s c) (fit-kept s c f)
+
 pub always-laid-out : AlwaysLaidOut
-always-laid-out s b l p = sound-exactly _ .0 (fit-has _ (along (λ s. fit s ≡ true) fit-step l p s (begins-has s b .0)) .sound)
+always-laid-out s b l = sound-exactly _ .0 (fit-has _ (fit-always l s (begins-has s b .0)) .sound)
 
 -- ---- of 64 bits
 
@@ -108,4 +123,4 @@ counted (c ∷ l) p s =
     omega (arith, counted-step s (left s c) c (steps s c a), counted l b (left s c))
 
 pub cars-counted : CarsCounted
-cars-counted s b l p before after u v = rw (layout-cars _ before u, layout-cars _ after v) (counted l p s)
+cars-counted s l p before after u v = rw (layout-cars _ before u, layout-cars _ after v) (counted l p s)

@@ -9,10 +9,10 @@ use native.Mathlib.Omega.{arith}
 use Rattle.bits.specs.Bits.{bit}
 use Rattle.bits.proofs.Digits.{bit-ext}
 use Rattle.rules.specs.declared.Code.{Code}
-use Rattle.sets.specs.Rules.{blind}
-use Rattle.sets.specs.Machine as machine
-use Rattle.sets.specs.Machine.{Act}
-use Rattle.sets.specs.Orders as machine-orders
+use Rattle.sets.proofs.Rules.{blind}
+use Rattle.sets.proofs.Machine as machine
+use Rattle.sets.proofs.Machine.{Act}
+use Rattle.sets.proofs.Orders as machine-orders
 use Rattle.sets.proofs.Order as machine-order
 use Rattle.garage.specs.declared.Station.{Station}
 use Rattle.garage.specs.Held.{liftIn}

@@ -16,14 +16,14 @@ use Rattle.floor.specs.Sound.{sound}
 use Rattle.rules.specs.declared.EventReading.{EventReading}
 use Rattle.rules.specs.declared.EventReading.the-variants.{Good as Told, Bad as Untold}
 use Rattle.rules.specs.Events.{possible, after}
-use Rattle.rules.specs.Codes.{readEvent}
+use Rattle.rules.specs.Codes.{readEvent, most}
 use Rattle.answers.specs.declared.Answer.{Answer}
 use Rattle.answers.specs.declared.Answer.the-variants.{BadField, TooMany, SetOutstanding, EmptySet, Overlap, NotAllowed, EventImpossible, NoSet, NotInSet, AlreadyAnswered, NowNotAllowed, Unsound, Unfit}
 use Rattle.answers.specs.Answers.{numberOf, nowhere}
 use Rattle.garage.specs.declared.Station.{Station}
 use Rattle.garage.specs.declared.Outcome.{Outcome}
 use Rattle.garage.specs.Held.{codeAt, heldAllowed, heldNext, bad, overlapsEarlier, barred, liftIn}
-use Rattle.garage.specs.Station.{most, marked, fit, holding, opened, answering}
+use Rattle.garage.specs.Station.{marked, fit, holding, opened, answering}
 use Rattle.garage.specs.Calls as station
 use Rattle.garage.specs.Calls.{refused, taken, onFit, driven, succeeded}
 use Rattle.garage_laws.specs.Runs as run

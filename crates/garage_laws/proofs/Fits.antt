@@ -14,12 +14,13 @@ use Rattle.bits.proofs.Cases.{split, both}
 use Rattle.bits.proofs.Digits.{bit-none}
 use Rattle.bits.proofs.Search.{every-at, every-is, some-at}
 use Rattle.floor.specs.Sound.{paired, sound}
+use Rattle.rules.specs.Codes.{most}
 use Rattle.garage.specs.declared.Station.{Station}
 use Rattle.garage.specs.Held.{bad}
-use Rattle.garage.specs.Station.{most, fit, marked, used, closed, startOf, holding, opened, answering}
+use Rattle.garage.specs.Station.{fit, marked, used, closed, startOf, holding, opened, answering}
 use Rattle.sets.proofs.Marks.{marks}
 use Rattle.garage_laws.specs.Demands.{Acceptable}
-use Rattle.garage_laws.proofs.Padding.{kept-code, zero-past}
+use Rattle.garage.proofs.Padding.{kept-code, zero-past}
 
 pub record Fit (s : Station) : Type 0 where
   pub sound : sound (s .bits) ≡ true

@@ -14,9 +14,9 @@ use Rattle.rules.specs.declared.Code.{Code}
 use Rattle.rules.specs.declared.EventReading.{EventReading}
 use Rattle.rules.specs.declared.EventReading.the-variants.{Good as Told, Bad as Untold}
 use Rattle.rules.specs.Codes.{readEvent}
-use Rattle.sets.specs.Machine as machine
-use Rattle.sets.specs.Machine.{Outcome, failed, finished, moves, Act, result, event, outstanding}
-use Rattle.sets.specs.Orders as machine-orders
+use Rattle.sets.proofs.Machine as machine
+use Rattle.sets.proofs.Machine.{Outcome, failed, finished, moves, Act, result, event, outstanding}
+use Rattle.sets.proofs.Orders as machine-orders
 use Rattle.garage.specs.declared.Station.{Station}
 use Rattle.garage.specs.Held.{codeAt, heldAllowed, liftIn}
 use Rattle.garage.specs.Station.{fit, marked, answering}

@@ -26,7 +26,7 @@ use Rattle.rules.specs.Verdicts.{onCode}
 use Rattle.rules.proofs.Frame.{area-small}
 use Rattle.rules.proofs.CodeLaws.{one-form}
 use Rattle.rules_laws.proofs.Laws.{same-verdict, same-bits, kept-outside, events-local, image-sound, image-cars, event-image-sound}
-use Rattle.sets.specs.Rules.{Rules, Local, LocalRules, Framed, blind}
+use Rattle.sets.proofs.Rules.{Rules, Local, LocalRules, Framed, blind}
 use Rattle.sets.proofs.Frames.{local-framed}
 use Rattle.garage.specs.Held.{heldArea, heldAllowed, heldNext}
 

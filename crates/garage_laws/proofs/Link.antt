@@ -16,10 +16,10 @@ use Rattle.rules.specs.declared.Code.{Code}
 use Rattle.bits.proofs.Sharing.{share-some}
 use Rattle.garage.proofs.Areas.{held-small}
 use Rattle.answers.specs.Answers.{numberOf}
-use Rattle.sets.specs.Machine as machine
-use Rattle.sets.specs.Machine.{Batch, Outcome, failed, finished, moves, result, event, request, act, mark, outstanding, blocks, accepted, released, idle, takes, does}
-use Rattle.sets.specs.Rules.{blind}
-use Rattle.sets.specs.Traces.{Good}
+use Rattle.sets.proofs.Machine as machine
+use Rattle.sets.proofs.Machine.{Batch, Outcome, failed, finished, moves, result, event, request, act, mark, outstanding, blocks, accepted, released, idle, takes, does}
+use Rattle.sets.proofs.Rules.{blind}
+use Rattle.sets.proofs.Traces.{Good}
 use Rattle.sets.proofs.Facts.{is-accepted}
 use Rattle.sets.proofs.Marks.{marks, unmarked}
 use Rattle.sets.proofs.Trace.{call-good}
@@ -29,7 +29,8 @@ use Rattle.garage.specs.Station.{closed, opened, answering}
 use Rattle.garage_laws.specs.Runs.{Call, Begins}
 use Rattle.garage_laws.specs.Demands.{Acceptable, Waiting, NeverFourteen}
 use Rattle.garage_laws.proofs.Instance.{rules, framed}
-use Rattle.garage_laws.proofs.Padding.{kept-code, no-code}
+use Rattle.garage.proofs.Padding.{kept-code}
+use Rattle.garage_laws.proofs.Padding.{no-code}
 use Rattle.garage_laws.proofs.Fits.{fit-has, some-every, marksWith, after-result}
 use Rattle.garage_laws.proofs.Calls.{following, each-call}
 use Rattle.garage_laws.proofs.Always.{begins-has}

@@ -7,8 +7,8 @@ use Prim.Native.Nat.{ℕ, _+_}
 use native.Mathlib.Omega.{arith}
 use lib.Dec.{eqb}
 use Rattle.bits.specs.Bits.{digit}
-use Rattle.sets.specs.Machine.{Outcome, failed, finished, moves, Act, result, event}
-use Rattle.sets.specs.Orders as machine-orders
+use Rattle.sets.proofs.Machine.{Outcome, failed, finished, moves, Act, result, event}
+use Rattle.sets.proofs.Orders as machine-orders
 use Rattle.sets.proofs.Exists as exists
 use Rattle.garage_laws.specs.Runs as run
 use Rattle.garage_laws.specs.Runs.{Call, NoImages}

@@ -12,10 +12,10 @@ use Rattle.floor.specs.Cars.{Car, Layout}
 use Rattle.floor.specs.Sound.{Sound}
 use Rattle.rules.specs.declared.Event.{Event}
 use Rattle.rules.specs.Events.{possible, after}
-use Rattle.rules.specs.Codes.{eventCode}
+use Rattle.rules.specs.Codes.{eventCode, most}
 use Rattle.garage.specs.declared.Station.{Station}
 use Rattle.garage.specs.Held.{codeAt, isGood, heldArea, heldAllowed, heldNext, liftIn}
-use Rattle.garage.specs.Station.{most, fit, marked, holding, opened, answering}
+use Rattle.garage.specs.Station.{fit, marked, holding, opened, answering}
 use Rattle.garage_laws.specs.Runs as run
 use Rattle.garage_laws.specs.Runs.{Call, said, left, calls, Begins, NoImages, Reached, driven}
 use Rattle.garage_laws.specs.Orders.{Order, Alike}
@@ -80,14 +80,15 @@ ImageTaken =
 
 -- ---- 3. Sets are safe in any order
 
--- whatever calls follow, the record is sound: its occupied places can be laid out as whole cars, none on another, each on belts that are there
+-- whatever calls follow, images too, the record is sound: its occupied places can be laid out as whole cars, none on another, each on
+-- belts that are there
 abbrev pub AlwaysLaidOut : Type 0
-AlwaysLaidOut = (s : Station) → Begins s → (l : List Call) → NoImages l → Sound (bit (calls s l .bits))
+AlwaysLaidOut = (s : Station) → Begins s → (l : List Call) → Sound (bit (calls s l .bits))
 
--- with as many cars as at the start, plus those driven in, less those driven out
+-- with as many cars as at the start, plus those driven in, less those driven out; an image that is taken is a new start
 abbrev pub CarsCounted : Type 0
 CarsCounted =
-    (s : Station) → Begins s → (l : List Call) → NoImages l
+    (s : Station) (l : List Call) → NoImages l
     → (before after : List Car) → Layout (bit (s .bits)) before → Layout (bit (calls s l .bits)) after
     → length after + driven 2 s l ≡ length before + driven 1 s l
 

@@ -3,20 +3,12 @@
 use mathlib.Core.Path.{_≡_, sym, ap, _∙_}
 use mathlib.Core.Bool.{Bool, true, false, not}
 use Prim.Native.Nat.{ℕ}
-use borrow.Author.Tests.{not-true, not-false}
 use Rattle.bits.specs.Bits.{bit, image}
 use Rattle.rules.specs.declared.Instruction.{Instruction}
 use Rattle.rules.specs.declared.Verdict.{Verdict}
 use Rattle.rules.specs.declared.Moved.{Moved}
 use Rattle.rules.specs.Rules.{wellFormed, allowed, next}
 use Rattle.rules.specs.Verdicts.{verdictOf, movedOf}
-
--- what a test `if !b` has told of the definition that b meets
-pub passed : {b t : Bool} → b ≡ t → not b ≡ false → t ≡ true
-passed {b} e h = sym e ∙ not-false b h
-
-pub failed : {b t : Bool} → b ≡ t → not b ≡ true → t ≡ false
-failed {b} e h = sym e ∙ not-true b h
 
 module _ (i : Instruction) (r : ℕ) where
   pub ill-formed : wellFormed i ≡ false → (Verdict.IllFormed ≡ verdictOf i r) × (Moved.IllFormed ≡ movedOf i r)

@@ -41,12 +41,16 @@ readCode x =
     Bad))))
 
 -- five bytes from the start of a run of bytes
-abbrev pub codeAt : List ℕ → Code
-codeAt s = record { op = getD s 0 0; a = getD s 1 0; b = getD s 2 0; c = getD s 3 0; d = getD s 4 0 }
+abbrev pub codeFrom : List ℕ → Code
+codeFrom s = record { op = getD s 0 0; a = getD s 1 0; b = getD s 2 0; c = getD s 3 0; d = getD s 4 0 }
 
 -- what a run of bytes says: fewer than five say nothing, and those past the fifth are not looked at
 unfoldable pub readBytes : List ℕ → Reading
-readBytes s = cond (ltb (length s) 5) Bad (readCode (codeAt s))
+readBytes s = cond (ltb (length s) 5) Bad (readCode (codeFrom s))
+
+-- the largest set of instructions
+abbrev pub most : ℕ
+most = 8
 
 -- the byte of an event
 abbrev pub eventCode : Event → ℕ

@@ -19,11 +19,12 @@ use Rattle.floor.proofs.Reading.{inside, inside-at, all-agree, nth-holds}
 use Rattle.floor.proofs.Rows.{Whole, whole-iff-paired}
 use Rattle.floor.proofs.Promises.{layout-exactly, sound-exactly}
 use Rattle.rules.specs.declared.Instruction.{Instruction}
+use Rattle.rules.specs.declared.Event.{Event}
 use Rattle.rules.specs.declared.Event.the-variants.{CarIn, CarOut}
 use Rattle.rules.specs.Rules.{wellFormed, conditions, allowed, next}
 use Rattle.rules.specs.Events.{eventConditions, possible, after}
 use Rattle.rules.proofs.Frame as frame
-use Rattle.rules_laws.specs.Laws.{SameVerdict, SameBits, KeptOutside, EventsLocal, StaysSound, SameCars, EventSound, Counted, EventCars, ImageSound, ImageCars, EventImageSound, EventImageCars}
+use Rattle.rules_laws.specs.Laws.{SameVerdict, SameBits, KeptOutside, EventsLocal, StaysSound, SameCars, EventSound, Counted, EventCars}
 use Rattle.rules_laws.proofs.Shift.{whole-same}
 use Rattle.rules_laws.proofs.RulesKept.{instruction-rules, event-rules}
 use Rattle.rules_laws.proofs.Moves.{Safe, safe, cars-same}
@@ -98,7 +99,7 @@ event-cars CarOut f ok = less (count (rowCells 1) f / 2 + count (rowCells 2 ++ r
     less n true t = omega arith
     less n false t = absurd t
 
--- ---- records as numbers
+-- ---- the same of records as the numbers that the station keeps
 
 module _ (g : Bits) where
   in-image : (k : ℕ) → T (elem k (from 0 64)) → bit (image g) k ≡ g k
@@ -116,14 +117,16 @@ module _ (g : Bits) where
     rules = all-agree (from 0 64) (bit (image g)) g in-image soundRules tt ∙ s .rules;
   })
 
-pub image-sound : ImageSound
+-- an allowed instruction makes a sound image of a sound image, with the same number of cars
+pub image-sound : (i : Instruction) (r : ℕ) → sound r ≡ true → allowed i (bit r) ≡ true → sound (image (next i (bit r))) ≡ true
 image-sound i r s ok = sound-image (next i (bit r)) (stays-sound i (bit r) (sound-exactly r .0 s) ok)
 
-pub image-cars : ImageCars
+pub image-cars : (i : Instruction) (r : ℕ) → sound r ≡ true → allowed i (bit r) ≡ true → cars (bit (image (next i (bit r)))) ≡ cars (bit r)
 image-cars i r s ok = cars-image (next i (bit r)) ∙ same-cars i (bit r) (sound-exactly r .0 s) ok
 
-pub event-image-sound : EventImageSound
+-- a possible event too, with one car more or one less
+pub event-image-sound : (e : Event) (r : ℕ) → sound r ≡ true → possible e (bit r) ≡ true → sound (image (after e (bit r))) ≡ true
 event-image-sound e r s ok = sound-image (after e (bit r)) (event-sound e (bit r) (sound-exactly r .0 s) ok)
 
-pub event-image-cars : EventImageCars
+pub event-image-cars : (e : Event) (r : ℕ) → possible e (bit r) ≡ true → Counted e (cars (bit (image (after e (bit r))))) (cars (bit r))
 event-image-cars e r ok = subst (λ (n : ℕ). Counted e n (cars (bit r))) (sym (cars-image (after e (bit r)))) (event-cars e (bit r) ok)

@@ -3,11 +3,11 @@
 use mathlib.Core.Path.{_≡_}
 use mathlib.Core.Bool.{true, false}
 use Prim.Native.Nat.{ℕ, suc}
-use Rattle.bits.specs.Bits.{Bits, bit, image}
+use Rattle.bits.specs.Bits.{Bits}
 use Rattle.bits.specs.Places.{elem}
 use Rattle.floor.specs.Floor.{lift}
 use Rattle.floor.specs.Cars.{cars}
-use Rattle.floor.specs.Sound.{Sound, sound}
+use Rattle.floor.specs.Sound.{Sound}
 use Rattle.rules.specs.declared.Instruction.{Instruction}
 use Rattle.rules.specs.declared.Event.{Event}
 use Rattle.rules.specs.declared.Event.the-variants.{CarIn, CarOut}
@@ -64,21 +64,3 @@ Counted CarOut n m = suc n ≡ m
 -- after a possible event
 abbrev pub EventCars : Type 0
 EventCars = (e : Event) (f : Bits) → possible e f ≡ true → Counted e (cars (after e f)) (cars f)
-
--- ---- the same of records as the numbers that the station keeps
-
--- an allowed instruction makes a sound image of a sound image
-abbrev pub ImageSound : Type 0
-ImageSound = (i : Instruction) (r : ℕ) → sound r ≡ true → allowed i (bit r) ≡ true → sound (image (next i (bit r))) ≡ true
-
--- with the same number of cars
-abbrev pub ImageCars : Type 0
-ImageCars = (i : Instruction) (r : ℕ) → sound r ≡ true → allowed i (bit r) ≡ true → cars (bit (image (next i (bit r)))) ≡ cars (bit r)
-
--- a possible event makes a sound image of a sound image
-abbrev pub EventImageSound : Type 0
-EventImageSound = (e : Event) (r : ℕ) → sound r ≡ true → possible e (bit r) ≡ true → sound (image (after e (bit r))) ≡ true
-
--- with one car more or one less
-abbrev pub EventImageCars : Type 0
-EventImageCars = (e : Event) (r : ℕ) → possible e (bit r) ≡ true → Counted e (cars (bit (image (after e (bit r))))) (cars (bit r))

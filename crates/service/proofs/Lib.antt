@@ -3,3 +3,4 @@ pub mod Ranges
 pub mod Running
 mod Turns
 pub mod Pieces
+pub mod Determined

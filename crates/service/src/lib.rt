@@ -121,7 +121,7 @@ fn say(what: What, out: &mut [u8]) -> usize
     requires { ⌜ (inRange what ≡ true) × (length (said what) ≤ length (now out)) ⌝ }
     ensures { λ n. ⌜ (n ≡ length (said what)) × (now (out .exit) ≡ said what ++ drop (length (said what)) (now (out .entry))) ⌝ }
 {
-    let w = wire::write_plain(what, out);
+    let w = wire::writing::write_plain(what, out);
     w.size
 }
 
@@ -206,5 +206,5 @@ pub fn finish(held: &[u8], out: &mut [u8]) -> Written
         };
     }
     let answer = told(Answer::TooFewBytes);
-    wire::write_plain(answer, out)
+    wire::writing::write_plain(answer, out)
 }

@@ -8,9 +8,9 @@ use mathlib.Core.List.{List, [], _∷_, _++_, map}
 use mathlib.Core.Bool.{true, false, not, cond, _&&_, and-false}
 use lib.Dec.{ltb, eqb}
 use borrow.Author.Tests.{ltb-true, ltb-false, lt-ltb, le-ltb, eqb-true, eqb-false, ne-eqb}
-use Rattle.sets.specs.Machine.{Outcome, Act, result, event}
-use Rattle.sets.specs.Orders.{resultsOf, eventsOf, AsChosen, Order}
-use Rattle.sets.specs.Statements.{OrdersExist}
+use Rattle.sets.proofs.Machine.{Outcome, Act, result, event}
+use Rattle.sets.proofs.Orders.{resultsOf, eventsOf, AsChosen, Order}
+use Rattle.sets.proofs.Statements.{OrdersExist}
 use Rattle.bits.proofs.Cases.{split}
 
 -- ---- one more result at the end

@@ -7,9 +7,9 @@ use mathlib.Core.Logic.{_⊎_, inl, inr}
 use mathlib.Core.Bool.{Bool, true, false, not, _&&_, or-true}
 use lib.Dec.{ltb, leb, eqb}
 use borrow.Author.Tests.{le-leb, ltb-true, ltb-false, not-true, eqb-true, eq-eqb}
-use Rattle.sets.specs.Rules.{Rules, Clear}
-use Rattle.sets.specs.Machine.{Batch, Station, most, mark, outstanding, meets, apart, accepted, blocks}
-use Rattle.sets.specs.Traces.{Apart}
+use Rattle.sets.proofs.Rules.{Rules, Clear}
+use Rattle.sets.proofs.Machine.{Batch, Station, most, mark, outstanding, meets, apart, accepted, blocks}
+use Rattle.sets.proofs.Traces.{Apart}
 use Rattle.bits.proofs.Cases.{split, clash, off, both}
 use Rattle.bits.proofs.Search.{every-at, every-is, none-at, some-at}
 

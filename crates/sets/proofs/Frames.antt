@@ -3,8 +3,8 @@
 use Prim.Native.Nat.{ℕ}
 use mathlib.Core.Path.{_≡_, refl}
 use mathlib.Core.Bool.{Bool, true}
-use Rattle.sets.specs.Rules.{Rules, Local, Within}
-use Rattle.sets.specs.Statements.{LocalIsFramed}
+use Rattle.sets.proofs.Rules.{Rules, Local, Within}
+use Rattle.sets.proofs.Statements.{LocalIsFramed}
 
 -- of one test and change
 pub local-within : {W C O : Type 0} {width : ℕ} {look : W → ℕ → C} {sound : W → Bool} {view : W → O} {a : ℕ → Bool} {tests : W → Bool} {change : W → W}

@@ -9,9 +9,9 @@ use mathlib.Core.Logic.{⊎-elim}
 use mathlib.Core.Bool.{Bool, true, false, not, _&&_}
 use lib.Dec.{eqb}
 use borrow.Author.Tests.{eqb-false}
-use Rattle.sets.specs.Rules.{Rules, Agree, Same, Within, Framed}
-use Rattle.sets.specs.Machine.{Batch, Outcome, moves, mark, blocks}
-use Rattle.sets.specs.Orders.{eventAlone, AtEnd}
+use Rattle.sets.proofs.Rules.{Rules, Agree, Same, Within, Framed}
+use Rattle.sets.proofs.Machine.{Batch, Outcome, moves, mark, blocks}
+use Rattle.sets.proofs.Orders.{eventAlone, AtEnd}
 use Rattle.bits.proofs.Cases.{split, clash, off, both, neither}
 use Rattle.bits.proofs.Search.{found}
 use Rattle.sets.proofs.Facts.{mark-here, mark-kept, mark-cases, blocks-clear, Ready}

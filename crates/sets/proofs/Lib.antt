@@ -1,4 +1,10 @@
--- The proofs of this crate. `Frames`, `Order`, `Exists` and `Trace` end with the theorems; the others lead up to them.
+-- The station over any rules, and that its sets are safe in any order: a means of proof for the demands, which speak of the real calls.
+-- `Rules`, `Machine`, `Orders` and `Traces` define it, `Statements` says what is proved; the rest leads up to that.
+pub mod Rules
+pub mod Machine
+pub mod Orders
+pub mod Traces
+pub mod Statements
 pub mod Marks
 pub mod Frames
 pub mod Facts

@@ -8,7 +8,7 @@ use lib.Bits.{bitOr}
 use Rattle.bits.specs.Bits.{bit}
 use Rattle.bits.proofs.Digits.{bit-none, bit-pow}
 use Rattle.bits.proofs.Operations.{bit-or}
-use Rattle.sets.specs.Machine.{mark}
+use Rattle.sets.proofs.Machine.{mark}
 
 pub unmarked : bit 0 ≡ (λ j. false)
 unmarked = fun-ext bit-none

@@ -1,19 +1,18 @@
--- An accepted set is safe in any order of its results (`any-order`, and of calls `any-order-of-calls`), and ends with a
--- record that the order has no part in (`end-record`).
+-- An accepted set is safe in any order of its results (`any-order`): it ends with a record that the order has no part in.
 -- The list of acts is followed from its front. What is still to come is one result of each instruction that has none
 -- (`Owed`), with a result last; so as long as something is to come the set is outstanding, and the invariant goes on from
 -- act to act to the end, where nothing comes after the last result. Assumes nothing.
 use Prim.Native.Nat.{ℕ, _<_}
 use native.Mathlib.Omega.{arith}
 use mathlib.Core.Path.{_≡_, refl, sym, ap, ap₂, _∙_}
-use mathlib.Core.List.{List, [], _∷_, _++_, map}
+use mathlib.Core.List.{List, [], _∷_, _++_}
 use mathlib.Core.Bool.{Bool, true, false, not, cond, _&&_, and-false}
 use lib.Dec.{ltb, eqb}
 use borrow.Author.Tests.{ltb-true, ltb-false, lt-ltb, eqb-true, eq-eqb}
-use Rattle.sets.specs.Rules.{Rules, Framed}
-use Rattle.sets.specs.Machine.{Batch, Station, Outcome, moves, Act, result, event, request, act, mark, opened, outstanding, accepted, noted, idle, released, taken, step, run, call, calls}
-use Rattle.sets.specs.Orders.{resultsOf, eventsOf, AsChosen, Order, Fair, replies, eventAlone, eventsAlone, AtEnd}
-use Rattle.sets.specs.Statements.{AnyOrder, AnyOrderOfCalls, EndRecord}
+use Rattle.sets.proofs.Rules.{Rules, Framed}
+use Rattle.sets.proofs.Machine.{Batch, Station, Outcome, moves, Act, result, event, mark, opened, outstanding, accepted, noted, idle, released, taken, step, run}
+use Rattle.sets.proofs.Orders.{resultsOf, eventsOf, AsChosen, Order, Fair, replies, eventAlone, eventsAlone, AtEnd}
+use Rattle.sets.proofs.Statements.{AnyOrder}
 use Rattle.bits.proofs.Cases.{split, clash, both}
 use Rattle.bits.proofs.Search.{none-is}
 use Rattle.sets.proofs.Facts.{due, still-open, accepted-ready}
@@ -134,16 +133,9 @@ module _ {W C O P I E : Type 0} {R : Rules W C I E} {view : I → W → O} {glan
 
 -- ---- the theorem
 
-run-calls : {W C I E : Type 0} (R : Rules W C I E) (s : Station W I) (l : List (Act E)) → calls R s (map act l) ≡ run R s l
-run-calls R s [] = refl
-run-calls R s (a ∷ l) = run-calls R (step R s a) l
-
 module _ {W C O P I E : Type 0} (R : Rules W C I E) (view : I → W → O) (glance : E → W → P) (F : Framed R view glance) where
   abbrev scene : (b : Batch I) (f : W) → R .sound f ≡ true → accepted R b f ≡ true → (ℕ → Outcome) → Scene R view glance
   scene b f z t choice = record { frame = F; set = b; start = f; sound = z; ready = accepted-ready R b f t; choice = choice }
-
-  pub end-record : EndRecord R
-  end-record b f z t choice es l O = rw (← O .events) (settled (scene b f z t choice) es l O .end)
 
   pub any-order : AnyOrder R
   any-order b f z t choice es l m P Q =
@@ -151,11 +143,3 @@ module _ {W C O P I E : Type 0} (R : Rules W C I E) (view : I → W → O) (glan
       let r = settled (scene b f z t choice) es m Q in
       let e : eventsOf l ≡ eventsOf m = P .events ∙ sym (Q .events) in
       record { fair = (s .fair, r .fair); closed = (s .closed, r .closed); sound = (s .sound, r .sound); replies = s .replied ∙ rw e (sym (r .replied)); bits = same-end (s .end) (rw e (r .end)) }
-
-  pub any-order-of-calls : AnyOrderOfCalls R
-  any-order-of-calls ext s z b t choice es l m P Q =
-      let a = any-order b (s .bits) z (both (not (outstanding s)) _ t .1) choice es l m P Q in
-      come l ∙ a .closed .0 ∙ ap (idle R) (ext _ _ (a .sound .0) (a .sound .1) (a .bits)) ∙ sym (come m ∙ a .closed .1)
-    where
-      come : (l : List (Act E)) → calls R s (request b ∷ map act l) ≡ run R (opened b (s .bits)) l
-      come l = let e : call R s (request b) ≡ opened b (s .bits) = rw t in run-calls R (call R s (request b)) l ∙ ap (λ x. run R x l) e

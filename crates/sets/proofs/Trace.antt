@@ -1,17 +1,13 @@
--- After any calls the station is in good order (`always-good`), so that no success is reported of an instruction that is
--- not allowed (`never-fourteen`), and its cars are counted (`cars-counted`). Each is shown of one call and goes on from
--- call to call. Assumes nothing.
-use Prim.Native.Nat.{ℕ}
+-- A call keeps a station in good order. Assumes nothing.
 use native.Mathlib.Omega.{arith}
 use mathlib.Core.Path.{_≡_, sym, _∙_}
-use mathlib.Core.List.{List, [], _∷_}
-use mathlib.Core.Bool.{true, false, not, cond, _&&_}
+use mathlib.Core.Bool.{true, false, not, _&&_}
 use lib.Dec.{eqb}
 use borrow.Author.Tests.{not-true, eqb-false}
-use Rattle.sets.specs.Rules.{Rules, Clear, Framed, KeepsCars}
-use Rattle.sets.specs.Machine.{Station, failed, finished, result, event, Call, request, act, image, noted, released, outstanding, blocks, takes, does, call, calls}
-use Rattle.sets.specs.Traces.{Good, Tally, Balanced, counted, tally}
-use Rattle.sets.specs.Statements.{GoodAtStart, AlwaysGood, NeverFourteen, CarsCounted}
+use Rattle.sets.proofs.Rules.{Rules, Clear, Framed}
+use Rattle.sets.proofs.Machine.{Station, failed, finished, result, event, Call, request, act, image, noted, released, outstanding, blocks, takes, does, call}
+use Rattle.sets.proofs.Traces.{Good}
+use Rattle.sets.proofs.Statements.{GoodAtStart}
 use Rattle.bits.proofs.Cases.{split, clash, both, neither}
 use Rattle.sets.proofs.Facts.{due, still-open, accepted-ready, blocks-clear}
 
@@ -23,12 +19,6 @@ module _ {W C I E : Type 0} (R : Rules W C I E) where
 
   released-good : (s : Station W I) → Good R s → Good R (released R s)
   released-good s G = split (outstanding s) (λ t. rw t G) (λ t. rw t (good-at-start (s .bits) (G .sound)))
-
-  released-bits : (s : Station W I) → released R s .bits ≡ s .bits
-  released-bits s = split (outstanding s) (λ t. rw t) (λ t. rw t)
-
-  pub never-fourteen : NeverFourteen R
-  never-fourteen s G i o t = let (h, free) = due (s .set .size) (s .answered) i t in G .allowed i h free
 
 -- ---- in good order
 
@@ -70,28 +60,3 @@ module _ {W C O P I E : Type 0} (R : Rules W C I E) (view : I → W → O) (glan
 
   pub call-good : (s : Station W I) → Good R s → (c : Call W I E) → Good R (call R s c)
   call-good s G c = split (takes R s c) (λ t. rw t (does-good s G c t)) (λ t. rw t G)
-
-  pub always-good : AlwaysGood R
-  always-good s G [] = G
-  always-good s G (c ∷ l) = always-good (call R s c) (call-good s G c) l
-
-  -- ---- the cars
-
-  module _ (cars : W → ℕ) (gains loses : E → W → ℕ) (K : KeepsCars R cars gains loses) where
-    does-balanced : (s : Station W I) → Good R s → (c : Call W I E) → takes R s c ≡ true → (t : Tally) → Balanced cars s t → Balanced cars (does R s c) (counted R cars gains loses s c t)
-    does-balanced s G (request b) y t r = r
-    does-balanced s G (image f) y t r = omega arith
-    does-balanced s G (act (result i failed)) y t r = rw (released-bits R (noted R s i failed)) r
-    does-balanced s G (act (result i finished)) y t r = rw (released-bits R (noted R s i finished), K .instruction (s .set .at i) (s .bits) (G .sound) (never-fourteen R s G i finished y)) r
-    does-balanced s G (act (event e)) y t r = omega (arith, K .event e (s .bits) (G .sound) (both (not (outstanding s && blocks R (s .set))) _ y .1))
-
-    pub call-balanced : (s : Station W I) → Good R s → (c : Call W I E) (t : Tally) → Balanced cars s t → Balanced cars (call R s c) (cond (takes R s c) (counted R cars gains loses s c t) t)
-    call-balanced s G c t r = split (takes R s c) (λ y. rw y (does-balanced s G c y t r)) (λ y. rw y r)
-
-    -- from any count that is right
-    pub calls-balanced : (s : Station W I) → Good R s → (l : List (Call W I E)) (t : Tally) → Balanced cars s t → Balanced cars (calls R s l) (tally R cars gains loses s l t)
-    calls-balanced s G [] t r = r
-    calls-balanced s G (c ∷ l) t r = calls-balanced (call R s c) (call-good s G c) l _ (call-balanced s G c t r)
-
-    pub cars-counted : CarsCounted R cars gains loses
-    cars-counted s G l = calls-balanced s G l _ (omega arith)

@@ -1,1 +1,1 @@
-// The station over any rules: definitions in specs/, theorems in proofs/, no code.
+// The station over any rules: definitions and theorems in proofs/, no code.

@@ -1,5 +1,6 @@
 pub mod Rooms
 pub mod Padding
-pub mod Few
+pub mod Judging
 pub mod Exchanging
 pub mod Promises
+pub mod Determined

@@ -1,12 +1,12 @@
 -- A request rests on the five bytes of its instructions alone: zeros past them change nothing. Assumes nothing.
-use mathlib.Core.Path.{_≡_, refl, sym, _∙_, ap₂, fun-ext}
+use mathlib.Core.Path.{_≡_, refl, sym, _∙_, ap₂}
 use mathlib.Core.Bool.{not, cond}
-use mathlib.Core.List.{List, [], _∷_, _++_}
-use Prim.Native.Nat.{ℕ, zero, suc, _*_, _-_, _≤_, _<_}
+use mathlib.Core.List.{List, _++_}
+use Prim.Native.Nat.{ℕ, _*_, _-_, _≤_, _<_}
 use native.Mathlib.Omega.{arith}
 use borrow.Author.Tests.{lt-ltb, le-ltb, le-leb, lt-leb}
 use lib.Dec.{eqb, ltb}
-use lib.ListN.{length, getD, take, replicate}
+use lib.ListN.{length, take, replicate}
 use lib.Seq.{take-at, length-take-le, take-all}
 use Rattle.bits.specs.Bits.{bit}
 use Rattle.bits.specs.Places.{share}
@@ -17,22 +17,10 @@ use Rattle.garage.specs.declared.Station.{Station}
 use Rattle.garage.specs.declared.Outcome.{Outcome}
 use Rattle.garage.specs.Held.{codeAt, isGood, heldArea, heldAllowed, overlapsEarlier}
 use Rattle.garage.specs.Calls.{refused, taken, onFit, unlessAny, request}
+use Rattle.garage.proofs.Padding.{padded-code}
+use Rattle.wire.specs.Kinds.{setOf}
+use Rattle.wire.proofs.Parts.{set-short}
 use Rattle.station_c.specs.Entries.{requestOf}
-
--- zeros at the end of a run are what its bytes past the end count as
-zeros-at : (m k : ℕ) → _≡_ {A = ℕ} (getD (replicate m 0) k 0) 0
-zeros-at zero k = refl
-zeros-at (suc m) zero = refl
-zeros-at (suc m) (suc k) = zeros-at m k
-
-padded-at : (l : List ℕ) (m k : ℕ) → getD (l ++ replicate m 0) k 0 ≡ getD l k 0
-padded-at [] m k = zeros-at m k
-padded-at (x ∷ l) m zero = refl
-padded-at (x ∷ l) m (suc k) = padded-at l m k
-
-padded-code : (l : List ℕ) (m : ℕ) → codeAt (l ++ replicate m 0) ≡ codeAt l
-unfolding codeAt
-padded-code l m = fun-ext (λ i. simp padded-at)
 
 module _ (s : Station) (n : ℕ) where
   -- a request by its instructions and the bytes that are kept of them
@@ -68,6 +56,8 @@ module _ (s : Station) (n : ℕ) where
     too-few h l = rw (le-leb _ _ h, lt-ltb _ _ l)
 
     -- the bytes of the instructions, with zeros past them
-    pub enough : {a : List ℕ} → n ≤ 8 → 5 * n ≤ length set → a ≡ take (5 * n) set ++ replicate (40 - length (take (5 * n) set)) 0 → request s n a ≡ requestOf n set s
+    pub enough : {a : List ℕ} → n ≤ 8 → 5 * n ≤ length set → a ≡ setOf (take (5 * n) set) → request s n a ≡ requestOf n set s
     unfolding requestOf
-    enough h l e = rw (le-leb _ _ h, le-ltb _ _ l, e) (padded (take (5 * n) set) (40 - length (take (5 * n) set)) (length-take-le (5 * n) set l))
+    enough h l e =
+        let short : length (take (5 * n) set) ≤ 40 = rw (length-take-le (5 * n) set l) (omega arith) in
+        rw (le-leb _ _ h, le-ltb _ _ l, e ∙ set-short (take (5 * n) set) short) (padded (take (5 * n) set) (40 - length (take (5 * n) set)) (length-take-le (5 * n) set l))

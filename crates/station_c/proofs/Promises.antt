@@ -9,12 +9,11 @@ use lib.ListN.{length, getD, take, drop}
 use lib.Seq.{take-at, take-add, drop-cons}
 use Rattle.bits.proofs.Cases.{split}
 use Rattle.answers.specs.declared.Answer.{Answer}
-use Rattle.answers.specs.declared.Answer.the-variants.{Taken, TooFewBytes, BadLength, UnknownKind, BadField, TooMany, SetOutstanding, EmptySet, Overlap, NotAllowed, EventImpossible, NoSet, NotInSet, AlreadyAnswered, NowNotAllowed, Unsound, Unfit, NoRoom}
 use Rattle.answers.specs.Answers.{numberOf}
+use Rattle.answers.proofs.Promises.{in-table}
 use Rattle.wire_laws.proofs.Numbers.{image-reads-back, image-one-form}
 use Rattle.station_c.specs.Entries.{stationBytes, stationOf, writes, entry}
-use Rattle.station_c.specs.Promises.{StationFits, StationReadsBack, StationOneForm, SaidReadsBack, RefusedUntouched, FewCars}
-use Rattle.station_c.proofs.Few as few
+use Rattle.station_c.specs.Promises.{StationFits, StationReadsBack, StationOneForm, SaidReadsBack, RefusedUntouched}
 
 pub station-fits : StationFits
 unfolding stationBytes
@@ -31,29 +30,8 @@ station-one-form room b h =
     ap (λ (l : List ℕ). l ++ (getD room 8 0 ∷ getD room 9 0 ∷ take 40 (drop 10 room))) (sym (image-one-form room b (omega arith)))
     ∙ sym (take-add 8 42 room ∙ ap (λ (l : List ℕ). take 8 room ++ take 42 l) two)
 
--- the numbers of the table are bytes
-number-small : (a : Answer) → numberOf a < 256
-number-small Taken = omega arith
-number-small TooFewBytes = omega arith
-number-small BadLength = omega arith
-number-small UnknownKind = omega arith
-number-small (BadField p) = omega arith
-number-small TooMany = omega arith
-number-small SetOutstanding = omega arith
-number-small EmptySet = omega arith
-number-small (Overlap p) = omega arith
-number-small (NotAllowed p) = omega arith
-number-small EventImpossible = omega arith
-number-small NoSet = omega arith
-number-small NotInSet = omega arith
-number-small AlreadyAnswered = omega arith
-number-small NowNotAllowed = omega arith
-number-small Unsound = omega arith
-number-small Unfit = omega arith
-number-small NoRoom = omega arith
-
 pub said-reads-back : SaidReadsBack
-said-reads-back a = let h = number-small a in (omega arith, omega arith)
+said-reads-back a = let h = in-table a in (omega arith, omega arith)
 
 pub refused-untouched : RefusedUntouched
 unfolding entry writes
@@ -62,6 +40,3 @@ refused-untouched call room h = split (ltb (length room) 50)
     (λ t. let o = call (stationOf room) in
     let n : numberOf (o .answer) ≡ 0 → ⊥ = λ z. h (rw t (said-reads-back (o .answer) .0 ∙ z)) in
     rw (t, ne-eqb (numberOf (o .answer)) 0 n))
-
-pub few-cars : FewCars
-few-cars = few.few-cars

@@ -14,16 +14,17 @@ use Rattle.garage.specs.declared.Station.{Station}
 use Rattle.garage.specs.declared.Outcome.{Outcome}
 use Rattle.garage.specs.Calls.{ask}
 use Rattle.rules.specs.declared.Moved.{Moved}
-use Rattle.wire.specs.Kinds.{littleEndian}
+use Rattle.wire.specs.Kinds.{littleEndian, setOf}
+use Rattle.wire.proofs.Parts.{set-short}
 use Rattle.station_c.specs.Entries.{stationBytes, stationOf, said, Leaves, writes, entry, asking, moved, told, recordIn, nexting}
 
 -- ---- a station in bytes
 
 -- the set of a loaded station
-pub set-in : (m set : List ℕ) → 50 ≤ length m → set ≡ take 40 (drop 10 m) ++ replicate (40 - length (take 40 (drop 10 m))) 0 → set ≡ take 40 (drop 10 m)
+pub set-in : (m set : List ℕ) → 50 ≤ length m → set ≡ setOf (take 40 (drop 10 m)) → set ≡ take 40 (drop 10 m)
 set-in m set h e =
     let l : length (take 40 (drop 10 m)) ≡ 40 = length-take-le 40 (drop 10 m) (rw list.length-drop (omega arith)) in
-    e ∙ rw (l, append-nil)
+    e ∙ set-short (take 40 (drop 10 m)) (rw l (omega arith)) ∙ rw (l, append-nil)
 
 -- fifty places of zeros, into which the set, the record, the count and the marks were put
 pub laid-out : (s : Station) (image head rest : List ℕ) → image ≡ littleEndian 8 (s .bits)

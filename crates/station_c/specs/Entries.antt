@@ -9,14 +9,13 @@ use Rattle.floor.specs.declared.Total.{Total}
 use Rattle.floor.specs.declared.Total.the-variants.{Cars, Unsound}
 use Rattle.rules.specs.declared.Moved.{Moved}
 use Rattle.rules.specs.declared.Moved.the-variants.{Record, IllFormed}
-use Rattle.rules.specs.Codes.{readBytes}
+use Rattle.rules.specs.Codes.{readBytes, most}
 use Rattle.rules.specs.Verdicts.{onCode, movedOf}
 use Rattle.answers.specs.declared.Answer.{Answer}
 use Rattle.answers.specs.declared.Answer.the-variants.{Taken, TooFewBytes, BadField, NotAllowed, NoRoom}
 use Rattle.answers.specs.Answers.{numberOf, placeOf, nowhere}
 use Rattle.garage.specs.declared.Station.{Station}
 use Rattle.garage.specs.declared.Outcome.{Outcome}
-use Rattle.garage.specs.Station.{most}
 use Rattle.garage.specs.Calls.{refused, request, ask}
 use Rattle.wire.specs.declared.What.{What}
 use Rattle.wire.specs.declared.What.the-variants.{Request, Event, Result, Image, Ask, Held}

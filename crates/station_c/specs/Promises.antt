@@ -3,8 +3,6 @@ use mathlib.Core.Path.{_≡_}
 use mathlib.Core.List.{List, _++_}
 use Prim.Native.Nat.{ℕ, _/_, _%_, _^_, _≤_, _<_}
 use lib.ListN.{length, take}
-use Rattle.floor.specs.declared.Total.the-variants.{Cars}
-use Rattle.floor.specs.Sound.{total}
 use Rattle.answers.specs.declared.Answer.{Answer}
 use Rattle.answers.specs.Answers.{numberOf, placeOf}
 use Rattle.garage.specs.declared.Station.{Station}
@@ -36,7 +34,3 @@ SaidReadsBack = (a : Answer) → (said a % 256 ≡ numberOf a) × (said a / 256 
 -- an entry that refuses leaves the room as it was
 abbrev pub RefusedUntouched : Type 0
 RefusedUntouched = (call : Station → Outcome) (room : List ℕ) → (entry call room .says % 256 ≡ 0 → ⊥) → entry call room .leaves ≡ room
-
--- no record has 255 cars
-abbrev pub FewCars : Type 0
-FewCars = (r n : ℕ) → total r ≡ Cars n → n ≤ 31

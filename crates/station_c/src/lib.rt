@@ -1,10 +1,10 @@
 // The entries for a planner in C or Rust: numbers and runs of bytes alone. A station is lent as 50 bytes, an answer is its number plus
 // 256 times its place, and a refused call writes nothing. What each answers and leaves stands in specs/Entries.antt.
 ghost use mathlib.Core.Path.{_≡_};
-ghost use mathlib.Core.List.{_++_};
-ghost use Prim.Native.Nat.{_-_, _*_, _≤_};
-ghost use lib.ListN.{length, replicate};
+ghost use Prim.Native.Nat.{_≤_};
+ghost use lib.ListN.{length};
 ghost use Rattle.floor.specs.Sound.{sound, total};
+ghost use Rattle.rules.specs.Verdicts.{movedOf};
 ghost use Rattle.garage.specs.Station.{startOf};
 ghost use Rattle.garage.specs.Calls.{taken, event, result, takeImage};
 ghost use Rattle.station_c.specs.Entries.{stationBytes, stationOf, said, Leaves, writes, entry, requestOf, asking, saidOf, Exchanges, exchange, moved, told, recordIn, nexting, carsOr255};
@@ -13,8 +13,10 @@ use answers::NOWHERE;
 use floor::Total;
 use garage::Outcome;
 use garage::Station;
+use rules::Instruction;
 use rules::Moved;
 use rules::Reading;
+use rules::Verdict;
 use wire::What;
 
 // The bytes of a lent station, and of a record.
@@ -24,22 +26,12 @@ const RECORD: usize = 8;
 
 // ---- stations and answers in bytes and numbers
 
-// A run of at most forty bytes as a set, the unused places zero.
-fn held(s: &[u8]) -> [u8; 40]
-    requires { ⌜ length (now s) ≤ 40 ⌝ }
-    ensures { λ r. ⌜ r ≡ now (s .entry) ++ replicate (40 - length (now (s .entry))) 0 ⌝ }
-{
-    let mut set = [0u8; 40];
-    bytes::copy(s, &mut set);
-    set
-}
-
 // The station that the first 50 bytes hold.
 fn load(room: &[u8]) -> Station
     requires { ⌜ 50 ≤ length (now room) ⌝ }
     ensures { λ s. ⌜ s ≡ stationOf (now (room .entry)) ⌝ }
 {
-    let set = held(&room[10..50]);
+    let set = wire::set_of(&room[10..50]);
     Station {
         bits: wire::image_of(room),
         count: room[8],
@@ -102,8 +94,9 @@ pub extern "C" fn station_start(room: &mut [u8]) -> u32
     if room.len() < STATION {
         return say(Answer::NoRoom);
     }
+    let start = Station::start();
     let o = Outcome {
-        station: Station::start(),
+        station: start,
         answer: Answer::Taken,
     };
     keep(o, room)
@@ -123,7 +116,7 @@ fn requested(s: Station, count: u8, set: &[u8]) -> Outcome
             answer: Answer::TooFewBytes,
         };
     }
-    let five_each = held(&set[..size]);
+    let five_each = wire::set_of(&set[..size]);
     s.request(count, five_each)
 }
 
@@ -219,9 +212,10 @@ pub extern "C" fn station_message(room: &mut [u8], message: &[u8], reply: &mut [
     }
     let o = service::respond(load(room), message);
     let what = o.answer;
-    let w = wire::write_plain(what, reply);
+    let w = wire::writing::write_plain(what, reply);
     let a = w.answer;
-    if a.number() != 0 {
+    let refused = a.number();
+    if refused != 0 {
         return say(a);
     }
     let s = o.station;
@@ -285,14 +279,31 @@ fn record_in(m: Moved) -> u64
     }
 }
 
+// What is answered of an instruction, by its verdict: the next record isn't asked for.
+fn judged(i: Instruction, image: u64) -> Answer
+    ensures { λ a. ⌜ a ≡ told (movedOf i image) ⌝ }
+{
+    let v = engine::verdict(i, image);
+    match v {
+        Verdict::Allowed => Answer::Taken,
+        Verdict::NotAllowed => Answer::NotAllowed(NOWHERE),
+        Verdict::IllFormed => Answer::BadField(NOWHERE),
+    }
+}
+
 // Whether a record allows an instruction.
 #[no_mangle]
 pub extern "C" fn garage_allowed(image: u64, five: &[u8]) -> u32
     ensures { λ r. ⌜ r ≡ said (told (moved image (now (five .entry)))) ⌝ }
 {
-    let m = moved(image, five);
-    let a = told(m);
-    say(a)
+    let one = rules::read_bytes(five);
+    match one {
+        Reading::Good(i) => {
+            let a = judged(i, image);
+            say(a)
+        }
+        Reading::Bad => say(Answer::BadField(NOWHERE)),
+    }
 }
 
 // The eight bytes of the record after an instruction, to a room of their own.

@@ -1,3 +1,4 @@
 pub mod Parts
 pub mod Frames
 pub mod Room
+pub mod Determined

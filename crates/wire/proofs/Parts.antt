@@ -1,11 +1,11 @@
 -- Parts of a run of bytes, as code refers to them. Assumes nothing.
 use mathlib.Core.Path.{_≡_, sym, _∙_}
 use mathlib.Core.List.{List, [], _++_, append-nil}
-use Prim.Native.Nat.{ℕ, zero, suc, _+_, _*_, _-_}
+use Prim.Native.Nat.{ℕ, zero, suc, _+_, _*_, _-_, _≤_, _<_}
 use native.Mathlib.Omega.{arith}
 use lib.ListN.{length, take, drop, replicate, length-drop}
-use lib.Seq.{take-all, take-length, drop-drop, getD-drop}
-use Rattle.wire.specs.Kinds.{fromLittleEndian}
+use lib.Seq.{take-all, take-length, length-take-le, drop-drop, getD-drop}
+use Rattle.wire.specs.Kinds.{fromLittleEndian, setOf}
 use native.Mathlib.Nat.{sub-zero, zero-sub, suc-sub-suc}
 
 -- what `&m[at..]` refers to
@@ -40,3 +40,16 @@ zero-filled s last e = e ∙ rw (take-length s, zeros-past (length s) 40)
 -- a whole set copied to the end of an array
 pub set-filled : (set last : List ℕ) → length set ≡ 40 → last ≡ take (length set) set ++ drop (length set) (replicate 40 0) → last ++ [] ≡ set
 set-filled set last l e = rw (append-nil, e, take-length set, l, append-nil)
+
+-- forty places hold a run that is no longer
+pub set-short : (s : List ℕ) → length s ≤ 40 → setOf s ≡ s ++ replicate (40 - length s) 0
+set-short s h = rw (take-all 40 s h)
+
+-- and the first forty bytes of a longer one
+pub first-forty : (s : List ℕ) → 40 < length s → length (take 40 s) ≡ 40
+first-forty s h = length-take-le 40 s (omega arith)
+
+pub set-long : (s : List ℕ) → 40 < length s → take 40 s ++ replicate (40 - length (take 40 s)) 0 ≡ setOf s
+set-long s h =
+    let z : 40 - length s ≡ 0 = omega arith in
+    rw (first-forty s h, z)

@@ -4,7 +4,7 @@ use mathlib.Core.Bool.{Bool, true, _&&_, _||_}
 use mathlib.Core.List.{List, [], _∷_, _++_}
 use Prim.Native.Nat.{ℕ, zero, suc, _+_, _*_, _-_, _/_, _%_}
 use lib.Dec.{leb, eqb}
-use lib.ListN.{getD, take, replicate}
+use lib.ListN.{length, getD, take, replicate}
 use Rattle.answers.specs.declared.Answer.the-variants.{NoRoom}
 use Rattle.answers.specs.Answers.{numberOf, nowhere}
 use Rattle.wire.specs.declared.What.{What}
@@ -20,10 +20,6 @@ littleEndian (suc n) x = x % 256 ∷ littleEndian n (x / 256)
 abbrev pub fromLittleEndian : ℕ → ℕ → List ℕ → ℕ
 fromLittleEndian zero i s = 0
 fromLittleEndian (suc n) i s = getD s i 0 + 256 * fromLittleEndian n (suc i) s
-
--- the largest number of instructions in a request
-abbrev pub most : ℕ
-most = 8
 
 -- the place of its first instruction
 abbrev pub first : ℕ
@@ -100,6 +96,10 @@ inRange (Image x) = true
 inRange Ask = true
 inRange (Answer number place) = leb number (numberOf NoRoom) && (leb place 7 || eqb place nowhere)
 inRange (Held x) = true
+
+-- a run of bytes as the forty places of a set: zeros where it ends before, and what goes past them is not looked at
+abbrev pub setOf : List ℕ → List ℕ
+setOf s = take 40 s ++ replicate (40 - length s) 0
 
 -- a message that holds no instruction
 abbrev pub plain : What → Message

@@ -7,7 +7,7 @@ use lib.ListN.{getD, length, take, drop}
 use Rattle.bits.specs.Search.{least}
 use Rattle.rules.specs.declared.Reading.{Reading}
 use Rattle.rules.specs.declared.Reading.the-variants.{Good, Bad}
-use Rattle.rules.specs.Codes.{readBytes}
+use Rattle.rules.specs.Codes.{readBytes, most}
 use Rattle.answers.specs.declared.Answer.{Answer}
 use Rattle.answers.specs.declared.Answer.the-variants.{Taken, TooFewBytes, BadLength, UnknownKind, BadField, TooMany}
 use Rattle.answers.specs.Answers.{nowhere}
@@ -17,7 +17,7 @@ use Rattle.wire.specs.declared.Message.{Message}
 use Rattle.wire.specs.declared.Received.{Received}
 use Rattle.wire.specs.declared.Frame.{Frame}
 use Rattle.wire.specs.declared.Frame.the-variants.{Cut, Wrong, Whole}
-use Rattle.wire.specs.Kinds.{fromLittleEndian, most, first, Kind, request, asked, known, inRange, plain, requesting}
+use Rattle.wire.specs.Kinds.{fromLittleEndian, first, Kind, request, asked, known, inRange, plain, requesting}
 
 -- the length that a message gives itself, which counts what follows it
 abbrev pub lengthAt : List ℕ → ℕ

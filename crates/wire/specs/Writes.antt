@@ -6,12 +6,13 @@ use Prim.Native.Nat.{ℕ, _+_}
 use lib.Dec.{ltb, eqb}
 use lib.ListN.{length, drop}
 use Rattle.bits.specs.Search.{least}
+use Rattle.rules.specs.Codes.{most}
 use Rattle.answers.specs.declared.Answer.{Answer}
 use Rattle.answers.specs.declared.Answer.the-variants.{Taken, BadField, TooMany, NoRoom}
 use Rattle.answers.specs.Answers.{nowhere}
 use Rattle.wire.specs.declared.Message.{Message}
 use Rattle.wire.specs.declared.Written.{Written}
-use Rattle.wire.specs.Kinds.{littleEndian, most, request, kindOf, bodyOf, inRange, plain, requesting}
+use Rattle.wire.specs.Kinds.{littleEndian, request, kindOf, bodyOf, inRange, plain, requesting}
 use Rattle.wire.specs.Reads.{badIn}
 
 -- a message in bytes: its length, which counts what follows it, its kind, its body

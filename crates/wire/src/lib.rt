@@ -1,4 +1,4 @@
-// Messages: read from bytes, written into lent room. What they mean stands in specs/.
+// Messages: what they say, how they are read from bytes, and, in `writing`, how they are written. What they mean stands in specs/.
 use answers::Answer;
 use rules::Reading;
 ghost use mathlib.Core.Path.{_≡_};
@@ -6,9 +6,10 @@ ghost use mathlib.Core.List.{[], _∷_, _++_};
 ghost use Prim.Native.Nat.{_≤_, _+_, _-_, _*_, _%_};
 ghost use lib.ListN.{getD, length, drop, replicate};
 ghost use Rattle.bits.specs.Search.{least};
-ghost use Rattle.wire.specs.Kinds.{littleEndian, fromLittleEndian, first, event, result, answer, known, asked, inRange, plain};
+ghost use Rattle.wire.specs.Kinds.{littleEndian, fromLittleEndian, first, event, result, answer, known, asked, inRange, plain, setOf};
 ghost use Rattle.wire.specs.Reads.{frameOf, refused, sized, isBad, badIn, readRequest, readWhole, readMessage, readAsked};
-ghost use Rattle.wire.specs.Writes.{Leaves, put, writing};
+
+pub mod writing;
 
 // What a message asks or tells; a request's instructions stand beside it, in Message.
 pub enum What {
@@ -127,6 +128,26 @@ pub fn image_bytes(x: u64) -> [u8; 8]
     ]
 }
 
+// At most forty bytes as the places of a set, the unused ones zero.
+fn held(s: &[u8]) -> [u8; 40]
+    requires { ⌜ length (now s) ≤ 40 ⌝ }
+    ensures { λ r. ⌜ r ≡ now (s .entry) ++ replicate (40 - length (now (s .entry))) 0 ⌝ }
+{
+    let mut set = [0u8; 40];
+    bytes::copy(s, &mut set);
+    set
+}
+
+// The same of any run: what goes past the fortieth is not looked at.
+pub fn set_of(s: &[u8]) -> [u8; 40]
+    ensures { λ r. ⌜ r ≡ setOf (now (s .entry)) ⌝ }
+{
+    if 40 < s.len() {
+        return held(&s[..40]);
+    }
+    held(s)
+}
+
 // ---- reading
 
 // How far the first message of s goes.
@@ -230,16 +251,6 @@ fn least_bad(m: &[u8], n: u8) -> u8
         i += 1;
     }
     n
-}
-
-// The bytes of a set, and zeros in its unused places.
-fn held(s: &[u8]) -> [u8; 40]
-    requires { ⌜ length (now s) ≤ 40 ⌝ }
-    ensures { λ r. ⌜ r ≡ now (s .entry) ++ replicate (40 - length (now (s .entry))) 0 ⌝ }
-{
-    let mut set = [0u8; 40];
-    bytes::copy(s, &mut set);
-    set
 }
 
 fn read_request(m: &[u8]) -> Received
@@ -356,116 +367,4 @@ pub fn read_asked(s: &[u8]) -> Received
         Frame::Wrong => refused(Answer::BadLength, 0),
         Frame::Whole(n) => whole_asked(&s[..n]),
     }
-}
-
-// ---- writing
-
-// Puts all of src at the start of room, or refuses with 17 and writes nothing.
-fn put(src: &[u8], room: &mut [u8]) -> Written
-    ensures { λ r. ⌜ Leaves (put (now (src .entry)) (now (room .entry))) r (now (room .exit)) ⌝ }
-{
-    if room.len() < src.len() {
-        return Written {
-            answer: Answer::NoRoom,
-            size: 0,
-        };
-    }
-    let size = bytes::copy(src, room);
-    Written {
-        answer: Answer::Taken,
-        size,
-    }
-}
-
-// An image of this kind.
-fn put_image(kind: u8, x: u64, room: &mut [u8]) -> Written
-    ensures { λ r. ⌜ Leaves (put (10 ∷ 0 ∷ kind ∷ 0 ∷ littleEndian 8 x) (now (room .entry))) r (now (room .exit)) ⌝ }
-{
-    let b = image_bytes(x);
-    put(
-        &[
-            10,
-            0,
-            kind,
-            0,
-            b[0],
-            b[1],
-            b[2],
-            b[3],
-            b[4],
-            b[5],
-            b[6],
-            b[7],
-        ],
-        room,
-    )
-}
-
-// The first bytes of a request of so many instructions, and then those of the set.
-fn request_bytes(count: u8, set: [u8; 40]) -> [u8; 45]
-    requires { ⌜ count ≤ 8 ⌝ }
-    ensures { λ r. ⌜ r ≡ (3 + 5 * count) ∷ 0 ∷ 1 ∷ 0 ∷ count ∷ set ⌝ }
-{
-    let mut m = [0u8; 45];
-    bytes::copy(&set, &mut m[5..]);
-    m[0] = 3 + 5 * count;
-    m[2] = 1;
-    m[4] = count;
-    m
-}
-
-// Writes a request: 5, 4 at the least bad instruction, then 17, or all of it.
-fn write_request(count: u8, set: [u8; 40], room: &mut [u8]) -> Written
-    ensures { λ r. ⌜ Leaves (writing (record { what = What.Request; count = count; set = set }) (now (room .entry))) r (now (room .exit)) ⌝ }
-{
-    if 8 < count {
-        return Written {
-            answer: Answer::TooMany,
-            size: 0,
-        };
-    }
-    let m = request_bytes(count, set);
-    let bad = least_bad(&m, count);
-    if bad < count {
-        return Written {
-            answer: Answer::BadField(bad),
-            size: 0,
-        };
-    }
-    let size = 5 + 5 * (count as usize);
-    put(&m[..size], room)
-}
-
-// Writes a message at the start of room: 5, 4, then 17, or all of it; bytes past it keep their values.
-pub fn write(m: Message, room: &mut [u8]) -> Written
-    ensures { λ r. ⌜ Leaves (writing m (now (room .entry))) r (now (room .exit)) ⌝ }
-{
-    let what = m.what;
-    if in_range(what) {
-        match what {
-            What::Request => {
-                let set = m.set;
-                write_request(m.count, set, room)
-            }
-            What::Event { way } => put(&[3, 0, 2, 0, way], room),
-            What::Result { number, done } => put(&[4, 0, 3, 0, number, done], room),
-            What::Image(x) => put_image(4, x, room),
-            What::Ask => put(&[2, 0, 5, 0], room),
-            What::Answer { number, place } => put(&[4, 0, 128, 0, number, place], room),
-            What::Held(x) => put_image(129, x, room),
-        }
-    } else {
-        Written {
-            answer: Answer::BadField(answers::NOWHERE),
-            size: 0,
-        }
-    }
-}
-
-// Writes a message that holds no instruction.
-pub fn write_plain(what: What, room: &mut [u8]) -> Written
-    ensures { λ r. ⌜ Leaves (writing (plain what) (now (room .entry))) r (now (room .exit)) ⌝ }
-{
-    let m = plain(what);
-    write(m, room)
 }

@@ -14,7 +14,7 @@ use Rattle.rules.specs.declared.Code.{Code}
 use Rattle.rules.specs.declared.Reading.{Reading}
 use Rattle.rules.specs.declared.Reading.the-variants.{Good as GoodOne, Bad}
 use Rattle.rules.specs.Rules.{wellFormed}
-use Rattle.rules.specs.Codes.{codeAt, readCode, readBytes}
+use Rattle.rules.specs.Codes.{codeFrom, readCode, readBytes}
 use Rattle.rules.proofs.CodeLaws.{one-form as code-form}
 use Rattle.wire.specs.Reads.{isBad, badIn}
 use Rattle.wire.specs.Writes.{Writing}
@@ -45,12 +45,12 @@ five (a ∷ b ∷ c ∷ d ∷ e ∷ s) h = refl
 carried : (s : List ℕ) → isBad (readBytes s) ≡ false → (j : Instruction) × (wellFormed j ≡ true) × (take 5 s ≡ bytesOf j)
 unfolding readBytes
 carried s e = split (ltb (length s) 5)
-    (λ t. clash refl (sym (ap (λ (b : Bool). isBad (cond b Bad (readCode (codeAt s)))) t) ∙ e))
-    (λ t. go (readCode (codeAt s)) refl (sym (ap (λ (b : Bool). isBad (cond b Bad (readCode (codeAt s)))) t) ∙ e) (ltb-false (length s) 5 t))
+    (λ t. clash refl (sym (ap (λ (b : Bool). isBad (cond b Bad (readCode (codeFrom s)))) t) ∙ e))
+    (λ t. go (readCode (codeFrom s)) refl (sym (ap (λ (b : Bool). isBad (cond b Bad (readCode (codeFrom s)))) t) ∙ e) (ltb-false (length s) 5 t))
   where
-    go : (r : Reading) → readCode (codeAt s) ≡ r → isBad r ≡ false → 5 ≤ length s → (j : Instruction) × (wellFormed j ≡ true) × (take 5 s ≡ bytesOf j)
+    go : (r : Reading) → readCode (codeFrom s) ≡ r → isBad r ≡ false → 5 ≤ length s → (j : Instruction) × (wellFormed j ≡ true) × (take 5 s ≡ bytesOf j)
     go (GoodOne j) e f h =
-        let (form, well) = code-form (codeAt s) j e in
+        let (form, well) = code-form (codeFrom s) j e in
         (j, well, five s h ∙ ap (λ (x : Code). x .op ∷ x .a ∷ x .b ∷ x .c ∷ x .d ∷ []) form)
     go Bad e f h = clash refl f
 

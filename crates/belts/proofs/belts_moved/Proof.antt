@@ -4,10 +4,10 @@ use mathlib.Core.Bool.{true}
 use native.Mathlib.Omega.{arith}
 use borrow.Author.Needs.{needs}
 use Rattle.bits.specs.Bits.{bit}
-use Rattle.bits.proofs.Cases.{true→T}
+use Rattle.bits.proofs.Cases.{true→T, passed, failed}
 use Rattle.rules.specs.declared.Instruction.the-variants.{Belts}
 use Rattle.rules.specs.Rules.{wellFormed, allowed}
-use Rattle.rules.proofs.Answering.{passed, failed, ill-formed, not-allowed, has-moved}
+use Rattle.rules.proofs.Answering.{ill-formed, not-allowed, has-moved}
 use Rattle.belts.proofs.Moves.{moved-is}
 use Rattle.belts.proofs.belts_moved.Statement.{statement}
 use Rattle.belts.proofs.belts_moved.Tie as tie

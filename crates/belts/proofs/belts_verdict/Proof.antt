@@ -1,7 +1,7 @@
 -- `belts::belts_verdict` meets its contract: each answer is the definition's. Assumes nothing.
 use borrow.Author.Needs.{needs}
-use Rattle.bits.proofs.Cases.{true→T}
-use Rattle.rules.proofs.Answering.{passed, failed, ill-formed, not-allowed, is-allowed}
+use Rattle.bits.proofs.Cases.{true→T, passed, failed}
+use Rattle.rules.proofs.Answering.{ill-formed, not-allowed, is-allowed}
 use Rattle.belts.proofs.belts_verdict.Statement.{statement}
 use Rattle.belts.proofs.belts_verdict.Tie as tie
 

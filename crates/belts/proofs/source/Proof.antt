@@ -4,7 +4,7 @@ use mathlib.Core.Bool.{not}
 use borrow.Author.Needs.{needs}
 use Rattle.rules.specs.Named.{higher}
 use Rattle.belts.specs.Private.{along}
-use Rattle.rules.proofs.Answering.{passed, failed}
+use Rattle.bits.proofs.Cases.{passed, failed}
 use Rattle.belts.proofs.Renewal.{stays, comes, none-comes}
 use Rattle.belts.proofs.source.Statement.{statement}
 use Rattle.belts.proofs.source.Tie as tie

@@ -1,20 +1,45 @@
--- `station_c::garage_allowed` meets its contract: by its calls. Assumes nothing.
+-- `station_c::garage_allowed` meets its contract: by what the five bytes say. Assumes nothing.
 use mathlib.Core.Path.{_∙_}
 use borrow.Author.Needs.{needs}
+use Rattle.station_c.specs.Entries.{moved}
 use Rattle.station_c.proofs.garage_allowed.Statement.{statement}
 use Rattle.station_c.proofs.garage_allowed.Tie as tie
 
-moved-requires : tie.Need-moved-requires
-moved-requires c κs = search needs
+read-bytes-requires : tie.Need-read-bytes-requires
+read-bytes-requires c κs = search needs
 
-told-requires : tie.Need-told-requires
-told-requires c κs = search needs
+enum-known-one : tie.Need-enum-known-one
+enum-known-one c = search needs
+
+judged-requires : tie.Need-judged-requires
+judged-requires c κs = search needs
 
 say-requires : tie.Need-say-requires
 say-requires c κs = search needs
 
+enum-told : tie.Need-enum-told
+enum-told c = search needs
+
+say-requires-2 : tie.Need-say-requires-2
+say-requires-2 c κs = search needs
+
 returns : tie.Need-returns
-returns c = c .say .ensures ∙ rw (c .before .told .ensures, c .before .before .moved .ensures)
+unfolding moved
+returns c = c .say .ensures ∙ rw (c .before .judged .ensures, ← c .before .before .before .before .before .read-bytes .ensures, c .before .before .before .one .given .1)
+
+returns-2 : tie.Need-returns-2
+unfolding moved
+returns-2 c = c .say2 .ensures ∙ rw (← c .before .before .before .read-bytes .ensures, c .before .enum-told .given .1)
 
 pub garage-allowed-spec : {M : Type 1} → statement M
-garage-allowed-spec = tie.close (tie.spec moved-requires told-requires say-requires returns)
+garage-allowed-spec =
+    tie.close
+    (tie.spec
+    read-bytes-requires
+    enum-known-one
+    judged-requires
+    say-requires
+    enum-told
+    say-requires-2
+    returns
+    returns-2)

@@ -2,7 +2,7 @@
 use mathlib.Core.Path.{sym, _∙_}
 use native.Mathlib.Omega.{arith}
 use borrow.Author.Needs.{needs}
-use Rattle.station_c.proofs.Few.{few-cars}
+use Rattle.floor.proofs.Few.{few-cars}
 use Rattle.station_c.proofs.garage_cars.Statement.{statement}
 use Rattle.station_c.proofs.garage_cars.Tie as tie
 

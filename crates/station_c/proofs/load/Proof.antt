@@ -6,17 +6,17 @@ use Rattle.station_c.proofs.Rooms.{set-in}
 use Rattle.station_c.proofs.load.Statement.{statement}
 use Rattle.station_c.proofs.load.Tie as tie
 
-sub-held : tie.Need-sub-held
-sub-held c = search needs
+sub-set-of : tie.Need-sub-set-of
+sub-set-of c = search needs
 
-part-held-start : tie.Need-part-held-start
-part-held-start c = search needs
+part-set-of-start : tie.Need-part-set-of-start
+part-set-of-start c = search needs
 
-part-held-end : tie.Need-part-held-end
-part-held-end c = search needs
+part-set-of-end : tie.Need-part-set-of-end
+part-set-of-end c = search needs
 
-held-requires : tie.Need-held-requires
-held-requires c κs = search needs
+set-of-requires : tie.Need-set-of-requires
+set-of-requires c κs = search needs
 
 image-of-requires : tie.Need-image-of-requires
 image-of-requires c κs = search needs
@@ -29,16 +29,16 @@ shared-slice-read-t11 c = search needs
 
 returns : tie.Need-returns
 unfolding stationOf
-returns c = rw (c .before .before .image-of .ensures, set-in (now (c .before .before .before .before .before .before .args .room)) _ (c .before .before .before .before .before .before .pre) (c .before .before .before .held .ensures))
+returns c = rw (c .before .before .image-of .ensures, set-in (now (c .before .before .before .before .before .before .args .room)) _ (c .before .before .before .before .before .before .pre) (c .before .before .before .set-of .ensures))
 
 pub load-spec : {M : Type 1} → statement M
 load-spec =
     tie.close
     (tie.spec
-    sub-held
-    part-held-start
-    part-held-end
-    held-requires
+    sub-set-of
+    part-set-of-start
+    part-set-of-end
+    set-of-requires
     image-of-requires
     shared-slice-read-t9
     shared-slice-read-t11

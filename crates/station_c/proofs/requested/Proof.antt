@@ -19,17 +19,17 @@ mul-size c = search needs
 returns-2 : tie.Need-returns-2
 returns-2 c = too-few _ _ _ (c .before .if1 .left) (c .if2 .taken)
 
-slice-aggregate-held : tie.Need-slice-aggregate-held
-slice-aggregate-held c = sym (length-take-le _ _ (c .before .if2 .left))
+slice-aggregate-set-of : tie.Need-slice-aggregate-set-of
+slice-aggregate-set-of c = sym (length-take-le _ _ (c .before .if2 .left))
 
-held-requires : tie.Need-held-requires
-held-requires c κs = rw (length-take-le _ _ (c .before .if2 .left)) (omega arith)
+set-of-requires : tie.Need-set-of-requires
+set-of-requires c κs = search needs
 
 request-requires-2 : tie.Need-request-requires-2
 request-requires-2 c κs = search needs
 
 returns-3 : tie.Need-returns-3
-returns-3 c = c .request2 .ensures ∙ enough _ _ _ (c .before .before .before .before .if1 .left) (c .before .before .before .if2 .left) (c .before .held .ensures)
+returns-3 c = c .request2 .ensures ∙ enough _ _ _ (c .before .before .before .before .if1 .left) (c .before .before .before .if2 .left) (c .before .set-of .ensures)
 
 pub requested-spec : {M : Type 1} → statement M
 requested-spec =
@@ -39,7 +39,7 @@ requested-spec =
     returns
     mul-size
     returns-2
-    slice-aggregate-held
-    held-requires
+    slice-aggregate-set-of
+    set-of-requires
     request-requires-2
     returns-3)

@@ -3,7 +3,7 @@ use mathlib.Core.Path.{sym, _∙_}
 use borrow.Author.Needs.{needs}
 use Rattle.garage.specs.Calls.{event}
 use Rattle.garage.proofs.Moves.{event-read}
-use Rattle.garage.proofs.Loops.{failed, passed}
+use Rattle.bits.proofs.Cases.{failed, passed}
 use Rattle.garage.proofs.Station.event.Statement.{statement}
 use Rattle.garage.proofs.Station.event.Tie as tie
 

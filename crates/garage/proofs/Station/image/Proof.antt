@@ -3,7 +3,7 @@ use mathlib.Core.Path.{_∙_}
 use borrow.Author.Tests.{lt-ltb, le-ltb}
 use borrow.Author.Needs.{needs}
 use Rattle.garage.specs.Calls.{takeImage}
-use Rattle.garage.proofs.Loops.{failed, passed}
+use Rattle.bits.proofs.Cases.{failed, passed}
 use Rattle.garage.proofs.Station.image.Statement.{statement}
 use Rattle.garage.proofs.Station.image.Tie as tie
 
@@ -32,14 +32,14 @@ refused-requires-3 c κs = search needs
 
 returns-3 : tie.Need-returns-3
 unfolding takeImage
-returns-3 c = c .refused3 .ensures ∙ rw (passed (c .before .before .before .before .before .before .fit .ensures) (c .before .before .before .before .before .if1 .left), le-ltb _ _ (c .before .before .before .if2 .left), failed (c .before .before .sound .ensures) (c .before .if3 .taken))
+returns-3 c = c .refused3 .ensures ∙ simp (passed (c .before .before .before .before .before .before .fit .ensures) (c .before .before .before .before .before .if1 .left), le-ltb _ _ (c .before .before .before .if2 .left), failed (c .before .before .sound .ensures) (c .before .if3 .taken))
 
 taken-requires : tie.Need-taken-requires
 taken-requires c κs = search needs
 
 returns-4 : tie.Need-returns-4
 unfolding takeImage
-returns-4 c = c .taken .ensures ∙ rw (passed (c .before .before .before .before .before .before .before .fit .ensures) (c .before .before .before .before .before .before .if1 .left), le-ltb _ _ (c .before .before .before .before .if2 .left), passed (c .before .before .before .sound .ensures) (c .before .before .if3 .left))
+returns-4 c = c .taken .ensures ∙ simp (passed (c .before .before .before .before .before .before .before .fit .ensures) (c .before .before .before .before .before .before .if1 .left), le-ltb _ _ (c .before .before .before .before .if2 .left), passed (c .before .before .before .sound .ensures) (c .before .before .if3 .left))
 
 pub image-spec : {M : Type 1} → statement M
 image-spec =

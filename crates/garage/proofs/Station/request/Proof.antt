@@ -3,7 +3,7 @@ use mathlib.Core.Path.{_∙_}
 use borrow.Author.Tests.{eq-eqb, ne-eqb, lt-ltb, le-ltb}
 use borrow.Author.Needs.{needs}
 use Rattle.garage.specs.Calls.{request}
-use Rattle.garage.proofs.Loops.{failed, passed}
+use Rattle.bits.proofs.Cases.{failed, passed}
 use Rattle.garage.proofs.Station.request.Statement.{statement}
 use Rattle.garage.proofs.Station.request.Tie as tie
 

@@ -5,7 +5,7 @@ use borrow.Author.Tests.{eq-eqb, ne-eqb, lt-ltb, le-ltb, le-leb, lt-leb}
 use borrow.Author.Needs.{needs}
 use Rattle.garage.specs.Calls.{result}
 use Rattle.garage.proofs.Marks.{fit-most}
-use Rattle.garage.proofs.Loops.{failed, passed}
+use Rattle.bits.proofs.Cases.{failed, passed}
 use Rattle.garage.proofs.Station.result.Statement.{statement}
 use Rattle.garage.proofs.Station.result.Tie as tie
 

@@ -1,8 +1,8 @@
 -- `garage::sets::code_at` meets its contract: its five bytes, or zeros past the end. Assumes nothing.
-use mathlib.Core.Path.{refl}
+use mathlib.Core.Path.{sym}
 use borrow.Author.Needs.{needs}
-use Rattle.garage.specs.Held.{codeAt}
 use Rattle.garage.proofs.Loops.{past-eighth}
+use Rattle.garage.proofs.Padding.{five-at}
 use Rattle.garage.proofs.sets.code_at.Statement.{statement}
 use Rattle.garage.proofs.sets.code_at.Tie as tie
 
@@ -40,8 +40,7 @@ array-read-t24 : tie.Need-array-read-t24
 array-read-t24 c = search needs
 
 returns-2 : tie.Need-returns-2
-unfolding codeAt
-returns-2 c = refl
+returns-2 c = sym (five-at _ _)
 
 pub code-at-spec : {M : Type 1} → statement M
 code-at-spec =

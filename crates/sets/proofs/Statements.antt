@@ -1,0 +1,36 @@
+-- The theorems of this crate, as types. There is a proof of each for all rules that are framed (`Framed R view glance`,
+-- in the garage as it is `Framed R blind blind`).
+-- What they speak of stands in the files beside it. Assumes nothing.
+use Prim.Native.Nat.{ℕ, _<_}
+use mathlib.Core.Path.{_≡_}
+use mathlib.Core.List.{List, [], _∷_, _++_}
+use mathlib.Core.Bool.{true}
+use Rattle.sets.proofs.Rules.{Rules, Framed, blind, LocalRules, SoundRules}
+use Rattle.sets.proofs.Machine.{Batch, Outcome, Act, result, opened, idle, accepted}
+use Rattle.sets.proofs.Orders.{Order, Alike}
+use Rattle.sets.proofs.Traces.{Good}
+
+module _ {W C I E : Type 0} (R : Rules W C I E) where
+  -- rules that read and write only their areas, and keep records sound, are framed
+  abbrev pub LocalIsFramed : Type 0
+  LocalIsFramed = LocalRules R → SoundRules R → Framed R blind blind
+
+  -- ---- a set is safe in any order
+
+  -- of an accepted set: in any order of the results each success is allowed when it comes, the same events are taken, and the record at the end is the same
+  abbrev pub AnyOrder : Type 0
+  AnyOrder = (b : Batch I) (f : W) → R .sound f ≡ true → accepted R b f ≡ true
+      → (choice : ℕ → Outcome) (es : List E) (l m : List (Act E))
+      → Order (b .size) choice es l → Order (b .size) choice es m
+      → Alike R (opened b f) l m
+
+  -- ---- any calls
+
+  -- with a sound record and no set a station is in good order
+  abbrev pub GoodAtStart : Type 0
+  GoodAtStart = (f : W) → R .sound f ≡ true → Good R (idle R f)
+
+-- the orders spoken of exist, for a set of any size n and any events: for each instruction j one in which j is answered last
+abbrev pub OrdersExist : Type 0 → Type 0
+OrdersExist E = (n j : ℕ) → j < n → (choice : ℕ → Outcome) (es : List E)
+    → (front : List (Act E)) × Order n choice es (front ++ (result j (choice j) ∷ []))

@@ -1,0 +1,51 @@
+//! The reference's side of each call, for harness.c.
+
+#[path = "../host/command.rs"]
+mod command;
+#[path = "../host/reference.rs"]
+mod reference;
+
+use std::slice::{from_raw_parts, from_raw_parts_mut};
+
+/// As `struct lent` of command.h.
+#[repr(C)]
+pub struct Lent {
+    bytes: *mut u8,
+    size: usize,
+}
+
+/// As `struct command` of command.h.
+#[repr(C)]
+pub struct Command {
+    entry: u8,
+    first: u8,
+    second: u8,
+    image: u64,
+    room: Lent,
+    input: Lent,
+    output: Lent,
+}
+
+/// What the call must return; its rooms are left as it must leave them.
+///
+/// # Safety
+/// Each run is valid for its size, and overlaps no other.
+#[no_mangle]
+pub unsafe extern "C" fn reference_call(given: &Command) -> u32 {
+    let &Command { entry, first, second, image, ref room, ref input, ref output } = given;
+    command::call(&mut command::Command {
+        entry,
+        first,
+        second,
+        image,
+        room: from_raw_parts_mut(room.bytes, room.size),
+        input: from_raw_parts(input.bytes, input.size),
+        output: from_raw_parts_mut(output.bytes, output.size),
+    })
+}
+
+/// Whether an entry can answer with a number.
+#[no_mangle]
+pub extern "C" fn reference_gives(entry: u8, number: u8) -> bool {
+    command::ENTRIES.get(usize::from(entry)).is_some_and(|(_, numbers)| numbers.contains(&number))
+}

@@ -1,0 +1,115 @@
+//! What each entry for C must return and leave, by the reference. command.h makes the same calls on the entries.
+#![allow(dead_code)] // each driver uses its own part of this module
+
+use crate::reference::{cars, read_call, sound, Answer, Call, Instruction, Station};
+
+/// The entries in the order of their numbers, each with the answer numbers that it can give: no others, and a long run gives them
+/// all. (What garage_cars returns is not of the table.)
+pub const ENTRIES: [(&str, &[u8]); 11] = [
+    ("station_start", &[0, 17]),
+    ("station_request", &[0, 1, 4, 5, 6, 7, 8, 9, 16, 17]),
+    ("station_event", &[0, 4, 6, 10, 16, 17]),
+    ("station_result", &[0, 4, 11, 12, 13, 14, 16, 17]),
+    ("station_image", &[0, 6, 15, 16, 17]),
+    ("station_ask", &[0, 16, 17]),
+    ("station_message", &[0, 1, 2, 3, 4, 5, 6, 7, 8, 9, 10, 11, 12, 13, 14, 15, 16, 17]),
+    ("garage_sound", &[0, 1]),
+    ("garage_cars", &[]),
+    ("garage_allowed", &[0, 4, 9]),
+    ("garage_next", &[0, 4, 9, 17]),
+];
+
+/// One call with all that it is given; what an entry doesn't take is not looked at.
+pub struct Command<'a> {
+    pub entry: u8,
+    /// Its byte arguments: a count, a way, or a number and an outcome.
+    pub first: u8,
+    pub second: u8,
+    pub image: u64,
+    pub room: &'a mut [u8],
+    pub input: &'a [u8],
+    pub output: &'a mut [u8],
+}
+
+const NO_ROOM: Answer = (17, 255);
+
+fn said((number, place): Answer) -> u32 { u32::from(number) + 256 * u32::from(place) }
+
+fn put(room: &mut [u8], bytes: &[u8]) { room[..bytes.len()].copy_from_slice(bytes) }
+
+/// A call on the lent station, which is written back if the call is taken.
+fn on_station(room: &mut [u8], call: impl FnOnce(&mut Station) -> Answer) -> Answer {
+    let Some(fifty) = room.first_chunk_mut::<50>() else { return NO_ROOM };
+    let mut station = Station::from_bytes(fifty);
+    let answer = call(&mut station);
+    if answer.0 == 0 { *fifty = station.to_bytes(); }
+    answer
+}
+
+/// The record of the lent station, put to a room for an image.
+fn ask(room: &mut [u8], image: &mut [u8]) -> Answer {
+    if image.len() < 8 { return NO_ROOM; }
+    on_station(room, |station| {
+        let answer = station.ask();
+        if answer.0 == 0 { put(image, &station.record.to_le_bytes()); }
+        answer
+    })
+}
+
+/// The reply to a message, as number and place and as bytes.
+fn reply(station: &mut Station, message: &[u8]) -> (Answer, Vec<u8>) {
+    let told = |(number, place): Answer| ((number, place), vec![4, 0, 128, 0, number, place]);
+    match read_call(message) {
+        Err(refused) => told((refused.number, refused.place)),
+        Ok((call, _)) => match station.take(call) {
+            (0, place) if call == Call::Ask => ((0, place), [&[10, 0, 129, 0], &station.record.to_le_bytes()[..]].concat()),
+            answer => told(answer),
+        },
+    }
+}
+
+/// A message answered on the lent station; where its reply doesn't fit nothing is written.
+fn message(room: &mut [u8], message: &[u8], output: &mut [u8]) -> Answer {
+    let Some(fifty) = room.first_chunk_mut::<50>() else { return NO_ROOM };
+    let mut station = Station::from_bytes(fifty);
+    let (answer, bytes) = reply(&mut station, message);
+    if output.len() < bytes.len() { return NO_ROOM; }
+    *fifty = station.to_bytes();
+    put(output, &bytes);
+    answer
+}
+
+/// Whether an image allows the instruction of these bytes, and the record after it.
+fn verdict(image: u64, five: &[u8]) -> (Answer, Option<u64>) {
+    match five.first_chunk().and_then(|&five| Instruction::read(five)) {
+        None => ((4, 255), None),
+        Some(instruction) if instruction.allowed(image) => ((0, 255), Some(instruction.next(image))),
+        Some(_) => ((9, 255), None),
+    }
+}
+
+fn next(image: u64, five: &[u8], output: &mut [u8]) -> Answer {
+    if output.len() < 8 { return NO_ROOM; }
+    let (answer, after) = verdict(image, five);
+    if let Some(after) = after { put(output, &after.to_le_bytes()); }
+    answer
+}
+
+/// What the call returns; its rooms are left as it must leave them.
+pub fn call(command: &mut Command) -> u32 {
+    let &mut Command { entry, first, second, image, ref mut room, input, ref mut output } = command;
+    said(match entry {
+        0 => on_station(room, |station| { *station = Station::start(); (0, 255) }),
+        1 if first <= 8 && input.len() < 5 * usize::from(first) => on_station(room, |_| (1, 255)),
+        1 => on_station(room, |station| station.request(first, input)),
+        2 => on_station(room, |station| station.event(first)),
+        3 => on_station(room, |station| station.result(first, second)),
+        4 => on_station(room, |station| station.image(image)),
+        5 => ask(room, output),
+        6 => message(room, input, output),
+        7 => return sound(image).into(),
+        8 => return cars(image).unwrap_or(255),
+        9 => verdict(image, input).0,
+        _ => next(image, input, output),
+    })
+}

@@ -1,0 +1,183 @@
+//! The page of contracts: every public function with its contract and the wrong programs that were tried against it, taken from the
+//! sources and the must-fail edits. `contracts write PAGE` renews the page's list; `contracts check PAGE` fails if the page differs,
+//! if a contract leaves an answer open, if a function has fewer than two wrong programs, or if the prover's log of an edit shows no
+//! false fact.
+use std::fs;
+use std::path::{Path, PathBuf};
+use std::process::exit;
+
+/// A function as its source declares it.
+struct Function {
+    path: String,
+    public: bool,
+    header: String,
+}
+
+/// A wrong program: the edit that makes it, the function that it spoils, and how.
+struct Wrong {
+    edit: String,
+    function: String,
+    how: String,
+}
+
+const START: &str = "<!-- the list: written by `tests/pages/run write` -->\n";
+
+fn read(path: &Path) -> String {
+    fs::read_to_string(path).unwrap_or_else(|error| {
+        eprintln!("{}: {error}", path.display());
+        exit(1)
+    })
+}
+
+fn files(folder: &Path, ending: &str) -> Vec<PathBuf> {
+    let entries = fs::read_dir(folder).into_iter().flatten().flatten().map(|entry| entry.path());
+    let mut found: Vec<_> = entries.filter(|path| path.to_string_lossy().ends_with(ending)).collect();
+    found.sort();
+    found
+}
+
+fn name_of(path: &Path) -> String { path.file_stem().unwrap_or_default().to_string_lossy().into_owned() }
+
+/// The functions of a library crate; public ones are those of lib.rt and of its public modules.
+fn functions(krate: &Path) -> Vec<Function> {
+    let root = krate.join("src/lib.rt");
+    let Ok(lib) = fs::read_to_string(&root) else { return Vec::new() };
+    let mut found = Vec::new();
+    for file in files(&krate.join("src"), ".rt") {
+        let module = name_of(&file);
+        let inside = if module == "lib" { String::new() } else { format!("{module}::") };
+        let open = module == "lib" || lib.contains(&format!("pub mod {module};"));
+        let (source, mut of) = (read(&file), String::new());
+        let mut lines = source.lines();
+        while let Some(line) = lines.next() {
+            if let Some(name) = line.strip_prefix("impl ") {
+                of = format!("{}::", name.trim_end_matches(" {"));
+            } else if line == "}" {
+                of.clear();
+            }
+            let words = line.trim_start();
+            let public = words.starts_with("pub ");
+            let Some((_, rest)) = words.strip_prefix("fn ").map(|rest| ("", rest)).or(words.split_once(" fn ")) else { continue };
+            if words.starts_with("//") || !line.contains('(') { continue; }
+            let mut header = words.to_string();
+            for line in lines.by_ref().take_while(|line| line.trim() != "{") {
+                header.push('\n');
+                header.push_str(line.trim());
+            }
+            let name = rest.split('(').next().unwrap_or_default();
+            found.push(Function { path: format!("{inside}{of}{name}"), public: public && open, header });
+        }
+    }
+    found
+}
+
+/// The one promise of a contract: what stands between its brackets.
+fn promise(header: &str) -> Option<&str> {
+    let mut promises = header.lines().filter(|line| line.starts_with("ensures"));
+    let line = promises.next()?;
+    if promises.next().is_some() { return None; }
+    line.split_once("{ λ ")?.1.strip_suffix(" ⌝ }")
+}
+
+/// Why a contract may let two answers through, if it may: it must be one equation for the answer, or one of the forms that are an
+/// equation for the answer and one for each room that is lent to be written.
+fn open_contract(header: &str) -> Option<&'static str> {
+    if header.lines().any(|line| line.starts_with("requires")) { return Some("it has a precondition"); }
+    let Some((answer, says)) = promise(header).and_then(|text| text.split_once(". ⌜ ")) else { return Some("it is not one promise") };
+    let lent = header.lines().next().unwrap_or_default().split(['(', ',', ')']).filter(|part| part.contains(": &mut "));
+    let rooms: Vec<_> = lent.filter_map(|part| part.split(':').next()).map(|name| format!("(now ({} .exit))", name.trim())).collect();
+    let forms = ["Leaves (", "Serves (", "Exchanges ("];
+    if rooms.is_empty() && says.starts_with(&format!("{answer} ≡ ")) { return None; }
+    let ending = format!(" {answer} {}", rooms.join(" "));
+    if !rooms.is_empty() && forms.iter().any(|form| says.starts_with(form)) && says.ends_with(&ending) { return None; }
+    Some("it is no equation for the answer and each lent room")
+}
+
+/// The wrong programs of a crate: in an edit, a line `# FUNCTION: how` before a replacement.
+fn wrongs(krate: &Path, known: &[Function]) -> Vec<Wrong> {
+    let mut found = Vec::new();
+    for file in files(&krate.join("must-fail"), ".edit") {
+        for line in read(&file).lines() {
+            let Some((function, how)) = line.strip_prefix("# ").and_then(|line| line.split_once(": ")) else { continue };
+            if known.iter().any(|one| one.path == function) {
+                found.push(Wrong { edit: name_of(&file), function: function.into(), how: how.into() });
+            }
+        }
+    }
+    found
+}
+
+/// An error that says no more than that a proof's text no longer fits the code, or that another proof is missing.
+fn misfit(error: &str) -> bool {
+    ["was not admitted", "no occurrence of", "that can be named from here", "has no field", "expected type `tie.Need-", "is not in scope"]
+        .iter()
+        .any(|words| error.contains(words))
+}
+
+/// The errors of a log, each as the file that it stands in and its words.
+fn errors(log: &str, edit: &str) -> Vec<(String, String)> {
+    let lines = log.lines().filter_map(|line| line.split_once(": error: "));
+    let inside = format!("/{edit}/");
+    lines.filter_map(|(place, words)| Some((place.split_once(&inside)?.1.split(':').next()?.into(), words.into()))).collect()
+}
+
+fn main() {
+    let words: Vec<_> = std::env::args().collect();
+    let (["check" | "write"], [page]) = (&[words[1].as_str()], &words[2..]) else {
+        eprintln!("contracts check|write PAGE");
+        exit(2)
+    };
+    let (mut list, mut faults, mut publics, mut tried) = (String::new(), Vec::new(), 0, 0);
+    for krate in files(Path::new("crates"), "") {
+        let (name, known) = (name_of(&krate), functions(&krate));
+        let wrongs = wrongs(&krate, &known);
+        tried += wrongs.len();
+        let public: Vec<_> = known.iter().filter(|function| function.public).collect();
+        if !public.is_empty() {
+            list += &format!("\n## `{name}`\n\n| function | contract | wrong programs that it shuts out |\n|---|---|---|\n");
+        }
+        publics += public.len();
+        for function in public {
+            let path = &function.path;
+            if let Some(why) = open_contract(&function.header) { faults.push(format!("{name}::{path}: {why}")); }
+            let contract = promise(&function.header).and_then(|text| text.split_once("⌜ ")).map_or("", |(_, says)| says);
+            let shut: Vec<_> = wrongs.iter().filter(|wrong| wrong.function == *path).collect();
+            if shut.len() < 2 { faults.push(format!("{name}::{path}: {} wrong programs tried", shut.len())); }
+            let shut: Vec<_> = shut.iter().map(|wrong| format!("{} (`{}`)", wrong.how, wrong.edit)).collect();
+            list += &format!("| `{path}` | `{}` | {} |\n", contract.replace('|', "\\|"), shut.join("; "));
+        }
+        for file in files(&krate.join("must-fail"), ".edit").iter().filter(|_| words[1] == "check") {
+            let edit = name_of(file);
+            let Ok(log) = fs::read_to_string(format!("target/must-fail/{name}/{edit}/.log")) else {
+                faults.push(format!("{name}/{edit}: not tried"));
+                continue;
+            };
+            let errors = errors(&log, &edit);
+            let own: Vec<_> = wrongs.iter().filter(|wrong| wrong.edit == edit).collect();
+            if own.is_empty() && errors.first().is_none_or(|(_, words)| misfit(words)) {
+                faults.push(format!("{name}/{edit}: its log's first error shows no false fact"));
+            }
+            for wrong in own {
+                let proof = format!("proofs/{}/Proof.antt", wrong.function.replace("::", "/"));
+                let by_itself = format!("fn {name}::{}: no proof: ", wrong.function);
+                let searched = log.lines().any(|line| line.starts_with(&by_itself) && line.contains("`search` does not close `returns"));
+                if !searched && !errors.iter().any(|(file, words)| *file == proof && !misfit(words)) {
+                    faults.push(format!("{name}/{edit}: {} is not refused for a false fact of its own", wrong.function));
+                }
+            }
+        }
+    }
+    let text = read(Path::new(page));
+    let Some((head, old)) = text.split_once(START) else {
+        eprintln!("{page}: no list");
+        exit(1)
+    };
+    if words[1] == "write" {
+        fs::write(page, format!("{head}{START}{list}")).unwrap_or_else(|error| eprintln!("{page}: {error}"));
+    } else if old != list {
+        faults.push(format!("{page} is not what the sources say: tests/pages/run write"));
+    }
+    faults.iter().for_each(|fault| eprintln!("contracts: {fault}"));
+    println!("contracts: {publics} public functions, {tried} wrong programs of theirs and their parts, {} faults", faults.len());
+    exit(i32::from(!faults.is_empty()))
+}
