@@ -107,6 +107,9 @@ fn wrongs(krate: &Path, known: &[Function]) -> Vec<Wrong> {
     found
 }
 
+/// A wrong program on the page.
+fn told(krate: &str, how: &str, edit: &str) -> String { format!("{how} ([{edit}](../crates/{krate}/must-fail/{edit}.edit))") }
+
 /// An error that says no more than that a proof's text no longer fits the code, or that another proof is missing.
 fn misfit(error: &str) -> bool {
     ["was not admitted", "no occurrence of", "that can be named from here", "has no field", "expected type `tie.Need-", "is not in scope"]
@@ -133,7 +136,8 @@ fn main() {
         let wrongs = wrongs(&krate, &known);
         tried += wrongs.len();
         let public: Vec<_> = known.iter().filter(|function| function.public).collect();
-        if !public.is_empty() {
+        let public_none = public.is_empty();
+        if !public_none {
             list += &format!("\n## `{name}`\n\n| function | contract | wrong programs that it shuts out |\n|---|---|---|\n");
         }
         publics += public.len();
@@ -143,10 +147,22 @@ fn main() {
             let contract = promise(&function.header).and_then(|text| text.split_once("⌜ ")).map_or("", |(_, says)| says);
             let shut: Vec<_> = wrongs.iter().filter(|wrong| wrong.function == *path).collect();
             if shut.len() < 2 { faults.push(format!("{name}::{path}: {} wrong programs tried", shut.len())); }
-            let shut: Vec<_> = shut.iter().map(|wrong| format!("{} (`{}`)", wrong.how, wrong.edit)).collect();
+            let shut: Vec<_> = shut.iter().map(|wrong| told(&name, &wrong.how, &wrong.edit)).collect();
             list += &format!("| `{path}` | `{}` | {} |\n", contract.replace('|', "\\|"), shut.join("; "));
         }
-        for file in files(&krate.join("must-fail"), ".edit").iter().filter(|_| words[1] == "check") {
+        let parts = wrongs.iter().filter(|wrong| known.iter().any(|one| one.path == wrong.function && !one.public));
+        let parts: Vec<_> = parts.map(|wrong| format!("`{}`: {}", wrong.function, told(&name, &wrong.how, &wrong.edit))).collect();
+        if !parts.is_empty() { list += &format!("\nOf its parts: {}.\n", parts.join("; ")); }
+        let edits = files(&krate.join("must-fail"), ".edit");
+        let whole: Vec<_> = edits.iter().filter(|file| !wrongs.iter().any(|wrong| wrong.edit == name_of(file))).collect();
+        if !whole.is_empty() {
+            let how = |file: &Path| read(file).lines().next().unwrap_or_default().trim_start_matches("# ").to_string();
+            let shut: Vec<_> = whole.iter().map(|file| told(&name, &how(file), &name_of(file))).collect();
+            if public_none { list += &format!("\n## `{name}`\n"); }
+            list += &format!("\nAs a whole: {}.\n", shut.join("; "));
+            tried += whole.len();
+        }
+        for file in edits.iter().filter(|_| words[1] == "check") {
             let edit = name_of(file);
             let Ok(log) = fs::read_to_string(format!("target/must-fail/{name}/{edit}/.log")) else {
                 faults.push(format!("{name}/{edit}: not tried"));
@@ -178,6 +194,6 @@ fn main() {
         faults.push(format!("{page} is not what the sources say: tests/pages/run write"));
     }
     faults.iter().for_each(|fault| eprintln!("contracts: {fault}"));
-    println!("contracts: {publics} public functions, {tried} wrong programs of theirs and their parts, {} faults", faults.len());
+    println!("contracts: {publics} public functions, {tried} wrong programs and definitions, {} faults", faults.len());
     exit(i32::from(!faults.is_empty()))
 }

@@ -1,4 +1,5 @@
--- The floor of document 01: which bit of the record stands for what. No other file knows a bit's number. Assumes nothing.
+-- The floor of document 01: which bit of the record stands for what. Other files go by these names; only the ends of the rows, 20 and
+-- 40, are written again, where cars are laid out. Assumes nothing.
 use mathlib.Core.Bool.{cond}
 use mathlib.Core.List.{List, [], _∷_, _++_}
 use Prim.Native.Nat.{ℕ, _+_, _*_}

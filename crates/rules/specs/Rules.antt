@@ -6,7 +6,7 @@ use Prim.Native.Nat.{ℕ, _-_}
 use lib.Dec.{eqb, leb}
 use Rattle.bits.specs.Bits.{Bits, bit}
 use Rattle.bits.specs.Places.{elem, share, isEmpty, adjacent, join}
-use Rattle.floor.specs.Floor.{rowCells, lowered, slot, place, lift, liftCells, leftOfLift, rightOfLift, turningCells, raisedCar, heightLow, heightHigh, rotation, basement}
+use Rattle.floor.specs.Floor.{rowCells, lowered, tilted, slot, place, lift, liftCells, leftOfLift, rightOfLift, turningCells, raisedCar, heightLow, heightHigh, rotation, basement}
 use Rattle.floor.specs.Tests.{Test, fact, set, free, even, no, both, either, when, choose, allHold, heightIs, atBasement, Change, _≔_, changed}
 use Rattle.floor.specs.Sound.{slots}
 use Rattle.rules.specs.declared.Instruction.{Instruction}
@@ -38,7 +38,7 @@ areaOf (Shuttles side mask orientation toward) =
     map (slot side orientation) rows ++ cond (eqb orientation lowered) (join (map (place side) rows)) []
 -- from lowered: the side's three lowered slots, the tilted slot and cells of the position; from tilted: both slots and the cells
 areaOf (Tilt side row orientation) =
-    cond (eqb orientation lowered) (slots side lowered ++ slot side 1 row ∷ []) (slot side 0 row ∷ slot side 1 row ∷ [])
+    cond (eqb orientation lowered) (slots side lowered ++ slot side tilted row ∷ []) (slot side lowered row ∷ slot side tilted row ∷ [])
     ++ place side row
 -- the lift and all of row 1
 areaOf (Lift height) = lift ++ rowCells 1
@@ -85,9 +85,9 @@ conditions (Shuttles side mask orientation toward) =
 conditions (Tilt side row orientation) =
     cond (eqb orientation lowered)
     -- all three of the side are lowered and the position's cells are free
-    (set (slots side 0) ∷ free (place side row) ∷ [])
+    (set (slots side lowered) ∷ free (place side row) ∷ [])
     -- a tilted one is there and no lowered one
-    (set (slot side 1 row ∷ []) ∷ free (slot side 0 row ∷ []) ∷ [])
+    (set (slot side tilted row ∷ []) ∷ free (slot side lowered row ∷ []) ∷ [])
 conditions (Lift height) =
     -- the height differs
     no (heightIs height)
