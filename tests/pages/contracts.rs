@@ -117,11 +117,17 @@ fn misfit(error: &str) -> bool {
         .any(|words| error.contains(words))
 }
 
-/// The errors of a log, each as the file that it stands in and its words.
+/// The errors of a log, each as the file that it stands in and its words, which may go on in the next line.
 fn errors(log: &str, edit: &str) -> Vec<(String, String)> {
-    let lines = log.lines().filter_map(|line| line.split_once(": error: "));
-    let inside = format!("/{edit}/");
-    lines.filter_map(|(place, words)| Some((place.split_once(&inside)?.1.split(':').next()?.into(), words.into()))).collect()
+    let (inside, mut found) = (format!("/{edit}/"), Vec::new());
+    let mut lines = log.lines().peekable();
+    while let Some(line) = lines.next() {
+        let Some((place, words)) = line.split_once(": error: ") else { continue };
+        let Some((_, file)) = place.split_once(&inside) else { continue };
+        let more = lines.next_if(|line| line.starts_with("  ")).unwrap_or_default();
+        found.push((file.split(':').next().unwrap_or_default().into(), format!("{words}{more}")));
+    }
+    found
 }
 
 fn main() {

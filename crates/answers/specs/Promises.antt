@@ -1,5 +1,5 @@
 -- What is promised of the table: every answer is one of its rows. Proved in proofs/Promises.antt. Assumes nothing.
-use Prim.Native.Nat.{ℕ, _≤_}
+use Prim.Native.Nat.{_≤_}
 use Rattle.answers.specs.declared.Answer.{Answer}
 use Rattle.answers.specs.Answers.{numberOf}
 

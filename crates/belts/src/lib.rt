@@ -7,7 +7,7 @@ ghost use Rattle.bits.specs.Bits.{bit, image};
 ghost use Rattle.bits.specs.Places.{places, isEmpty, adjacent};
 ghost use Rattle.floor.specs.Tests.{holds, both, set, when, atBasement};
 ghost use Rattle.rules.specs.Named.{higher, step, cells, neededSlots, liftNamed};
-ghost use Rattle.rules.specs.Rules.{wellFormed, beltsNamed, allowed, next};
+ghost use Rattle.rules.specs.Rules.{wellFormed, beltsNamed, allowed};
 ghost use Rattle.rules.specs.Verdicts.{verdictOf, movedOf};
 ghost use Rattle.belts.specs.Private.{firstCell, endCell, cellNamed, along, source, copied, standing, clear, renewed};
 use floor::Belt;

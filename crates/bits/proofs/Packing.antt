@@ -48,22 +48,13 @@ pub record Packing (f : Bits) (k acc : ℕ) : Type 0 where
   pub fits : acc < 2 ^ 64
   pub held : acc ≡ packed (64 - k) k f
 
-pub packing-starts : {f : Bits} → Packing f 64 0
-unfolding packed
-packing-starts = record { low = omega arith; fits = omega arith; held = refl }
-
 pub packs : {f : Bits} {k acc : ℕ} {b : Bool} → Packing f k acc → 0 < k → b ≡ f (k - 1) → Packing f (k - 1) (acc * 2 + boolByte b)
 packs {f} {k} {acc} {b} inv p q =
     let i : acc * 2 + boolByte b ≡ packed (64 - (k - 1)) (k - 1) f =
     ap₂ (λ (x y : ℕ). x * 2 + y) (inv .held) (byte-digit b ∙ ap digit q) ∙ sym (packed-step 64 k f p (inv .low)) in
     record { low = omega arith; fits = omega (arith, packed-part 64 (k - 1) f); held = i }
 
-pub packing-ends : {f : Bits} {k acc : ℕ} → Packing f k acc → k ≤ 0 → acc ≡ image f
-packing-ends {f} {k} inv h =
-    let z : k ≡ 0 = omega arith in
-    inv .held ∙ ap (λ (j : ℕ). packed (64 - j) j f) z
-
--- the same where only the bits from a to z of a number r are made anew: it starts from those above z, and ends with those below a
+-- where only the bits from a to z of a number r are made anew, it starts from those above z, and ends with those below a
 pub packing-above : {f : Bits} (r z : ℕ) → r < 2 ^ 64 → z ≤ 64 → ((j : ℕ) → z ≤ j → f j ≡ bit r j) → Packing f z (r / 2 ^ z)
 packing-above {f} r z h l e =
     let w : 64 ≡ 64 - z + z = omega arith in

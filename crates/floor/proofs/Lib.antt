@@ -7,4 +7,3 @@ pub mod Belts
 pub mod Scanning
 pub mod Judging
 pub mod Promises
-pub mod Examples

@@ -5,7 +5,6 @@ use Prim.Native.Nat.{ℕ, zero, suc, _+_, _*_, _≤_, _<_}
 use native.Mathlib.Omega.{arith}
 use lib.ListN.{getD, take, replicate}
 use lib.Seq.{getD-drop}
-use Rattle.rules.specs.declared.Code.{Code}
 use Rattle.garage.specs.Held.{codeAt}
 
 -- instruction i stands at place 5i

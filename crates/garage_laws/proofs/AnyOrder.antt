@@ -13,7 +13,7 @@ use Rattle.sets.proofs.Rules.{blind}
 use Rattle.sets.proofs.Machine as machine
 use Rattle.sets.proofs.Machine.{Act}
 use Rattle.sets.proofs.Orders as machine-orders
-use Rattle.sets.proofs.Order as machine-order
+use Rattle.sets.proofs.AnyOrder as machine-order
 use Rattle.garage.specs.declared.Station.{Station}
 use Rattle.garage.specs.Held.{liftIn}
 use Rattle.garage.specs.Station.{fit, closed, holding, opened, answering}

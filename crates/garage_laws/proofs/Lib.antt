@@ -1,5 +1,4 @@
 pub mod Instance
-pub mod Padding
 pub mod Fits
 pub mod Calls
 pub mod Steps

@@ -1,9 +1,9 @@
 -- The station shows the machine of the crate `sets`: what a station holds is a machine's station (`view`), and each call that is taken is
 -- the machine's. So a station that is reached is in good order, and never answers 14. Assumes nothing.
-use mathlib.Core.Path.{_≡_, sym, ap, subst, _∙_}
+use mathlib.Core.Path.{_≡_, sym, ap, subst, fun-ext, _∙_}
 use mathlib.Core.Bool.{Bool, true, cond, and-false}
 use mathlib.Core.List.{List, _++_}
-use Prim.Native.Nat.{ℕ, _*_, _-_, _<_}
+use Prim.Native.Nat.{ℕ, _+_, _*_, _-_, _<_}
 use native.Mathlib.Omega.{arith}
 use lib.ListN.{take, replicate}
 use borrow.Author.Tests.{lt-ltb}
@@ -19,18 +19,17 @@ use Rattle.answers.specs.Answers.{numberOf}
 use Rattle.sets.proofs.Machine as machine
 use Rattle.sets.proofs.Machine.{Batch, Outcome, failed, finished, moves, result, event, request, act, mark, outstanding, blocks, accepted, released, idle, takes, does}
 use Rattle.sets.proofs.Rules.{blind}
-use Rattle.sets.proofs.Traces.{Good}
+use Rattle.sets.proofs.GoodOrder.{Good}
 use Rattle.sets.proofs.Facts.{is-accepted}
 use Rattle.sets.proofs.Marks.{marks, unmarked}
-use Rattle.sets.proofs.Trace.{call-good}
+use Rattle.sets.proofs.KeptGood.{call-good}
 use Rattle.garage.specs.declared.Station.{Station}
 use Rattle.garage.specs.Held.{codeAt, heldArea, liftIn}
 use Rattle.garage.specs.Station.{closed, opened, answering}
 use Rattle.garage_laws.specs.Runs.{Call, Begins}
 use Rattle.garage_laws.specs.Demands.{Acceptable, Waiting, NeverFourteen}
-use Rattle.garage_laws.proofs.Instance.{rules, framed}
-use Rattle.garage.proofs.Padding.{kept-code}
-use Rattle.garage_laws.proofs.Padding.{no-code}
+use Rattle.garage_laws.proofs.Instance.{rules, framed, blank}
+use Rattle.garage.proofs.Padding.{five-at, zeros-at, kept-code}
 use Rattle.garage_laws.proofs.Fits.{fit-has, some-every, marksWith, after-result}
 use Rattle.garage_laws.proofs.Calls.{following, each-call}
 use Rattle.garage_laws.proofs.Always.{begins-has}
@@ -71,6 +70,10 @@ module _ (s : Station) (n : ℕ) (set : List ℕ) (A : Acceptable s n set) where
   request-view = ap (λ (g : ℕ → Bool). record { bits = s .bits; set = kept; answered = g }) unmarked
 
 -- ---- a result
+
+-- no instruction is kept in zeros
+no-code : (m : ℕ) → codeAt (replicate m 0) ≡ (λ j. blank)
+no-code m = fun-ext (λ i. rw (five-at (replicate m 0) i, zeros-at m (5 * i), zeros-at m (5 * i + 1), zeros-at m (5 * i + 2), zeros-at m (5 * i + 3), zeros-at m (5 * i + 4)))
 
 closed-view : (r : ℕ) → view (closed r) ≡ idle rules r
 closed-view r = λ i. record { bits = r; set = record { size = 0; at = no-code 40 i }; answered = unmarked i }

@@ -1,7 +1,7 @@
 -- From the code's two tests of an instruction, whether it is well formed and whether it is allowed, to what it answers: the same for every
 -- instruction. Assumes nothing.
-use mathlib.Core.Path.{_≡_, sym, ap, _∙_}
-use mathlib.Core.Bool.{Bool, true, false, not}
+use mathlib.Core.Path.{_≡_, ap}
+use mathlib.Core.Bool.{true, false}
 use Prim.Native.Nat.{ℕ}
 use Rattle.bits.specs.Bits.{bit, image}
 use Rattle.rules.specs.declared.Instruction.{Instruction}

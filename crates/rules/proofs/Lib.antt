@@ -1,6 +1,6 @@
 pub mod Every
 pub mod Frame
 pub mod CodeLaws
-pub mod Examples
+pub mod Mistakes
 pub mod Overlaps
 pub mod Answering

@@ -12,7 +12,6 @@ use lib.ListN.{length, drop, length-append}
 use types.Run.{OneOf, miss}
 use Rattle.bits.specs.Search.{least}
 use Rattle.bits.proofs.Cases.{alike}
-use Rattle.answers.specs.declared.Answer.{Answer}
 use Rattle.answers.specs.declared.Answer.the-variants.{Taken, TooFewBytes, NoRoom}
 use Rattle.garage.specs.declared.Outcome.{Outcome}
 use Rattle.wire.proofs.What as what

@@ -8,7 +8,7 @@ use mathlib.Core.Bool.{true}
 use Rattle.sets.proofs.Rules.{Rules, Framed, blind, LocalRules, SoundRules}
 use Rattle.sets.proofs.Machine.{Batch, Outcome, Act, result, opened, idle, accepted}
 use Rattle.sets.proofs.Orders.{Order, Alike}
-use Rattle.sets.proofs.Traces.{Good}
+use Rattle.sets.proofs.GoodOrder.{Good}
 
 module _ {W C I E : Type 0} (R : Rules W C I E) where
   -- rules that read and write only their areas, and keep records sound, are framed

@@ -1,14 +1,13 @@
 -- The promises of specs/Promises.antt. Assumes nothing.
 use mathlib.Core.Path.{_≡_, sym, ap, _∙_}
 use mathlib.Core.List.{List, _∷_, _++_}
-use Prim.Native.Nat.{ℕ, _<_}
+use Prim.Native.Nat.{ℕ}
 use native.Mathlib.Omega.{arith}
 use borrow.Author.Tests.{ne-eqb}
 use lib.Dec.{ltb}
 use lib.ListN.{length, getD, take, drop}
 use lib.Seq.{take-at, take-add, drop-cons}
 use Rattle.bits.proofs.Cases.{split}
-use Rattle.answers.specs.declared.Answer.{Answer}
 use Rattle.answers.specs.Answers.{numberOf}
 use Rattle.answers.proofs.Promises.{in-table}
 use Rattle.wire_laws.proofs.Numbers.{image-reads-back, image-one-form}

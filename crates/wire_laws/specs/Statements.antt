@@ -3,7 +3,7 @@
 -- Proved in proofs/. Assumes nothing.
 use mathlib.Core.Path.{_≡_}
 use mathlib.Core.Bool.{true}
-use mathlib.Core.List.{List, [], _∷_, _++_}
+use mathlib.Core.List.{List, _++_}
 use Prim.Native.Nat.{ℕ, _≤_, _*_, _<_, _^_}
 use lib.ListN.{getD, length, take, drop}
 use Rattle.rules.specs.declared.Instruction.{Instruction}

@@ -8,7 +8,7 @@ use lib.ListN.{length, drop, length-drop}
 use Rattle.wire.specs.Reads.{frameOf}
 use Rattle.wire.proofs.Frames.{Framed, whole-frame}
 use Rattle.wire.proofs.Parts.{from-on}
-use Rattle.service.specs.Service.{respond, told}
+use Rattle.service.specs.Service.{respond}
 use Rattle.service.proofs.Replies.{said-length}
 use Rattle.service.proofs.Ranges.{replies-in-range}
 use Rattle.service.proofs.Turns.{Midway, started, room-left, cut-short, wrong-length, answered}

@@ -1,6 +1,5 @@
 -- `station_c::requested` meets its contract: the bytes past the instructions are not looked at. Assumes nothing.
 use mathlib.Core.Path.{sym, _∙_}
-use native.Mathlib.Omega.{arith}
 use lib.Seq.{length-take-le}
 use borrow.Author.Needs.{needs}
 use Rattle.station_c.proofs.Padding.{too-many, too-few, enough}

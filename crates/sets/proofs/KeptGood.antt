@@ -6,7 +6,7 @@ use lib.Dec.{eqb}
 use borrow.Author.Tests.{not-true, eqb-false}
 use Rattle.sets.proofs.Rules.{Rules, Clear, Framed}
 use Rattle.sets.proofs.Machine.{Station, failed, finished, result, event, Call, request, act, image, noted, released, outstanding, blocks, takes, does, call}
-use Rattle.sets.proofs.Traces.{Good}
+use Rattle.sets.proofs.GoodOrder.{Good}
 use Rattle.sets.proofs.Statements.{GoodAtStart}
 use Rattle.bits.proofs.Cases.{split, clash, both, neither}
 use Rattle.sets.proofs.Facts.{due, still-open, accepted-ready, blocks-clear}

@@ -1,11 +1,11 @@
--- The floor examples of document 01 that speak of one instruction, and what its list of easy mistakes would let through, computed
--- from the definitions. Images are written as one number, highest byte first. Assumes nothing.
+-- What document 01's list of easy mistakes would let through, computed from the definitions. (Its examples P1 to P12 are one table, in
+-- the crate `examples`.) Images are written as one number, highest byte first. Assumes nothing.
 use mathlib.Core.Path.{_≡_, refl}
 use mathlib.Core.Bool.{true, false}
 use Prim.Native.Nat.{ℕ}
 use Rattle.bits.specs.Bits.{bit, packed, image}
 use Rattle.rules.specs.declared.Instruction.{Instruction}
-use Rattle.rules.specs.declared.Instruction.the-variants.{Belts, Shuttles, Tilt, Lift, Rotate}
+use Rattle.rules.specs.declared.Instruction.the-variants.{Belts, Shuttles, Tilt, Lift}
 use Rattle.rules.specs.Rules.{allowed, next}
 
 -- the instruction is allowed on one image, and gives the other
@@ -16,40 +16,10 @@ Gives r i s = (allowed i (bit r) ≡ true) × (image (next i (bit r)) ≡ s)
 abbrev pub Refused : ℕ → Instruction → Type 0
 Refused r i = allowed i (bit r) ≡ false
 
--- a car on the raised lift, and the lift goes to the basement
-pub p4 : Gives 0x00191B0000000000 (Lift 2) 0x00491B0000001800
-unfolding allowed next packed
-p4 = (refl, refl)
-
--- the car half off the lift holds it down
-pub p5 : Gives 0x00491B0000001800 (Belts 1 6 0 0) 0x00491B0000000C00 × Refused 0x00491B0000000C00 (Lift 0)
-unfolding allowed next packed
-p5 = ((refl, refl), refl)
-
 -- two cars, each half on the lift: testing the lift's own two cells for evenness would let it go
-pub p6 : Refused 0x00491B0000003C00 (Lift 0) × Refused 0x00491B0000003C00 (Lift 1)
+pub two-cars-torn : Refused 0x00491B0000003C00 (Lift 0) × Refused 0x00491B0000003C00 (Lift 1)
 unfolding allowed
-p6 = (refl, refl)
-
--- two shuttles, and the car on the first becomes one cell of row 2
-pub p8 : Gives 0x00091B0000000003 (Shuttles 0 3 0 1) 0x00091E0000100000
-unfolding allowed next packed
-p8 = (refl, refl)
-
--- a car half on the first shuttle
-pub p9 : Refused 0x00091B0000000006 (Shuttles 0 3 0 1)
-unfolding allowed
-p9 = refl
-
--- the two tilts of the set, one after the other
-pub p10 : Gives 0x00091B0000000000 (Tilt 0 3 1) 0x00081F0000000000 × Gives 0x00081F0000000000 (Tilt 1 3 1) 0x00003F0000000000
-unfolding allowed next packed
-p10 = ((refl, refl), (refl, refl))
-
--- the car beside the turning cells, and the car on one of them
-pub p11 : Gives 0x00291B00000000C0 Rotate 0x00291B00000000C0 × Refused 0x00291B0000000180 Rotate
-unfolding allowed next packed
-p11 = ((refl, refl), refl)
+two-cars-torn = (refl, refl)
 
 -- a shuttle brings a car from row 2 into row 1: both halves are filled
 pub two-halves : Gives 0x00085E0000100000 (Shuttles 0 6 0 0) 0x00085B0000000003

@@ -13,7 +13,7 @@ use Rattle.sets.proofs.Rules.{Rules, Framed}
 use Rattle.sets.proofs.Machine.{Batch, Station, Outcome, moves, Act, result, event, mark, opened, outstanding, accepted, noted, idle, released, taken, step, run}
 use Rattle.sets.proofs.Orders.{resultsOf, eventsOf, AsChosen, Order, Fair, replies, eventAlone, eventsAlone, AtEnd}
 use Rattle.sets.proofs.Statements.{AnyOrder}
-use Rattle.bits.proofs.Cases.{split, clash, both}
+use Rattle.bits.proofs.Cases.{split, clash}
 use Rattle.bits.proofs.Search.{none-is}
 use Rattle.sets.proofs.Facts.{due, still-open, accepted-ready}
 use Rattle.sets.proofs.Invariant.{Scene, Inv, begin, still-allowed, success, failure, answer, moved, at-end, same-end}

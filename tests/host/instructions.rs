@@ -1,0 +1,201 @@
+//! The reference's five instructions: which are well-formed, their areas, when each is allowed, and the record after it.
+use super::floor::ROTATION_CELLS;
+use super::*;
+
+/// An instruction, its fields as the message gives them.
+#[derive(Clone, Copy, Debug, PartialEq, Eq)]
+pub enum Instruction {
+    Belts { row: u8, mask: u8, d: u8, size: u8 },
+    Shuttles { side: u8, mask: u8, orientation: u8, d: u8 },
+    Tilt { side: u8, row: u8, orientation: u8 },
+    Lift { height: u8 },
+    Rotate,
+}
+use Instruction::{Belts, Lift, Rotate, Shuttles, Tilt};
+
+pub fn named(mask: u8, at: u32) -> bool { bit(mask.into(), at) }
+
+/// The lowest and the highest bit named, if any is.
+fn ends(mask: u8) -> Option<(u32, u32)> { Some((mask.trailing_zeros(), mask.checked_ilog2()?)) }
+
+/// The cells from the lowest named belt to the highest.
+fn span(row: u8, mask: u8) -> Range<u32> {
+    ends(mask).map_or(0..0, |(low, high)| belt_cells(row, low).start..belt_cells(row, high).end)
+}
+
+/// How far a belt move shifts: two cells for a full move in row 1, else one.
+fn shift(row: u8, size: u8) -> u32 { if row == 1 && size == FULL { 2 } else { 1 } }
+
+/// The rows a shuttle mask names; bit 0 is row 1.
+fn rows(mask: u8) -> impl Iterator<Item = u8> { (1..=3).filter(move |&row| named(mask, u32::from(row) - 1)) }
+
+/// The row one toward d, if there is one.
+fn next_row(row: u8, d: u8) -> Option<u8> {
+    Some(if d == HIGHER { row + 1 } else { row - 1 }).filter(|next| (1..=3).contains(next))
+}
+
+impl Instruction {
+    /// Read from its own five bytes; nothing if a field is out of range or a spare byte not zero.
+    pub fn read(bytes: [u8; 5]) -> Option<Self> {
+        let instruction = match bytes {
+            [1, row, mask, d, size] => Belts { row, mask, d, size },
+            [2, side, mask, orientation, d] => Shuttles { side, mask, orientation, d },
+            [3, side, row, orientation, 0] => Tilt { side, row, orientation },
+            [4, height, 0, 0, 0] => Lift { height },
+            [5, 0, 0, 0, 0] => Rotate,
+            _ => return None,
+        };
+        instruction.well_formed().then_some(instruction)
+    }
+
+    /// Every field in its range; a mask may be zero or have gaps.
+    pub fn well_formed(&self) -> bool {
+        match *self {
+            Belts { row: 1, mask, d, size } => mask <= 31 && d <= 1 && size <= 1,
+            Belts { row, mask, d, size } => matches!(row, 2 | 3) && mask <= 7 && d <= 1 && size <= 1,
+            Shuttles { side, mask, orientation, d } => side <= 1 && mask <= 7 && orientation <= 1 && d <= 1,
+            Tilt { side, row, orientation } => side <= 1 && matches!(row, 1..=3) && orientation <= 1,
+            Lift { height } => height <= 2,
+            Rotate => true,
+        }
+    }
+
+    /// All the instruction reads or writes, the same on every record. (Ill-formed: nothing.)
+    pub fn area(&self) -> u64 {
+        match *self {
+            _ if !self.well_formed() => 0,
+            // The belts' cells, the lowered slots of shuttle belts, the lift with its belt.
+            Belts { row, mask, .. } => (0..5).filter(|&belt| named(mask, belt)).fold(0, |area, belt| {
+                let below = match shuttle_side(row, belt) {
+                    Some(side) => 1 << slot(side, row, LOWERED),
+                    None => if (row, belt) == (1, 2) { LIFT } else { 0 },
+                };
+                area | mask_of(belt_cells(row, belt)) | below
+            }),
+            // The named slots and for each the one a row toward d; lowered, their cells too.
+            Shuttles { side, mask, orientation, d } => {
+                let reached = rows(mask).flat_map(|row| [Some(row), next_row(row, d)]).flatten();
+                reached.fold(0, |area, row| {
+                    let cells = if orientation == LOWERED { mask_of(position(side, row)) } else { 0 };
+                    area | 1 << slot(side, row, orientation) | cells
+                })
+            }
+            // Both slots and the cells of the position; from lowered, the side's three lowered slots.
+            Tilt { side, row, orientation } => {
+                let both = 1 << slot(side, row, LOWERED) | 1 << slot(side, row, TILTED);
+                let three = if orientation == LOWERED { 0b111 << slot(side, 1, LOWERED) } else { 0 };
+                both | three | mask_of(position(side, row))
+            }
+            // The lift and all of row 1.
+            Lift { .. } => LIFT | mask_of(ROW_1),
+            // The lift and its six cells.
+            Rotate => ROTATION_CELLS.into_iter().fold(LIFT, |area, cells| area | mask_of(cells)),
+        }
+    }
+
+    /// Whether the instruction is allowed on this record. (Ill-formed: never.)
+    pub fn allowed(&self, image: u64) -> bool {
+        match *self {
+            _ if !self.well_formed() => false,
+            Belts { row, mask, d, size } => {
+                let Some((low, high)) = ends(mask) else { return false }; // at least one belt
+                // A shuttle belt needs its lowered shuttle, the lift belt the basement.
+                let available = |belt| match shuttle_side(row, belt) {
+                    Some(side) => bit(image, slot(side, row, LOWERED)),
+                    None => (row, belt) != (1, 2) || height(image) == BASEMENT,
+                };
+                let (span, by) = (span(row, mask), shift(row, size));
+                let end = if d == HIGHER { span.end - by..span.end } else { span.start..span.start + by };
+                (row == 1 || size == FULL) // only row 1 moves by halves
+                    && (low..=high).all(|belt| named(mask, belt) && available(belt)) // no gap
+                    && free(image, end) // at the end toward d, as many cells as the shift is long
+                    && (row != 1 || even(image, span)) // no car of row 1 is torn
+            }
+            Shuttles { side, mask, orientation, d } => {
+                let Some((low, high)) = ends(mask) else { return false }; // at least one row
+                let (low, high) = (low as u8 + 1, high as u8 + 1);
+                let present = |row| bit(image, slot(side, row, orientation));
+                (low..=high).all(|row| named(mask, u32::from(row) - 1) && present(row)) // no gap
+                    && (orientation != LOWERED || low != 1 || even(image, position(side, 1))) // no half car
+                    // The row they shift into exists and has no such shuttle.
+                    && next_row(if d == HIGHER { high } else { low }, d).is_some_and(|row| !present(row))
+            }
+            // All three of the side are lowered and no car is on this one.
+            Tilt { side, row, orientation: LOWERED } => {
+                (1..=3).all(|row| bit(image, slot(side, row, LOWERED))) && free(image, position(side, row))
+            }
+            // A tilted one is there and no lowered one.
+            Tilt { side, row, .. } => bit(image, slot(side, row, TILTED)) && !bit(image, slot(side, row, LOWERED)),
+            // To another height; out of the basement only with the lift's cells free, or an even
+            // number of cells occupied on either side of it, so that no car is torn.
+            Lift { height: to } => {
+                let whole = || {
+                    free(image, LIFT_CELLS)
+                        || even(image, ROW_1.start..LIFT_CELLS.start) && even(image, LIFT_CELLS.end..ROW_1.end)
+                };
+                height(image) != to && (height(image) != BASEMENT || whole())
+            }
+            // At rotation height, the six cells beside the lift free.
+            Rotate => height(image) == ROTATION && ROTATION_CELLS.into_iter().all(|cells| free(image, cells)),
+        }
+    }
+
+    /// The record after the instruction, meant for an allowed one. (Ill-formed: unchanged.)
+    pub fn next(&self, image: u64) -> u64 {
+        let mut after = image;
+        match *self {
+            _ if !self.well_formed() => {}
+            // Each cell of the span takes what lay behind it; from outside the span comes nothing.
+            Belts { row, mask, d, size } => {
+                let (span, by) = (span(row, mask), shift(row, size));
+                for cell in span.clone() {
+                    let from = if d == HIGHER { cell.checked_sub(by) } else { Some(cell + by) };
+                    let car = from.is_some_and(|from| span.contains(&from) && bit(image, from));
+                    after = with(after, cell, car);
+                }
+            }
+            // The slots shift by a row. Lowered shuttles leave their cells free and fill the cells
+            // they come to: both halves in row 1, else the one. Tilted ones change no cell.
+            Shuttles { side, mask, orientation, d } => {
+                for row in rows(mask) {
+                    after = with(after, slot(side, row, orientation), false);
+                    if orientation == LOWERED { after = with_all(after, position(side, row), false); }
+                }
+                for (row, to) in rows(mask).filter_map(|row| Some((row, next_row(row, d)?))) {
+                    after = with(after, slot(side, to, orientation), true);
+                    let car = !free(image, position(side, row));
+                    if orientation == LOWERED { after = with_all(after, position(side, to), car); }
+                }
+            }
+            // The shuttle has the other orientation.
+            Tilt { side, row, orientation } => {
+                after = with(after, slot(side, row, orientation), false);
+                after = with(after, slot(side, row, 1 - orientation), true);
+            }
+            // Leaving the basement, the lift bears a car if both cells did, and they are free;
+            // arriving there, both cells take its car.
+            Lift { height: to } => {
+                if height(image) == BASEMENT {
+                    after = with(after, LIFT_CAR, occupied(image, LIFT_CELLS) == 2);
+                    after = with_all(after, LIFT_CELLS, false);
+                } else if to == BASEMENT {
+                    after = with_all(after, LIFT_CELLS, bit(image, LIFT_CAR));
+                    after = with(after, LIFT_CAR, false);
+                }
+                after = after & !(3 << 53) | u64::from(to) << 53;
+            }
+            // The record stays the same.
+            Rotate => {}
+        }
+        after
+    }
+}
+
+/// Reads up to eight instructions of five bytes each, or gives the place of the least bad one.
+pub fn read_set(bytes: &[u8]) -> Result<[Instruction; LARGEST_SET], u8> {
+    let mut set = [Rotate; LARGEST_SET];
+    for (place, (instruction, &five)) in (0..).zip(set.iter_mut().zip(bytes.as_chunks().0)) {
+        *instruction = Instruction::read(five).ok_or(place)?;
+    }
+    Ok(set)
+}

@@ -1,0 +1,169 @@
+//! The reference's messages and its program: what bytes say, the bytes of a message, and a whole session answered.
+use super::{answer, read_set, Answer, Call, Station, NO_PLACE};
+use std::io::{self, ErrorKind, Read, Write};
+
+// ---- Messages ----------------------------------------------------------------------------------
+
+/// Any message: a call (kinds 1 to 5), an answer (128), an image answered (129).
+#[derive(Clone, Copy, Debug, PartialEq, Eq)]
+pub enum Message<'a> {
+    Call(Call<'a>),
+    Answer { number: u8, place: u8 },
+    Image(u64),
+}
+
+/// Why a message isn't read, and how many bytes it took where its length frames it.
+#[derive(Clone, Copy, Debug, PartialEq, Eq)]
+pub struct Refused {
+    pub number: u8,
+    pub place: u8,
+    pub took: Option<usize>,
+}
+
+/// The first message's kind, body and bytes taken; what follows it isn't looked at.
+fn frame(input: &[u8]) -> Result<(u16, &[u8], usize), Refused> {
+    let refused = |number| Err(Refused { number, place: NO_PLACE, took: None });
+    let &[low, high, ref rest @ ..] = input else { return refused(1) };
+    let length = usize::from(u16::from_le_bytes([low, high]));
+    if !(2..=43).contains(&length) { return refused(2); }
+    match rest.get(..length) {
+        Some(&[low, high, ref body @ ..]) => Ok((u16::from_le_bytes([low, high]), body, 2 + length)),
+        _ => refused(1),
+    }
+}
+
+/// A call's body: an unknown kind first, then a length not the kind's, then a field out of range;
+/// a request's count is held against eight before its length is held against the count.
+fn call_body(kind: u16, body: &[u8]) -> Result<Call<'_>, Answer> {
+    match (kind, body) {
+        (1, &[count, ..]) if count > 8 => Err(answer(5)),
+        (1, &[count, ref bytes @ ..]) if bytes.len() == 5 * usize::from(count) => match read_set(bytes) {
+            Ok(_) => Ok(Call::Request { count, bytes }),
+            Err(place) => Err((4, place)),
+        },
+        (2, &[event @ (1 | 2)]) => Ok(Call::Event(event)),
+        (3, &[number, outcome @ (0 | 1)]) => Ok(Call::Result { number, outcome }),
+        (2, [_]) | (3, [_, _]) => Err(answer(4)),
+        (4, &[a, b, c, d, e, f, g, h]) => Ok(Call::Image(u64::from_le_bytes([a, b, c, d, e, f, g, h]))),
+        (5, []) => Ok(Call::Ask),
+        (1..=5, _) => Err(answer(2)),
+        _ => Err(answer(3)),
+    }
+}
+
+/// The same for every kind. An answer has a number of the table and an instruction's place or none.
+fn message_body(kind: u16, body: &[u8]) -> Result<Message<'_>, Answer> {
+    match (kind, body) {
+        (128, &[number @ 0..=17, place @ (0..=7 | NO_PLACE)]) => Ok(Message::Answer { number, place }),
+        (128, [_, _]) => Err(answer(4)),
+        (129, &[a, b, c, d, e, f, g, h]) => Ok(Message::Image(u64::from_le_bytes([a, b, c, d, e, f, g, h]))),
+        (128 | 129, _) => Err(answer(2)),
+        _ => call_body(kind, body).map(Message::Call),
+    }
+}
+
+fn framed<T>(read: Result<T, Answer>, took: usize) -> Result<(T, usize), Refused> {
+    let refused = |(number, place)| Refused { number, place, took: Some(took) };
+    read.map(|read| (read, took)).map_err(refused)
+}
+
+/// The station's reader: the first message's call and the bytes it took; 128 and 129 are unknown.
+pub fn read_call(input: &[u8]) -> Result<(Call<'_>, usize), Refused> {
+    frame(input).and_then(|(kind, body, took)| framed(call_body(kind, body), took))
+}
+
+/// The library's reader: the first message and the bytes it took; every kind is known.
+pub fn read_message(input: &[u8]) -> Result<(Message<'_>, usize), Refused> {
+    frame(input).and_then(|(kind, body, took)| framed(message_body(kind, body), took))
+}
+
+/// The library's writer, giving the bytes written: refuses more than eight instructions, then a bad
+/// field, then a room shorter than the message. The room past the message keeps its bytes, after a
+/// refusal all of it does.
+pub fn write_message(message: &Message, room: &mut [u8]) -> Result<usize, Answer> {
+    let (kind, fields, set): (u16, &[u8], &[u8]) = match *message {
+        Message::Call(Call::Request { count, .. }) if count > 8 => return Err(answer(5)),
+        Message::Call(Call::Request { count, bytes }) => {
+            (1, &[count], bytes.get(..5 * usize::from(count)).ok_or(answer(1))?)
+        }
+        Message::Call(Call::Event(event)) => (2, &[event], &[]),
+        Message::Call(Call::Result { number, outcome }) => (3, &[number, outcome], &[]),
+        Message::Call(Call::Image(image)) => (4, &image.to_le_bytes(), &[]),
+        Message::Call(Call::Ask) => (5, &[], &[]),
+        Message::Answer { number, place } => (128, &[number, place], &[]),
+        Message::Image(image) => (129, &image.to_le_bytes(), &[]),
+    };
+    let mut body = [0; 41];
+    let size = fields.len() + set.len();
+    body[..fields.len()].copy_from_slice(fields);
+    body[fields.len()..size].copy_from_slice(set);
+    message_body(kind, &body[..size])?; // what the reader would refuse isn't written
+    let room = room.get_mut(..4 + size).ok_or(answer(17))?;
+    room[..4].copy_from_slice(&[2 + size as u8, 0, kind as u8, 0]);
+    room[4..].copy_from_slice(&body[..size]);
+    Ok(4 + size)
+}
+
+// ---- The program -------------------------------------------------------------------------------
+
+/// Answers message after message: 129 where an ask is taken, else 128. Gives the bytes used up and
+/// whether to go on: not after 1 nor after a length out of range, neither of which frames a message.
+/// Where the input hasn't ended, an incomplete last message is left for later.
+fn run(
+    station: &mut Station,
+    take: impl Fn(&mut Station, Call) -> Answer,
+    (input, ended): (&[u8], bool),
+    output: &mut Vec<u8>,
+) -> (usize, bool) {
+    let mut at = 0;
+    while at < input.len() {
+        let ((number, place), took) = match read_call(&input[at..]) {
+            Ok((call, took)) => {
+                let answer = take(station, call);
+                if call == Call::Ask && answer.0 == 0 {
+                    output.extend_from_slice(&[10, 0, 129, 0]);
+                    output.extend_from_slice(&station.record.to_le_bytes());
+                    at += took;
+                    continue;
+                }
+                (answer, Some(took))
+            }
+            Err(Refused { number: 1, .. }) if !ended => break,
+            Err(Refused { number, place, took }) => ((number, place), took),
+        };
+        output.extend_from_slice(&[4, 0, 128, 0, number, place]);
+        let Some(took) = took else { return (at, false) };
+        at += took;
+    }
+    (at, true)
+}
+
+/// All the program answers to the whole of an input.
+pub fn serve(input: &[u8]) -> Vec<u8> {
+    let mut output = Vec::new();
+    run(&mut Station::start(), Station::take, (input, true), &mut output);
+    output
+}
+
+/// The program over streams: the messages complete after a read are answered with one write before
+/// the next read. A started station stays fit, so its fitness isn't tested anew with every call.
+pub fn stream(mut input: impl Read, mut output: impl Write) -> io::Result<()> {
+    let mut station = Station::start();
+    let mut buffer = vec![0; 1 << 16];
+    let mut answers = Vec::with_capacity(3 * buffer.len());
+    let mut kept = 0; // bytes of an incomplete message, at the front of the buffer
+    loop {
+        let read = match input.read(&mut buffer[kept..]) {
+            Err(error) if error.kind() == ErrorKind::Interrupted => continue,
+            read => read?,
+        };
+        let filled = kept + read;
+        let (used, on) = run(&mut station, Station::take_fit, (&buffer[..filled], read == 0), &mut answers);
+        output.write_all(&answers)?;
+        output.flush()?;
+        answers.clear();
+        if read == 0 || !on { return Ok(()); }
+        buffer.copy_within(used..filled, 0);
+        kept = filled - used;
+    }
+}
