@@ -84,13 +84,19 @@ fn promise(header: &str) -> Option<&str> {
 fn open_contract(header: &str) -> Option<&'static str> {
     if header.lines().any(|line| line.starts_with("requires")) { return Some("it has a precondition"); }
     let Some((answer, says)) = promise(header).and_then(|text| text.split_once(". ⌜ ")) else { return Some("it is not one promise") };
-    let lent = header.lines().next().unwrap_or_default().split(['(', ',', ')']).filter(|part| part.contains(": &mut "));
+    let taken = header.split("\nensures").next().unwrap_or_default();
+    let lent = taken.split(['(', ',', ')']).filter(|part| part.contains(": &mut "));
     let rooms: Vec<_> = lent.filter_map(|part| part.split(':').next()).map(|name| format!("(now ({} .exit))", name.trim())).collect();
-    let forms = ["Leaves (", "Serves (", "Exchanges ("];
-    if rooms.is_empty() && says.starts_with(&format!("{answer} ≡ ")) { return None; }
     let ending = format!(" {answer} {}", rooms.join(" "));
-    if !rooms.is_empty() && forms.iter().any(|form| says.starts_with(form)) && says.ends_with(&ending) { return None; }
-    Some("it is no equation for the answer and each lent room")
+    let definition = if rooms.is_empty() {
+        says.strip_prefix(&format!("{answer} ≡ "))
+    } else {
+        let form = ["Leaves ", "Serves ", "Exchanges "].iter().find_map(|form| says.strip_prefix(form));
+        form.and_then(|says| says.strip_suffix(&ending))
+    };
+    let Some(definition) = definition else { return Some("it is no equation for the answer and each lent room") };
+    let mut words = definition.split(|c: char| c.is_whitespace() || "()".contains(c));
+    words.any(|word| word == answer || word == ".exit").then_some("what it equates the answer with speaks of the answer")
 }
 
 /// The wrong programs of a crate: in an edit, a line `# FUNCTION: how` before a replacement.
