@@ -1,5 +1,6 @@
--- What the contracts of private functions cite; no public one rests on it. A belt move cell by cell, as the code goes over a row: which cells the belts name, from which of them a car would leave the span, and from
--- which cell each takes its content. That this is what the rules say by lists of cells is shown in proofs/. Assumes nothing.
+-- What the contracts of private functions cite; no public one rests on it. A belt move cell by cell, as the code goes over a row: which
+-- cells the belts name, from which of them a car would leave the span, and from which cell each takes its content. That this is what the
+-- rules say by lists of cells is shown in proofs/. Assumes nothing.
 use mathlib.Core.Bool.{Bool, false, cond, not, _&&_, _||_}
 use mathlib.Core.List.{List, [], _∷_}
 use Prim.Native.Nat.{ℕ, zero, suc, _+_, _-_, _%_}
