@@ -9,7 +9,7 @@ use Rattle.answers.specs.Answers.{numberOf}
 use Rattle.garage.specs.declared.Station.{Station}
 use Rattle.garage.specs.declared.Outcome.{Outcome}
 use Rattle.garage.specs.Station.{holding}
-use Rattle.garage_laws.specs.Demands.{RefusedUntouched, AcceptedExactly, ResultRecord, FailureKeeps, EventRecord, ImageTaken, AlwaysLaidOut, CarsCounted, AnyOrder, OrdersExist, NeverFourteen}
+use Rattle.garage_laws.specs.Demands.{RefusedUntouched, AcceptedExactly, ResultRecord, FailureKeeps, EventRecord, ImageTaken, AlwaysLaidOut, CarsCounted, AnyOrder, OrdersExist, NeverFourteen, FitStays, NeverUnfit}
 use Rattle.garage_laws.proofs.Instance.{afterAs}
 use Rattle.garage_laws.proofs.Calls as calls
 use Rattle.garage_laws.proofs.Calls.{Drivable, request-has, request-is, success-has, success-is, failure-has, failure-is, answering-bits, event-has, event-is, image-has, image-is}
@@ -76,3 +76,9 @@ orders-exist = lists.orders-exist
 
 pub never-fourteen : NeverFourteen
 never-fourteen = link.never-fourteen
+
+pub fit-stays : FitStays
+fit-stays = always.fit-stays
+
+pub never-unfit : NeverUnfit
+never-unfit = always.never-unfit

@@ -109,3 +109,11 @@ OrdersExist =
 -- a station reached so never answers 14
 abbrev pub NeverFourteen : Type 0
 NeverFourteen = (s : Station) → Reached s → (c : Call) → said s c ≡ 14 → ⊥
+
+-- a call leaves a fit station fit, and one that isn't as it was
+abbrev pub FitStays : Type 0
+FitStays = (s : Station) (c : Call) → fit (left s c) ≡ fit s
+
+-- whatever calls came before, images too, the station never answers 16
+abbrev pub NeverUnfit : Type 0
+NeverUnfit = (s : Station) → Begins s → (l : List Call) (c : Call) → said (calls s l) c ≡ 16 → ⊥
