@@ -1,5 +1,5 @@
 -- The three demands of specs/Demands.antt, kept. Assumes nothing.
-use mathlib.Core.Path.{ap, subst, _∙_}
+use mathlib.Core.Path.{refl, ap, subst, _∙_}
 use Prim.Native.Nat.{ℕ}
 use Rattle.rules.specs.declared.EventReading.{EventReading}
 use Rattle.rules.specs.Codes.{eventCode}
@@ -9,7 +9,8 @@ use Rattle.answers.specs.Answers.{numberOf}
 use Rattle.garage.specs.declared.Station.{Station}
 use Rattle.garage.specs.declared.Outcome.{Outcome}
 use Rattle.garage.specs.Station.{holding}
-use Rattle.garage_laws.specs.Demands.{RefusedUntouched, AcceptedExactly, ResultRecord, FailureKeeps, EventRecord, ImageTaken, AlwaysLaidOut, CarsCounted, AnyOrder, OrdersExist, NeverFourteen, FitStays, NeverUnfit}
+use Rattle.garage_laws.specs.Runs.{call}
+use Rattle.garage_laws.specs.Demands.{RefusedUntouched, CallsInTable, AcceptedExactly, ResultRecord, FailureKeeps, EventRecord, ImageTaken, AlwaysLaidOut, CarsCounted, AnyOrder, OrdersExist, NeverFourteen, FitStays, NeverUnfit}
 use Rattle.garage_laws.proofs.Instance.{afterAs}
 use Rattle.garage_laws.proofs.Calls as calls
 use Rattle.garage_laws.proofs.Calls.{Drivable, request-has, request-is, success-has, success-is, failure-has, failure-is, answering-bits, event-has, event-is, image-has, image-is}
@@ -29,6 +30,9 @@ rest o = o .station
 
 pub refused-untouched : RefusedUntouched
 refused-untouched = calls.untouched
+
+pub calls-in-table : CallsInTable
+calls-in-table s c = (call s c .answer, refl)
 
 -- ---- 2. It answers right
 

@@ -13,6 +13,7 @@ use Rattle.floor.specs.Sound.{Sound}
 use Rattle.rules.specs.declared.Event.{Event}
 use Rattle.rules.specs.Events.{possible, after}
 use Rattle.rules.specs.Codes.{eventCode, most}
+use Rattle.answers.specs.Answers.{OfTable}
 use Rattle.garage.specs.declared.Station.{Station}
 use Rattle.garage.specs.Held.{codeAt, isGood, heldArea, heldAllowed, heldNext, liftIn}
 use Rattle.garage.specs.Station.{fit, marked, holding, opened, answering}
@@ -24,6 +25,10 @@ use Rattle.garage_laws.specs.Orders.{Order, Alike}
 
 abbrev pub RefusedUntouched : Type 0
 RefusedUntouched = (s : Station) (c : Call) → (said s c ≡ 0 → ⊥) → left s c ≡ s
+
+-- every call, on any station, is answered with a number of the table
+abbrev pub CallsInTable : Type 0
+CallsInTable = (s : Station) (c : Call) → OfTable (said s c)
 
 -- ---- 2. It answers right
 
