@@ -197,6 +197,16 @@ pub image-is : (s : Station) (r : ℕ) → (fit s ≡ true) × (s .count ≡ 0) 
 unfolding station.takeImage
 image-is s r w = rw (w .0, le-ltb 0 (s .count) (let z = w .1 in omega arith), w .2)
 
+-- ---- an ask
+
+pub ask-has : (s : Station) → said s run.ask ≡ 0 → fit s ≡ true
+unfolding station.ask
+ask-has s e = met (fit s) s Unfit (taken s) (λ z. omega arith) e .0
+
+pub ask-is : (s : Station) → fit s ≡ true → station.ask s ≡ taken s
+unfolding station.ask
+ask-is s f = rw f
+
 -- ---- every call is refused since the station is unfit, or with a number that is none of 0, 14 and 16, or taken, or a success of an
 -- instruction that waits
 

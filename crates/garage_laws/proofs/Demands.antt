@@ -10,10 +10,12 @@ use Rattle.garage.specs.declared.Station.{Station}
 use Rattle.garage.specs.declared.Outcome.{Outcome}
 use Rattle.garage.specs.Station.{holding}
 use Rattle.garage_laws.specs.Runs.{call}
-use Rattle.garage_laws.specs.Demands.{RefusedUntouched, CallsInTable, AcceptedExactly, ResultRecord, FailureKeeps, EventRecord, ImageTaken, AlwaysLaidOut, CarsCounted, AnyOrder, OrdersExist, NeverFourteen, FitStays, NeverUnfit}
+use Rattle.garage_laws.specs.Demands.{RefusedUntouched, CallsInTable, AcceptedExactly, ResultRecord, FailureKeeps, EventRecord, ImageTaken, AskKeeps, ResultTaken, EventTaken, OnlySuccessChanges, AlwaysLaidOut, CarsCounted, AnyOrder, OrdersExist, NeverFourteen, FitStays, NeverUnfit}
 use Rattle.garage_laws.proofs.Instance.{afterAs}
 use Rattle.garage_laws.proofs.Calls as calls
-use Rattle.garage_laws.proofs.Calls.{Drivable, request-has, request-is, success-has, success-is, failure-has, failure-is, answering-bits, event-has, event-is, image-has, image-is}
+use Rattle.garage_laws.proofs.Calls.{Drivable, request-has, request-is, success-has, success-is, failure-has, failure-is, answering-bits, event-has, event-is, image-has, image-is, ask-has, ask-is}
+use Rattle.garage_laws.proofs.Steps.{asked}
+use Rattle.garage_laws.proofs.Changes as changes
 use Rattle.garage_laws.proofs.Always as always
 use Rattle.garage_laws.proofs.Link as link
 use Rattle.garage_laws.proofs.Lists as lists
@@ -63,6 +65,18 @@ image-taken s r = (
   (λ e. let w = image-has s r e in (w .0, w .1, sound-exactly r .0 (w .2)), λ w. ap number (image-is s r (w .0, w .1, sound-exactly r .1 (w .2)))),
   λ e. ap rest (image-is s r (image-has s r e)),
 )
+
+pub ask-keeps : AskKeeps
+ask-keeps s = ((ask-has s, λ f. ap number (ask-is s f)), asked s)
+
+pub result-taken : ResultTaken
+result-taken = changes.result-taken
+
+pub event-taken : EventTaken
+event-taken = changes.event-taken
+
+pub only-success-changes : OnlySuccessChanges
+only-success-changes = changes.only-success-changes
 
 -- ---- 3. Sets are safe in any order
 

@@ -2,6 +2,7 @@ pub mod Instance
 pub mod Fits
 pub mod Calls
 pub mod Steps
+pub mod Changes
 pub mod Always
 pub mod Link
 pub mod Lists

@@ -1,7 +1,7 @@
 -- The three demands of the station, as statements about the calls that the code's contracts cite. Each is proved in proofs/Demands.antt.
 -- Assumes nothing.
 use mathlib.Core.Path.{_≡_}
-use mathlib.Core.Logic.{_↔_}
+use mathlib.Core.Logic.{_↔_, _⊎_}
 use mathlib.Core.Bool.{Bool, true, false}
 use mathlib.Core.List.{List, [], _∷_, _++_}
 use Prim.Native.Nat.{ℕ, _+_, _≤_, _<_}
@@ -82,6 +82,30 @@ ImageTaken =
     (s : Station) (r : ℕ)
     → ((said s (run.image r) ≡ 0) ↔ ((fit s ≡ true) × (s .count ≡ 0) × Sound (bit r)))
     × (said s (run.image r) ≡ 0 → left s (run.image r) ≡ holding s r)
+
+-- an ask is taken exactly on a fit station; it changes nothing at all
+abbrev pub AskKeeps : Type 0
+AskKeeps = (s : Station) → ((said s run.ask ≡ 0) ↔ (fit s ≡ true)) × (left s run.ask ≡ s)
+
+-- a result that is taken says 0, failed, or 1, done
+abbrev pub ResultTaken : Type 0
+ResultTaken = (s : Station) (i done : ℕ) → said s (run.result i done) ≡ 0 → (done ≡ 0) ⊎ (done ≡ 1)
+
+-- an event that is taken says 1, a car in, or 2, a car out
+abbrev pub EventTaken : Type 0
+EventTaken = (s : Station) (e : ℕ) → said s (run.event e) ≡ 0 → (e ≡ 1) ⊎ (e ≡ 2)
+
+-- the calls that may change the record: a success, an event, an image
+abbrev pub Changes : Call → Type 0
+Changes (run.request n set) = ⊥
+Changes (run.result i done) = done ≡ 1
+Changes (run.event e) = Unit {0}
+Changes (run.image r) = Unit {0}
+Changes run.ask = ⊥
+
+-- whatever the call, the record stays, or the call is one of these and was taken
+abbrev pub OnlySuccessChanges : Type 0
+OnlySuccessChanges = (s : Station) (c : Call) → (left s c .bits ≡ s .bits) ⊎ ((said s c ≡ 0) × Changes c)
 
 -- ---- 3. Sets are safe in any order
 
