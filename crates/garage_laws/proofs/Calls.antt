@@ -146,10 +146,10 @@ numberAs v blocked ok = onEvent (λ e. cond blocked 6 (cond ok 0 10)) 4 v
 
 module _ (s : Station) where
   -- what the station makes of it
-  abbrev drivenAs : EventReading → Outcome
+  abbrev pub drivenAs : EventReading → Outcome
   drivenAs v = onFit s (onEvent (driven s) (refused s (BadField nowhere)) v)
 
-  event-as : (e : ℕ) → station.event s e ≡ drivenAs (readEvent e)
+  pub event-as : (e : ℕ) → station.event s e ≡ drivenAs (readEvent e)
   unfolding station.event readEvent
   event-as e = split (eqb e 1) (λ t. rw t) (λ t. split (eqb e 2) (λ u. rw (t, u)) (λ u. rw (t, u)))
 
@@ -214,19 +214,20 @@ ask-is s f = rw f
 abbrev Other : Answer → Type 0
 Other a = (numberOf a ≡ 0 → ⊥) × (numberOf a ≡ 14 → ⊥) × (numberOf a ≡ 16 → ⊥)
 
-module _ (P : Outcome → Type 0) (s : Station) (unfit : fit s ≡ false → P (refused s Unfit)) (no : (a : Answer) → Other a → P (refused s a)) (done : (t : Station) → P (taken t)) (told : (i : ℕ) → Waiting s i → P (succeeded s i)) where
-  either : (t : Bool) {o p : Outcome} → (t ≡ true → P o) → (t ≡ false → P p) → P (cond t o p)
-  either true f g = f refl
-  either false f g = g refl
+-- what a test leads to
+pub either : (P : Outcome → Type 0) (t : Bool) {o p : Outcome} → (t ≡ true → P o) → (t ≡ false → P p) → P (cond t o p)
+either P true f g = f refl
+either P false f g = g refl
 
+module _ (P : Outcome → Type 0) (s : Station) (unfit : fit s ≡ false → P (refused s Unfit)) (no : (a : Answer) → Other a → P (refused s a)) (done : (t : Station) → P (taken t)) (told : (i : ℕ) → Waiting s i → P (succeeded s i)) where
   unless : (t : Bool) (a : Answer) {o : Outcome} → Other a → (t ≡ false → P o) → P (cond t (refused s a) o)
-  unless t a other f = either t (λ e. no a other) f
+  unless t a other f = either P t (λ e. no a other) f
 
   fitting : {o : Outcome} → (fit s ≡ true → P o) → P (onFit s o)
-  fitting f = either (fit s) f unfit
+  fitting f = either P (fit s) f unfit
 
   driving : (v : EventReading) → P (drivenAs s v)
-  driving (Told e) = fitting (λ f. unless (liftIn (s .set) (s .count)) SetOutstanding (omega arith) (λ a. either (possible e (bit (s .bits))) (λ b. done _) (λ b. no EventImpossible (omega arith))))
+  driving (Told e) = fitting (λ f. unless (liftIn (s .set) (s .count)) SetOutstanding (omega arith) (λ a. either P (possible e (bit (s .bits))) (λ b. done _) (λ b. no EventImpossible (omega arith))))
   driving Untold = fitting (λ f. no (BadField nowhere) (omega arith))
 
   pub each-call : (c : Call) → P (call s c)
@@ -244,9 +245,9 @@ module _ (P : Outcome → Type 0) (s : Station) (unfit : fit s ≡ false → P (
       (λ a. unless (eqb (s .count) 0) NoSet (omega arith)
       (λ b. unless (leb (s .count) i) NotInSet (omega arith)
       (λ c. unless (marked s i) AlreadyAnswered (omega arith)
-      (λ m. either (eqb d 0) (λ z. done (answering s i (s .bits))) (λ z. told i (f, leb-false (s .count) i c, m)))))))
+      (λ m. either P (eqb d 0) (λ z. done (answering s i (s .bits))) (λ z. told i (f, leb-false (s .count) i c, m)))))))
   each-call (run.event e) = rw (event-as s e) (driving (readEvent e))
-  each-call (run.image r) = fitting (λ f. unless (ltb 0 (s .count)) SetOutstanding (omega arith) (λ a. either (sound r) (λ b. done (holding s r)) (λ b. no Unsound (omega arith))))
+  each-call (run.image r) = fitting (λ f. unless (ltb 0 (s .count)) SetOutstanding (omega arith) (λ a. either P (sound r) (λ b. done (holding s r)) (λ b. no Unsound (omega arith))))
   each-call run.ask = fitting (λ f. done s)
 
 -- a refused call leaves the station as it was

@@ -2,7 +2,7 @@
 use mathlib.Core.Path.{_≡_, refl, ap}
 use mathlib.Core.Bool.{true}
 use mathlib.Core.Logic.{_⊎_, inl, inr}
-use Prim.Native.Nat.{ℕ, zero, suc}
+use Prim.Native.Nat.{zero, suc}
 use native.Mathlib.Omega.{arith}
 use lib.Dec.{eqb}
 use borrow.Author.Tests.{eqb-true, eqb-false}
@@ -14,7 +14,7 @@ use Rattle.rules.specs.Codes.{readEvent}
 use Rattle.rules.proofs.CodeLaws.{event-one-form}
 use Rattle.garage.specs.declared.Station.{Station}
 use Rattle.garage_laws.specs.Runs as run
-use Rattle.garage_laws.specs.Runs.{Call, said, left}
+use Rattle.garage_laws.specs.Runs.{Call, said}
 use Rattle.garage_laws.specs.Demands.{ResultTaken, EventTaken, Changes, OnlySuccessChanges}
 use Rattle.garage_laws.proofs.Instance.{possibleAs}
 use Rattle.garage_laws.proofs.Calls.{success-is, done-has, answering-bits, event-has, event-is, untouched}

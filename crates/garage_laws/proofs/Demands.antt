@@ -10,10 +10,11 @@ use Rattle.garage.specs.declared.Station.{Station}
 use Rattle.garage.specs.declared.Outcome.{Outcome}
 use Rattle.garage.specs.Station.{holding}
 use Rattle.garage_laws.specs.Runs.{call}
-use Rattle.garage_laws.specs.Demands.{RefusedUntouched, CallsInTable, AcceptedExactly, ResultRecord, FailureKeeps, EventRecord, ImageTaken, AskKeeps, ResultTaken, EventTaken, OnlySuccessChanges, AlwaysLaidOut, CarsCounted, AnyOrder, OrdersExist, NeverFourteen, FitStays, NeverUnfit}
+use Rattle.garage_laws.specs.Demands.{RefusedUntouched, CallsInTable, AcceptedExactly, ResultRecord, FailureKeeps, EventRecord, ImageTaken, AskKeeps, ResultTaken, EventTaken, OnlySuccessChanges, PlacesRight, PlacesElse, PlacesInRange, AlwaysLaidOut, CarsCounted, AnyOrder, OrdersExist, NeverFourteen, FitStays, NeverUnfit}
 use Rattle.garage_laws.proofs.Instance.{afterAs}
 use Rattle.garage_laws.proofs.Calls as calls
 use Rattle.garage_laws.proofs.Calls.{Drivable, request-has, request-is, success-has, success-is, failure-has, failure-is, answering-bits, event-has, event-is, image-has, image-is, ask-has, ask-is}
+use Rattle.garage_laws.proofs.Places as places
 use Rattle.garage_laws.proofs.Steps.{asked}
 use Rattle.garage_laws.proofs.Changes as changes
 use Rattle.garage_laws.proofs.Always as always
@@ -77,6 +78,15 @@ event-taken = changes.event-taken
 
 pub only-success-changes : OnlySuccessChanges
 only-success-changes = changes.only-success-changes
+
+pub places-right : PlacesRight
+places-right = places.places-right
+
+pub places-else : PlacesElse
+places-else = places.places-else
+
+pub places-in-range : PlacesInRange
+places-in-range = places.places-in-range
 
 -- ---- 3. Sets are safe in any order
 

@@ -1,6 +1,7 @@
 pub mod Instance
 pub mod Fits
 pub mod Calls
+pub mod Places
 pub mod Steps
 pub mod Changes
 pub mod Always

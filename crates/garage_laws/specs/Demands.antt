@@ -13,12 +13,12 @@ use Rattle.floor.specs.Sound.{Sound}
 use Rattle.rules.specs.declared.Event.{Event}
 use Rattle.rules.specs.Events.{possible, after}
 use Rattle.rules.specs.Codes.{eventCode, most}
-use Rattle.answers.specs.Answers.{OfTable}
+use Rattle.answers.specs.Answers.{OfTable, nowhere}
 use Rattle.garage.specs.declared.Station.{Station}
-use Rattle.garage.specs.Held.{codeAt, isGood, heldArea, heldAllowed, heldNext, liftIn}
+use Rattle.garage.specs.Held.{codeAt, isGood, heldArea, heldAllowed, heldNext, bad, overlapsEarlier, barred, liftIn}
 use Rattle.garage.specs.Station.{fit, marked, holding, opened, answering}
 use Rattle.garage_laws.specs.Runs as run
-use Rattle.garage_laws.specs.Runs.{Call, said, left, calls, Begins, NoImages, Reached, driven}
+use Rattle.garage_laws.specs.Runs.{Call, said, left, placed, calls, Begins, NoImages, Reached, driven}
 use Rattle.garage_laws.specs.Orders.{Order, Alike}
 
 -- ---- 1. It always answers: a refused call leaves the station as it was
@@ -106,6 +106,36 @@ Changes run.ask = ⊥
 -- whatever the call, the record stays, or the call is one of these and was taken
 abbrev pub OnlySuccessChanges : Type 0
 OnlySuccessChanges = (s : Station) (c : Call) → (left s c .bits ≡ s .bits) ⊎ ((said s c ≡ 0) × Changes c)
+
+-- of n instructions p is the least at fault: one of them, at fault, and none before it is
+pub record LeastAtFault (n : ℕ) (fault : ℕ → Bool) (p : ℕ) : Type 0 where
+  pub within : p < n
+  pub faulty : fault p ≡ true
+  pub least : (i : ℕ) → i < p → fault i ≡ false
+
+-- a request that is answered 4 names the least bad instruction, with 8 the least overlapping an earlier one, with 9 the least not allowed
+abbrev pub PlacesRight : Type 0
+PlacesRight =
+    (s : Station) (n : ℕ) (set : List ℕ)
+    → (said s (run.request n set) ≡ 4 → LeastAtFault n (bad set) (placed s (run.request n set)))
+    × (said s (run.request n set) ≡ 8 → LeastAtFault n (overlapsEarlier set) (placed s (run.request n set)))
+    × (said s (run.request n set) ≡ 9 → LeastAtFault n (barred set (s .bits)) (placed s (run.request n set)))
+
+-- the answers that name an instruction: 4, 8 and 9 to a request
+abbrev pub Names : Call → ℕ → Type 0
+Names (run.request n set) k = (k ≡ 4) ⊎ ((k ≡ 8) ⊎ (k ≡ 9))
+Names (run.result i done) k = ⊥
+Names (run.event e) k = ⊥
+Names (run.image r) k = ⊥
+Names run.ask k = ⊥
+
+-- with every other answer the place is 255
+abbrev pub PlacesElse : Type 0
+PlacesElse = (s : Station) (c : Call) → (Names c (said s c) → ⊥) → placed s c ≡ nowhere
+
+-- so a place is 0 to 7, or 255
+abbrev pub PlacesInRange : Type 0
+PlacesInRange = (s : Station) (c : Call) → (placed s c < most) ⊎ (placed s c ≡ nowhere)
 
 -- ---- 3. Sets are safe in any order
 
