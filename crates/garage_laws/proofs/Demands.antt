@@ -10,7 +10,7 @@ use Rattle.garage.specs.declared.Station.{Station}
 use Rattle.garage.specs.declared.Outcome.{Outcome}
 use Rattle.garage.specs.Station.{holding}
 use Rattle.garage_laws.specs.Runs.{call}
-use Rattle.garage_laws.specs.Demands.{RefusedUntouched, CallsInTable, AcceptedExactly, ResultRecord, FailureKeeps, EventRecord, ImageTaken, AskKeeps, ResultTaken, EventTaken, OnlySuccessChanges, PlacesRight, PlacesElse, PlacesInRange, AlwaysLaidOut, CarsCounted, AnyOrder, OrdersExist, NeverFourteen, FitStays, NeverUnfit}
+use Rattle.garage_laws.specs.Demands.{RefusedUntouched, CallsInTable, AcceptedExactly, ResultRecord, FailureKeeps, EventRecord, ImageTaken, AskKeeps, ResultTaken, EventTaken, OnlySuccessChanges, PlacesRight, PlacesElse, PlacesInRange, AlwaysLaidOut, CarsCounted, AnyOrder, OrdersExist, AnyOrderAmid, AmidUnmoved, AmidExists, NeverFourteen, FitStays, NeverUnfit}
 use Rattle.garage_laws.proofs.Instance.{afterAs}
 use Rattle.garage_laws.proofs.Calls as calls
 use Rattle.garage_laws.proofs.Calls.{Drivable, request-has, request-is, success-has, success-is, failure-has, failure-is, answering-bits, event-has, event-is, image-has, image-is, ask-has, ask-is}
@@ -21,6 +21,7 @@ use Rattle.garage_laws.proofs.Always as always
 use Rattle.garage_laws.proofs.Link as link
 use Rattle.garage_laws.proofs.Lists as lists
 use Rattle.garage_laws.proofs.AnyOrder as orders
+use Rattle.garage_laws.proofs.Amid as amid
 
 -- the parts of an outcome
 abbrev number : Outcome → ℕ
@@ -101,6 +102,15 @@ any-order = orders.any-order
 
 pub orders-exist : OrdersExist
 orders-exist = lists.orders-exist
+
+pub any-order-amid : AnyOrderAmid
+any-order-amid = amid.any-order-amid
+
+pub amid-unmoved : AmidUnmoved
+amid-unmoved = amid.amid-unmoved
+
+pub amid-exists : AmidExists
+amid-exists = amid.amid-exists
 
 pub never-fourteen : NeverFourteen
 never-fourteen = link.never-fourteen

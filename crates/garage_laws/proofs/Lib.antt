@@ -9,4 +9,5 @@ pub mod Link
 pub mod Lists
 pub mod Follow
 pub mod AnyOrder
+pub mod Amid
 pub mod Demands

@@ -19,7 +19,7 @@ use Rattle.garage.specs.Held.{codeAt, isGood, heldArea, heldAllowed, heldNext, 
 use Rattle.garage.specs.Station.{fit, marked, holding, opened, answering}
 use Rattle.garage_laws.specs.Runs as run
 use Rattle.garage_laws.specs.Runs.{Call, said, left, placed, calls, Begins, NoImages, Reached, driven}
-use Rattle.garage_laws.specs.Orders.{Order, Alike}
+use Rattle.garage_laws.specs.Orders.{Order, Alike, Amid, interrupted, turns, turnsAmid, AlikeAmid}
 
 -- ---- 1. It always answers: a refused call leaves the station as it was
 
@@ -164,6 +164,23 @@ abbrev pub OrdersExist : Type 0
 OrdersExist =
     (n i : ℕ) → i < n → (succeeds : ℕ → Bool) (events : List ℕ)
     → (front : List Call) × Order n succeeds events (front ++ (run.result i (digit (succeeds i)) ∷ []))
+
+-- two orders come to the same also with asks, and calls that are refused, put in anywhere between
+abbrev pub AnyOrderAmid : Type 0
+AnyOrderAmid =
+    (s : Station) → Reached s → (n : ℕ) (set : List ℕ) → said s (run.request n set) ≡ 0
+    → (succeeds : ℕ → Bool) (events : List ℕ) (l m : List Call)
+    → Order n succeeds events l → Order n succeeds events m
+    → (l' m' : List Call) (a : Amid (left s (run.request n set)) l l') (b : Amid (left s (run.request n set)) m m')
+    → AlikeAmid a b
+
+-- whatever the station and the calls, what is put in so moves nothing: each other call meets the station that it would meet without
+abbrev pub AmidUnmoved : Type 0
+AmidUnmoved = (s : Station) (l m : List Call) (a : Amid s l m) → (turnsAmid a ≡ turns s l) × (calls s m ≡ calls s l)
+
+-- such lists exist for every list of calls, with an ask and a refused call before each
+abbrev pub AmidExists : Type 0
+AmidExists = (s : Station) (l : List Call) → Amid s l (interrupted l)
 
 -- a station reached so never answers 14
 abbrev pub NeverFourteen : Type 0
