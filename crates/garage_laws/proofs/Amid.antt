@@ -1,14 +1,17 @@
 -- Asks and refused calls leave the station as it was: whatever they are put between meets the same stations. Assumes nothing.
 use mathlib.Core.Path.{_≡_, refl, sym, ap, subst, _∙_}
+use mathlib.Core.Bool.{false}
 use mathlib.Core.Logic.{⊎-elim}
 use mathlib.Core.List.{List, [], _∷_, _++_}
 use Prim.Native.Nat.{ℕ}
 use native.Mathlib.Omega.{arith}
+use borrow.Author.Tests.{eqb-false}
+use Rattle.bits.proofs.Cases.{split}
 use Rattle.garage.specs.declared.Station.{Station}
 use Rattle.garage_laws.specs.Runs as run
 use Rattle.garage_laws.specs.Runs.{Call, said, left, calls}
-use Rattle.garage_laws.specs.Orders.{Fair, replies, Alike, Amid, ends, kept, asked, refused, turns, turnsAmid, FairAmid, repliesAmid, AlikeAmid}
-use Rattle.garage_laws.specs.Demands.{AnyOrderAmid, AmidUnmoved, AmidExists}
+use Rattle.garage_laws.specs.Orders.{Fair, replies, Alike, Amid, ends, kept, asked, refused, takes, turns, turnsAmid, FairAmid, repliesAmid, AlikeAmid}
+use Rattle.garage_laws.specs.Demands.{AnyOrderAmid, AmidUnmoved, AmidExists, AmidCovers}
 use Rattle.garage_laws.proofs.Calls.{untouched}
 use Rattle.garage_laws.proofs.Changes.{event-taken}
 use Rattle.garage_laws.proofs.Steps as step
@@ -80,3 +83,14 @@ no-such-event s e = ⊎-elim (λ z. omega arith) (λ z. omega arith) (event-take
 pub amid-exists : AmidExists
 amid-exists s [] = ends
 amid-exists s (c ∷ l) = asked (refused (run.event 0) (no-such-event _) (kept c (amid-exists _ l)))
+
+put-in : (s : Station) (c : Call) → takes s c ≡ false → {l m : List Call} → Amid (left s c) l m → Amid s l (c ∷ m)
+put-in s (run.request n set) t a = refused _ (eqb-false _ 0 t) a
+put-in s (run.result i done) t a = refused _ (eqb-false _ 0 t) a
+put-in s (run.event e) t a = refused _ (eqb-false _ 0 t) a
+put-in s (run.image r) t a = refused _ (eqb-false _ 0 t) a
+put-in s run.ask t a = asked a
+
+pub amid-covers : AmidCovers
+amid-covers s [] = ends
+amid-covers s (c ∷ l) = let a = amid-covers (left s c) l in split (takes s c) (λ t. rw t (kept c a)) (λ t. rw t (put-in s c t a))

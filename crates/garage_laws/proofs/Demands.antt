@@ -10,7 +10,7 @@ use Rattle.garage.specs.declared.Station.{Station}
 use Rattle.garage.specs.declared.Outcome.{Outcome}
 use Rattle.garage.specs.Station.{holding}
 use Rattle.garage_laws.specs.Runs.{call}
-use Rattle.garage_laws.specs.Demands.{RefusedUntouched, CallsInTable, AcceptedExactly, ResultRecord, FailureKeeps, EventRecord, ImageTaken, AskKeeps, ResultTaken, EventTaken, OnlySuccessChanges, PlacesRight, PlacesElse, PlacesInRange, AlwaysLaidOut, CarsCounted, AnyOrder, OrdersExist, AnyOrderAmid, AmidUnmoved, AmidExists, NeverFourteen, FitStays, NeverUnfit}
+use Rattle.garage_laws.specs.Demands.{RefusedUntouched, CallsInTable, AcceptedExactly, ResultRecord, FailureKeeps, EventRecord, ImageTaken, AskKeeps, ResultTaken, EventTaken, OnlySuccessChanges, PlacesRight, PlacesElse, PlacesInRange, AlwaysLaidOut, CarsCounted, AnyOrder, OrdersExist, AnyOrderAmid, AmidUnmoved, AmidExists, AmidCovers, NeverFourteen, FitStays, NeverUnfit}
 use Rattle.garage_laws.proofs.Instance.{afterAs}
 use Rattle.garage_laws.proofs.Calls as calls
 use Rattle.garage_laws.proofs.Calls.{Drivable, request-has, request-is, success-has, success-is, failure-has, failure-is, answering-bits, event-has, event-is, image-has, image-is, ask-has, ask-is}
@@ -111,6 +111,9 @@ amid-unmoved = amid.amid-unmoved
 
 pub amid-exists : AmidExists
 amid-exists = amid.amid-exists
+
+pub amid-covers : AmidCovers
+amid-covers = amid.amid-covers
 
 pub never-fourteen : NeverFourteen
 never-fourteen = link.never-fourteen

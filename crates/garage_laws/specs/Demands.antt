@@ -19,7 +19,7 @@ use Rattle.garage.specs.Held.{codeAt, isGood, heldArea, heldAllowed, heldNext, 
 use Rattle.garage.specs.Station.{fit, marked, holding, opened, answering}
 use Rattle.garage_laws.specs.Runs as run
 use Rattle.garage_laws.specs.Runs.{Call, said, left, placed, calls, Begins, NoImages, Reached, driven}
-use Rattle.garage_laws.specs.Orders.{Order, Alike, Amid, interrupted, turns, turnsAmid, AlikeAmid}
+use Rattle.garage_laws.specs.Orders.{Order, Alike, Amid, interrupted, takenOf, turns, turnsAmid, AlikeAmid}
 
 -- ---- 1. It always answers: a refused call leaves the station as it was
 
@@ -181,6 +181,10 @@ AmidUnmoved = (s : Station) (l m : List Call) (a : Amid s l m) → (turnsAmid a 
 -- such lists exist for every list of calls, with an ask and a refused call before each
 abbrev pub AmidExists : Type 0
 AmidExists = (s : Station) (l : List Call) → Amid s l (interrupted l)
+
+-- and every list of calls is one: those of it that are taken, with the others put in
+abbrev pub AmidCovers : Type 0
+AmidCovers = (s : Station) (l : List Call) → Amid s (takenOf s l) l
 
 -- a station reached so never answers 14
 abbrev pub NeverFourteen : Type 0

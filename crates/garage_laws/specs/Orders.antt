@@ -1,7 +1,7 @@
 -- What "in every order" says of a set: results and car events in two lists, with other calls between or not, and when the two come to
 -- the same. Assumes nothing.
 use mathlib.Core.Path.{_≡_}
-use mathlib.Core.Bool.{Bool, true, cond}
+use mathlib.Core.Bool.{Bool, true, false, cond}
 use mathlib.Core.List.{List, [], _∷_, _++_}
 use Prim.Native.Nat.{ℕ, _+_, _≤_, _<_}
 use lib.Dec.{eqb}
@@ -84,6 +84,19 @@ pub data Amid : Station → List Call → List Call → Type 0 where
 abbrev pub interrupted : List Call → List Call
 interrupted [] = []
 interrupted (c ∷ l) = ask ∷ event 0 ∷ c ∷ interrupted l
+
+-- a call is taken and no ask
+abbrev pub takes : Station → Call → Bool
+takes s (request n set) = eqb (said s (request n set)) 0
+takes s (result i done) = eqb (said s (result i done)) 0
+takes s (event e) = eqb (said s (event e)) 0
+takes s (image r) = eqb (said s (image r)) 0
+takes s ask = false
+
+-- the calls of a list that are taken, asks apart
+abbrev pub takenOf : Station → List Call → List Call
+takenOf s [] = []
+takenOf s (c ∷ l) = let rest = takenOf (left s c) l in cond (takes s c) (c ∷ rest) rest
 
 -- the stations that the calls of a list meet at their turns
 abbrev pub turns : Station → List Call → List Station
