@@ -174,7 +174,7 @@ AnyOrderAmid =
     → (l' m' : List Call) (a : Amid (left s (run.request n set)) l l') (b : Amid (left s (run.request n set)) m m')
     → AlikeAmid a b
 
--- whatever the station and the calls, what is put in so moves nothing: each other call meets the station that it would meet without
+-- on any station what is put in so moves nothing: each other call meets the station that it would meet without, and the end is the same
 abbrev pub AmidUnmoved : Type 0
 AmidUnmoved = (s : Station) (l m : List Call) (a : Amid s l m) → (turnsAmid a ≡ turns s l) × (calls s m ≡ calls s l)
 
