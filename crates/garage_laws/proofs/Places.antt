@@ -8,8 +8,8 @@ use native.Mathlib.Omega.{arith}
 use lib.Dec.{eqb, leb, ltb}
 use borrow.Author.Tests.{ltb-true, ltb-false}
 use Rattle.bits.specs.Bits.{bit}
-use Rattle.bits.specs.Search.{least}
-use Rattle.bits.proofs.Least.{least-at, least-below}
+use Rattle.bits.specs.Search.{least, IsLeast}
+use Rattle.bits.proofs.Least.{found-least}
 use Rattle.floor.specs.Sound.{sound}
 use Rattle.rules.specs.declared.EventReading.{EventReading}
 use Rattle.rules.specs.declared.EventReading.the-variants.{Good as Told, Bad as Untold}
@@ -25,7 +25,7 @@ use Rattle.garage.specs.Station.{marked, fit}
 use Rattle.garage.specs.Calls as station
 use Rattle.garage_laws.specs.Runs as run
 use Rattle.garage_laws.specs.Runs.{call}
-use Rattle.garage_laws.specs.Demands.{LeastAtFault, PlacesRight, PlacesElse, PlacesInRange}
+use Rattle.garage_laws.specs.Demands.{PlacesRight, PlacesElse, PlacesInRange}
 use Rattle.garage_laws.proofs.Calls.{either, event-as, drivenAs}
 
 -- the number and the place of an outcome
@@ -37,14 +37,14 @@ place o = placeOf (o .answer)
 
 -- ---- a request
 
-least-fault : (n : ℕ) (fault : ℕ → Bool) → ltb (least n fault) n ≡ true → LeastAtFault n fault (least n fault)
-least-fault n fault t = let h = ltb-true (least n fault) n t in record { within = h; faulty = least-at n fault h; least = least-below n fault }
+least-fault : (n : ℕ) (fault : ℕ → Bool) → ltb (least n fault) n ≡ true → IsLeast n fault (least n fault)
+least-fault n fault t = found-least n fault (ltb-true (least n fault) n t)
 
 module _ (s : Station) (n : ℕ) (set : List ℕ) where
   record Right (o : Outcome) : Type 0 where
-    four : number o ≡ 4 → LeastAtFault n (bad set) (place o)
-    eight : number o ≡ 8 → LeastAtFault n (overlapsEarlier set) (place o)
-    nine : number o ≡ 9 → LeastAtFault n (barred set (s .bits)) (place o)
+    four : number o ≡ 4 → IsLeast n (bad set) (place o)
+    eight : number o ≡ 8 → IsLeast n (overlapsEarlier set) (place o)
+    nine : number o ≡ 9 → IsLeast n (barred set (s .bits)) (place o)
     range : (place o < most) ⊎ (place o ≡ nowhere)
 
   -- an answer that names no instruction

@@ -8,6 +8,7 @@ use Prim.Native.Nat.{ℕ, _+_, _≤_, _<_}
 use lib.ListN.{length}
 use Rattle.bits.specs.Bits.{bit, image, digit}
 use Rattle.bits.specs.Places.{share}
+use Rattle.bits.specs.Search.{IsLeast}
 use Rattle.floor.specs.Cars.{Car, Layout}
 use Rattle.floor.specs.Sound.{Sound}
 use Rattle.rules.specs.declared.Event.{Event}
@@ -107,19 +108,13 @@ Changes run.ask = ⊥
 abbrev pub OnlySuccessChanges : Type 0
 OnlySuccessChanges = (s : Station) (c : Call) → (left s c .bits ≡ s .bits) ⊎ ((said s c ≡ 0) × Changes c)
 
--- of n instructions p is the least at fault: one of them, at fault, and none before it is
-pub record LeastAtFault (n : ℕ) (fault : ℕ → Bool) (p : ℕ) : Type 0 where
-  pub within : p < n
-  pub faulty : fault p ≡ true
-  pub least : (i : ℕ) → i < p → fault i ≡ false
-
 -- a request that is answered 4 names the least bad instruction, with 8 the least overlapping an earlier one, with 9 the least not allowed
 abbrev pub PlacesRight : Type 0
 PlacesRight =
     (s : Station) (n : ℕ) (set : List ℕ)
-    → (said s (run.request n set) ≡ 4 → LeastAtFault n (bad set) (placed s (run.request n set)))
-    × (said s (run.request n set) ≡ 8 → LeastAtFault n (overlapsEarlier set) (placed s (run.request n set)))
-    × (said s (run.request n set) ≡ 9 → LeastAtFault n (barred set (s .bits)) (placed s (run.request n set)))
+    → (said s (run.request n set) ≡ 4 → IsLeast n (bad set) (placed s (run.request n set)))
+    × (said s (run.request n set) ≡ 8 → IsLeast n (overlapsEarlier set) (placed s (run.request n set)))
+    × (said s (run.request n set) ≡ 9 → IsLeast n (barred set (s .bits)) (placed s (run.request n set)))
 
 -- the answers that name an instruction: 4, 8 and 9 to a request
 abbrev pub Names : Call → ℕ → Type 0
@@ -148,8 +143,8 @@ AlwaysLaidOut = (s : Station) → Begins s → (l : List Call) → Sound (bit (c
 abbrev pub CarsCounted : Type 0
 CarsCounted =
     (s : Station) (l : List Call) → NoImages l
-    → (before after : List Car) → Layout (bit (s .bits)) before → Layout (bit (calls s l .bits)) after
-    → length after + driven 2 s l ≡ length before + driven 1 s l
+    → (start end : List Car) → Layout (bit (s .bits)) start → Layout (bit (calls s l .bits)) end
+    → length end + driven 2 s l ≡ length start + driven 1 s l
 
 -- of an accepted set: whichever instructions succeed, two orders of their results with the same car events come to the same
 abbrev pub AnyOrder : Type 0

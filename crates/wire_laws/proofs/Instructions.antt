@@ -1,6 +1,6 @@
 -- What five bytes say depends on them alone, so an instruction says the same in a message and in a set. Assumes nothing.
 use mathlib.Core.Path.{_≡_, refl, sym, _∙_, ap}
-use mathlib.Core.Bool.{Bool, true}
+use mathlib.Core.Bool.{Bool}
 use mathlib.Core.List.{List}
 use Prim.Native.Nat.{ℕ, zero, suc, _+_, _*_, _≤_, _<_}
 use native.Mathlib.Omega.{arith}
@@ -8,7 +8,6 @@ use borrow.Author.Tests.{le-ltb}
 use lib.ListN.{getD, length, take, drop, length-drop}
 use lib.Seq.{getD-drop, getD-take}
 use Rattle.bits.specs.Search.{least}
-use Rattle.bits.proofs.Cases.{split}
 use Rattle.rules.specs.Codes.{readBytes}
 use Rattle.wire.specs.Reads.{isBad, badIn}
 
@@ -16,14 +15,6 @@ pub least-same : (n : ℕ) (p q : ℕ → Bool) → ((j : ℕ) → j < n → p j
 unfolding least
 least-same zero p q e = refl
 least-same (suc n) p q e = rw (e 0 (omega arith), least-same n (λ j. p (suc j)) (λ j. q (suc j)) (λ j h. e (suc j) (omega arith)))
-
--- the least number that passes does pass
-pub least-at : (n : ℕ) (p : ℕ → Bool) → least n p < n → p (least n p) ≡ true
-unfolding least
-least-at zero p h = absurd (omega arith)
-least-at (suc n) p h = split (p 0)
-    (λ t. rw t t)
-    (λ t. let z : suc (least n (λ j. p (suc j))) < suc n = rw t at h in rw t (least-at n (λ j. p (suc j)) (omega arith)))
 
 -- two runs that begin with the same five bytes
 read-same : (s t : List ℕ) → 5 ≤ length s → 5 ≤ length t → ((i : ℕ) → i < 5 → getD s i 0 ≡ getD t i 0) → readBytes s ≡ readBytes t

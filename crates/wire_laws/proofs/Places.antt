@@ -1,6 +1,6 @@
 -- The place of a 4: a reader that refuses a request for a bad field names its least bad instruction, and nowhere in any other message.
 -- Assumes nothing.
-use mathlib.Core.Path.{_≡_, refl, sym, _∙_, ap}
+use mathlib.Core.Path.{_≡_, refl, sym, _∙_, ap, subst}
 use mathlib.Core.Bool.{true}
 use mathlib.Core.List.{List, [], _∷_, _++_}
 use Prim.Native.Nat.{ℕ, _+_, _*_}
@@ -9,8 +9,8 @@ use borrow.Author.Tests.{eqb-true, eqb-false, ltb-true}
 use lib.Dec.{ltb, eqb}
 use lib.ListN.{getD, length, take, drop, length-append, length-drop, take-append-drop}
 use lib.Seq.{getD-take, take-all, take-at, drop-append-le}
-use Rattle.bits.specs.Search.{least}
-use Rattle.bits.proofs.Least.{least-below}
+use Rattle.bits.specs.Search.{least, IsLeast}
+use Rattle.bits.proofs.Least.{found-least}
 use Rattle.answers.specs.declared.Answer.the-variants.{BadField}
 use Rattle.answers.specs.Answers.{numberOf, nowhere, placeOf}
 use Rattle.wire.specs.declared.What.{What}
@@ -20,8 +20,8 @@ use Rattle.wire.specs.declared.Frame.the-variants.{Cut, Wrong, Whole}
 use Rattle.wire.specs.Kinds.{first, Kind, request, known, asked, inRange}
 use Rattle.wire.specs.Reads.{frameOf, kindAt, badIn, refused, sized, readRequest, readAmong, readWhole, readFramed, readMessage, readAsked}
 use Rattle.wire.proofs.Frames.{Framed, when, whole-frame}
-use Rattle.wire_laws.specs.Statements.{LeastBad, PlaceRead, PlaceAsked}
-use Rattle.wire_laws.proofs.Instructions.{least-at, bad-same}
+use Rattle.wire_laws.specs.Statements.{PlaceRead, PlaceAsked}
+use Rattle.wire_laws.proofs.Instructions.{bad-same}
 use Rattle.wire_laws.proofs.Messages.{cut-out}
 
 -- what was received isn't a 4
@@ -73,7 +73,7 @@ module _ (p n : ℕ) where
 
   -- ---- the first message of some bytes
 
-  least-place : (s : List ℕ) (k : ℕ) → Framed s k → readRequest (take k s) ≡ refused (BadField p) n → LeastBad (drop first s) (getD s 4 0) p
+  least-place : (s : List ℕ) (k : ℕ) → Framed s k → readRequest (take k s) ≡ refused (BadField p) n → IsLeast (getD s 4 0) (badIn (drop first s)) p
   least-place s k f e =
       let m = take k s in
       let c = getD s 4 0 in
@@ -83,14 +83,10 @@ module _ (p n : ℕ) where
       let least-is : p ≡ least c (badIn (drop 5 s)) =
       place ∙ ap (λ (x : ℕ). least x (badIn (drop 5 m))) count ∙ instructions-same s k c (long ∙ ap (λ (x : ℕ). 5 + 5 * x) count) in
       let within = ltb-true p (getD m 4 0) below in
-      record {
-        within = omega arith;
-        bad = ap (badIn (drop 5 s)) least-is ∙ least-at c (badIn (drop 5 s)) (omega arith);
-        none = λ j h. least-below c (badIn (drop 5 s)) j (omega arith);
-      }
+      subst (IsLeast c (badIn (drop 5 s))) (sym least-is) (found-least c (badIn (drop 5 s)) (omega arith))
 
   whole-place : (ks : List Kind) (s : List ℕ) (k : ℕ) → Framed s k → readWhole ks (take k s) ≡ refused (BadField p) n
-      → (kindAt s ≡ request → LeastBad (drop first s) (getD s 4 0) p) × ((kindAt s ≡ request → ⊥) → p ≡ nowhere)
+      → (kindAt s ≡ request → IsLeast (getD s 4 0) (badIn (drop first s)) p) × ((kindAt s ≡ request → ⊥) → p ≡ nowhere)
   unfolding readWhole
   whole-place ks s k f e =
       let kind = cut-out s k f .kind in
@@ -103,11 +99,11 @@ module _ (p n : ℕ) where
       (λ i. absurd (h (kind ∙ i)), λ _. among-place ks (take k s) e))
 
   framed-place : (ks : List Kind) (s : List ℕ) → readFramed ks (frameOf s) s ≡ refused (BadField p) n
-      → (kindAt s ≡ request → LeastBad (drop first s) (getD s 4 0) p) × ((kindAt s ≡ request → ⊥) → p ≡ nowhere)
+      → (kindAt s ≡ request → IsLeast (getD s 4 0) (badIn (drop first s)) p) × ((kindAt s ≡ request → ⊥) → p ≡ nowhere)
   framed-place ks s e = go (frameOf s) refl e
     where
       go : (f : Frame) → frameOf s ≡ f → readFramed ks f s ≡ refused (BadField p) n
-          → (kindAt s ≡ request → LeastBad (drop first s) (getD s 4 0) p) × ((kindAt s ≡ request → ⊥) → p ≡ nowhere)
+          → (kindAt s ≡ request → IsLeast (getD s 4 0) (badIn (drop first s)) p) × ((kindAt s ≡ request → ⊥) → p ≡ nowhere)
       go Cut f e = no _ e (λ z. omega arith)
       go Wrong f e = no _ e (λ z. omega arith)
       go (Whole k) f e = whole-place ks s k (whole-frame s k f) e

@@ -3,10 +3,11 @@
 -- station's reader: it says what the library's says, but of kinds above 5.
 -- Proved in proofs/. Assumes nothing.
 use mathlib.Core.Path.{_≡_}
-use mathlib.Core.Bool.{true, false}
+use mathlib.Core.Bool.{true}
 use mathlib.Core.List.{List, _++_}
 use Prim.Native.Nat.{ℕ, _≤_, _*_, _<_, _^_}
 use lib.ListN.{getD, length, take, drop}
+use Rattle.bits.specs.Search.{IsLeast}
 use Rattle.rules.specs.declared.Instruction.{Instruction}
 use Rattle.rules.specs.declared.Reading.the-variants.{Good}
 use Rattle.rules.specs.Rules.{wellFormed}
@@ -74,16 +75,10 @@ InstructionsOneForm = (s : List ℕ) (m : Message) (n : ℕ) → Bytes s → rea
     → (i : ℕ) → i < m .count
     → (j : Instruction) × (readCode (codeFrom (drop (5 * i) (m .set))) ≡ Good j) × (wellFormed j ≡ true) × (fiveOf m i ≡ bytesOf j)
 
--- instruction p of n is the least bad one of a run: it is bad, and none before it is
-pub record LeastBad (s : List ℕ) (n p : ℕ) : Type 0 where
-  pub within : p < n
-  pub bad : badIn s p ≡ true
-  pub none : (j : ℕ) → j < p → badIn s j ≡ false
-
 -- the place of a reader's 4: in a request the least bad of the instructions after the count, in any other message nowhere
 abbrev pub Placed : (List ℕ → Received) → Type 0
 Placed reader = (s : List ℕ) (p n : ℕ) → reader s ≡ refused (BadField p) n
-    → (kindAt s ≡ request → LeastBad (drop first s) (getD s 4 0) p) × ((kindAt s ≡ request → ⊥) → p ≡ nowhere)
+    → (kindAt s ≡ request → IsLeast (getD s 4 0) (badIn (drop first s)) p) × ((kindAt s ≡ request → ⊥) → p ≡ nowhere)
 
 -- so it is of the library's reader
 abbrev pub PlaceRead : Type 0
