@@ -17,7 +17,7 @@ use Rattle.wire.specs.declared.Frame.the-variants.{Cut, Wrong, Whole}
 use Rattle.wire.specs.Kinds.{asked}
 use Rattle.wire.specs.Reads.{frameOf, lengthAt, readWhole, readFramed, readAsked}
 use Rattle.wire.proofs.Frames.{when, whole-frame}
-use Rattle.service.specs.Service.{respond, told, said, noBytes, goOn, answersFor, answersOn}
+use Rattle.service.specs.Service.{respond, answerMessage, answerBytes, noBytes, goOn, answersFor, answersOn}
 use Rattle.service.specs.Runs.{Ran, after, runOf, run, lastOf, feed}
 use Rattle.service.specs.Statements.{CutAnywhere}
 use Rattle.service.proofs.Running.{none-cut, shorter}
@@ -67,11 +67,11 @@ reply-more s a t n e =
     ∙ ap (readWhole asked) (take-append-le n a t (whole-frame a n e .within))
     ∙ sym (ap (λ (f : Frame). readFramed asked f a) e))
 
-reply-cut : (s : Station) (a : List ℕ) → frameOf a ≡ Cut → respond s a .answer ≡ told TooFewBytes
+reply-cut : (s : Station) (a : List ℕ) → frameOf a ≡ Cut → respond s a .answer ≡ answerMessage TooFewBytes
 unfolding respond readAsked
 reply-cut s a e = rw e
 
-reply-wrong : (s : Station) (a : List ℕ) → frameOf a ≡ Wrong → respond s a .answer ≡ told BadLength
+reply-wrong : (s : Station) (a : List ℕ) → frameOf a ≡ Wrong → respond s a .answer ≡ answerMessage BadLength
 unfolding respond readAsked
 reply-wrong s a e = rw e
 
@@ -93,7 +93,7 @@ same zero (suc j) s (b ∷ bs) h g = absurd (omega arith)
 same (suc k) zero s [] h g = refl
 same (suc k) zero s (b ∷ bs) h g = absurd (omega arith)
 same (suc k) (suc j) s input h g =
-    ap (λ (r : List ℕ). cond (noBytes input) [] (said (respond s input .answer) ++ r))
+    ap (λ (r : List ℕ). cond (noBytes input) [] (answerBytes (respond s input .answer) ++ r))
     (same-going (frameOf input) (answersFor k) (answersFor j) (respond s input .station) input refl
     (λ x rest l. same k j x rest (omega arith) (omega arith)))
 
@@ -102,19 +102,19 @@ unfolding answersFor
 answers-cut s [] e = refl
 answers-cut s (b ∷ bs) e = rw (reply-cut s (b ∷ bs) e, e, append-nil)
 
-answers-wrong : (s : Station) (input : List ℕ) → frameOf input ≡ Wrong → answersOn s input ≡ said (told BadLength)
+answers-wrong : (s : Station) (input : List ℕ) → frameOf input ≡ Wrong → answersOn s input ≡ answerBytes (answerMessage BadLength)
 unfolding answersFor
 answers-wrong s [] e = let z : _≡_ {A = ℕ} 0 1 = cc in absurd (omega arith)
 answers-wrong s (b ∷ bs) e = rw (reply-wrong s (b ∷ bs) e, e, append-nil)
 
 answers-whole : (s : Station) (input : List ℕ) (n : ℕ) → frameOf input ≡ Whole n
-    → answersOn s input ≡ said (respond s input .answer) ++ answersOn (respond s input .station) (drop n input)
+    → answersOn s input ≡ answerBytes (respond s input .answer) ++ answersOn (respond s input .station) (drop n input)
 unfolding answersFor
 answers-whole s [] n e = let z : _≡_ {A = ℕ} 0 1 = cc in absurd (omega arith)
 answers-whole s (b ∷ bs) n e =
     let l = shorter (b ∷ bs) n e in
     rw e
-    (ap (_++_ (said (respond s (b ∷ bs) .answer)))
+    (ap (_++_ (answerBytes (respond s (b ∷ bs) .answer)))
     (same (length bs) (length (drop n (b ∷ bs))) (respond s (b ∷ bs) .station) (drop n (b ∷ bs)) (omega arith) (omega arith)))
 
 -- ---- a run, and then the rest with more behind it
@@ -133,7 +133,7 @@ turned (Whole n) go s a t e rec =
     let r = go (x .station) (drop n a) in
     answers-whole s (a ++ t) n (whole-more a t n e)
     ∙ rw (reply-more s a t n e, drop-append-le n a t (whole-frame a n e .within))
-    (ap (_++_ (said (x .answer))) (rec (x .station) (drop n a) (shorter a n e))
+    (ap (_++_ (answerBytes (x .answer))) (rec (x .station) (drop n a) (shorter a n e))
     ∙ rw (append-assoc, drop-drop (r .used) n a))
 
 in-pieces : (k : ℕ) (s : Station) (a t : List ℕ) → length a ≤ k → answersOn s (a ++ t) ≡ onwards (runOf k s a) a t

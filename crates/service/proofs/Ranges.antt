@@ -30,15 +30,15 @@ use Rattle.wire.specs.declared.Frame.the-variants.{Cut, Wrong, Whole}
 use Rattle.wire.specs.Kinds.{Kind, inRange, asked}
 use Rattle.wire.specs.Reads.{frameOf, kindAt, sized, badIn, readRequest, readAmong, readWhole, readFramed, readAsked}
 use Rattle.service.specs.declared.Reply.{Reply}
-use Rattle.service.specs.Service.{called, told, toldOf, respond}
+use Rattle.service.specs.Service.{called, answerMessage, replyMessage, respond}
 use Rattle.service.specs.Statements.{RepliesInRange}
 
 -- an outcome, or what a reader says, whose answer can be told; a reply that can be written
 record Outcome-fine (o : Outcome) : Type 0 where
-  outcome : inRange (told (o .answer)) ≡ true
+  outcome : inRange (answerMessage (o .answer)) ≡ true
 
 record Received-fine (r : Received) : Type 0 where
-  received : inRange (told (r .answer)) ≡ true
+  received : inRange (answerMessage (r .answer)) ≡ true
 
 record Reply-fine (r : Reply) : Type 0 where
   reply : inRange (r .answer) ≡ true
@@ -49,22 +49,22 @@ ways P true f g = f refl
 ways P false f g = g refl
 
 -- the three answers that name an instruction
-bad-told : (p : ℕ) → p < 8 → inRange (told (BadField p)) ≡ true
+bad-told : (p : ℕ) → p < 8 → inRange (answerMessage (BadField p)) ≡ true
 bad-told p h = rw (le-leb p 7 (omega arith))
 
-overlap-told : (p : ℕ) → p < 8 → inRange (told (Overlap p)) ≡ true
+overlap-told : (p : ℕ) → p < 8 → inRange (answerMessage (Overlap p)) ≡ true
 overlap-told p h = rw (le-leb p 7 (omega arith))
 
-barred-told : (p : ℕ) → p < 8 → inRange (told (NotAllowed p)) ≡ true
+barred-told : (p : ℕ) → p < 8 → inRange (answerMessage (NotAllowed p)) ≡ true
 barred-told p h = rw (le-leb p 7 (omega arith))
 
 -- ---- the five calls
 
 -- an answer that needs no test
-plainly : {o : Outcome} → inRange (told (o .answer)) ≡ true → Outcome-fine o
+plainly : {o : Outcome} → inRange (answerMessage (o .answer)) ≡ true → Outcome-fine o
 plainly e = record { outcome = e }
 
-unless-any : (n : ℕ) (fault : ℕ → Bool) (s : Station) (a : ℕ → Answer) {o : Outcome} → n ≤ 8 → ((p : ℕ) → p < 8 → inRange (told (a p)) ≡ true)
+unless-any : (n : ℕ) (fault : ℕ → Bool) (s : Station) (a : ℕ → Answer) {o : Outcome} → n ≤ 8 → ((p : ℕ) → p < 8 → inRange (answerMessage (a p)) ≡ true)
     → Outcome-fine o → Outcome-fine (unlessAny n fault s a o)
 unless-any n fault s a h f r =
     ways Outcome-fine (ltb (least n fault) n) (λ l. let k = ltb-true (least n fault) n l in plainly (f (least n fault) (omega arith))) (λ _. r)
@@ -132,7 +132,7 @@ called-fine (Held r) s count set = plainly refl
 -- ---- the reader
 
 -- an answer that needs no test
-simply : {r : Received} → inRange (told (r .answer)) ≡ true → Received-fine r
+simply : {r : Received} → inRange (answerMessage (r .answer)) ≡ true → Received-fine r
 simply e = record { received = e }
 
 sized-fine : (m : List ℕ) (n : ℕ) (w : What) → Received-fine (sized m n w)
@@ -169,21 +169,21 @@ framed-fine (Whole n) s = whole-fine asked (take n s)
 
 -- ---- the reply
 
-told-fine : (w : What) (o : Outcome) → Outcome-fine o → inRange (toldOf w o) ≡ true
-told-fine Request o f = f .outcome
-told-fine (What.Event way) o f = f .outcome
-told-fine (Result number done) o f = f .outcome
-told-fine (Image r) o f = f .outcome
-told-fine Ask o f = ways (λ (w : What). inRange w ≡ true) (eqb (numberOf (o .answer)) 0) (λ _. refl) (λ _. f .outcome)
-told-fine (What.Answer number place) o f = f .outcome
-told-fine (Held r) o f = f .outcome
+reply-message-fine : (w : What) (o : Outcome) → Outcome-fine o → inRange (replyMessage w o) ≡ true
+reply-message-fine Request o f = f .outcome
+reply-message-fine (What.Event way) o f = f .outcome
+reply-message-fine (Result number done) o f = f .outcome
+reply-message-fine (Image r) o f = f .outcome
+reply-message-fine Ask o f = ways (λ (w : What). inRange w ≡ true) (eqb (numberOf (o .answer)) 0) (λ _. refl) (λ _. f .outcome)
+reply-message-fine (What.Answer number place) o f = f .outcome
+reply-message-fine (Held r) o f = f .outcome
 
 replied : (s : Station) (bytes : List ℕ) → Reply-fine (respond s bytes)
 unfolding respond readAsked
 replied s bytes =
     let m = readAsked bytes .message in
     ways Reply-fine (eqb (numberOf (readAsked bytes .answer)) 0)
-    (λ _. record { reply = told-fine (m .what) (called (m .what) s (m .count) (m .set)) (called-fine (m .what) s (m .count) (m .set)) })
+    (λ _. record { reply = reply-message-fine (m .what) (called (m .what) s (m .count) (m .set)) (called-fine (m .what) s (m .count) (m .set)) })
     (λ _. record { reply = framed-fine (frameOf bytes) bytes .received })
 
 pub replies-in-range : RepliesInRange

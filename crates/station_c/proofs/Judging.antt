@@ -12,7 +12,7 @@ use Rattle.rules.specs.Verdicts.{verdictOf, movedOf}
 use Rattle.answers.specs.declared.Answer.{Answer}
 use Rattle.answers.specs.declared.Answer.the-variants.{Taken, BadField}
 use Rattle.answers.specs.Answers.{nowhere}
-use Rattle.station_c.specs.Entries.{told}
+use Rattle.station_c.specs.Entries.{answerTo}
 
 -- a verdict as an answer
 abbrev pub judge : Verdict → Answer
@@ -20,15 +20,15 @@ judge Allowed = Taken
 judge NotAllowed = Answer.NotAllowed nowhere
 judge IllFormed = BadField nowhere
 
-judged-so : (i : Instruction) (r : ℕ) → judge (verdictOf i r) ≡ told (movedOf i r)
+judged-so : (i : Instruction) (r : ℕ) → judge (verdictOf i r) ≡ answerTo (movedOf i r)
 unfolding verdictOf movedOf
 judged-so i r = go (wellFormed i) (allowed i (bit r))
   where
-    go : (w a : Bool) → judge (cond w (cond a Allowed NotAllowed) IllFormed) ≡ told (cond w (cond a (Moved.Record (image (next i (bit r)))) Moved.NotAllowed) Moved.IllFormed)
+    go : (w a : Bool) → judge (cond w (cond a Allowed NotAllowed) IllFormed) ≡ answerTo (cond w (cond a (Moved.Record (image (next i (bit r)))) Moved.NotAllowed) Moved.IllFormed)
     go true true = refl
     go true false = refl
     go false a = refl
 
 -- of a verdict that is known
-pub by-verdict : (i : Instruction) (r : ℕ) {v w : Verdict} → v ≡ verdictOf i r → v ≡ w → judge w ≡ told (movedOf i r)
+pub by-verdict : (i : Instruction) (r : ℕ) {v w : Verdict} → v ≡ verdictOf i r → v ≡ w → judge w ≡ answerTo (movedOf i r)
 by-verdict i r e k = ap judge (sym k ∙ e) ∙ judged-so i r

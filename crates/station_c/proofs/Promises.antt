@@ -12,7 +12,7 @@ use Rattle.answers.specs.Answers.{numberOf}
 use Rattle.answers.proofs.Promises.{in-table}
 use Rattle.wire_laws.proofs.Numbers.{image-reads-back, image-one-form}
 use Rattle.station_c.specs.Entries.{stationBytes, stationOf, writes, entry}
-use Rattle.station_c.specs.Promises.{StationFits, StationReadsBack, StationOneForm, SaidReadsBack, RefusedUntouched}
+use Rattle.station_c.specs.Promises.{StationFits, StationReadsBack, StationOneForm, ReturnedReadsBack, RefusedUntouched}
 
 pub station-fits : StationFits
 unfolding stationBytes
@@ -29,13 +29,13 @@ station-one-form room b h =
     ap (λ (l : List ℕ). l ++ (getD room 8 0 ∷ getD room 9 0 ∷ take 40 (drop 10 room))) (sym (image-one-form room b (omega arith)))
     ∙ sym (take-add 8 42 room ∙ ap (λ (l : List ℕ). take 8 room ++ take 42 l) two)
 
-pub said-reads-back : SaidReadsBack
-said-reads-back a = let h = in-table a in (omega arith, omega arith)
+pub returned-reads-back : ReturnedReadsBack
+returned-reads-back a = let h = in-table a in (omega arith, omega arith)
 
 pub refused-untouched : RefusedUntouched
 unfolding entry writes
 refused-untouched call room h = split (ltb (length room) 50)
     (λ t. rw t)
     (λ t. let o = call (stationOf room) in
-    let n : numberOf (o .answer) ≡ 0 → ⊥ = λ z. h (rw t (said-reads-back (o .answer) .0 ∙ z)) in
+    let n : numberOf (o .answer) ≡ 0 → ⊥ = λ z. h (rw t (returned-reads-back (o .answer) .0 ∙ z)) in
     rw (t, ne-eqb (numberOf (o .answer)) 0 n))

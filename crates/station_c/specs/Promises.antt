@@ -8,7 +8,7 @@ use Rattle.answers.specs.Answers.{numberOf, placeOf}
 use Rattle.garage.specs.declared.Station.{Station}
 use Rattle.garage.specs.declared.Outcome.{Outcome}
 use Rattle.wire_laws.specs.Statements.{Bytes}
-use Rattle.station_c.specs.Entries.{stationSize, stationBytes, stationOf, said, entry}
+use Rattle.station_c.specs.Entries.{stationSize, stationBytes, stationOf, returned, entry}
 
 -- a station as code holds it: the record is a number of 64 bits, the set has forty places
 pub record Typed (s : Station) : Type 0 where
@@ -28,8 +28,8 @@ abbrev pub StationOneForm : Type 0
 StationOneForm = (room : List ℕ) → Bytes room → stationSize ≤ length room → stationBytes (stationOf room) ≡ take stationSize room
 
 -- an answer's number and place read back from what an entry says
-abbrev pub SaidReadsBack : Type 0
-SaidReadsBack = (a : Answer) → (said a % 256 ≡ numberOf a) × (said a / 256 ≡ placeOf a)
+abbrev pub ReturnedReadsBack : Type 0
+ReturnedReadsBack = (a : Answer) → (returned a % 256 ≡ numberOf a) × (returned a / 256 ≡ placeOf a)
 
 -- an entry that refuses leaves the room as it was
 abbrev pub RefusedUntouched : Type 0

@@ -7,7 +7,7 @@ ghost use Rattle.floor.specs.Sound.{sound, total};
 ghost use Rattle.rules.specs.Verdicts.{movedOf};
 ghost use Rattle.garage.specs.Station.{startOf};
 ghost use Rattle.garage.specs.Calls.{taken, event, result, takeImage};
-ghost use Rattle.station_c.specs.Entries.{stationBytes, stationOf, said, Leaves, writes, entry, requestOf, asking, saidOf, Exchanges, exchange, moved, told, recordIn, nexting, carsOr255};
+ghost use Rattle.station_c.specs.Entries.{stationBytes, stationOf, returned, Leaves, writes, entry, requestOf, asking, returnedOf, Exchanges, exchange, moved, answerTo, recordIn, nexting, carsOr255};
 use answers::Answer;
 use answers::NOWHERE;
 use floor::Total;
@@ -55,7 +55,7 @@ fn stored(bits: u64, count: u8, answered: u8, set: [u8; 40]) -> [u8; 50]
 
 // An answer as one number.
 fn say(a: Answer) -> u32
-    ensures { λ r. ⌜ r ≡ said a ⌝ }
+    ensures { λ r. ⌜ r ≡ returned a ⌝ }
 {
     a.number() as u32 + 256 * (a.place() as u32)
 }
@@ -192,9 +192,9 @@ pub extern "C" fn station_ask(room: &[u8], image: &mut [u8]) -> u32
 
 // ---- a message on a lent station
 
-// What is said besides a message that answers.
-fn said_of(what: What) -> u32
-    ensures { λ r. ⌜ r ≡ saidOf what ⌝ }
+// What is returned besides a message that answers.
+fn returned_of(what: What) -> u32
+    ensures { λ r. ⌜ r ≡ returnedOf what ⌝ }
 {
     match what {
         What::Answer { number, place } => number as u32 + 256 * (place as u32),
@@ -222,7 +222,7 @@ pub extern "C" fn station_message(room: &mut [u8], message: &[u8], reply: &mut [
     let set = s.set;
     let b = stored(s.bits, s.count, s.answered, set);
     bytes::copy(&b, room);
-    said_of(what)
+    returned_of(what)
 }
 
 // ---- questions on a record
@@ -259,8 +259,8 @@ fn moved(image: u64, five: &[u8]) -> Moved
 }
 
 // What is answered with a next record, or none.
-fn told(m: Moved) -> Answer
-    ensures { λ a. ⌜ a ≡ told m ⌝ }
+fn answer_to(m: Moved) -> Answer
+    ensures { λ a. ⌜ a ≡ answerTo m ⌝ }
 {
     match m {
         Moved::Record(_) => Answer::Taken,
@@ -281,7 +281,7 @@ fn record_in(m: Moved) -> u64
 
 // What is answered of an instruction, by its verdict: the next record isn't asked for.
 fn judged(i: Instruction, image: u64) -> Answer
-    ensures { λ a. ⌜ a ≡ told (movedOf i image) ⌝ }
+    ensures { λ a. ⌜ a ≡ answerTo (movedOf i image) ⌝ }
 {
     let v = engine::verdict(i, image);
     match v {
@@ -294,7 +294,7 @@ fn judged(i: Instruction, image: u64) -> Answer
 // Whether a record allows an instruction.
 #[no_mangle]
 pub extern "C" fn garage_allowed(image: u64, five: &[u8]) -> u32
-    ensures { λ r. ⌜ r ≡ said (told (moved image (now (five .entry)))) ⌝ }
+    ensures { λ r. ⌜ r ≡ returned (answerTo (moved image (now (five .entry)))) ⌝ }
 {
     let one = rules::read_bytes(five);
     match one {
@@ -315,7 +315,7 @@ pub extern "C" fn garage_next(image: u64, five: &[u8], next: &mut [u8]) -> u32
         return say(Answer::NoRoom);
     }
     let m = moved(image, five);
-    let a = told(m);
+    let a = answer_to(m);
     let r = record_in(m);
     let b = wire::image_bytes(r);
     answer(a, &b, next)

@@ -17,8 +17,8 @@ returns c = rw (lt-ltb _ _ (c .before .if1 .taken)) (c .say .ensures, refl)
 moved-requires : tie.Need-moved-requires
 moved-requires c κs = search needs
 
-told-requires : tie.Need-told-requires
-told-requires c κs = search needs
+answer-to-requires : tie.Need-answer-to-requires
+answer-to-requires c κs = search needs
 
 record-in-requires : tie.Need-record-in-requires
 record-in-requires c κs = search needs
@@ -36,7 +36,7 @@ same-length : tie.Need-same-length
 same-length c = search needs
 
 returns-2 : tie.Need-returns-2
-returns-2 c = followed _ _ _ (c .before .before .before .before .before .before .before .before .before .if1 .left) (c .before .before .before .before .before .before .before .before .moved .ensures) (c .before .before .before .before .before .before .before .told .ensures) (c .before .before .before .before .before .before .record-in .ensures) (c .before .before .before .before .before .image-bytes .ensures) (c .before .before .answer .ensures)
+returns-2 c = followed _ _ _ (c .before .before .before .before .before .before .before .before .before .if1 .left) (c .before .before .before .before .before .before .before .before .moved .ensures) (c .before .before .before .before .before .before .before .answer-to .ensures) (c .before .before .before .before .before .before .record-in .ensures) (c .before .before .before .before .before .image-bytes .ensures) (c .before .before .answer .ensures)
 
 pub garage-next-spec : {M : Type 1} → statement M
 garage-next-spec =
@@ -45,7 +45,7 @@ garage-next-spec =
     say-requires
     returns
     moved-requires
-    told-requires
+    answer-to-requires
     record-in-requires
     image-bytes-requires
     slice-aggregate-answer

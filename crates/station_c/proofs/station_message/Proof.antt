@@ -44,8 +44,8 @@ slice-aggregate-copy c = search needs
 copy-requires : tie.Need-copy-requires
 copy-requires c κs = search needs
 
-said-of-requires : tie.Need-said-of-requires
-said-of-requires c κs = search needs
+returned-of-requires : tie.Need-returned-of-requires
+returned-of-requires c κs = search needs
 
 same-length-3 : tie.Need-same-length-3
 same-length-3 c = search needs
@@ -54,7 +54,7 @@ same-length-4 : tie.Need-same-length-4
 same-length-4 c = search needs
 
 returns-3 : tie.Need-returns-3
-returns-3 c = replied _ _ _ (c .before .before .before .before .before .before .before .before .before .before .before .before .before .before .before .before .before .before .if1 .left) (c .before .before .before .before .before .before .before .before .before .before .before .before .before .before .before .before .load .ensures) (c .before .before .before .before .before .before .before .before .before .before .before .before .before .before .before .respond .ensures) (c .before .before .before .before .before .before .before .before .before .before .before .before .before .write-plain .ensures) (c .before .before .before .before .before .before .before .before .before .before .number .ensures) (c .before .before .before .before .before .before .before .before .before .if2 .left) (c .before .before .before .before .before .before .stored .ensures) (omega arith) (c .before .before .before .copy .ensures .1) (c .said-of .ensures)
+returns-3 c = replied _ _ _ (c .before .before .before .before .before .before .before .before .before .before .before .before .before .before .before .before .before .before .if1 .left) (c .before .before .before .before .before .before .before .before .before .before .before .before .before .before .before .before .load .ensures) (c .before .before .before .before .before .before .before .before .before .before .before .before .before .before .before .respond .ensures) (c .before .before .before .before .before .before .before .before .before .before .before .before .before .write-plain .ensures) (c .before .before .before .before .before .before .before .before .before .before .number .ensures) (c .before .before .before .before .before .before .before .before .before .if2 .left) (c .before .before .before .before .before .before .stored .ensures) (omega arith) (c .before .before .before .copy .ensures .1) (c .returned-of .ensures)
 
 pub station-message-spec : {M : Type 1} → statement M
 station-message-spec =
@@ -73,7 +73,7 @@ station-message-spec =
     stored-requires
     slice-aggregate-copy
     copy-requires
-    said-of-requires
+    returned-of-requires
     same-length-3
     same-length-4
     returns-3)

@@ -1,7 +1,7 @@
--- `station_c::told` meets its contract: case by case. Assumes nothing.
+-- `station_c::answer_to` meets its contract: case by case. Assumes nothing.
 use borrow.Author.Needs.{needs}
-use Rattle.station_c.proofs.told.Statement.{statement}
-use Rattle.station_c.proofs.told.Tie as tie
+use Rattle.station_c.proofs.answer_to.Statement.{statement}
+use Rattle.station_c.proofs.answer_to.Tie as tie
 
 enum-told : tie.Need-enum-told
 enum-told c = search needs
@@ -21,5 +21,5 @@ returns-2 c = rw (c .enum-told2 .given .1)
 returns-3 : tie.Need-returns-3
 returns-3 c = rw (c .enum-told3 .given .1)
 
-pub told-spec : {M : Type 1} → statement M
-told-spec = tie.close (tie.spec enum-told enum-told-2 enum-told-3 returns returns-2 returns-3)
+pub answer-to-spec : {M : Type 1} → statement M
+answer-to-spec = tie.close (tie.spec enum-told enum-told-2 enum-told-3 returns returns-2 returns-3)

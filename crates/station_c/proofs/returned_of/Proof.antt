@@ -1,9 +1,9 @@
--- `station_c::said_of` meets its contract: an answer by its fields, anything else is not one. Assumes nothing.
+-- `station_c::returned_of` meets its contract: an answer by its fields, anything else is not one. Assumes nothing.
 use mathlib.Core.Path.{_∙_}
 use borrow.Author.Needs.{needs}
-use Rattle.station_c.proofs.Exchanging.{not-told}
-use Rattle.station_c.proofs.said_of.Statement.{statement}
-use Rattle.station_c.proofs.said_of.Tie as tie
+use Rattle.station_c.proofs.Exchanging.{not-an-answer}
+use Rattle.station_c.proofs.returned_of.Statement.{statement}
+use Rattle.station_c.proofs.returned_of.Tie as tie
 
 enum-known-what : tie.Need-enum-known-what
 enum-known-what c = search needs
@@ -27,10 +27,10 @@ returns : tie.Need-returns
 returns c = rw (c .before .what .given .1)
 
 returns-2 : tie.Need-returns-2
-returns-2 c = c .say .ensures ∙ not-told (c .before .before .args .what) (c .before .match .keys2)
+returns-2 c = c .say .ensures ∙ not-an-answer (c .before .before .args .what) (c .before .match .keys2)
 
-pub said-of-spec : {M : Type 1} → statement M
-said-of-spec =
+pub returned-of-spec : {M : Type 1} → statement M
+returned-of-spec =
     tie.close
     (tie.spec
     enum-known-what
