@@ -42,7 +42,7 @@ extern "C" {
 /* What the numbers mean. */
 enum {
     STATION_TAKEN = 0,              /* taken */
-    STATION_TOO_FEW_BYTES = 1,      /* fewer bytes than a message or a count says */
+    STATION_TOO_FEW_BYTES = 1,      /* fewer bytes than a message or a count says, or an instruction has */
     STATION_BAD_LENGTH = 2,         /* a message's length is below 2, above 43, or not its kind's */
     STATION_UNKNOWN_KIND = 3,       /* a message of a kind that the station doesn't read */
     STATION_BAD_FIELD = 4,          /* a field out of range, or a spare byte that isn't zero */
@@ -132,8 +132,8 @@ uint32_t station_image(uint8_t *room, size_t room_length, uint64_t image);
 uint32_t station_ask(const uint8_t *room, size_t room_length, uint8_t *image, size_t image_length);
 
 /* Answers the first message of `message`, as the program does: the message that answers is written to `answer` (its first two bytes
- * say how many follow) and the next station to `room`. A message that is refused is answered too: it leaves the station as it was,
- * and `answer` then has the refusal. 17 is returned where `room` or `answer` is too short, and then nothing is written; a room of
+ * say how many follow) and, if the message is taken, the next station to `room`. A message that is refused is answered too: `room` is
+ * not written, and `answer` then has the refusal. 17 is returned where `room` or `answer` is too short, and then nothing is written; a room of
  * STATION_REPLY_MOST bytes is always enough. Else returns the number and the place that were answered, or 0 with STATION_NOWHERE
  * where the image was. What stands past the first message is not looked at. */
 uint32_t station_message(uint8_t *room, size_t room_length, const uint8_t *message, size_t message_length, uint8_t *answer,
@@ -147,11 +147,11 @@ bool garage_sound(uint64_t image);
 /* The number of cars of a sound record, at most 31; 255 if the image isn't sound. */
 uint32_t garage_cars(uint64_t image);
 
-/* Whether the record allows the instruction that the first five bytes of `five` say: 0, 9, or 4 where there are fewer or they say no
- * instruction. The place is always STATION_NOWHERE. The image is not tested for soundness. */
+/* Whether the record allows the instruction that the first five bytes of `five` say: 1 where there are fewer, 4 where they say no
+ * instruction, then 9 or 0. The place is always STATION_NOWHERE. The image is not tested for soundness. */
 uint32_t garage_allowed(uint64_t image, const uint8_t *five, size_t five_length);
 
-/* The same, and if it is allowed the eight bytes of the record after it are written to `next`. 17 first where that is too short. */
+/* The same, and if it is allowed the eight bytes of the record after it are written to `next`. 17 where that is too short, then 1, 4, 9. */
 uint32_t garage_next(uint64_t image, const uint8_t *five, size_t five_length, uint8_t *next, size_t next_length);
 
 #ifdef __cplusplus

@@ -15,8 +15,8 @@ pub const ENTRIES: [(&str, &[u8]); 11] = [
     ("station_message", &[0, 1, 2, 3, 4, 5, 6, 7, 8, 9, 10, 11, 12, 13, 14, 15, 16, 17]),
     ("garage_sound", &[0, 1]),
     ("garage_cars", &[]),
-    ("garage_allowed", &[0, 4, 9]),
-    ("garage_next", &[0, 4, 9, 17]),
+    ("garage_allowed", &[0, 1, 4, 9]),
+    ("garage_next", &[0, 1, 4, 9, 17]),
 ];
 
 /// One call with all that it is given; what an entry doesn't take is not looked at.
@@ -68,20 +68,21 @@ fn reply(station: &mut Station, message: &[u8]) -> (Answer, Vec<u8>) {
     }
 }
 
-/// A message answered on the lent station; where its reply doesn't fit nothing is written.
+/// A message answered on the lent station, which is written back if the message is taken; where its reply doesn't fit nothing is written.
 fn message(room: &mut [u8], message: &[u8], output: &mut [u8]) -> Answer {
     let Some(fifty) = room.first_chunk_mut::<50>() else { return NO_ROOM };
     let mut station = Station::from_bytes(fifty);
     let (answer, bytes) = reply(&mut station, message);
     if output.len() < bytes.len() { return NO_ROOM; }
-    *fifty = station.to_bytes();
+    if answer.0 == 0 { *fifty = station.to_bytes(); }
     put(output, &bytes);
     answer
 }
 
 /// Whether an image allows the instruction of these bytes, and the record after it.
 fn verdict(image: u64, five: &[u8]) -> (Answer, Option<u64>) {
-    match five.first_chunk().and_then(|&five| Instruction::read(five)) {
+    let Some(&five) = five.first_chunk() else { return ((1, 255), None) };
+    match Instruction::read(five) {
         None => ((4, 255), None),
         Some(instruction) if instruction.allowed(image) => ((0, 255), Some(instruction.next(image))),
         Some(_) => ((9, 255), None),

@@ -2,15 +2,15 @@
 use mathlib.Core.Path.{_≡_, refl, sym, ap, _∙_}
 use mathlib.Core.Bool.{Bool, true, false}
 use mathlib.Core.List.{List, [], _∷_, _++_}
-use Prim.Native.Nat.{ℕ, _≤_, _<_}
+use Prim.Native.Nat.{ℕ, _%_, _≤_, _<_}
 use native.Mathlib.Omega.{arith}
-use borrow.Author.Tests.{lt-ltb, le-ltb}
+use borrow.Author.Tests.{lt-ltb, le-ltb, eq-eqb, ne-eqb}
 use denote.Enum.Declared.{tagOf}
 use types.Run.{OneOf, miss}
 use lib.Dec.{ltb}
 use lib.ListN.{length, take, drop}
 use lib.Seq.{take-length}
-use Rattle.bits.proofs.Cases.{split}
+use Rattle.bits.proofs.Cases.{split, off}
 use Rattle.answers.specs.declared.Answer.the-variants.{Taken, NoRoom}
 use Rattle.answers.specs.Answers.{numberOf}
 use Rattle.garage.specs.declared.Station.{Station}
@@ -73,9 +73,18 @@ module _ (room message reply : List ℕ) where
         (λ t. let p = not-wrote t in rw (le-ltb _ _ h, ← e, ← f, t) (a ∙ ap returned (p .0), refl, p .1))
         (λ t. absurd (z (k ∙ ap numberOf (wrote t .0))))
 
-    pub replied : {n r : ℕ} {b final : List ℕ} → n ≡ numberOf (w .answer) → n ≡ 0 → b ≡ stationBytes (o .station) → length b ≡ 50
-        → final ≡ take (length b) b ++ drop (length b) room → r ≡ returnedOf (o .answer) → Exchanges (exchange room message reply) r final last
-    unfolding exchange short
-    replied k z c l p a = split short
-        (λ t. let q : 0 ≡ 17 = sym z ∙ k ∙ ap numberOf (not-wrote t .0) in absurd (omega arith))
-        (λ t. rw (le-ltb _ _ h, ← e, ← f, t) (a, p ∙ rw (take-length, l, c), wrote t .1))
+    -- the reply was written
+    module _ {n : ℕ} (k : n ≡ numberOf (w .answer)) (z : n ≡ 0) where
+      fits : short ≡ false
+      fits = off short (λ t. let q : 0 ≡ 17 = sym z ∙ k ∙ ap numberOf (not-wrote t .0) in omega arith)
+
+      -- it refuses: the station stays
+      pub told-why : {r : ℕ} → r ≡ returnedOf (o .answer) → (r % 256 ≡ 0 → ⊥) → Exchanges (exchange room message reply) r room last
+      unfolding exchange short
+      told-why a q = rw (le-ltb _ _ h, ← e, ← f, fits, ← a, ne-eqb (_ % 256) 0 q) (refl, refl, wrote fits .1)
+
+      -- the message was taken
+      pub replied : {r : ℕ} {b final : List ℕ} → r ≡ returnedOf (o .answer) → r % 256 ≡ 0 → b ≡ stationBytes (o .station) → length b ≡ 50
+          → final ≡ take (length b) b ++ drop (length b) room → Exchanges (exchange room message reply) r final last
+      unfolding exchange short
+      replied a q c l p = rw (le-ltb _ _ h, ← e, ← f, fits, ← a, eq-eqb (_ % 256) 0 q) (refl, p ∙ rw (take-length, l, c), wrote fits .1)

@@ -16,7 +16,7 @@ use Rattle.garage.specs.Calls.{ask}
 use Rattle.rules.specs.declared.Moved.{Moved}
 use Rattle.wire.specs.Kinds.{littleEndian, setOf}
 use Rattle.wire.proofs.Parts.{set-short}
-use Rattle.station_c.specs.Entries.{stationBytes, stationOf, returned, Leaves, writes, entry, asking, moved, answerTo, recordIn, nexting}
+use Rattle.station_c.specs.Entries.{stationBytes, stationOf, returned, Leaves, writes, entry, asking, moved, answerTo, judgement, recordIn, nexting}
 
 -- ---- a station in bytes
 
@@ -64,7 +64,7 @@ unfolding asking
 asked room image h k e f g w = rw (le-ltb _ _ h, le-ltb _ _ k, ← e, ← f, ← g) w
 
 -- the next record
-pub followed : (x : ℕ) (five room : List ℕ) {m : Moved} {a : Answer} {y : ℕ} {b : List ℕ} {r : ℕ} {last : List ℕ} → 8 ≤ length room
+pub followed : (x : ℕ) (five room : List ℕ) {m : Moved} {a : Answer} {y : ℕ} {b : List ℕ} {r : ℕ} {last : List ℕ} → 8 ≤ length room → 5 ≤ length five
     → m ≡ moved x five → a ≡ answerTo m → y ≡ recordIn m → b ≡ littleEndian 8 y → Leaves (writes a b room) r last → Leaves (nexting x five room) r last
-unfolding nexting
-followed x five room h e f g k w = rw (le-ltb _ _ h, ← e, ← f, ← g, ← k) w
+unfolding nexting judgement
+followed x five room h l e f g k w = rw (le-ltb _ _ h, le-ltb _ _ l, ← e, ← f, ← g, ← k) w

@@ -2,7 +2,7 @@
 use mathlib.Core.Path.{_≡_}
 use mathlib.Core.Bool.{cond, _&&_, _||_}
 use mathlib.Core.List.{List, _∷_, _++_}
-use Prim.Native.Nat.{ℕ, _+_, _*_}
+use Prim.Native.Nat.{ℕ, _+_, _*_, _%_}
 use lib.Dec.{eqb, leb, ltb}
 use lib.ListN.{length, getD, take, drop}
 use Rattle.floor.specs.declared.Total.{Total}
@@ -97,14 +97,20 @@ pub record Exchange : Type 0 where
 abbrev pub Exchanges : Exchange → ℕ → List ℕ → List ℕ → Type 0
 Exchanges e r room reply = (r ≡ e .says) × (room ≡ e .station) × (reply ≡ e .reply)
 
--- the first message of a run is answered: 17 where either room is too short, and then neither is written
+-- the first message of a run is answered: 17 where either room is too short, and then neither is written; else the reply is written, and
+-- the next station if the message was taken
 unfoldable pub exchange : List ℕ → List ℕ → List ℕ → Exchange
 exchange room message reply =
     let o = respond (stationOf room) message in
+    let answer = returnedOf (o .answer) in
     let bytes = service.answerBytes (o .answer) in
     cond (ltb (length room) stationSize || ltb (length reply) (length bytes))
     (record { says = returned NoRoom; station = room; reply = reply })
-    (record { says = returnedOf (o .answer); station = stationBytes (o .station) ++ drop stationSize room; reply = bytes ++ drop (length bytes) reply })
+    (record {
+      says = answer;
+      station = cond (eqb (answer % 256) 0) (stationBytes (o .station) ++ drop stationSize room) room;
+      reply = bytes ++ drop (length bytes) reply;
+    })
 
 -- ---- questions on a record, without a station
 
@@ -112,11 +118,15 @@ exchange room message reply =
 unfoldable pub moved : ℕ → List ℕ → Moved
 moved r five = onCode (λ i. movedOf i r) IllFormed (readBytes five)
 
--- what is answered: it is allowed; 9; 4 where the bytes are fewer than five or say no instruction
+-- what is answered of it: it is allowed; 9; 4 where the bytes say no instruction
 abbrev pub answerTo : Moved → Answer
 answerTo (Record r) = Taken
 answerTo Moved.NotAllowed = NotAllowed nowhere
 answerTo IllFormed = BadField nowhere
+
+-- whether the record r allows the instruction that the first five bytes say: 1 where they are fewer
+unfoldable pub judgement : ℕ → List ℕ → Answer
+judgement r five = cond (ltb (length five) 5) TooFewBytes (answerTo (moved r five))
 
 -- the record after it, if it is allowed
 abbrev pub recordIn : Moved → ℕ
@@ -124,11 +134,10 @@ recordIn (Record r) = r
 recordIn Moved.NotAllowed = 0
 recordIn IllFormed = 0
 
--- the next record is asked for
+-- the next record is asked for: 17, then as above
 unfoldable pub nexting : ℕ → List ℕ → List ℕ → Entry
 nexting r five room =
-    let m = moved r five in
-    cond (ltb (length room) 8) (noRoom room) (writes (answerTo m) (littleEndian 8 (recordIn m)) room)
+    cond (ltb (length room) 8) (noRoom room) (writes (judgement r five) (littleEndian 8 (recordIn (moved r five))) room)
 
 -- the number of cars: 255 where the record isn't sound, which is no sound record's number, as a layout has at most 31 cars
 abbrev pub carsOr255 : Total → ℕ

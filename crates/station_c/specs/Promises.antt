@@ -8,7 +8,7 @@ use Rattle.answers.specs.Answers.{numberOf, placeOf}
 use Rattle.garage.specs.declared.Station.{Station}
 use Rattle.garage.specs.declared.Outcome.{Outcome}
 use Rattle.wire_laws.specs.Statements.{Bytes}
-use Rattle.station_c.specs.Entries.{stationSize, stationBytes, stationOf, returned, entry}
+use Rattle.station_c.specs.Entries.{stationSize, stationBytes, stationOf, returned, entry, asking, nexting}
 
 -- a station as code holds it: the record is a number of 64 bits, the set has forty places
 pub record Typed (s : Station) : Type 0 where
@@ -34,3 +34,11 @@ ReturnedReadsBack = (a : Answer) → (returned a % 256 ≡ numberOf a) × (retur
 -- an entry that refuses leaves the room as it was
 abbrev pub RefusedUntouched : Type 0
 RefusedUntouched = (call : Station → Outcome) (room : List ℕ) → (entry call room .says % 256 ≡ 0 → ⊥) → entry call room .leaves ≡ room
+
+-- so does an ask, of the image's room
+abbrev pub AskRefusedUntouched : Type 0
+AskRefusedUntouched = (room image : List ℕ) → (asking room image .says % 256 ≡ 0 → ⊥) → asking room image .leaves ≡ image
+
+-- and a question for the next record
+abbrev pub NextRefusedUntouched : Type 0
+NextRefusedUntouched = (r : ℕ) (five room : List ℕ) → (nexting r five room .says % 256 ≡ 0 → ⊥) → nexting r five room .leaves ≡ room

@@ -7,7 +7,7 @@ ghost use Rattle.floor.specs.Sound.{sound, total};
 ghost use Rattle.rules.specs.Verdicts.{movedOf};
 ghost use Rattle.garage.specs.Station.{startOf};
 ghost use Rattle.garage.specs.Calls.{taken, event, result, takeImage};
-ghost use Rattle.station_c.specs.Entries.{stationBytes, stationOf, returned, Leaves, writes, entry, requestOf, asking, returnedOf, Exchanges, exchange, moved, answerTo, recordIn, nexting, carsOr255};
+ghost use Rattle.station_c.specs.Entries.{stationBytes, stationOf, returned, Leaves, writes, entry, requestOf, asking, returnedOf, Exchanges, exchange, moved, answerTo, judgement, recordIn, nexting, carsOr255};
 use answers::Answer;
 use answers::NOWHERE;
 use floor::Total;
@@ -19,10 +19,12 @@ use rules::Reading;
 use rules::Verdict;
 use wire::What;
 
-// The bytes of a lent station, and of a record.
+// The bytes of a lent station, of a record, and of an instruction.
 const STATION: usize = 50;
 
 const RECORD: usize = 8;
+
+const CODE: usize = 5;
 
 // ---- stations and answers in bytes and numbers
 
@@ -202,7 +204,7 @@ fn returned_of(what: What) -> u32
     }
 }
 
-// Answers the first message of a run: the next station to room, the message that answers to reply.
+// Answers the first message of a run: the message that answers to reply and, if the message was taken, the next station to room.
 #[no_mangle]
 pub extern "C" fn station_message(room: &mut [u8], message: &[u8], reply: &mut [u8]) -> u32
     ensures { λ r. ⌜ Exchanges (exchange (now (room .entry)) (now (message .entry)) (now (reply .entry))) r (now (room .exit)) (now (reply .exit)) ⌝ }
@@ -218,11 +220,15 @@ pub extern "C" fn station_message(room: &mut [u8], message: &[u8], reply: &mut [
     if refused != 0 {
         return say(a);
     }
+    let r = returned_of(what);
+    if r % 256 != 0 {
+        return r;
+    }
     let s = o.station;
     let set = s.set;
     let b = stored(s.bits, s.count, s.answered, set);
     bytes::copy(&b, room);
-    returned_of(what)
+    r
 }
 
 // ---- questions on a record
@@ -291,11 +297,14 @@ fn judged(i: Instruction, image: u64) -> Answer
     }
 }
 
-// Whether a record allows an instruction.
+// Whether a record allows the instruction that five bytes say.
 #[no_mangle]
 pub extern "C" fn garage_allowed(image: u64, five: &[u8]) -> u32
-    ensures { λ r. ⌜ r ≡ returned (answerTo (moved image (now (five .entry)))) ⌝ }
+    ensures { λ r. ⌜ r ≡ returned (judgement image (now (five .entry))) ⌝ }
 {
+    if five.len() < CODE {
+        return say(Answer::TooFewBytes);
+    }
     let one = rules::read_bytes(five);
     match one {
         Reading::Good(i) => {
@@ -313,6 +322,9 @@ pub extern "C" fn garage_next(image: u64, five: &[u8], next: &mut [u8]) -> u32
 {
     if next.len() < RECORD {
         return say(Answer::NoRoom);
+    }
+    if five.len() < CODE {
+        return say(Answer::TooFewBytes);
     }
     let m = moved(image, five);
     let a = answer_to(m);
