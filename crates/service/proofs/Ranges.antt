@@ -56,7 +56,7 @@ record Reply-fine (s : Station) (r : Reply) : Type 0 where
   never : (place : ℕ) → r .answer ≡ What.Answer 17 place → ⊥
 
 -- both ways of a test
-ways : {A : Type 0} (P : A → Type 0) (t : Bool) {x y : A} → (t ≡ true → P x) → (t ≡ false → P y) → P (cond t x y)
+pub ways : {A : Type 0} (P : A → Type 0) (t : Bool) {x y : A} → (t ≡ true → P x) → (t ≡ false → P y) → P (cond t x y)
 ways P true f g = f refl
 ways P false f g = g refl
 

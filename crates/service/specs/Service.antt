@@ -68,7 +68,7 @@ noBytes [] = true
 noBytes (b ∷ bs) = false
 
 -- after a message: on with the rest, but not after 1, nor after a length below 2 or above 43
-abbrev pub goOn : Frame → (ℕ → List ℕ) → List ℕ
+abbrev pub goOn : {A : Type 0} → Frame → (ℕ → List A) → List A
 goOn Cut rest = []
 goOn Wrong rest = []
 goOn (Whole n) rest = rest n

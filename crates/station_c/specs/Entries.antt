@@ -94,6 +94,7 @@ pub record Exchange : Type 0 where
   pub station : List ℕ
   pub reply : List ℕ
 
+-- what it answers is answered, and what it leaves is left
 abbrev pub Exchanges : Exchange → ℕ → List ℕ → List ℕ → Type 0
 Exchanges e r room reply = (r ≡ e .says) × (room ≡ e .station) × (reply ≡ e .reply)
 

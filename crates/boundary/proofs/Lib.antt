@@ -1,0 +1,5 @@
+pub mod Messages
+pub mod Runs
+pub mod Reaching
+pub mod Sent
+pub mod Lent
