@@ -3,3 +3,4 @@ pub mod Runs
 pub mod Reaching
 pub mod Sent
 pub mod Lent
+pub mod Places

@@ -1,14 +1,16 @@
 -- The three demands of bytes: every message and every entry is a call of the station, and what is promised of calls holds of whatever is
 -- sent. Proved in proofs/. Assumes nothing.
 use mathlib.Core.Path.{_≡_}
+use mathlib.Core.Logic.{_⊎_}
 use mathlib.Core.Bool.{true}
 use mathlib.Core.List.{List, [], _∷_, _++_}
-use Prim.Native.Nat.{ℕ, _≤_, _%_}
+use Prim.Native.Nat.{ℕ, _/_, _%_, _≤_}
 use lib.ListN.{length, drop}
 use Rattle.bits.specs.Bits.{bit}
 use Rattle.bits.specs.Places.{join}
 use Rattle.floor.specs.Sound.{Sound}
 use Rattle.answers.specs.declared.Answer.the-variants.{Taken}
+use Rattle.answers.specs.Answers.{nowhere}
 use Rattle.garage.specs.declared.Station.{Station}
 use Rattle.garage.specs.Station.{startOf, fit}
 use Rattle.garage_laws.specs.Runs.{Call, calls, Reached}
@@ -56,6 +58,10 @@ abbrev pub EntryIsCall : Type 0
 EntryIsCall =
     (room : List ℕ) → Bytes room → stationSize ≤ length room → (u : Use) → AsPassed u → Roomy u
     → (stationOf (used room u .leaves) ≡ meant (stationOf room) u .station) × (used room u .says ≡ returnedOf (meant (stationOf room) u .answer))
+
+-- on any room, the place that an entry returns is that of one of eight instructions, or none
+abbrev pub PlacesInRange : Type 0
+PlacesInRange = (room : List ℕ) (u : Use) → (used room u .says / 256 ≤ 7) ⊎ (used room u .says / 256 ≡ nowhere)
 
 -- an ask that is taken writes the record's eight bytes
 abbrev pub AskWrites : Type 0

@@ -188,8 +188,15 @@ numberIn (Result number done) = 0
 numberIn (Image r) = 0
 numberIn Ask = 0
 
-one-of-eight-or-none : (place : ℕ) → leb place 7 || eqb place 255 ≡ true → (place ≤ 7) ⊎ (place ≡ 255)
-one-of-eight-or-none place e = split (leb place 7) (λ t. inl (leb-true place 7 t)) (λ t. inr (eqb-true place 255 (rw t at e)))
+-- the place of an answer that a message can be told
+placed : (a : Answer) → tellable a ≡ true → (placeOf a ≤ 7) ⊎ (placeOf a ≡ 255)
+placed a e =
+    let r = both (inRange (answerMessage a)) (not (eqb (numberOf a) 17)) e .0 in
+    let p = both (leb (numberOf a) 17) (leb (placeOf a) 7 || eqb (placeOf a) 255) r .1 in
+    split (leb (placeOf a) 7) (λ t. inl (leb-true (placeOf a) 7 t)) (λ t. inr (eqb-true (placeOf a) 255 (rw t at p)))
+
+pub called-placed : (w : What) (s : Station) (count : ℕ) (set : List ℕ) → let p = placeOf (called w s count set .answer) in (p ≤ 7) ⊎ (p ≡ 255)
+called-placed w s count set = placed (called w s count set .answer) (called-fine s w count set .outcome)
 
 module _ (s : Station) where
   -- an image
@@ -207,7 +214,7 @@ module _ (s : Station) where
       let (r, n) = both (inRange (answerMessage a)) (not (eqb (numberOf a) 17)) e in
       record {
         written = r;
-        answers = ((a, refl), one-of-eight-or-none (placeOf a) (both (leb (numberOf a) 17) _ r .1));
+        answers = ((a, refl), placed a e);
         kept = λ number place f z. k (λ o. z (sym (ap numberIn f) ∙ o));
         never = λ place f. eqb-false (numberOf a) 17 (not-true _ n) (ap numberIn f);
       }
