@@ -3,17 +3,25 @@
  * The station keeps the record of one garage: which cells are occupied, where the shuttles stand, the lift's height. A planner
  * sends it sets of up to eight instructions; the station accepts a set or says why not, and changes its record only when an
  * instruction is reported done. The entries below are proved to answer what the definitions in crates/station_c/specs/Entries.antt
- * say, on every input; nothing checks this header or its caller, so:
+ * say, on every input; nothing proves this header or its caller right, so:
  *
  * What the caller must see to
  *   - Each pointer goes with the length that follows it, and is valid for that many bytes: to read where it is `const`, to read and
- *     write where it isn't. It is never NULL, not even with a length of 0.
+ *     write where it isn't. With a length of 0 any pointer will do, NULL too.
  *   - Bytes lent for writing overlap nothing else that is lent to the same call.
  *   - No two threads are in calls on one station at a time. Two stations are independent, and no entry keeps anything between calls.
- *   - A station's bytes are written by these entries alone. Bytes that were damaged are refused with STATION_UNFIT wherever that
- *     shows; they may be kept, copied and restored as they are.
- * There is no other duty: any number and any bytes may be passed, and each call comes back with an answer. No entry allocates,
- * prints, or waits.
+ * There is no other duty: any numbers and any bytes may be passed, and each call comes back with the answer that the rules give for
+ * them. No entry allocates, prints, or waits.
+ *
+ * What may stand in a station's room: any bytes.
+ *   - Bytes that are no station are refused with STATION_UNFIT.
+ *   - Bytes that station_start wrote, and after it these entries alone, are a station with all that is promised: each call answers by
+ *     the rules, an accepted set is safe in any order of its results, and the record is what the results and events since the start,
+ *     or since the last image that was taken, have made of it. They may be copied, kept, and put back as they are.
+ *   - Other bytes that happen to be a station, another garage's or made by hand, are answered as that station: each call still answers
+ *     by the rules and leaves a station whose record is sound. Only the promise on calls in a row is lost: the set that they say is
+ *     outstanding need never have been accepted, so that a result may be refused with STATION_NOW_NOT_ALLOWED and the order of
+ *     results may count, and the record need not be this garage's.
  *
  * A station is lent as STATION_SIZE bytes, `room`: the record in eight bytes, the lowest first; how many instructions the
  * outstanding set has; a bit for each of them that is answered; five bytes for each, and zeros in the unused places. A longer room

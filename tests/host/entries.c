@@ -26,9 +26,13 @@ static uint64_t take_image(void) {
     return image;
 }
 
-static void take_run(struct lent *run) {
+/* A run is lent in its own room; where it has no bytes, every other time at NULL. */
+static void take_run(struct lent *run, uint8_t *room) {
+    static bool odd;
     run->size = take_byte();
-    take(run->bytes, run->size);
+    take(room, run->size);
+    odd = !odd;
+    run->bytes = run->size == 0 && odd ? NULL : room;
 }
 
 static void give_answer(uint32_t answer) {
@@ -37,12 +41,13 @@ static void give_answer(uint32_t answer) {
 }
 
 static void give_run(const struct lent *run) {
-    fwrite(run->bytes, 1, run->size, stdout);
+    if (run->size != 0)
+        fwrite(run->bytes, 1, run->size, stdout);
 }
 
 int main(void) {
     static uint8_t room[255], in[255], out[255];
-    struct command command = {.room = {room, 0}, .in = {in, 0}, .out = {out, 0}};
+    struct command command;
     int entry;
     while ((entry = getchar()) != EOF) {
         if (entry >= ENTRIES) {
@@ -53,9 +58,9 @@ int main(void) {
         command.first = take_byte();
         command.second = take_byte();
         command.image = take_image();
-        take_run(&command.room);
-        take_run(&command.in);
-        take_run(&command.out);
+        take_run(&command.room, room);
+        take_run(&command.in, in);
+        take_run(&command.out, out);
         give_answer(call_entry(&command));
         give_run(&command.room);
         give_run(&command.out);
