@@ -11,13 +11,14 @@
  *   - Bytes lent for writing overlap nothing else that is lent to the same call.
  *   - No two threads are in calls on one station at a time. Two stations are independent, and no entry keeps anything between calls.
  * There is no other duty: any numbers and any bytes may be passed, and each call comes back with the answer that the rules give for
- * them. No entry allocates, prints, or waits.
+ * them. No entry allocates, prints, or waits; none takes more stack than STATION_STACK_MOST.
  *
  * What may stand in a station's room: any bytes.
  *   - Bytes that are no station are refused with STATION_UNFIT.
  *   - Bytes that station_start wrote, and after it these entries alone, are a station with all that is promised: each call answers by
  *     the rules, an accepted set is safe in any order of its results, and the record is what the results and events since the start,
- *     or since the last image that was taken, have made of it. They may be copied, kept, and put back as they are.
+ *     or since the last image that was taken, have made of it. They may be copied, kept, and put back as they are; the record is then
+ *     that of when they were kept.
  *   - Other bytes that happen to be a station, another garage's or made by hand, are answered as that station: each call still answers
  *     by the rules and leaves a station whose record is sound. Only the promise on calls in a row is lost: the set that they say is
  *     outstanding need never have been accepted, so that a result may be refused with STATION_NOW_NOT_ALLOWED and the order of
@@ -29,8 +30,8 @@
  *
  * Answers. An entry that returns uint32_t answers with a number of the table below and a place: STATION_NUMBER and STATION_PLACE
  * take them apart. The place is the instruction at fault, counted from 0, for STATION_BAD_FIELD in a request, STATION_OVERLAP and
- * STATION_NOT_ALLOWED; else it is STATION_NOWHERE. A call that isn't taken writes nothing; of a message that isn't, the refusal is
- * written as a message (station_message), and the station's bytes keep their values.
+ * STATION_NOT_ALLOWED; else it is STATION_NOWHERE. A call that isn't taken writes nothing; of a message that isn't, only the refusal is
+ * written, as the message that answers it (station_message).
  */
 #ifndef STATION_H
 #define STATION_H
@@ -81,6 +82,11 @@ enum {
     STATION_MESSAGE_MOST = 45, /* the longest message */
     STATION_REPLY_MOST = 12    /* the longest message that station_message writes */
 };
+
+/* The bytes of stack that a call may take on x86-64, below the frame that makes it. No theorem says so: it is measured on many calls, and
+ * added up over the archive's instructions for every path. That comes to about 1,600 for station_message, 1,400 for station_request,
+ * 1,200 for station_result, 800 for garage_allowed, and less than 600 for each other; the C library's memcpy and the like are left out. */
+enum { STATION_STACK_MOST = 2048 };
 
 /* The record of the start: no cars, rows 1 and 2 lowered and row 3 tilted on both sides, the lift at street height. */
 #define STATION_START_IMAGE UINT64_C(0x00091B0000000000)
@@ -139,13 +145,13 @@ uint32_t station_image(uint8_t *room, size_t room_length, uint64_t image);
 /* Writes the record's eight bytes to `image`; the station stays. 17 where either room is too short, 16. */
 uint32_t station_ask(const uint8_t *room, size_t room_length, uint8_t *image, size_t image_length);
 
-/* Answers the first message of `message`, as the program does: the message that answers is written to `answer` (its first two bytes
- * say how many follow) and, if the message is taken, the next station to `room`. A message that is refused is answered too: `room` is
- * not written, and `answer` then has the refusal. 17 is returned where `room` or `answer` is too short, and then nothing is written; a room of
+/* Answers the first message of `message`, as the program does: the message that answers is written to `reply` (its first two bytes
+ * say how many follow) and, if the message is taken, the next station to `room`. A message that is refused is answered too: `reply`
+ * then has the refusal, and `room` is not written. 17 is returned where `room` or `reply` is too short, and nothing is written; a room of
  * STATION_REPLY_MOST bytes is always enough. Else returns the number and the place that were answered, or 0 with STATION_NOWHERE
  * where the image was. What stands past the first message is not looked at. */
-uint32_t station_message(uint8_t *room, size_t room_length, const uint8_t *message, size_t message_length, uint8_t *answer,
-                         size_t answer_length);
+uint32_t station_message(uint8_t *room, size_t room_length, const uint8_t *message, size_t message_length, uint8_t *reply,
+                         size_t reply_length);
 
 /* ---- questions on a record, for planning ahead; no station is needed and nothing is remembered */
 

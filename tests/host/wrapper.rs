@@ -19,8 +19,8 @@ mod raw {
             room_length: usize,
             message: *const u8,
             message_length: usize,
-            answer: *mut u8,
-            answer_length: usize,
+            reply: *mut u8,
+            reply_length: usize,
         ) -> u32;
         pub fn garage_sound(image: u64) -> bool;
         pub fn garage_cars(image: u64) -> u32;
