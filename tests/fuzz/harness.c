@@ -103,12 +103,15 @@ void __asan_on_error(void) {
         show_call();
 }
 
-/* Whether an entry may write a run at all. A call that isn't taken writes nothing; but for a message that is refused the refusal is
- * written, and the station as it was. */
+/* Whether an entry may write a run at all. A call that isn't taken writes nothing; of a message that isn't, the refusal is written, and the
+ * station's room is not. */
 static bool may_write(uint8_t entry, int run, uint32_t answer) {
     uint8_t number = STATION_NUMBER(answer);
-    bool writes = number == STATION_TAKEN || (entry == MESSAGE && number != STATION_NO_ROOM);
-    return writes && (run == 0 ? entry != ASK : run == 2);
+    switch (run) {
+    case 0: return number == STATION_TAKEN && entry != ASK;
+    case 2: return number == STATION_TAKEN || (entry == MESSAGE && number != STATION_NO_ROOM);
+    default: return false;
+    }
 }
 
 /* Where a run of some bytes is lent: against the guard behind it or, `low`, against the one before it; a run of no bytes, `low`, at NULL. */
