@@ -14,17 +14,18 @@ static uint8_t start[STATION_SIZE], outstanding[STATION_SIZE], room[STATION_SIZE
 static const uint8_t left_belt[STATION_CODE_SIZE] = {GARAGE_BELTS, 1, 2, GARAGE_LOWER, GARAGE_FULL};
 static const uint8_t request[10] = {8, 0, STATION_KIND_REQUEST, 0, 1, GARAGE_BELTS, 1, 2, GARAGE_LOWER, GARAGE_FULL};
 
-static void call_start(void *none) { (void)none; station_start(room, STATION_SIZE); }
-static void call_request(void *none) { (void)none; memcpy(room, start, STATION_SIZE); station_request(room, STATION_SIZE, 1, left_belt, sizeof left_belt); }
-static void call_event(void *none) { (void)none; memcpy(room, start, STATION_SIZE); station_event(room, STATION_SIZE, STATION_CAR_IN); }
-static void call_result(void *none) { (void)none; memcpy(room, outstanding, STATION_SIZE); station_result(room, STATION_SIZE, 0, STATION_DONE); }
-static void call_image(void *none) { (void)none; memcpy(room, start, STATION_SIZE); station_image(room, STATION_SIZE, STATION_START_IMAGE); }
-static void call_ask(void *none) { (void)none; station_ask(start, STATION_SIZE, image, sizeof image); }
-static void call_message(void *none) { (void)none; memcpy(room, start, STATION_SIZE); station_message(room, STATION_SIZE, request, sizeof request, answer, sizeof answer); }
-static void call_sound(void *none) { (void)none; garage_sound(STATION_START_IMAGE); }
-static void call_cars(void *none) { (void)none; garage_cars(STATION_START_IMAGE); }
-static void call_allowed(void *none) { (void)none; garage_allowed(STATION_START_IMAGE, left_belt, sizeof left_belt); }
-static void call_next(void *none) { (void)none; garage_next(STATION_START_IMAGE, left_belt, sizeof left_belt, image, sizeof image); }
+#define CALL(name) static void call_##name(__attribute__((unused)) void *none)
+CALL(start) { station_start(room, STATION_SIZE); }
+CALL(request) { memcpy(room, start, STATION_SIZE); station_request(room, STATION_SIZE, 1, left_belt, sizeof left_belt); }
+CALL(event) { memcpy(room, start, STATION_SIZE); station_event(room, STATION_SIZE, STATION_CAR_IN); }
+CALL(result) { memcpy(room, outstanding, STATION_SIZE); station_result(room, STATION_SIZE, 0, STATION_DONE); }
+CALL(image) { memcpy(room, start, STATION_SIZE); station_image(room, STATION_SIZE, STATION_START_IMAGE); }
+CALL(ask) { station_ask(start, STATION_SIZE, image, sizeof image); }
+CALL(message) { memcpy(room, start, STATION_SIZE); station_message(room, STATION_SIZE, request, sizeof request, answer, sizeof answer); }
+CALL(sound) { garage_sound(STATION_START_IMAGE); }
+CALL(cars) { garage_cars(STATION_START_IMAGE); }
+CALL(allowed) { garage_allowed(STATION_START_IMAGE, left_belt, sizeof left_belt); }
+CALL(next) { garage_next(STATION_START_IMAGE, left_belt, sizeof left_belt, image, sizeof image); }
 
 static const struct {
     const char *name;

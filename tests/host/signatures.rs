@@ -81,8 +81,10 @@ fn typed(text: &str) -> (String, String) {
 
 /// The declarations of a header: what has parameters, once comments and lines for the preprocessor are gone.
 fn header(text: &str) -> Entries {
-    let comment_free: String = text.split("/*").enumerate().map(|(at, part)| if at == 0 { part } else { part.split_once("*/").expect("its end").1 }).collect();
-    let lines: Vec<&str> = comment_free.lines().filter(|line| !line.trim_start().starts_with('#')).collect();
+    let mut parts = text.split("/*");
+    let before = parts.next().unwrap_or("").to_string();
+    let bare = parts.fold(before, |bare, part| bare + part.split_once("*/").expect("a comment's end").1);
+    let lines: Vec<&str> = bare.lines().filter(|line| !line.trim_start().starts_with('#')).collect();
     let one = |declaration: &str| {
         let (before, parameters) = declaration.split_once('(')?;
         let (returns, name) = typed(before);
