@@ -1,12 +1,12 @@
--- `station::shift` meets its contract: each turn keeps `Shifted`. Assumes nothing.
+-- `turns::shift` meets its contract: each turn keeps `Shifted`. Assumes nothing.
 use mathlib.Core.Path.{_≡_, refl}
 use Prim.Native.Nat.{_-_}
 use native.Mathlib.Omega.{arith}
 use borrow.Author.Needs.{needs}
 use lib.ListN.{length, length-set}
-use Rattle.station.proofs.Shifting.{Shifted, nothing-moved, one-moved, all-moved}
-use Rattle.station.proofs.shift.Statement.{statement}
-use Rattle.station.proofs.shift.Tie as tie
+use Rattle.turns.proofs.Shifting.{Shifted, nothing-moved, one-moved, all-moved}
+use Rattle.turns.proofs.shift.Statement.{statement}
+use Rattle.turns.proofs.shift.Tie as tie
 
 abbrev Inv-loop : tie.InvT-loop
 Inv-loop buf₀ from to n i₀ buf i = (n ≡ to - from) × (length buf ≡ length buf₀) × Shifted buf₀ from to i buf

@@ -1,0 +1,4 @@
+mod Shifting
+mod Holding
+mod Turning
+pub mod Statements
