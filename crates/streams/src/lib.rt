@@ -15,9 +15,17 @@ pub enum Input {
     Full,
 }
 
-// Lets others run before the next try.
+// Waits for a millisecond, or until a signal comes.
 fn pause() {
-    libc::sched_yield();
+    let asked = libc::types::timespec {
+        tv_sec: 0,
+        tv_nsec: 1000000,
+    };
+    let mut left = libc::types::timespec {
+        tv_sec: 0,
+        tv_nsec: 0,
+    };
+    libc::nanosleep(&asked, &mut left);
 }
 
 // After a call that failed: whether it may do better, which is waited for.
