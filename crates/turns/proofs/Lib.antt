@@ -2,3 +2,4 @@ mod Shifting
 mod Holding
 mod Turning
 pub mod Statements
+pub mod Determined
