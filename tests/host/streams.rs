@@ -18,21 +18,31 @@ extern "C" {
     fn fcntl(descriptor: i32, command: i32, ...) -> i32;
     fn kill(process: i32, signal: i32) -> i32;
     fn signal(number: i32, handler: usize) -> usize;
+    fn setrlimit(resource: i32, limits: &[u64; 2]) -> i32;
 }
 
 const SIGPIPE: i32 = 13;
 const SIGTERM: i32 = 15;
 const SIGCONT: i32 = 18;
 const SIGSTOP: i32 = 19;
+const SIGXFSZ: i32 = 25;
 
 /// A moment.
 const SHORT: Duration = Duration::from_millis(3);
 
-/// What is done with a signal: the system's own way, or nothing.
-#[derive(Clone, Copy)]
-enum Signal {
-    Usual = 0,
-    Ignored = 1,
+/// So many bytes of answers, the last of them inside an answer, and then the output takes no more.
+const SOME: usize = 100_001;
+
+/// What is done in the program's process before it starts: nothing but the system's own way with a pipe that nobody reads, or no
+/// signal for that, or files that can't grow and no signal for that.
+fn as_usual() { unsafe { signal(SIGPIPE, 0) }; }
+fn no_pipe_signal() { unsafe { signal(SIGPIPE, 1) }; }
+fn small_files() {
+    const FILE_SIZE: i32 = 1;
+    unsafe {
+        signal(SIGXFSZ, 1);
+        setrlimit(FILE_SIZE, &[SOME as u64; 2]);
+    }
 }
 
 /// From here on a read or a write that would have to wait fails instead.
@@ -44,12 +54,12 @@ fn never_waits(file: &impl AsRawFd) {
 }
 
 /// The program, in a group of its own.
-fn start(program: &str, input: impl Into<Stdio>, output: impl Into<Stdio>, broken_pipe: Signal) -> Child {
+fn start(program: &str, input: impl Into<Stdio>, output: impl Into<Stdio>, before: fn()) -> Child {
     let mut command = Command::new(program);
     command.stdin(input).stdout(output).stderr(Stdio::piped()).process_group(0);
     unsafe {
         command.pre_exec(move || {
-            signal(SIGPIPE, broken_pipe as usize);
+            before();
             Ok(())
         });
     }
@@ -114,7 +124,7 @@ fn all_come(name: &'static str, child: Child, got: Vec<u8>, input: &[u8]) -> boo
 /// A device that takes nothing.
 fn full_device(program: &str) -> bool {
     let (input, to) = io::pipe().expect("a pipe");
-    let child = start(program, input, File::create("/dev/full").expect("the device"), Signal::Usual);
+    let child = start(program, input, File::create("/dev/full").expect("the device"), as_usual);
     let sent = sender(to, traffic::input(1, 1000), 500, Duration::ZERO);
     let words = "station: standard output: No space left on device\n";
     let right = held(child, Case { name: "full device", got: Vec::new(), expected: Vec::new(), status: 1, words });
@@ -123,22 +133,34 @@ fn full_device(program: &str) -> bool {
 }
 
 /// A reader that goes away after some bytes, with the system's signal for it in force and without.
-fn closed_pipe(program: &str, broken_pipe: Signal) -> bool {
+fn closed_pipe(program: &str, name: &'static str, before: fn(), status: i32, words: &'static str) -> bool {
     let (input, to) = io::pipe().expect("a pipe");
     let (from, output) = io::pipe().expect("a pipe");
     let messages = traffic::input(2, 60_000);
     let mut expected = reference::serve(&messages);
-    expected.truncate(100_001);
-    let child = start(program, input, output, broken_pipe);
+    expected.truncate(SOME);
+    let child = start(program, input, output, before);
     let sent = sender(to, messages, 50_000, Duration::ZERO);
     let got = slowly(from, expected.len());
-    let (name, status, words) = match broken_pipe {
-        Signal::Usual => ("closed pipe", 128 + SIGPIPE, ""),
-        Signal::Ignored => ("closed pipe, signal ignored", 1, "station: standard output: Broken pipe\n"),
-    };
     let right = held(child, Case { name, got, expected, status, words });
     sent.join().expect("the sender ends");
     right
+}
+
+/// A file that takes some bytes and then no more.
+fn full_file(program: &str) -> bool {
+    let path = std::env::temp_dir().join(format!("streams.{}", std::process::id()));
+    let (input, to) = io::pipe().expect("a pipe");
+    let messages = traffic::input(9, 60_000);
+    let mut expected = reference::serve(&messages);
+    expected.truncate(SOME);
+    let mut child = start(program, input, File::create(&path).expect("a file"), small_files);
+    let sent = sender(to, messages, 50_000, Duration::ZERO);
+    child.wait().expect("the program ends");
+    let got = std::fs::read(&path).expect("the file is there");
+    std::fs::remove_file(&path).expect("the file goes");
+    sent.join().expect("the sender ends");
+    held(child, Case { name: "full file", got, expected, status: 1, words: "station: standard output: File too large\n" })
 }
 
 /// A slow reader behind an output that never waits.
@@ -147,7 +169,7 @@ fn slow_reader(program: &str) -> bool {
     let (from, output) = io::pipe().expect("a pipe");
     never_waits(&output);
     let messages = traffic::input(3, 400_000);
-    let child = start(program, input, output, Signal::Usual);
+    let child = start(program, input, output, as_usual);
     let sent = sender(to, messages.clone(), 200_000, Duration::ZERO);
     let got = slowly(from, usize::MAX);
     sent.join().expect("the sender ends");
@@ -159,7 +181,7 @@ fn pieces(program: &str, name: &'static str, waits: bool, messages: Vec<u8>, pie
     let (input, to) = io::pipe().expect("a pipe");
     let (mut from, output) = io::pipe().expect("a pipe");
     if !waits { never_waits(&input); }
-    let child = start(program, input, output, Signal::Usual);
+    let child = start(program, input, output, as_usual);
     let sent = sender(to, messages.clone(), piece, pause);
     let mut got = Vec::new();
     from.read_to_end(&mut got).expect("the reader reads");
@@ -174,7 +196,7 @@ fn interrupted(program: &str, name: &'static str, piece: usize, pause: Duration)
     input.set_read_timeout(Some(20 * SHORT)).expect("a limit");
     output.set_write_timeout(Some(SHORT)).expect("a limit");
     let messages = traffic::input(4, 100_000);
-    let child = start(program, OwnedFd::from(input), OwnedFd::from(output), Signal::Usual);
+    let child = start(program, OwnedFd::from(input), OwnedFd::from(output), as_usual);
     let sent = sender(to, messages.clone(), piece, pause);
     let read = thread::spawn(move || slowly(from, usize::MAX));
     while !read.is_finished() {
@@ -190,7 +212,7 @@ fn interrupted(program: &str, name: &'static str, piece: usize, pause: Duration)
 /// An input that can't be read.
 fn no_input(program: &str) -> bool {
     let (mut from, output) = io::pipe().expect("a pipe");
-    let child = start(program, File::open("/").expect("a folder"), output, Signal::Usual);
+    let child = start(program, File::open("/").expect("a folder"), output, as_usual);
     let mut got = Vec::new();
     from.read_to_end(&mut got).expect("the reader reads");
     let words = "station: standard input: Is a directory\n";
@@ -203,7 +225,7 @@ fn asked_to_end(program: &str) -> bool {
     let (mut from, output) = io::pipe().expect("a pipe");
     let messages = traffic::input(5, 1);
     let expected = reference::serve(&messages);
-    let child = start(program, input, output, Signal::Usual);
+    let child = start(program, input, output, as_usual);
     to.write_all(&messages).expect("the program reads");
     let mut got = vec![0; expected.len()];
     from.read_exact(&mut got).expect("the reader reads");
@@ -224,8 +246,9 @@ fn main() {
     cut.extend([10, 0, 4, 0, 1]);
     let cases = [
         full_device(program),
-        closed_pipe(program, Signal::Usual),
-        closed_pipe(program, Signal::Ignored),
+        full_file(program),
+        closed_pipe(program, "closed pipe", as_usual, 128 + SIGPIPE, ""),
+        closed_pipe(program, "closed pipe, no signal", no_pipe_signal, 1, "station: standard output: Broken pipe\n"),
         slow_reader(program),
         pieces(program, "input that never waits", false, traffic::input(7, 20_000), 4000, 2 * SHORT),
         pieces(program, "byte by byte", true, traffic::input(8, 300), 1, Duration::ZERO),
