@@ -158,7 +158,7 @@ uint32_t station_message(uint8_t *room, size_t room_length, const uint8_t *messa
 /* Whether an image is a possible garage. */
 bool garage_sound(uint64_t image);
 
-/* The number of cars of a sound record, at most 31; 255 if the image isn't sound. */
+/* The number of cars of a sound record, at most 30; 255 if the image isn't sound. */
 uint32_t garage_cars(uint64_t image);
 
 /* Whether the record allows the instruction that the first five bytes of `five` say: 1 where there are fewer, 4 where they say no

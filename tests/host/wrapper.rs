@@ -243,7 +243,7 @@ mod tests {
                 raw::garage_next(START, null(), 0, to, 8),
             ]
         };
-        assert_eq!(no_input.map(Answer::of), [7, 5, 1, 1, 4, 4].map(refusal));
+        assert_eq!(no_input.map(Answer::of), [7, 5, 1, 1, 1, 1].map(refusal));
         assert_eq!((&room, eight, &reply[..7]), (start.bytes(), [0xEE; 8], &[4, 0, 128, 0, 1, 255, 0xEE][..]));
     }
 

@@ -24,7 +24,7 @@ use Rattle.service.proofs.Ranges.{called-placed, always-answered}
 use Rattle.station_c.specs.Entries.{stationOf, returned, writes, entry, requestOf, asking, returnedOf, exchange}
 use Rattle.station_c.proofs.Promises.{returned-reads-back}
 use Rattle.boundary.specs.Uses.{start, request, event, result, image, ask, message}
-use Rattle.boundary.specs.Statements.{PlacesInRange}
+use Rattle.boundary.specs.Statements.{EntryPlacesInRange}
 
 -- one of eight, or none
 abbrev Placed : ℕ → Type 0
@@ -55,17 +55,17 @@ reply-placed (Result number done) a = absurd a
 reply-placed (Image r) a = absurd a
 reply-placed Ask a = absurd a
 
-pub places-in-range : PlacesInRange
+pub entry-places-in-range : EntryPlacesInRange
 unfolding asking writes exchange
-places-in-range room start = entry-placed (λ s. station.taken startOf) room (inr refl)
-places-in-range room (request n set) = entry-placed (requestOf n set) room (request-placed n set (stationOf room))
-places-in-range room (event e) = entry-placed (λ s. station.event s e) room (called-placed (Event e) (stationOf room) 0 (replicate 40 0))
-places-in-range room (result i d) = entry-placed (λ s. station.result s i d) room (called-placed (Result i d) (stationOf room) 0 (replicate 40 0))
-places-in-range room (image r) = entry-placed (λ s. station.takeImage s r) room (called-placed (Image r) (stationOf room) 0 (replicate 40 0))
-places-in-range room (ask out) =
+entry-places-in-range room start = entry-placed (λ s. station.taken startOf) room (inr refl)
+entry-places-in-range room (request n set) = entry-placed (requestOf n set) room (request-placed n set (stationOf room))
+entry-places-in-range room (event e) = entry-placed (λ s. station.event s e) room (called-placed (Event e) (stationOf room) 0 (replicate 40 0))
+entry-places-in-range room (result i d) = entry-placed (λ s. station.result s i d) room (called-placed (Result i d) (stationOf room) 0 (replicate 40 0))
+entry-places-in-range room (image r) = entry-placed (λ s. station.takeImage s r) room (called-placed (Image r) (stationOf room) 0 (replicate 40 0))
+entry-places-in-range room (ask out) =
     let s = stationOf room in
     split (ltb (length room) 50 || ltb (length out) 8) (λ t. rw t (inr refl))
     (λ t. rw t (returned-placed (station.ask s .answer) (called-placed Ask s 0 (replicate 40 0))))
-places-in-range room (message m out) =
+entry-places-in-range room (message m out) =
     let w = respond (stationOf room) m .answer in
     split (ltb (length room) 50 || ltb (length out) (length (answerBytes w))) (λ t. rw t (inr refl)) (λ t. rw t (reply-placed w (always-answered (stationOf room) m)))

@@ -60,8 +60,8 @@ EntryIsCall =
     → (stationOf (used room u .leaves) ≡ meant (stationOf room) u .station) × (used room u .says ≡ returnedOf (meant (stationOf room) u .answer))
 
 -- on any room, the place that an entry returns is that of one of eight instructions, or none
-abbrev pub PlacesInRange : Type 0
-PlacesInRange = (room : List ℕ) (u : Use) → (used room u .says / 256 ≤ 7) ⊎ (used room u .says / 256 ≡ nowhere)
+abbrev pub EntryPlacesInRange : Type 0
+EntryPlacesInRange = (room : List ℕ) (u : Use) → (used room u .says / 256 ≤ 7) ⊎ (used room u .says / 256 ≡ nowhere)
 
 -- an ask that is taken writes the record's eight bytes
 abbrev pub AskWrites : Type 0

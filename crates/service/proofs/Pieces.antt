@@ -19,8 +19,12 @@ use Rattle.wire.specs.Reads.{frameOf, lengthAt, readWhole, readFramed, readAske
 use Rattle.wire.proofs.Frames.{when, whole-frame}
 use Rattle.service.specs.Service.{respond, answerMessage, answerBytes, noBytes, goOn, answersFor, answersOn}
 use Rattle.service.specs.Runs.{Ran, after, runOf, run, lastOf, feed}
-use Rattle.service.specs.Statements.{CutAnywhere}
+use Rattle.service.specs.Statements.{NoInput, CutAnywhere}
 use Rattle.service.proofs.Running.{none-cut, shorter}
+
+pub no-input : NoInput
+unfolding answersFor
+no-input s = refl
 
 -- ---- what stands behind a message changes nothing
 

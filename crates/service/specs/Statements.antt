@@ -2,7 +2,7 @@
 use mathlib.Core.Path.{_≡_}
 use mathlib.Core.Logic.{_⊎_}
 use mathlib.Core.Bool.{true}
-use mathlib.Core.List.{List}
+use mathlib.Core.List.{List, []}
 use Prim.Native.Nat.{ℕ, _≤_}
 use Rattle.bits.specs.Places.{join}
 use Rattle.answers.specs.Answers.{OfTable, nowhere}
@@ -12,6 +12,10 @@ use Rattle.wire.specs.declared.What.the-variants.{Request, Event, Result, Image
 use Rattle.wire.specs.Kinds.{inRange}
 use Rattle.service.specs.Service.{respond, answersOn}
 use Rattle.service.specs.Runs.{fed}
+
+-- no input gives no output
+abbrev pub NoInput : Type 0
+NoInput = (s : Station) → answersOn s [] ≡ []
 
 -- however the input is cut into pieces, it is answered with the same bytes. One piece: a run and the end of the input are the definition
 abbrev pub CutAnywhere : Type 0

@@ -140,7 +140,7 @@ unfoldable pub nexting : ℕ → List ℕ → List ℕ → Entry
 nexting r five room =
     cond (ltb (length room) 8) (noRoom room) (writes (judgement r five) (littleEndian 8 (recordIn (moved r five))) room)
 
--- the number of cars: 255 where the record isn't sound, which is no sound record's number, as a layout has at most 31 cars
+-- the number of cars: 255 where the record isn't sound, which is no sound record's number, as a layout has at most 30 cars
 abbrev pub carsOr255 : Total → ℕ
 carsOr255 (Cars n) = n
 carsOr255 Unsound = 255
