@@ -1,14 +1,14 @@
 -- A station laid out in bytes, and what an entry leaves, case by case: one pair of laws serves every entry. Assumes nothing.
 use mathlib.Core.Path.{_≡_, refl, _∙_}
 use mathlib.Core.List.{List, [], _∷_, _++_, append-nil}
-use Prim.Native.Nat.{ℕ, _-_, _≤_, _<_}
+use Prim.Native.Nat.{ℕ, _≤_, _<_}
 use native.Mathlib.Omega.{arith}
 use borrow.Author.Tests.{lt-ltb, le-ltb, eq-eqb, ne-eqb}
 use lib.ListN as list
 use lib.ListN.{length, take, drop, replicate}
 use lib.Seq.{take-length, length-take-le}
 use Rattle.answers.specs.declared.Answer.{Answer}
-use Rattle.answers.specs.declared.Answer.the-variants.{NoRoom}
+use Rattle.answers.specs.declared.Answer.the-variants.{TooFewBytes, NoRoom}
 use Rattle.answers.specs.Answers.{numberOf}
 use Rattle.garage.specs.declared.Station.{Station}
 use Rattle.garage.specs.declared.Outcome.{Outcome}
@@ -63,7 +63,12 @@ pub asked : (room image : List ℕ) {s : Station} {o : Outcome} {b : List ℕ} {
 unfolding asking
 asked room image h k e f g w = rw (le-ltb _ _ h, le-ltb _ _ k, ← e, ← f, ← g) w
 
--- the next record
+-- the next record: too few bytes say no instruction
+pub few : (x : ℕ) (five room : List ℕ) {r : ℕ} → 8 ≤ length room → length five < 5 → r ≡ returned TooFewBytes → Leaves (nexting x five room) r room
+unfolding nexting judgement writes
+few x five room h l e = rw (le-ltb _ _ h, lt-ltb _ _ l) (e, refl)
+
+-- or it is there
 pub followed : (x : ℕ) (five room : List ℕ) {m : Moved} {a : Answer} {y : ℕ} {b : List ℕ} {r : ℕ} {last : List ℕ} → 8 ≤ length room → 5 ≤ length five
     → m ≡ moved x five → a ≡ answerTo m → y ≡ recordIn m → b ≡ littleEndian 8 y → Leaves (writes a b room) r last → Leaves (nexting x five room) r last
 unfolding nexting judgement

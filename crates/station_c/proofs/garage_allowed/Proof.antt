@@ -1,8 +1,8 @@
 -- `station_c::garage_allowed` meets its contract: too few bytes, or by what they say. Assumes nothing.
-use mathlib.Core.Path.{_∙_}
-use borrow.Author.Tests.{lt-ltb, le-ltb}
+use mathlib.Core.Path.{ap, _∙_}
 use borrow.Author.Needs.{needs}
-use Rattle.station_c.specs.Entries.{moved, judgement}
+use Rattle.station_c.specs.Entries.{returned}
+use Rattle.station_c.proofs.Judging.{too-few, by-reading}
 use Rattle.station_c.proofs.garage_allowed.Statement.{statement}
 use Rattle.station_c.proofs.garage_allowed.Tie as tie
 
@@ -10,8 +10,7 @@ say-requires : tie.Need-say-requires
 say-requires c κs = search needs
 
 returns : tie.Need-returns
-unfolding judgement
-returns c = c .say .ensures ∙ rw (lt-ltb _ _ (c .before .if1 .taken))
+returns c = too-few _ _ (c .before .if1 .taken) (c .say .ensures)
 
 read-bytes-requires : tie.Need-read-bytes-requires
 read-bytes-requires c κs = search needs
@@ -32,12 +31,10 @@ say-requires-3 : tie.Need-say-requires-3
 say-requires-3 c κs = search needs
 
 returns-2 : tie.Need-returns-2
-unfolding judgement moved
-returns-2 c = c .say2 .ensures ∙ rw (le-ltb _ _ (c .before .before .before .before .before .before .if1 .left), c .before .judged .ensures, ← c .before .before .before .before .before .read-bytes .ensures, c .before .before .before .one .given .1)
+returns-2 c = by-reading _ _ (c .before .before .before .before .before .before .if1 .left) (c .before .before .before .before .before .read-bytes .ensures) (c .before .before .before .one .given .1) (c .say2 .ensures ∙ ap returned (c .before .judged .ensures))
 
 returns-3 : tie.Need-returns-3
-unfolding judgement moved
-returns-3 c = c .say3 .ensures ∙ rw (le-ltb _ _ (c .before .before .before .before .if1 .left), ← c .before .before .before .read-bytes .ensures, c .before .enum-told .given .1)
+returns-3 c = by-reading _ _ (c .before .before .before .before .if1 .left) (c .before .before .before .read-bytes .ensures) (c .before .enum-told .given .1) (c .say3 .ensures)
 
 pub garage-allowed-spec : {M : Type 1} → statement M
 garage-allowed-spec =

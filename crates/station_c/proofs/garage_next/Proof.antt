@@ -1,9 +1,9 @@
 -- `station_c::garage_next` meets its contract: too short a room, too few bytes, or the next record. Assumes nothing.
 use mathlib.Core.Path.{refl}
-use borrow.Author.Tests.{lt-ltb, le-ltb}
+use borrow.Author.Tests.{lt-ltb}
 use borrow.Author.Needs.{needs}
-use Rattle.station_c.specs.Entries.{writes, judgement, nexting}
-use Rattle.station_c.proofs.Rooms.{followed}
+use Rattle.station_c.specs.Entries.{nexting}
+use Rattle.station_c.proofs.Rooms.{few, followed}
 use Rattle.station_c.proofs.garage_next.Statement.{statement}
 use Rattle.station_c.proofs.garage_next.Tie as tie
 
@@ -18,8 +18,7 @@ say-requires-2 : tie.Need-say-requires-2
 say-requires-2 c κs = search needs
 
 returns-2 : tie.Need-returns-2
-unfolding nexting judgement writes
-returns-2 c = rw (le-ltb _ _ (c .before .before .if1 .left), lt-ltb _ _ (c .before .if2 .taken)) (c .say2 .ensures, refl)
+returns-2 c = few _ _ _ (c .before .before .if1 .left) (c .before .if2 .taken) (c .say2 .ensures)
 
 moved-requires : tie.Need-moved-requires
 moved-requires c κs = search needs
