@@ -57,7 +57,8 @@ WrittenIsHeard =
 abbrev pub EntryIsCall : Type 0
 EntryIsCall =
     (room : List ℕ) → Bytes room → stationSize ≤ length room → (u : Use) → AsPassed u → Roomy u
-    → (stationOf (used room u .leaves) ≡ meant (stationOf room) u .station) × (used room u .says ≡ returnedOf (meant (stationOf room) u .answer))
+    → (stationOf (used room u .leaves) ≡ meant (stationOf room) u .station)
+    × (used room u .says ≡ returnedOf (meant (stationOf room) u .answer))
 
 -- on any room, the place that an entry returns is that of one of eight instructions, or none
 abbrev pub EntryPlacesInRange : Type 0
@@ -94,7 +95,9 @@ ProgramSound =
 -- each of some replies is no answer 14, 16 or 17
 abbrev pub NoSuch : List What → Type 0
 NoSuch [] = Unit {0}
-NoSuch (w ∷ l) = ((place : ℕ) → (w ≡ What.Answer 14 place → ⊥) × (w ≡ What.Answer 16 place → ⊥) × (w ≡ What.Answer 17 place → ⊥)) × NoSuch l
+NoSuch (w ∷ l) =
+    ((place : ℕ) → (w ≡ What.Answer 14 place → ⊥) × (w ≡ What.Answer 16 place → ⊥) × (w ≡ What.Answer 17 place → ⊥))
+    × NoSuch l
 
 -- whatever bytes the program is sent, it never answers 14, 16 or 17
 abbrev pub ProgramNever : Type 0

@@ -84,4 +84,5 @@ Roomy (message m out) = 12 ≤ length out
 -- a room where a lent station begins: after station_start, or after a station_image that was taken
 pub data Begun : List ℕ → Type 0 where
   started : (room : List ℕ) → stationSize ≤ length room → Begun (used room start .leaves)
-  imaged : (room : List ℕ) (r : ℕ) → Bytes room → stationSize ≤ length room → r < 2 ^ 64 → used room (image r) .says % 256 ≡ 0 → Begun (used room (image r) .leaves)
+  imaged : (room : List ℕ) (r : ℕ) → Bytes room → stationSize ≤ length room → r < 2 ^ 64
+      → used room (image r) .says % 256 ≡ 0 → Begun (used room (image r) .leaves)
