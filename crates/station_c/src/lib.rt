@@ -7,7 +7,7 @@ ghost use Rattle.floor.specs.Sound.{sound, total};
 ghost use Rattle.rules.specs.Verdicts.{movedOf};
 ghost use Rattle.garage.specs.Station.{startOf};
 ghost use Rattle.garage.specs.Calls.{taken, event, result, takeImage};
-ghost use Rattle.station_c.specs.Entries.{stationBytes, stationOf, returned, Leaves, writes, entry, requestOf, asking, returnedOf, Exchanges, exchange, moved, answerTo, judgement, recordIn, nexting, carsOr255};
+ghost use Rattle.station_c.specs.Entries.{stationSize, stationBytes, stationOf, returned, Leaves, writes, entry, requestOf, asking, returnedOf, Exchanges, exchange, moved, answerTo, judgement, recordIn, nexting, carsOr255};
 use answers::Answer;
 use answers::NOWHERE;
 use floor::Total;
@@ -30,10 +30,10 @@ const CODE: usize = 5;
 
 // The station that the first 50 bytes hold.
 fn load(room: &[u8]) -> Station
-    requires { ⌜ 50 ≤ length (now room) ⌝ }
+    requires { ⌜ stationSize ≤ length (now room) ⌝ }
     ensures { λ s. ⌜ s ≡ stationOf (now (room .entry)) ⌝ }
 {
-    let set = wire::set_of(&room[10..50]);
+    let set = wire::set_of(&room[10..STATION]);
     Station {
         bits: wire::image_of(room),
         count: room[8],
@@ -43,10 +43,10 @@ fn load(room: &[u8]) -> Station
 }
 
 // A station as 50 bytes, by its fields.
-fn stored(bits: u64, count: u8, answered: u8, set: [u8; 40]) -> [u8; 50]
+fn stored(bits: u64, count: u8, answered: u8, set: [u8; 40]) -> [u8; STATION]
     ensures { λ b. ⌜ b ≡ stationBytes (record { bits = bits; count = count; answered = answered; set = set }) ⌝ }
 {
-    let mut b = [0u8; 50];
+    let mut b = [0u8; STATION];
     bytes::copy(&set, &mut b[10..]);
     let image = wire::image_bytes(bits);
     bytes::copy(&image, &mut b[..8]);
@@ -76,7 +76,7 @@ fn answer(a: Answer, src: &[u8], room: &mut [u8]) -> u32
 
 // The same of a call's outcome.
 fn keep(o: Outcome, room: &mut [u8]) -> u32
-    requires { ⌜ 50 ≤ length (now room) ⌝ }
+    requires { ⌜ stationSize ≤ length (now room) ⌝ }
     ensures { λ r. ⌜ Leaves (writes (o .answer) (stationBytes (o .station)) (now (room .entry))) r (now (room .exit)) ⌝ }
 {
     let s = o.station;
