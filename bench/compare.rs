@@ -1,6 +1,6 @@
 //! Times programs on one input, in turns: `compare INPUT MESSAGES NAME COMMAND.. [-- NAME COMMAND..]..`. The first is the measure of
-//! the others. Prints for each the least time of five runs, time for a message, throughput, the ratio to the
-//! first, and the most memory used.
+//! the others. Prints for each the least time of five runs, time for a message, throughput, the ratio to the first, and the most memory
+//! used, which is never less than this program's own.
 
 use std::fs::File;
 use std::process::{Command, Stdio};

@@ -3,17 +3,26 @@
  * The station keeps the record of one garage: which cells are occupied, where the shuttles stand, the lift's height. A planner
  * sends it sets of up to eight instructions; the station accepts a set or says why not, and changes its record only when an
  * instruction is reported done. The entries below are proved to answer what the definitions in crates/station_c/specs/Entries.antt
- * say, on every input; nothing checks this header or its caller, so:
+ * say, on every input; nothing proves this header or its caller right, so:
  *
  * What the caller must see to
  *   - Each pointer goes with the length that follows it, and is valid for that many bytes: to read where it is `const`, to read and
- *     write where it isn't. It is never NULL, not even with a length of 0.
+ *     write where it isn't. With a length of 0 any pointer will do, NULL too.
  *   - Bytes lent for writing overlap nothing else that is lent to the same call.
  *   - No two threads are in calls on one station at a time. Two stations are independent, and no entry keeps anything between calls.
- *   - A station's bytes are written by these entries alone. Bytes that were damaged are refused with STATION_UNFIT wherever that
- *     shows; they may be kept, copied and restored as they are.
- * There is no other duty: any number and any bytes may be passed, and each call comes back with an answer. No entry allocates,
- * prints, or waits.
+ * There is no other duty: any numbers and any bytes may be passed, and each call comes back with the answer that the rules give for
+ * them. No entry allocates, prints, or waits; none takes more stack than STATION_STACK_MOST.
+ *
+ * What may stand in a station's room: any bytes.
+ *   - Bytes that are no station are refused with STATION_UNFIT.
+ *   - Bytes that station_start wrote, and after it these entries alone, are a station with all that is promised: each call answers by
+ *     the rules, an accepted set is safe in any order of its results, and the record is what the results and events since the start,
+ *     or since the last image that was taken, have made of it. They may be copied, kept, and put back as they are; the record is then
+ *     that of when they were kept.
+ *   - Other bytes that happen to be a station, another garage's or made by hand, are answered as that station: each call still answers
+ *     by the rules and leaves a station whose record is sound. Only the promise on calls in a row is lost: the set that they say is
+ *     outstanding need never have been accepted, so that a result may be refused with STATION_NOW_NOT_ALLOWED and the order of
+ *     results may count, and the record need not be this garage's.
  *
  * A station is lent as STATION_SIZE bytes, `room`: the record in eight bytes, the lowest first; how many instructions the
  * outstanding set has; a bit for each of them that is answered; five bytes for each, and zeros in the unused places. A longer room
@@ -21,8 +30,8 @@
  *
  * Answers. An entry that returns uint32_t answers with a number of the table below and a place: STATION_NUMBER and STATION_PLACE
  * take them apart. The place is the instruction at fault, counted from 0, for STATION_BAD_FIELD in a request, STATION_OVERLAP and
- * STATION_NOT_ALLOWED; else it is STATION_NOWHERE. A call that isn't taken writes nothing; of a message that isn't, the refusal is
- * written as a message (station_message), and the station's bytes keep their values.
+ * STATION_NOT_ALLOWED; else it is STATION_NOWHERE. A call that isn't taken writes nothing; of a message that isn't, only the refusal is
+ * written, as the message that answers it (station_message).
  */
 #ifndef STATION_H
 #define STATION_H
@@ -42,7 +51,7 @@ extern "C" {
 /* What the numbers mean. */
 enum {
     STATION_TAKEN = 0,              /* taken */
-    STATION_TOO_FEW_BYTES = 1,      /* fewer bytes than a message or a count says */
+    STATION_TOO_FEW_BYTES = 1,      /* fewer bytes than a message or a count says, or an instruction has */
     STATION_BAD_LENGTH = 2,         /* a message's length is below 2, above 43, or not its kind's */
     STATION_UNKNOWN_KIND = 3,       /* a message of a kind that the station doesn't read */
     STATION_BAD_FIELD = 4,          /* a field out of range, or a spare byte that isn't zero */
@@ -73,6 +82,11 @@ enum {
     STATION_MESSAGE_MOST = 45, /* the longest message */
     STATION_REPLY_MOST = 12    /* the longest message that station_message writes */
 };
+
+/* The bytes of stack that a call may take on x86-64, below the frame that makes it. No theorem says so: it is measured on many calls, and
+ * added up over the archive's instructions for every path. That comes to about 1,600 for station_message, 1,400 for station_request,
+ * 1,200 for station_result, 800 for garage_allowed, and less than 600 for each other; the C library's memcpy and the like are left out. */
+enum { STATION_STACK_MOST = 2048 };
 
 /* The record of the start: no cars, rows 1 and 2 lowered and row 3 tilted on both sides, the lift at street height. */
 #define STATION_START_IMAGE UINT64_C(0x00091B0000000000)
@@ -131,27 +145,27 @@ uint32_t station_image(uint8_t *room, size_t room_length, uint64_t image);
 /* Writes the record's eight bytes to `image`; the station stays. 17 where either room is too short, 16. */
 uint32_t station_ask(const uint8_t *room, size_t room_length, uint8_t *image, size_t image_length);
 
-/* Answers the first message of `message`, as the program does: the message that answers is written to `answer` (its first two bytes
- * say how many follow) and the next station to `room`. A message that is refused is answered too: it leaves the station as it was,
- * and `answer` then has the refusal. 17 is returned where `room` or `answer` is too short, and then nothing is written; a room of
+/* Answers the first message of `message`, as the program does: the message that answers is written to `reply` (its first two bytes
+ * say how many follow) and, if the message is taken, the next station to `room`. A message that is refused is answered too: `reply`
+ * then has the refusal, and `room` is not written. 17 is returned where `room` or `reply` is too short, and nothing is written; a room of
  * STATION_REPLY_MOST bytes is always enough. Else returns the number and the place that were answered, or 0 with STATION_NOWHERE
  * where the image was. What stands past the first message is not looked at. */
-uint32_t station_message(uint8_t *room, size_t room_length, const uint8_t *message, size_t message_length, uint8_t *answer,
-                         size_t answer_length);
+uint32_t station_message(uint8_t *room, size_t room_length, const uint8_t *message, size_t message_length, uint8_t *reply,
+                         size_t reply_length);
 
 /* ---- questions on a record, for planning ahead; no station is needed and nothing is remembered */
 
 /* Whether an image is a possible garage. */
 bool garage_sound(uint64_t image);
 
-/* The number of cars of a sound record, at most 31; 255 if the image isn't sound. */
+/* The number of cars of a sound record, at most 30; 255 if the image isn't sound. */
 uint32_t garage_cars(uint64_t image);
 
-/* Whether the record allows the instruction that the first five bytes of `five` say: 0, 9, or 4 where there are fewer or they say no
- * instruction. The place is always STATION_NOWHERE. The image is not tested for soundness. */
+/* Whether the record allows the instruction that the first five bytes of `five` say: 1 where there are fewer, 4 where they say no
+ * instruction, then 9 or 0. The place is always STATION_NOWHERE. The image is not tested for soundness. */
 uint32_t garage_allowed(uint64_t image, const uint8_t *five, size_t five_length);
 
-/* The same, and if it is allowed the eight bytes of the record after it are written to `next`. 17 first where that is too short. */
+/* The same, and if it is allowed the eight bytes of the record after it are written to `next`. 17 where that is too short, then 1, 4, 9. */
 uint32_t garage_next(uint64_t image, const uint8_t *five, size_t five_length, uint8_t *next, size_t next_length);
 
 #ifdef __cplusplus

@@ -103,16 +103,25 @@ void __asan_on_error(void) {
         show_call();
 }
 
-/* Whether an entry may write a run at all. A call that isn't taken writes nothing; but for a message that is refused the refusal is
- * written, and the station as it was. */
+/* Whether an entry may write a run at all. A call that isn't taken writes nothing; of a message that isn't, the refusal is written, and the
+ * station's room is not. */
 static bool may_write(uint8_t entry, int run, uint32_t answer) {
     uint8_t number = STATION_NUMBER(answer);
-    bool writes = number == STATION_TAKEN || (entry == MESSAGE && number != STATION_NO_ROOM);
-    return writes && (run == 0 ? entry != ASK : run == 2);
+    switch (run) {
+    case 0: return number == STATION_TAKEN && entry != ASK;
+    case 2: return number == STATION_TAKEN || (entry == MESSAGE && number != STATION_NO_ROOM);
+    default: return false;
+    }
 }
 
-/* Makes the call by the reference, in place, and by the entry on what it is lent; bit k of `places` says against which guard run k
- * stands. */
+/* Where a run of some bytes is lent: against the guard behind it or, `low`, against the one before it; a run of no bytes, `low`, at NULL. */
+static uint8_t *place_of(uint8_t *page, size_t size, bool low) {
+    if (!low)
+        return page + (page_size - size) + ASTRAY;
+    return size == 0 ? NULL : page - ASTRAY;
+}
+
+/* Makes the call by the reference, in place, and by the entry on what it is lent; bit k of `places` says which way run k stands. */
 static void compare(struct command *command, unsigned places) {
     struct command lent = *command;
     const uint8_t *left[RUNS];
@@ -121,10 +130,10 @@ static void compare(struct command *command, unsigned places) {
     expected = reference_call(command);
     for (int run = 0; run < RUNS; run++) {
         struct lent *to = run_of(&lent, run);
-        size_t at = places >> run & 1 ? 0 : page_size - to->size;
+        bool low = places >> run & 1;
+        size_t at = low ? 0 : page_size - to->size;
         memcpy(pages[run].writable + at, before[run], to->size);
-        to->bytes = (may_write(command->entry, run, expected) ? pages[run].writable : pages[run].readable) + at;
-        to->bytes += at == 0 ? -ASTRAY : ASTRAY;
+        to->bytes = place_of(may_write(command->entry, run, expected) ? pages[run].writable : pages[run].readable, to->size, low);
         left[run] = pages[run].readable + at;
     }
     under_way = command;

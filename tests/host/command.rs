@@ -1,7 +1,7 @@
 //! What each entry for C must return and leave, by the reference. command.h makes the same calls on the entries.
 #![allow(dead_code)] // each driver uses its own part of this module
 
-use crate::reference::{cars, read_call, sound, Answer, Call, Instruction, Station};
+use crate::reference::{cars, lent, read_call, sound, Answer, Call, Instruction, Station};
 
 /// The entries in the order of their numbers, each with the answer numbers that it can give: no others, and a long run gives them
 /// all. (What garage_cars returns is not of the table.)
@@ -15,8 +15,8 @@ pub const ENTRIES: [(&str, &[u8]); 11] = [
     ("station_message", &[0, 1, 2, 3, 4, 5, 6, 7, 8, 9, 10, 11, 12, 13, 14, 15, 16, 17]),
     ("garage_sound", &[0, 1]),
     ("garage_cars", &[]),
-    ("garage_allowed", &[0, 4, 9]),
-    ("garage_next", &[0, 4, 9, 17]),
+    ("garage_allowed", &[0, 1, 4, 9]),
+    ("garage_next", &[0, 1, 4, 9, 17]),
 ];
 
 /// One call with all that it is given; what an entry doesn't take is not looked at.
@@ -31,25 +31,37 @@ pub struct Command<'a> {
     pub output: &'a mut [u8],
 }
 
-const NO_ROOM: Answer = (17, 255);
+/// The bytes of a station, of a record, and of an instruction.
+const STATION: usize = 50;
+const RECORD: usize = 8;
+const CODE: usize = 5;
 
 fn said((number, place): Answer) -> u32 { u32::from(number) + 256 * u32::from(place) }
 
 fn put(room: &mut [u8], bytes: &[u8]) { room[..bytes.len()].copy_from_slice(bytes) }
 
+/// The station that the first bytes of a room are; of a room that is too short any, since its call is refused.
+fn station_in(room: &[u8]) -> Station { room.first_chunk().map_or(Station::start(), Station::from_bytes) }
+
 /// A call on the lent station, which is written back if the call is taken.
-fn on_station(room: &mut [u8], call: impl FnOnce(&mut Station) -> Answer) -> Answer {
-    let Some(fifty) = room.first_chunk_mut::<50>() else { return NO_ROOM };
-    let mut station = Station::from_bytes(fifty);
-    let answer = call(&mut station);
-    if answer.0 == 0 { *fifty = station.to_bytes(); }
-    answer
+fn on_station(room: &mut [u8], bytes_for_all: bool, call: impl FnOnce(&mut Station) -> Answer) -> Answer {
+    lent(room.len() >= STATION, bytes_for_all, || {
+        let mut station = station_in(room);
+        let answer = call(&mut station);
+        if answer.0 == 0 { put(room, &station.to_bytes()); }
+        answer
+    })
+}
+
+/// A request, its set lent as a run of bytes; of more than eight instructions no bytes are asked for.
+fn request(room: &mut [u8], count: u8, set: &[u8]) -> Answer {
+    on_station(room, count > 8 || set.len() >= CODE * usize::from(count), |station| station.request(count, set))
 }
 
 /// The record of the lent station, put to a room for an image.
-fn ask(room: &mut [u8], image: &mut [u8]) -> Answer {
-    if image.len() < 8 { return NO_ROOM; }
-    on_station(room, |station| {
+fn ask(room: &[u8], image: &mut [u8]) -> Answer {
+    lent(room.len() >= STATION && image.len() >= RECORD, true, || {
+        let mut station = station_in(room);
         let answer = station.ask();
         if answer.0 == 0 { put(image, &station.record.to_le_bytes()); }
         answer
@@ -68,15 +80,15 @@ fn reply(station: &mut Station, message: &[u8]) -> (Answer, Vec<u8>) {
     }
 }
 
-/// A message answered on the lent station; where its reply doesn't fit nothing is written.
+/// A message answered on the lent station, which is written back if the message is taken; where its reply doesn't fit nothing is written.
 fn message(room: &mut [u8], message: &[u8], output: &mut [u8]) -> Answer {
-    let Some(fifty) = room.first_chunk_mut::<50>() else { return NO_ROOM };
-    let mut station = Station::from_bytes(fifty);
+    let mut station = station_in(room);
     let (answer, bytes) = reply(&mut station, message);
-    if output.len() < bytes.len() { return NO_ROOM; }
-    *fifty = station.to_bytes();
-    put(output, &bytes);
-    answer
+    lent(room.len() >= STATION && output.len() >= bytes.len(), true, || {
+        if answer.0 == 0 { put(room, &station.to_bytes()); }
+        put(output, &bytes);
+        answer
+    })
 }
 
 /// Whether an image allows the instruction of these bytes, and the record after it.
@@ -88,28 +100,30 @@ fn verdict(image: u64, five: &[u8]) -> (Answer, Option<u64>) {
     }
 }
 
+fn allowed(image: u64, five: &[u8]) -> Answer { lent(true, five.len() >= CODE, || verdict(image, five).0) }
+
 fn next(image: u64, five: &[u8], output: &mut [u8]) -> Answer {
-    if output.len() < 8 { return NO_ROOM; }
-    let (answer, after) = verdict(image, five);
-    if let Some(after) = after { put(output, &after.to_le_bytes()); }
-    answer
+    lent(output.len() >= RECORD, five.len() >= CODE, || {
+        let (answer, after) = verdict(image, five);
+        if let Some(after) = after { put(output, &after.to_le_bytes()); }
+        answer
+    })
 }
 
 /// What the call returns; its rooms are left as it must leave them.
 pub fn call(command: &mut Command) -> u32 {
     let &mut Command { entry, first, second, image, ref mut room, input, ref mut output } = command;
     said(match entry {
-        0 => on_station(room, |station| { *station = Station::start(); (0, 255) }),
-        1 if first <= 8 && input.len() < 5 * usize::from(first) => on_station(room, |_| (1, 255)),
-        1 => on_station(room, |station| station.request(first, input)),
-        2 => on_station(room, |station| station.event(first)),
-        3 => on_station(room, |station| station.result(first, second)),
-        4 => on_station(room, |station| station.image(image)),
+        0 => on_station(room, true, |station| { *station = Station::start(); (0, 255) }),
+        1 => request(room, first, input),
+        2 => on_station(room, true, |station| station.event(first)),
+        3 => on_station(room, true, |station| station.result(first, second)),
+        4 => on_station(room, true, |station| station.image(image)),
         5 => ask(room, output),
         6 => message(room, input, output),
         7 => return sound(image).into(),
         8 => return cars(image).unwrap_or(255),
-        9 => verdict(image, input).0,
+        9 => allowed(image, input),
         _ => next(image, input, output),
     })
 }

@@ -1,7 +1,9 @@
 /* Runs the entries of station.h on commands from standard input and writes what each returned and left, so that another program
  * can compare. A command: its number, two byte arguments, an image of eight bytes, and three lent runs of bytes, each with a byte for
- * its length. An answer: four bytes, then the two rooms that an entry may write. All numbers have the lowest byte first. */
+ * its length. An answer: four bytes, how many bytes of stack the call took in four more, then the two rooms that an entry may write.
+ * All numbers have the lowest byte first. */
 #include "command.h"
+#include "stack.h"
 
 #include <stdio.h>
 #include <stdlib.h>
@@ -26,39 +28,56 @@ static uint64_t take_image(void) {
     return image;
 }
 
-static void take_run(struct lent *run) {
+/* A run is lent in its own room; where it has no bytes, every other time at NULL. */
+static void take_run(struct lent *run, uint8_t *room) {
+    static bool odd;
     run->size = take_byte();
-    take(run->bytes, run->size);
+    take(room, run->size);
+    odd = !odd;
+    run->bytes = run->size == 0 && odd ? NULL : room;
 }
 
-static void give_answer(uint32_t answer) {
+static void give_number(uint32_t number) {
     for (int at = 0; at < 4; at++)
-        putchar((int)(answer >> (8 * at) & 255));
+        putchar((int)(number >> (8 * at) & 255));
 }
 
 static void give_run(const struct lent *run) {
-    fwrite(run->bytes, 1, run->size, stdout);
+    if (run->size != 0)
+        fwrite(run->bytes, 1, run->size, stdout);
+}
+
+struct answered {
+    struct command command;
+    uint32_t answer;
+};
+
+static void answer_command(void *given) {
+    struct answered *it = given;
+    it->answer = call_entry(&it->command);
 }
 
 int main(void) {
     static uint8_t room[255], in[255], out[255];
-    struct command command = {.room = {room, 0}, .in = {in, 0}, .out = {out, 0}};
+    struct answered it;
     int entry;
     while ((entry = getchar()) != EOF) {
         if (entry >= ENTRIES) {
             fprintf(stderr, "unknown command %d\n", entry);
             return 1;
         }
-        command.entry = (uint8_t)entry;
-        command.first = take_byte();
-        command.second = take_byte();
-        command.image = take_image();
-        take_run(&command.room);
-        take_run(&command.in);
-        take_run(&command.out);
-        give_answer(call_entry(&command));
-        give_run(&command.room);
-        give_run(&command.out);
+        it.command.entry = (uint8_t)entry;
+        it.command.first = take_byte();
+        it.command.second = take_byte();
+        it.command.image = take_image();
+        take_run(&it.command.room, room);
+        take_run(&it.command.in, in);
+        take_run(&it.command.out, out);
+        size_t stack = stack_of(answer_command, &it);
+        give_number(it.answer);
+        give_number((uint32_t)stack);
+        give_run(&it.command.room);
+        give_run(&it.command.out);
     }
     return 0;
 }

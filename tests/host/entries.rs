@@ -1,6 +1,7 @@
-//! Every entry for C against the reference: `entries COMMANDS PROGRAM..`, where the program is entries.c. Seeded commands on stations
-//! as they come by calls and on damaged ones, in rooms long and short: what an entry returns and what it leaves in every room must be
-//! what the reference says. Each entry must have given every number that it can give, and no other.
+//! Every entry for C against the reference: `entries COMMANDS STACK PROGRAM..`, where the program is entries.c. Seeded commands on
+//! stations as they come by calls and on damaged ones, in rooms long and short: what an entry returns and what it leaves in every room
+//! must be what the reference says, and no call may take more than so many bytes of stack. Each entry must have given every number that
+//! it can give, and no other.
 
 mod command;
 mod reference;
@@ -156,33 +157,47 @@ fn trials(count: usize) -> Vec<Trial> {
 
 fn main() {
     let words: Vec<String> = std::env::args().collect();
-    let [_, count, program, rest @ ..] = &words[..] else { panic!("usage: entries COMMANDS PROGRAM..") };
-    let trials = trials(count.parse().expect("a number"));
+    let [_, count, limit, program, rest @ ..] = &words[..] else { panic!("usage: entries COMMANDS STACK PROGRAM..") };
+    let (trials, limit) = (trials(count.parse().expect("a number")), limit.parse().expect("a number"));
     let sent: Vec<u8> = trials.iter().flat_map(|trial| trial.sent.iter().copied()).collect();
-    let mut child = std::process::Command::new(program).args(rest).stdin(Stdio::piped()).stdout(Stdio::piped()).spawn().expect("the program starts");
+    // the C library's calls are looked up before the first command: the stack which that takes is not the entries'
+    let mut command = std::process::Command::new(program);
+    command.args(rest).env("LD_BIND_NOW", "1").stdin(Stdio::piped()).stdout(Stdio::piped());
+    let mut child = command.spawn().expect("the program starts");
     let mut pipe = child.stdin.take().expect("a pipe");
     let sender = std::thread::spawn(move || pipe.write_all(&sent).expect("the program reads"));
     let mut answers = BufReader::new(child.stdout.take().expect("a pipe"));
     let mut seen = vec![BTreeSet::new(); ENTRIES.len()];
+    let mut stacks = [0; ENTRIES.len()];
     for (at, trial) in trials.iter().enumerate() {
-        let (mut answer, mut left) = ([0; 4], vec![0; trial.left.len()]);
+        let (mut answer, mut stack, mut left) = ([0; 4], [0; 4], vec![0; trial.left.len()]);
         answers.read_exact(&mut answer).expect("an answer");
+        answers.read_exact(&mut stack).expect("its stack");
         answers.read_exact(&mut left).expect("the rooms");
-        let answer = u32::from_le_bytes(answer);
+        let (answer, stack) = (u32::from_le_bytes(answer), u32::from_le_bytes(stack));
         let entry = usize::from(trial.entry);
         if answer != trial.answer || left != trial.left {
             eprintln!("command {at}, {}: {:02X?}\nreturned {answer:#x}, expected {:#x}\nleft     {left:02X?}\nexpected {:02X?}", ENTRIES[entry].0, trial.sent, trial.answer, trial.left);
             exit(1);
         }
         seen[entry].insert(answer as u8);
+        stacks[entry] = stack.max(stacks[entry]);
     }
     sender.join().expect("the sender ends");
     assert!(child.wait().expect("the program ends").success());
+    let stacks: Vec<(&str, u32)> = ENTRIES.iter().map(|entry| entry.0).zip(stacks).collect();
+    for (entry, stack) in &stacks {
+        if *stack > limit {
+            eprintln!("{entry} took {stack} bytes of stack, which is above {limit}");
+            exit(1);
+        }
+    }
     for ((entry, numbers), seen) in ENTRIES.iter().zip(&seen) {
         if !numbers.is_empty() && !seen.iter().eq(*numbers) {
             eprintln!("{entry} gave {seen:?}, expected {numbers:?}");
             exit(1);
         }
     }
+    println!("entries: at most {limit} bytes of stack, of {stacks:?}");
     println!("entries: {} commands, each answer and room as the reference's; every number that each entry can give came", trials.len());
 }

@@ -194,8 +194,8 @@ impl Instruction {
 /// Reads up to eight instructions of five bytes each, or gives the place of the least bad one.
 pub fn read_set(bytes: &[u8]) -> Result<[Instruction; LARGEST_SET], u8> {
     let mut set = [Rotate; LARGEST_SET];
-    for (place, (instruction, &five)) in (0..).zip(set.iter_mut().zip(bytes.as_chunks().0)) {
-        *instruction = Instruction::read(five).ok_or(place)?;
+    for (place, (instruction, five)) in (0..).zip(set.iter_mut().zip(bytes.chunks_exact(5))) {
+        *instruction = five.first_chunk().and_then(|&five| Instruction::read(five)).ok_or(place)?;
     }
     Ok(set)
 }

@@ -160,7 +160,7 @@ impl Station {
     fn all_marks(&self) -> u8 { (0..8).filter(|&at| at < self.count).fold(0, |marks, at| marks | 1 << at) }
 
     fn held(&self) -> impl Iterator<Item = Instruction> + '_ {
-        self.set.as_chunks().0.iter().take(self.count.into()).filter_map(|&five| Instruction::read(five))
+        self.set.chunks_exact(5).take(self.count.into()).filter_map(|five| Instruction::read(*five.first_chunk()?))
     }
 
     // The calls; where an ask is taken, the image asked for is `record`.
@@ -260,4 +260,15 @@ impl Station {
         set.copy_from_slice(&bytes[10..]);
         Station { record: u64::from_le_bytes(record), count: bytes[8], answered: bytes[9], set }
     }
+}
+
+// ---- Calls over lent bytes -----------------------------------------------------------------------
+
+/// The order of a call over lent bytes: 17 where a room is shorter than what a taken call writes, then
+/// 1 where fewer bytes are lent than the call says, and only then is the call looked at: 16 if it has
+/// a station, and the call's own.
+pub fn lent(room_for_all: bool, bytes_for_all: bool, call: impl FnOnce() -> Answer) -> Answer {
+    if !room_for_all { return answer(17); }
+    if !bytes_for_all { return answer(1); }
+    call()
 }

@@ -23,7 +23,8 @@ impl Numbers {
     pub fn byte(&mut self) -> u8 { self.next() as u8 }
 }
 
-/// Five bytes of a well-formed instruction, each op as likely as another; row 1 more often than the others.
+/// Five bytes of a well-formed instruction: of eight, three move belts, two shuttles, and one each tilts, moves the lift or turns it;
+/// of those that move belts, half are in row 1.
 pub fn good_five(numbers: &mut Numbers) -> [u8; 5] {
     let mut pick = |n| numbers.below(n) as u8;
     match pick(8) {

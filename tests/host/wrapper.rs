@@ -19,8 +19,8 @@ mod raw {
             room_length: usize,
             message: *const u8,
             message_length: usize,
-            answer: *mut u8,
-            answer_length: usize,
+            reply: *mut u8,
+            reply_length: usize,
         ) -> u32;
         pub fn garage_sound(image: u64) -> bool;
         pub fn garage_cars(image: u64) -> u32;
@@ -207,6 +207,44 @@ mod tests {
         let said = |image: &mut [u8]| Answer::of(unsafe { raw::station_ask(room.as_ptr(), room.len(), image.as_mut_ptr(), image.len()) });
         assert_eq!((said(&mut image[..7]), image), (refusal(17), [0xEE; 9]));
         assert_eq!((said(&mut image), image), (TAKEN, [0, 0, 0, 0, 0, 0x1B, 9, 0, 0xEE]));
+    }
+
+    #[test]
+    fn no_bytes_may_be_at_null() {
+        use std::ptr::{null, null_mut};
+        let start = Station::start();
+        let mut room = *start.bytes();
+        let (station, length, mut reply, mut eight) = (room.as_mut_ptr(), room.len(), [0xEE; REPLY_MOST], [0xEE; 8]);
+        let five = [4, 2, 0, 0, 0];
+        let (to, answer) = (eight.as_mut_ptr(), reply.as_mut_ptr());
+        let no_station = unsafe {
+            [
+                raw::station_start(null_mut(), 0),
+                raw::station_request(null_mut(), 0, 0, null(), 0),
+                raw::station_event(null_mut(), 0, 1),
+                raw::station_result(null_mut(), 0, 0, 1),
+                raw::station_image(null_mut(), 0, START),
+                raw::station_ask(null(), 0, null_mut(), 0),
+                raw::station_ask(station, length, null_mut(), 0),
+                raw::station_message(null_mut(), 0, null(), 0, null_mut(), 0),
+                raw::station_message(station, length, null(), 0, null_mut(), 0),
+                raw::garage_next(START, null(), 0, null_mut(), 0),
+                raw::garage_next(START, five.as_ptr(), five.len(), null_mut(), 0),
+            ]
+        };
+        assert_eq!(no_station.map(Answer::of), [refusal(17); 11]);
+        let no_input = unsafe {
+            [
+                raw::station_request(station, length, 0, null(), 0),
+                raw::station_request(station, length, 9, null(), 0),
+                raw::station_request(station, length, 8, null(), 0),
+                raw::station_message(station, length, null(), 0, answer, REPLY_MOST),
+                raw::garage_allowed(START, null(), 0),
+                raw::garage_next(START, null(), 0, to, 8),
+            ]
+        };
+        assert_eq!(no_input.map(Answer::of), [7, 5, 1, 1, 1, 1].map(refusal));
+        assert_eq!((&room, eight, &reply[..7]), (start.bytes(), [0xEE; 8], &[4, 0, 128, 0, 1, 255, 0xEE][..]));
     }
 
     #[test]

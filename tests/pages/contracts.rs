@@ -79,10 +79,19 @@ fn promise(header: &str) -> Option<&str> {
     line.split_once("{ λ ")?.1.strip_suffix(" ⌝ }")
 }
 
+/// Whether a crate calls C, whose reads and writes no contract can say.
+fn calls_c(krate: &str) -> bool {
+    let list = read(Path::new("crates.txt"));
+    let deps = list.lines().find_map(|line| line.strip_prefix(krate)?.strip_prefix(':'));
+    deps.is_some_and(|deps| deps.split_whitespace().any(|dep| dep == "libc"))
+}
+
 /// Why a contract may let two answers through, if it may: it must be one equation for the answer, or one of the forms that are an
-/// equation for the answer and one for each room that is lent to be written.
-fn open_contract(header: &str) -> Option<&'static str> {
+/// equation for the answer and one for each room that is lent to be written. What C brings no equation can say, so there only a
+/// precondition is a fault.
+fn open_contract(header: &str, from_c: bool) -> Option<&'static str> {
     if header.lines().any(|line| line.starts_with("requires")) { return Some("it has a precondition"); }
+    if from_c { return None; }
     let Some((answer, says)) = promise(header).and_then(|text| text.split_once(". ⌜ ")) else { return Some("it is not one promise") };
     let taken = header.split("\nensures").next().unwrap_or_default();
     let lent = taken.split(['(', ',', ')']).filter(|part| part.contains(": &mut "));
@@ -91,7 +100,7 @@ fn open_contract(header: &str) -> Option<&'static str> {
     let definition = if rooms.is_empty() {
         says.strip_prefix(&format!("{answer} ≡ "))
     } else {
-        let form = ["Leaves ", "Serves ", "Exchanges "].iter().find_map(|form| says.strip_prefix(form));
+        let form = ["Leaves ", "Serves ", "Exchanges ", "Holds ", "Turns "].iter().find_map(|form| says.strip_prefix(form));
         form.and_then(|says| says.strip_suffix(&ending))
     };
     let Some(definition) = definition else { return Some("it is no equation for the answer and each lent room") };
@@ -118,7 +127,7 @@ fn told(krate: &str, how: &str, edit: &str) -> String { format!("{how} ([{edit}]
 
 /// An error that says no more than that a proof's text no longer fits the code, or that another proof is missing.
 fn misfit(error: &str) -> bool {
-    ["was not admitted", "no occurrence of", "that can be named from here", "has no field", "expected type `tie.Need-", "is not in scope"]
+    ["was not admitted", "no occurrence of", "no part of the goal", "that can be named from here", "has no field", "expected type `tie.Need-", "is not in scope", "met a bound of its own"]
         .iter()
         .any(|words| error.contains(words))
 }
@@ -145,6 +154,7 @@ fn main() {
     let (mut list, mut faults, mut publics, mut tried) = (String::new(), Vec::new(), 0, 0);
     for krate in files(Path::new("crates"), "") {
         let (name, known) = (name_of(&krate), functions(&krate));
+        let from_c = calls_c(&name);
         let wrongs = wrongs(&krate, &known);
         tried += wrongs.len();
         let public: Vec<_> = known.iter().filter(|function| function.public).collect();
@@ -155,12 +165,14 @@ fn main() {
         publics += public.len();
         for function in public {
             let path = &function.path;
-            if let Some(why) = open_contract(&function.header) { faults.push(format!("{name}::{path}: {why}")); }
+            if let Some(why) = open_contract(&function.header, from_c) { faults.push(format!("{name}::{path}: {why}")); }
             let contract = promise(&function.header).and_then(|text| text.split_once("⌜ ")).map_or("", |(_, says)| says);
             let shut: Vec<_> = wrongs.iter().filter(|wrong| wrong.function == *path).collect();
-            if shut.len() < 2 { faults.push(format!("{name}::{path}: {} wrong programs tried", shut.len())); }
+            let promises_nothing = from_c && contract.is_empty();
+            if shut.len() < 2 && !promises_nothing { faults.push(format!("{name}::{path}: {} wrong programs tried", shut.len())); }
             let shut: Vec<_> = shut.iter().map(|wrong| told(&name, &wrong.how, &wrong.edit)).collect();
-            list += &format!("| `{path}` | `{}` | {} |\n", contract.replace('|', "\\|"), shut.join("; "));
+            let contract = if promises_nothing { "that it ends".into() } else { format!("`{}`", contract.replace('|', "\\|")) };
+            list += &format!("| `{path}` | {contract} | {} |\n", shut.join("; "));
         }
         let parts = wrongs.iter().filter(|wrong| known.iter().any(|one| one.path == wrong.function && !one.public));
         let parts: Vec<_> = parts.map(|wrong| format!("`{}`: {}", wrong.function, told(&name, &wrong.how, &wrong.edit))).collect();

@@ -1,4 +1,5 @@
 -- Document 01's table of numbers: the number and the place of each answer. Assumes nothing.
+use mathlib.Core.Path.{_≡_}
 use Prim.Native.Nat.{ℕ}
 use Rattle.answers.specs.declared.Answer.{Answer}
 use Rattle.answers.specs.declared.Answer.the-variants.{Taken, TooFewBytes, BadLength, UnknownKind, BadField, TooMany, SetOutstanding, EmptySet, Overlap, NotAllowed, EventImpossible, NoSet, NotInSet, AlreadyAnswered, NowNotAllowed, Unsound, Unfit, NoRoom}
@@ -23,6 +24,10 @@ numberOf NowNotAllowed = 14
 numberOf Unsound = 15
 numberOf Unfit = 16
 numberOf NoRoom = 17
+
+-- a number of the table: some answer has it
+abbrev pub OfTable : ℕ → Type 0
+OfTable n = (a : Answer) × (n ≡ numberOf a)
 
 -- the place where an answer names no instruction
 abbrev pub nowhere : ℕ

@@ -6,7 +6,7 @@ use mathlib.Core.Path.{_≡_, refl, sym, ap}
 use mathlib.Core.Bool.{Bool, true, false, not}
 use lib.Dec.{eqb}
 use borrow.Author.Tests.{eqb-true, eqb-false, eq-eqb, ne-eqb, not-false}
-use Rattle.bits.specs.Search.{every, least}
+use Rattle.bits.specs.Search.{every, least, IsLeast}
 use Rattle.bits.proofs.Cases.{split, clash}
 use Rattle.bits.proofs.Search.{every-at, every-is}
 
@@ -31,6 +31,15 @@ unfolding least
 least-below zero p j h = absurd (omega arith)
 least-below (suc n) p zero h = split (p 0) (λ t. let z : 0 < 0 = rw t at h in absurd (omega arith)) (λ t. t)
 least-below (suc n) p (suc j) h = split (p 0) (λ t. let z : suc j < 0 = rw t at h in absurd (omega arith)) (λ t. let z : suc j < suc (least n (λ j. p (suc j))) = rw t at h in least-below n (λ j. p (suc j)) j (omega arith))
+
+least-at : (n : ℕ) (p : ℕ → Bool) → least n p < n → p (least n p) ≡ true
+unfolding least
+least-at zero p h = absurd (omega arith)
+least-at (suc n) p h = split (p 0) (λ t. rw t t) (λ t. let z : suc (least n (λ j. p (suc j))) < suc n = rw t at h in rw t (least-at n (λ j. p (suc j)) (omega arith)))
+
+-- what is found is the least that passes
+pub found-least : (n : ℕ) (p : ℕ → Bool) → least n p < n → IsLeast n p (least n p)
+found-least n p h = record { within = h; passes = least-at n p h; none = least-below n p }
 
 pub every-not : (n : ℕ) (p : ℕ → Bool) (j : ℕ) → j < n → p j ≡ false → every n p ≡ false
 every-not n p j h e = split (every n p) (λ t. clash (every-at n p t j h) e) (λ t. t)

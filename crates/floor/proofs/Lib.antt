@@ -2,6 +2,7 @@ pub mod Reading
 pub mod Rows
 pub mod Layouts
 pub mod Tally
+pub mod Standing
 pub mod Few
 pub mod Belts
 pub mod Scanning

@@ -2,4 +2,5 @@ pub mod Floor
 pub mod Tests
 pub mod Cars
 pub mod Sound
+pub mod Belts
 pub mod Promises

@@ -12,8 +12,9 @@ use Rattle.bits.specs.Places.{elem}
 use Rattle.floor.specs.declared.Belt.the-variants.{On}
 use Rattle.floor.specs.declared.Total.the-variants.{Cars}
 use Rattle.floor.specs.Floor.{beltCells, beltOf}
-use Rattle.floor.specs.Cars.{Car, Layout, cars}
+use Rattle.floor.specs.Cars.{Car, covered, Layout, cars}
 use Rattle.floor.specs.Sound.{Sound, paired, sound, total}
+use Rattle.floor.specs.Belts.{There}
 
 -- a layout of cars exists exactly if row 1 splits into pairs
 abbrev pub LayoutExactly : Type 0
@@ -23,13 +24,21 @@ LayoutExactly = (f : Bits) → (paired 20 0 false f ≡ true) ↔ ((l : List Car
 abbrev pub LayoutCars : Type 0
 LayoutCars = (f : Bits) (l : List Car) → Layout f l → length l ≡ cars f
 
--- no record that is counted has more than 31
+-- a sound record has at most 30
 abbrev pub FewCars : Type 0
-FewCars = (r n : ℕ) → total r ≡ Cars n → n ≤ 31
+FewCars = (r n : ℕ) → total r ≡ Cars n → n ≤ 30
+
+-- and one has them all: every cell occupied, every shuttle lowered, the lift in the basement
+abbrev pub ThirtyCars : Type 0
+ThirtyCars = total 0x00403FFFFFFFFFFF ≡ Cars 30
 
 -- the test of an image passes exactly if it is a sound record
 abbrev pub SoundExactly : Type 0
 SoundExactly = (r : ℕ) → (sound r ≡ true) ↔ Sound (bit r)
+
+-- in every layout of a sound record, each place under a car is on a belt that is there
+abbrev pub OnBelts : Type 0
+OnBelts = (f : Bits) (l : List Car) → Sound f → Layout f l → (k : ℕ) → 0 < covered l k → There f k
 
 -- the belt under a cell is a given one exactly if the cell is among that belt's
 abbrev pub BeltsExactly : Type 0

@@ -1,6 +1,6 @@
 -- What holds after any calls: the station is fit, so its record is sound; images apart, the record is a number of 64 bits and the cars
 -- are counted. Assumes nothing.
-use mathlib.Core.Path.{_∙_, _≡_, refl, ap}
+use mathlib.Core.Path.{_∙_, _≡_, refl, sym, ap}
 use mathlib.Core.Bool.{Bool, _&&_, true, cond, and-false, and-true}
 use mathlib.Core.List.{List, [], _∷_}
 use Prim.Native.Nat.{ℕ, _+_, _^_, _<_}
@@ -22,10 +22,10 @@ use Rattle.garage.specs.declared.Station.{Station}
 use Rattle.garage.specs.Station.{fit, holding}
 use Rattle.garage_laws.specs.Runs as run
 use Rattle.garage_laws.specs.Runs.{Call, said, left, calls, Begins, atStart, byImage, NoImages, drove, driven}
-use Rattle.garage_laws.specs.Demands.{AlwaysLaidOut, CarsCounted}
+use Rattle.garage_laws.specs.Demands.{AlwaysLaidOut, CarsCounted, FitStays, NeverUnfit}
 use Rattle.garage_laws.proofs.Instance.{possibleAs, afterAs, next-sound, after-sound, next-cars}
 use Rattle.garage_laws.proofs.Fits.{fit-has, fit-start, fit-holding, fit-opened, fit-answering}
-use Rattle.garage_laws.proofs.Calls.{following, answering-bits, event-is, image-has, image-is, untouched}
+use Rattle.garage_laws.proofs.Calls.{following, answering-bits, event-is, image-has, image-is, untouched, unfit-is, fit-says}
 use Rattle.garage_laws.proofs.Steps.{Step, refuses, opens, fails, succeeds, drives, tells, steps, parts}
 
 -- ---- fit
@@ -60,6 +60,14 @@ fit-kept s (run.image r) f = split (eqb (said s (run.image r)) 0)
 fit-always : (l : List Call) (s : Station) → fit s ≡ true → fit (calls s l) ≡ true
 fit-always [] s f = f
 fit-always (c ∷ l) s f = fit-always l (left s c) (fit-kept s c f)
+
+pub fit-stays : FitStays
+fit-stays s c = split (fit s)
+    (λ t. fit-kept s c t ∙ sym t)
+    (λ t. ap (λ o. fit (o .station)) (unfit-is s t c))
+
+pub never-unfit : NeverUnfit
+never-unfit s b l = fit-says (calls s l) (fit-always l s (begins-has s b .0))
 
 pub always-laid-out : AlwaysLaidOut
 always-laid-out s b l = sound-exactly _ .0 (fit-has _ (fit-always l s (begins-has s b .0)) .sound)

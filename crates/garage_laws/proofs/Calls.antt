@@ -146,10 +146,10 @@ numberAs v blocked ok = onEvent (λ e. cond blocked 6 (cond ok 0 10)) 4 v
 
 module _ (s : Station) where
   -- what the station makes of it
-  abbrev drivenAs : EventReading → Outcome
+  abbrev pub drivenAs : EventReading → Outcome
   drivenAs v = onFit s (onEvent (driven s) (refused s (BadField nowhere)) v)
 
-  event-as : (e : ℕ) → station.event s e ≡ drivenAs (readEvent e)
+  pub event-as : (e : ℕ) → station.event s e ≡ drivenAs (readEvent e)
   unfolding station.event readEvent
   event-as e = split (eqb e 1) (λ t. rw t) (λ t. split (eqb e 2) (λ u. rw (t, u)) (λ u. rw (t, u)))
 
@@ -197,25 +197,37 @@ pub image-is : (s : Station) (r : ℕ) → (fit s ≡ true) × (s .count ≡ 0) 
 unfolding station.takeImage
 image-is s r w = rw (w .0, le-ltb 0 (s .count) (let z = w .1 in omega arith), w .2)
 
--- ---- every call is refused with a number that is neither 0 nor 14, or taken, or a success of an instruction that waits
+-- ---- an ask
 
--- a refusal other than 14
+pub ask-has : (s : Station) → said s run.ask ≡ 0 → fit s ≡ true
+unfolding station.ask
+ask-has s e = met (fit s) s Unfit (taken s) (λ z. omega arith) e .0
+
+pub ask-is : (s : Station) → fit s ≡ true → station.ask s ≡ taken s
+unfolding station.ask
+ask-is s f = rw f
+
+-- ---- every call is refused since the station is unfit, or with a number that is none of 0, 14 and 16, or taken, or a success of an
+-- instruction that waits
+
+-- a refusal other than 14 and 16
 abbrev Other : Answer → Type 0
-Other a = (numberOf a ≡ 0 → ⊥) × (numberOf a ≡ 14 → ⊥)
+Other a = (numberOf a ≡ 0 → ⊥) × (numberOf a ≡ 14 → ⊥) × (numberOf a ≡ 16 → ⊥)
 
-module _ (P : Outcome → Type 0) (s : Station) (no : (a : Answer) → Other a → P (refused s a)) (done : (t : Station) → P (taken t)) (told : (i : ℕ) → Waiting s i → P (succeeded s i)) where
-  either : (t : Bool) {o p : Outcome} → (t ≡ true → P o) → (t ≡ false → P p) → P (cond t o p)
-  either true f g = f refl
-  either false f g = g refl
+-- what a test leads to
+pub either : (P : Outcome → Type 0) (t : Bool) {o p : Outcome} → (t ≡ true → P o) → (t ≡ false → P p) → P (cond t o p)
+either P true f g = f refl
+either P false f g = g refl
 
+module _ (P : Outcome → Type 0) (s : Station) (unfit : fit s ≡ false → P (refused s Unfit)) (no : (a : Answer) → Other a → P (refused s a)) (done : (t : Station) → P (taken t)) (told : (i : ℕ) → Waiting s i → P (succeeded s i)) where
   unless : (t : Bool) (a : Answer) {o : Outcome} → Other a → (t ≡ false → P o) → P (cond t (refused s a) o)
-  unless t a other f = either t (λ e. no a other) f
+  unless t a other f = either P t (λ e. no a other) f
 
   fitting : {o : Outcome} → (fit s ≡ true → P o) → P (onFit s o)
-  fitting f = either (fit s) f (λ e. no Unfit (omega arith))
+  fitting f = either P (fit s) f unfit
 
   driving : (v : EventReading) → P (drivenAs s v)
-  driving (Told e) = fitting (λ f. unless (liftIn (s .set) (s .count)) SetOutstanding (omega arith) (λ a. either (possible e (bit (s .bits))) (λ b. done _) (λ b. no EventImpossible (omega arith))))
+  driving (Told e) = fitting (λ f. unless (liftIn (s .set) (s .count)) SetOutstanding (omega arith) (λ a. either P (possible e (bit (s .bits))) (λ b. done _) (λ b. no EventImpossible (omega arith))))
   driving Untold = fitting (λ f. no (BadField nowhere) (omega arith))
 
   pub each-call : (c : Call) → P (call s c)
@@ -233,14 +245,30 @@ module _ (P : Outcome → Type 0) (s : Station) (no : (a : Answer) → Other a �
       (λ a. unless (eqb (s .count) 0) NoSet (omega arith)
       (λ b. unless (leb (s .count) i) NotInSet (omega arith)
       (λ c. unless (marked s i) AlreadyAnswered (omega arith)
-      (λ m. either (eqb d 0) (λ z. done (answering s i (s .bits))) (λ z. told i (f, leb-false (s .count) i c, m)))))))
+      (λ m. either P (eqb d 0) (λ z. done (answering s i (s .bits))) (λ z. told i (f, leb-false (s .count) i c, m)))))))
   each-call (run.event e) = rw (event-as s e) (driving (readEvent e))
-  each-call (run.image r) = fitting (λ f. unless (ltb 0 (s .count)) SetOutstanding (omega arith) (λ a. either (sound r) (λ b. done (holding s r)) (λ b. no Unsound (omega arith))))
+  each-call (run.image r) = fitting (λ f. unless (ltb 0 (s .count)) SetOutstanding (omega arith) (λ a. either P (sound r) (λ b. done (holding s r)) (λ b. no Unsound (omega arith))))
   each-call run.ask = fitting (λ f. done s)
 
 -- a refused call leaves the station as it was
 pub untouched : (s : Station) (c : Call) → (said s c ≡ 0 → ⊥) → left s c ≡ s
-untouched s c = each-call (λ o. (Zero o → ⊥) → o .station ≡ s) s (λ a h n. refl) (λ t n. absurd (n refl)) (λ i w. success i) c
+untouched s c = each-call (λ o. (Zero o → ⊥) → o .station ≡ s) s (λ e n. refl) (λ a h n. refl) (λ t n. absurd (n refl)) (λ i w. success i) c
   where
     success : (i : ℕ) → (Zero (succeeded s i) → ⊥) → succeeded s i .station ≡ s
     success i = split (heldAllowed (codeAt (s .set) i) (bit (s .bits))) (λ t. rw t (λ n. absurd (n refl))) (λ t. rw t (λ n. refl))
+
+-- on a station that is not fit
+pub unfit-is : (s : Station) → fit s ≡ false → (c : Call) → call s c ≡ refused s Unfit
+unfolding station.request station.result station.event station.takeImage station.ask
+unfit-is s e (run.request n set) = rw e
+unfit-is s e (run.result i done) = rw e
+unfit-is s e (run.event x) = rw e
+unfit-is s e (run.image r) = rw e
+unfit-is s e run.ask = rw e
+
+-- a fit one never answers 16
+pub fit-says : (s : Station) → fit s ≡ true → (c : Call) → said s c ≡ 16 → ⊥
+fit-says s f = each-call (λ o. numberOf (o .answer) ≡ 16 → ⊥) s (λ e. clash f e) (λ a h. h .2) (λ t z. omega arith) (λ i w. success i)
+  where
+    success : (i : ℕ) → numberOf (succeeded s i .answer) ≡ 16 → ⊥
+    success i = split (heldAllowed (codeAt (s .set) i) (bit (s .bits))) (λ t. rw t (λ z. omega arith)) (λ t. rw t (λ z. omega arith))

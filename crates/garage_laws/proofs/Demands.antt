@@ -1,5 +1,5 @@
 -- The three demands of specs/Demands.antt, kept. Assumes nothing.
-use mathlib.Core.Path.{ap, subst, _∙_}
+use mathlib.Core.Path.{refl, ap, subst, _∙_}
 use Prim.Native.Nat.{ℕ}
 use Rattle.rules.specs.declared.EventReading.{EventReading}
 use Rattle.rules.specs.Codes.{eventCode}
@@ -9,14 +9,19 @@ use Rattle.answers.specs.Answers.{numberOf}
 use Rattle.garage.specs.declared.Station.{Station}
 use Rattle.garage.specs.declared.Outcome.{Outcome}
 use Rattle.garage.specs.Station.{holding}
-use Rattle.garage_laws.specs.Demands.{RefusedUntouched, AcceptedExactly, ResultRecord, FailureKeeps, EventRecord, ImageTaken, AlwaysLaidOut, CarsCounted, AnyOrder, OrdersExist, NeverFourteen}
+use Rattle.garage_laws.specs.Runs.{call}
+use Rattle.garage_laws.specs.Demands.{RefusedUntouched, CallsInTable, AcceptedExactly, ResultRecord, FailureKeeps, EventRecord, ImageTaken, AskKeeps, ResultTaken, EventTaken, OnlySuccessChanges, PlacesRight, PlacesElse, PlacesInRange, AlwaysLaidOut, CarsCounted, AnyOrder, OrdersExist, AnyOrderAmid, AmidUnmoved, AmidExists, AmidCovers, NeverFourteen, FitStays, NeverUnfit}
 use Rattle.garage_laws.proofs.Instance.{afterAs}
 use Rattle.garage_laws.proofs.Calls as calls
-use Rattle.garage_laws.proofs.Calls.{Drivable, request-has, request-is, success-has, success-is, failure-has, failure-is, answering-bits, event-has, event-is, image-has, image-is}
+use Rattle.garage_laws.proofs.Calls.{Drivable, request-has, request-is, success-has, success-is, failure-has, failure-is, answering-bits, event-has, event-is, image-has, image-is, ask-has, ask-is}
+use Rattle.garage_laws.proofs.Places as places
+use Rattle.garage_laws.proofs.Steps.{asked}
+use Rattle.garage_laws.proofs.Changes as changes
 use Rattle.garage_laws.proofs.Always as always
 use Rattle.garage_laws.proofs.Link as link
 use Rattle.garage_laws.proofs.Lists as lists
 use Rattle.garage_laws.proofs.AnyOrder as orders
+use Rattle.garage_laws.proofs.Amid as amid
 
 -- the parts of an outcome
 abbrev number : Outcome → ℕ
@@ -29,6 +34,9 @@ rest o = o .station
 
 pub refused-untouched : RefusedUntouched
 refused-untouched = calls.untouched
+
+pub calls-in-table : CallsInTable
+calls-in-table s c = (call s c .answer, refl)
 
 -- ---- 2. It answers right
 
@@ -60,6 +68,27 @@ image-taken s r = (
   λ e. ap rest (image-is s r (image-has s r e)),
 )
 
+pub ask-keeps : AskKeeps
+ask-keeps s = ((ask-has s, λ f. ap number (ask-is s f)), asked s)
+
+pub result-taken : ResultTaken
+result-taken = changes.result-taken
+
+pub event-taken : EventTaken
+event-taken = changes.event-taken
+
+pub only-success-changes : OnlySuccessChanges
+only-success-changes = changes.only-success-changes
+
+pub places-right : PlacesRight
+places-right = places.places-right
+
+pub places-else : PlacesElse
+places-else = places.places-else
+
+pub places-in-range : PlacesInRange
+places-in-range = places.places-in-range
+
 -- ---- 3. Sets are safe in any order
 
 pub always-laid-out : AlwaysLaidOut
@@ -74,5 +103,23 @@ any-order = orders.any-order
 pub orders-exist : OrdersExist
 orders-exist = lists.orders-exist
 
+pub any-order-amid : AnyOrderAmid
+any-order-amid = amid.any-order-amid
+
+pub amid-unmoved : AmidUnmoved
+amid-unmoved = amid.amid-unmoved
+
+pub amid-exists : AmidExists
+amid-exists = amid.amid-exists
+
+pub amid-covers : AmidCovers
+amid-covers = amid.amid-covers
+
 pub never-fourteen : NeverFourteen
 never-fourteen = link.never-fourteen
+
+pub fit-stays : FitStays
+fit-stays = always.fit-stays
+
+pub never-unfit : NeverUnfit
+never-unfit = always.never-unfit

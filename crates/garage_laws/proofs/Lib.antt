@@ -1,10 +1,13 @@
 pub mod Instance
 pub mod Fits
 pub mod Calls
+pub mod Places
 pub mod Steps
+pub mod Changes
 pub mod Always
 pub mod Link
 pub mod Lists
 pub mod Follow
 pub mod AnyOrder
+pub mod Amid
 pub mod Demands

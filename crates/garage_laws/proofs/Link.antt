@@ -125,4 +125,4 @@ begins-good s b =
 pub never-fourteen : NeverFourteen
 never-fourteen s R =
     let G = reached (λ t. Good rules (view t)) (λ t u c p g. good-step t g u c p) begins-good s R in
-    each-call (λ o. numberOf (o .answer) ≡ 14 → ⊥) s (λ a h. h .1) (λ t z. omega arith) (λ i w. rw (G .allowed i (w .1) (w .2)) (λ z. omega arith))
+    each-call (λ o. numberOf (o .answer) ≡ 14 → ⊥) s (λ e z. omega arith) (λ a h. h .1) (λ t z. omega arith) (λ i w. rw (G .allowed i (w .1) (w .2)) (λ z. omega arith))

@@ -57,7 +57,7 @@ module _ (s : Station) where
   result-step i (suc zero) e = let (w, t) = success-has s i e in leads (ap station-of (success-is s i w t)) (succeeds w t)
   result-step i (suc (suc done)) e = absurd (omega (arith, done-has s i (suc (suc done)) e))
 
-  asked : left s run.ask ≡ s
+  pub asked : left s run.ask ≡ s
   unfolding station.ask
   asked = go (fit s)
     where

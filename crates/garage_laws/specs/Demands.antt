@@ -1,29 +1,35 @@
 -- The three demands of the station, as statements about the calls that the code's contracts cite. Each is proved in proofs/Demands.antt.
 -- Assumes nothing.
 use mathlib.Core.Path.{_≡_}
-use mathlib.Core.Logic.{_↔_}
+use mathlib.Core.Logic.{_↔_, _⊎_}
 use mathlib.Core.Bool.{Bool, true, false}
 use mathlib.Core.List.{List, [], _∷_, _++_}
 use Prim.Native.Nat.{ℕ, _+_, _≤_, _<_}
 use lib.ListN.{length}
 use Rattle.bits.specs.Bits.{bit, image, digit}
 use Rattle.bits.specs.Places.{share}
+use Rattle.bits.specs.Search.{IsLeast}
 use Rattle.floor.specs.Cars.{Car, Layout}
 use Rattle.floor.specs.Sound.{Sound}
 use Rattle.rules.specs.declared.Event.{Event}
 use Rattle.rules.specs.Events.{possible, after}
 use Rattle.rules.specs.Codes.{eventCode, most}
+use Rattle.answers.specs.Answers.{OfTable, nowhere}
 use Rattle.garage.specs.declared.Station.{Station}
-use Rattle.garage.specs.Held.{codeAt, isGood, heldArea, heldAllowed, heldNext, liftIn}
+use Rattle.garage.specs.Held.{codeAt, isGood, heldArea, heldAllowed, heldNext, bad, overlapsEarlier, barred, liftIn}
 use Rattle.garage.specs.Station.{fit, marked, holding, opened, answering}
 use Rattle.garage_laws.specs.Runs as run
-use Rattle.garage_laws.specs.Runs.{Call, said, left, calls, Begins, NoImages, Reached, driven}
-use Rattle.garage_laws.specs.Orders.{Order, Alike}
+use Rattle.garage_laws.specs.Runs.{Call, said, left, placed, calls, Begins, NoImages, Reached, driven}
+use Rattle.garage_laws.specs.Orders.{Order, Alike, Amid, interrupted, takenOf, turns, turnsAmid, AlikeAmid}
 
 -- ---- 1. It always answers: a refused call leaves the station as it was
 
 abbrev pub RefusedUntouched : Type 0
 RefusedUntouched = (s : Station) (c : Call) → (said s c ≡ 0 → ⊥) → left s c ≡ s
+
+-- every call, on any station, is answered with a number of the table
+abbrev pub CallsInTable : Type 0
+CallsInTable = (s : Station) (c : Call) → OfTable (said s c)
 
 -- ---- 2. It answers right
 
@@ -78,6 +84,54 @@ ImageTaken =
     → ((said s (run.image r) ≡ 0) ↔ ((fit s ≡ true) × (s .count ≡ 0) × Sound (bit r)))
     × (said s (run.image r) ≡ 0 → left s (run.image r) ≡ holding s r)
 
+-- an ask is taken exactly on a fit station; it changes nothing at all
+abbrev pub AskKeeps : Type 0
+AskKeeps = (s : Station) → ((said s run.ask ≡ 0) ↔ (fit s ≡ true)) × (left s run.ask ≡ s)
+
+-- a result that is taken says 0, failed, or 1, done
+abbrev pub ResultTaken : Type 0
+ResultTaken = (s : Station) (i done : ℕ) → said s (run.result i done) ≡ 0 → (done ≡ 0) ⊎ (done ≡ 1)
+
+-- an event that is taken says 1, a car in, or 2, a car out
+abbrev pub EventTaken : Type 0
+EventTaken = (s : Station) (e : ℕ) → said s (run.event e) ≡ 0 → (e ≡ 1) ⊎ (e ≡ 2)
+
+-- the calls that may change the record: a success, an event, an image
+abbrev pub Changes : Call → Type 0
+Changes (run.request n set) = ⊥
+Changes (run.result i done) = done ≡ 1
+Changes (run.event e) = Unit {0}
+Changes (run.image r) = Unit {0}
+Changes run.ask = ⊥
+
+-- whatever the call, the record stays, or the call is one of these and was taken
+abbrev pub OnlySuccessChanges : Type 0
+OnlySuccessChanges = (s : Station) (c : Call) → (left s c .bits ≡ s .bits) ⊎ ((said s c ≡ 0) × Changes c)
+
+-- a request that is answered 4 names the least bad instruction, with 8 the least overlapping an earlier one, with 9 the least not allowed
+abbrev pub PlacesRight : Type 0
+PlacesRight =
+    (s : Station) (n : ℕ) (set : List ℕ)
+    → (said s (run.request n set) ≡ 4 → IsLeast n (bad set) (placed s (run.request n set)))
+    × (said s (run.request n set) ≡ 8 → IsLeast n (overlapsEarlier set) (placed s (run.request n set)))
+    × (said s (run.request n set) ≡ 9 → IsLeast n (barred set (s .bits)) (placed s (run.request n set)))
+
+-- the answers that name an instruction: 4, 8 and 9 to a request
+abbrev pub Names : Call → ℕ → Type 0
+Names (run.request n set) k = (k ≡ 4) ⊎ ((k ≡ 8) ⊎ (k ≡ 9))
+Names (run.result i done) k = ⊥
+Names (run.event e) k = ⊥
+Names (run.image r) k = ⊥
+Names run.ask k = ⊥
+
+-- with every other answer the place is 255
+abbrev pub PlacesElse : Type 0
+PlacesElse = (s : Station) (c : Call) → (Names c (said s c) → ⊥) → placed s c ≡ nowhere
+
+-- so a place is 0 to 7, or 255
+abbrev pub PlacesInRange : Type 0
+PlacesInRange = (s : Station) (c : Call) → (placed s c < most) ⊎ (placed s c ≡ nowhere)
+
 -- ---- 3. Sets are safe in any order
 
 -- whatever calls follow, images too, the record is sound: its occupied places can be laid out as whole cars, none on another, each on
@@ -89,8 +143,8 @@ AlwaysLaidOut = (s : Station) → Begins s → (l : List Call) → Sound (bit (c
 abbrev pub CarsCounted : Type 0
 CarsCounted =
     (s : Station) (l : List Call) → NoImages l
-    → (before after : List Car) → Layout (bit (s .bits)) before → Layout (bit (calls s l .bits)) after
-    → length after + driven 2 s l ≡ length before + driven 1 s l
+    → (start end : List Car) → Layout (bit (s .bits)) start → Layout (bit (calls s l .bits)) end
+    → length end + driven 2 s l ≡ length start + driven 1 s l
 
 -- of an accepted set: whichever instructions succeed, two orders of their results with the same car events come to the same
 abbrev pub AnyOrder : Type 0
@@ -106,6 +160,35 @@ OrdersExist =
     (n i : ℕ) → i < n → (succeeds : ℕ → Bool) (events : List ℕ)
     → (front : List Call) × Order n succeeds events (front ++ (run.result i (digit (succeeds i)) ∷ []))
 
+-- two orders come to the same also with asks, and calls that are refused, put in anywhere between
+abbrev pub AnyOrderAmid : Type 0
+AnyOrderAmid =
+    (s : Station) → Reached s → (n : ℕ) (set : List ℕ) → said s (run.request n set) ≡ 0
+    → (succeeds : ℕ → Bool) (events : List ℕ) (l m : List Call)
+    → Order n succeeds events l → Order n succeeds events m
+    → (l' m' : List Call) (a : Amid (left s (run.request n set)) l l') (b : Amid (left s (run.request n set)) m m')
+    → AlikeAmid a b
+
+-- on any station what is put in so moves nothing: each other call meets the station that it would meet without, and the end is the same
+abbrev pub AmidUnmoved : Type 0
+AmidUnmoved = (s : Station) (l m : List Call) (a : Amid s l m) → (turnsAmid a ≡ turns s l) × (calls s m ≡ calls s l)
+
+-- such lists exist for every list of calls, with an ask and a refused call before each
+abbrev pub AmidExists : Type 0
+AmidExists = (s : Station) (l : List Call) → Amid s l (interrupted l)
+
+-- and every list of calls is one: those of it that are taken, with the others put in
+abbrev pub AmidCovers : Type 0
+AmidCovers = (s : Station) (l : List Call) → Amid s (takenOf s l) l
+
 -- a station reached so never answers 14
 abbrev pub NeverFourteen : Type 0
 NeverFourteen = (s : Station) → Reached s → (c : Call) → said s c ≡ 14 → ⊥
+
+-- a call leaves a fit station fit, and one that isn't as it was
+abbrev pub FitStays : Type 0
+FitStays = (s : Station) (c : Call) → fit (left s c) ≡ fit s
+
+-- whatever calls came before, images too, the station never answers 16
+abbrev pub NeverUnfit : Type 0
+NeverUnfit = (s : Station) → Begins s → (l : List Call) (c : Call) → said (calls s l) c ≡ 16 → ⊥

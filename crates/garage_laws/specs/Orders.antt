@@ -1,6 +1,7 @@
--- What "in every order" says of a set: results and car events in two lists, and when the two come to the same. Assumes nothing.
+-- What "in every order" says of a set: results and car events in two lists, with other calls between or not, and when the two come to
+-- the same. Assumes nothing.
 use mathlib.Core.Path.{_≡_}
-use mathlib.Core.Bool.{Bool, true, cond}
+use mathlib.Core.Bool.{Bool, true, false, cond}
 use mathlib.Core.List.{List, [], _∷_, _++_}
 use Prim.Native.Nat.{ℕ, _+_, _≤_, _<_}
 use lib.Dec.{eqb}
@@ -71,3 +72,61 @@ pub record Alike (s : Station) (l m : List Call) : Type 0 where
   pub answered : replies s l ≡ replies s m
   pub closed : (calls s l .count ≡ 0) × (calls s m .count ≡ 0)
   pub same : calls s l ≡ calls s m
+
+-- on calls from this station on, the second list is the first with asks, and calls that are refused at their turn, put in anywhere
+pub data Amid : Station → List Call → List Call → Type 0 where
+  ends : {s : Station} → Amid s [] []
+  kept : {s : Station} {l m : List Call} (c : Call) → Amid (left s c) l m → Amid s (c ∷ l) (c ∷ m)
+  asked : {s : Station} {l m : List Call} → Amid (left s ask) l m → Amid s l (ask ∷ m)
+  refused : {s : Station} {l m : List Call} (c : Call) → (said s c ≡ 0 → ⊥) → Amid (left s c) l m → Amid s l (c ∷ m)
+
+-- such a list: an ask, and an event that says neither in nor out, before every call
+abbrev pub interrupted : List Call → List Call
+interrupted [] = []
+interrupted (c ∷ l) = ask ∷ event 0 ∷ c ∷ interrupted l
+
+-- a call is taken and no ask
+abbrev pub takes : Station → Call → Bool
+takes s (request n set) = eqb (said s (request n set)) 0
+takes s (result i done) = eqb (said s (result i done)) 0
+takes s (event e) = eqb (said s (event e)) 0
+takes s (image r) = eqb (said s (image r)) 0
+takes s ask = false
+
+-- the calls of a list that are taken, asks apart
+abbrev pub takenOf : Station → List Call → List Call
+takenOf s [] = []
+takenOf s (c ∷ l) = let rest = takenOf (left s c) l in cond (takes s c) (c ∷ rest) rest
+
+-- the stations that the calls of a list meet at their turns
+abbrev pub turns : Station → List Call → List Station
+turns s [] = []
+turns s (c ∷ l) = s ∷ turns (left s c) l
+
+-- those that the calls of the shorter list meet within the longer one
+abbrev pub turnsAmid : {s : Station} {l m : List Call} → Amid s l m → List Station
+turnsAmid ends = []
+turnsAmid (kept {s} c a) = s ∷ turnsAmid a
+turnsAmid (asked a) = turnsAmid a
+turnsAmid (refused c r a) = turnsAmid a
+
+-- within the longer list, each result of the shorter one is taken, and each success was allowed on the record at its turn
+abbrev pub FairAmid : {s : Station} {l m : List Call} → Amid s l m → Type 0
+FairAmid ends = Unit {0}
+FairAmid (kept {s} c a) = Fair s (c ∷ []) × FairAmid a
+FairAmid (asked a) = FairAmid a
+FairAmid (refused c r a) = FairAmid a
+
+-- within the longer list, the numbers that the car events of the shorter one are answered with, in their order
+abbrev pub repliesAmid : {s : Station} {l m : List Call} → Amid s l m → List ℕ
+repliesAmid ends = []
+repliesAmid (kept {s} c a) = replies s (c ∷ []) ++ repliesAmid a
+repliesAmid (asked a) = repliesAmid a
+repliesAmid (refused c r a) = repliesAmid a
+
+-- the longer lists come to the same: what the shorter ones have is fair and answered alike, the set closed, the stations at the end equal
+pub record AlikeAmid {s : Station} {l l' m m' : List Call} (a : Amid s l l') (b : Amid s m m') : Type 0 where
+  pub fair : FairAmid a × FairAmid b
+  pub answered : repliesAmid a ≡ repliesAmid b
+  pub closed : (calls s l' .count ≡ 0) × (calls s m' .count ≡ 0)
+  pub same : calls s l' ≡ calls s m'

@@ -5,7 +5,7 @@ use mathlib.Core.Bool.{cond, _&&_}
 use mathlib.Core.List.{List, [], _∷_}
 use Prim.Native.Nat.{ℕ, _+_, _^_, _<_}
 use lib.Dec.{eqb}
-use Rattle.answers.specs.Answers.{numberOf}
+use Rattle.answers.specs.Answers.{numberOf, placeOf}
 use Rattle.garage.specs.declared.Station.{Station}
 use Rattle.garage.specs.declared.Outcome.{Outcome}
 use Rattle.garage.specs.Station.{startOf}
@@ -33,6 +33,10 @@ said s c = numberOf (call s c .answer)
 
 abbrev pub left : Station → Call → Station
 left s c = call s c .station
+
+-- the place that it is answered with
+abbrev pub placed : Station → Call → ℕ
+placed s c = placeOf (call s c .answer)
 
 -- the station after several calls
 abbrev pub calls : Station → List Call → Station

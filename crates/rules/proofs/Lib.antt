@@ -4,3 +4,4 @@ pub mod CodeLaws
 pub mod Mistakes
 pub mod Overlaps
 pub mod Answering
+pub mod Promises

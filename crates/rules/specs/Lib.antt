@@ -3,3 +3,4 @@ pub mod Rules
 pub mod Events
 pub mod Codes
 pub mod Verdicts
+pub mod Promises

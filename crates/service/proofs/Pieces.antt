@@ -17,10 +17,14 @@ use Rattle.wire.specs.declared.Frame.the-variants.{Cut, Wrong, Whole}
 use Rattle.wire.specs.Kinds.{asked}
 use Rattle.wire.specs.Reads.{frameOf, lengthAt, readWhole, readFramed, readAsked}
 use Rattle.wire.proofs.Frames.{when, whole-frame}
-use Rattle.service.specs.Service.{respond, told, said, noBytes, goOn, answersFor, answersOn}
+use Rattle.service.specs.Service.{respond, answerMessage, answerBytes, noBytes, goOn, answersFor, answersOn}
 use Rattle.service.specs.Runs.{Ran, after, runOf, run, lastOf, feed}
-use Rattle.service.specs.Statements.{CutAnywhere}
+use Rattle.service.specs.Statements.{NoInput, CutAnywhere}
 use Rattle.service.proofs.Running.{none-cut, shorter}
+
+pub no-input : NoInput
+unfolding answersFor
+no-input s = refl
 
 -- ---- what stands behind a message changes nothing
 
@@ -28,7 +32,7 @@ use Rattle.service.proofs.Running.{none-cut, shorter}
 length-more : (s t : List ℕ) → 2 ≤ length s → lengthAt (s ++ t) ≡ lengthAt s
 length-more s t h = rw (List·getD-append s t 0 0 (omega arith), List·getD-append s t 0 1 (omega arith))
 
-whole-more : (s t : List ℕ) (n : ℕ) → frameOf s ≡ Whole n → frameOf (s ++ t) ≡ Whole n
+pub whole-more : (s t : List ℕ) (n : ℕ) → frameOf s ≡ Whole n → frameOf (s ++ t) ≡ Whole n
 whole-more s t n e =
     let f = whole-frame s n e in
     let l = length-append s t in
@@ -36,7 +40,7 @@ whole-more s t n e =
     (simp (le-ltb (length (s ++ t)) 2 (omega arith), le-ltb (lengthAt s) 2 (omega arith), le-ltb 43 (lengthAt s) (omega arith), le-ltb (length (s ++ t)) (lengthAt s + 2) (omega arith))
     (ap Whole (sym (f .long))))
 
-wrong-more : (s t : List ℕ) → frameOf s ≡ Wrong → frameOf (s ++ t) ≡ Wrong
+pub wrong-more : (s t : List ℕ) → frameOf s ≡ Wrong → frameOf (s ++ t) ≡ Wrong
 wrong-more s t e =
     when (ltb (length s) 2) Cut _ _ e (λ _ e. no e)
     (λ a e.
@@ -59,7 +63,7 @@ same-reply : (s : Station) (a b : List ℕ) → readAsked a ≡ readAsked b → 
 unfolding respond
 same-reply s a b e = rw e
 
-reply-more : (s : Station) (a t : List ℕ) (n : ℕ) → frameOf a ≡ Whole n → respond s (a ++ t) ≡ respond s a
+pub reply-more : (s : Station) (a t : List ℕ) (n : ℕ) → frameOf a ≡ Whole n → respond s (a ++ t) ≡ respond s a
 unfolding readAsked
 reply-more s a t n e =
     same-reply s (a ++ t) a
@@ -67,22 +71,21 @@ reply-more s a t n e =
     ∙ ap (readWhole asked) (take-append-le n a t (whole-frame a n e .within))
     ∙ sym (ap (λ (f : Frame). readFramed asked f a) e))
 
-reply-cut : (s : Station) (a : List ℕ) → frameOf a ≡ Cut → respond s a .answer ≡ told TooFewBytes
+pub reply-cut : (s : Station) (a : List ℕ) → frameOf a ≡ Cut → respond s a .answer ≡ answerMessage TooFewBytes
 unfolding respond readAsked
 reply-cut s a e = rw e
 
-reply-wrong : (s : Station) (a : List ℕ) → frameOf a ≡ Wrong → respond s a .answer ≡ told BadLength
+pub reply-wrong : (s : Station) (a : List ℕ) → frameOf a ≡ Wrong → respond s a .answer ≡ answerMessage BadLength
 unfolding respond readAsked
 reply-wrong s a e = rw e
 
 -- ---- all answers, message after message
 
-same-going : (f : Frame) (go ho : Station → List ℕ → List ℕ) (s : Station) (input : List ℕ) → frameOf input ≡ f
-    → ((x : Station) (rest : List ℕ) → length rest + 4 ≤ length input → go x rest ≡ ho x rest)
-    → goOn f (λ n. go s (drop n input)) ≡ goOn f (λ n. ho s (drop n input))
-same-going Cut go ho s input e h = refl
-same-going Wrong go ho s input e h = refl
-same-going (Whole n) go ho s input e h = h s (drop n input) (shorter input n e)
+pub same-going : {A : Type 0} (f : Frame) (go ho : List ℕ → List A) (input : List ℕ) → frameOf input ≡ f
+    → ((rest : List ℕ) → length rest + 4 ≤ length input → go rest ≡ ho rest) → goOn f (λ n. go (drop n input)) ≡ goOn f (λ n. ho (drop n input))
+same-going Cut go ho input e h = refl
+same-going Wrong go ho input e h = refl
+same-going (Whole n) go ho input e h = h (drop n input) (shorter input n e)
 
 -- more turns than bytes change nothing
 same : (k j : ℕ) (s : Station) (input : List ℕ) → length input ≤ k → length input ≤ j → answersFor k s input ≡ answersFor j s input
@@ -93,28 +96,28 @@ same zero (suc j) s (b ∷ bs) h g = absurd (omega arith)
 same (suc k) zero s [] h g = refl
 same (suc k) zero s (b ∷ bs) h g = absurd (omega arith)
 same (suc k) (suc j) s input h g =
-    ap (λ (r : List ℕ). cond (noBytes input) [] (said (respond s input .answer) ++ r))
-    (same-going (frameOf input) (answersFor k) (answersFor j) (respond s input .station) input refl
-    (λ x rest l. same k j x rest (omega arith) (omega arith)))
+    ap (λ (r : List ℕ). cond (noBytes input) [] (answerBytes (respond s input .answer) ++ r))
+    (let x = respond s input .station in
+    same-going (frameOf input) (answersFor k x) (answersFor j x) input refl (λ rest l. same k j x rest (omega arith) (omega arith)))
 
 answers-cut : (s : Station) (input : List ℕ) → frameOf input ≡ Cut → answersOn s input ≡ lastOf input
 unfolding answersFor
 answers-cut s [] e = refl
 answers-cut s (b ∷ bs) e = rw (reply-cut s (b ∷ bs) e, e, append-nil)
 
-answers-wrong : (s : Station) (input : List ℕ) → frameOf input ≡ Wrong → answersOn s input ≡ said (told BadLength)
+answers-wrong : (s : Station) (input : List ℕ) → frameOf input ≡ Wrong → answersOn s input ≡ answerBytes (answerMessage BadLength)
 unfolding answersFor
 answers-wrong s [] e = let z : _≡_ {A = ℕ} 0 1 = cc in absurd (omega arith)
 answers-wrong s (b ∷ bs) e = rw (reply-wrong s (b ∷ bs) e, e, append-nil)
 
 answers-whole : (s : Station) (input : List ℕ) (n : ℕ) → frameOf input ≡ Whole n
-    → answersOn s input ≡ said (respond s input .answer) ++ answersOn (respond s input .station) (drop n input)
+    → answersOn s input ≡ answerBytes (respond s input .answer) ++ answersOn (respond s input .station) (drop n input)
 unfolding answersFor
 answers-whole s [] n e = let z : _≡_ {A = ℕ} 0 1 = cc in absurd (omega arith)
 answers-whole s (b ∷ bs) n e =
     let l = shorter (b ∷ bs) n e in
     rw e
-    (ap (_++_ (said (respond s (b ∷ bs) .answer)))
+    (ap (_++_ (answerBytes (respond s (b ∷ bs) .answer)))
     (same (length bs) (length (drop n (b ∷ bs))) (respond s (b ∷ bs) .station) (drop n (b ∷ bs)) (omega arith) (omega arith)))
 
 -- ---- a run, and then the rest with more behind it
@@ -133,7 +136,7 @@ turned (Whole n) go s a t e rec =
     let r = go (x .station) (drop n a) in
     answers-whole s (a ++ t) n (whole-more a t n e)
     ∙ rw (reply-more s a t n e, drop-append-le n a t (whole-frame a n e .within))
-    (ap (_++_ (said (x .answer))) (rec (x .station) (drop n a) (shorter a n e))
+    (ap (_++_ (answerBytes (x .answer))) (rec (x .station) (drop n a) (shorter a n e))
     ∙ rw (append-assoc, drop-drop (r .used) n a))
 
 in-pieces : (k : ℕ) (s : Station) (a t : List ℕ) → length a ≤ k → answersOn s (a ++ t) ≡ onwards (runOf k s a) a t
@@ -151,16 +154,16 @@ left (Whole n) go s a e rec q =
     let x = respond s a .station in
     rw (← drop-drop (go x (drop n a) .used) n a) (rec x (drop n a) (shorter a n e) q)
 
-left-cut : (k : ℕ) (s : Station) (a : List ℕ) → length a ≤ k → runOf k s a .stop ≡ false → frameOf (drop (runOf k s a .used) a) ≡ Cut
+pub left-cut : (k : ℕ) (s : Station) (a : List ℕ) → length a ≤ k → runOf k s a .stop ≡ false → frameOf (drop (runOf k s a .used) a) ≡ Cut
 unfolding runOf
 left-cut zero s a h q = none-cut a h
 left-cut (suc k) s a h q = left (frameOf a) (runOf k) s a refl (λ x u l p. left-cut k x u (omega arith) p) q
 
 -- ---- all pieces
 
-unless-stopped : (t : Bool) {x y : List ℕ} → (t ≡ false → x ≡ y) → cond t [] x ≡ cond t [] y
-unless-stopped true f = refl
-unless-stopped false f = f refl
+pub unless-stopped : {A : Type 0} (t : Bool) (z : A) {x y : A} → (t ≡ false → x ≡ y) → cond t z x ≡ cond t z y
+unless-stopped true z f = refl
+unless-stopped false z f = f refl
 
 all-pieces : (s : Station) (held : List ℕ) (pieces : List (List ℕ)) → frameOf held ≡ Cut → feed s held pieces ≡ answersOn s (held ++ join pieces)
 unfolding feed
@@ -169,7 +172,7 @@ all-pieces s held (p ∷ ps) e =
     let a = held ++ p in
     let r = run s a in
     ap (_++_ (r .bytes))
-    (unless-stopped (r .stop) (λ q. all-pieces (r .station) (drop (r .used) a) ps (left-cut (length a) s a (omega arith) q)))
+    (unless-stopped (r .stop) [] (λ q. all-pieces (r .station) (drop (r .used) a) ps (left-cut (length a) s a (omega arith) q)))
     ∙ sym (ap (answersOn s) (sym (append-assoc held p (join ps))) ∙ in-pieces (length a) s a (join ps) (omega arith))
 
 pub cut-anywhere : CutAnywhere

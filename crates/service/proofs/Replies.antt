@@ -21,11 +21,11 @@ use Rattle.wire.specs.Kinds.{inRange, plain}
 use Rattle.wire.specs.declared.Written.{Written}
 use Rattle.wire.specs.Writes.{Writing, Leaves, kept, put, writing}
 use Rattle.wire.proofs.Room.{ranged}
-use Rattle.service.specs.Service.{told, toldOf, said}
+use Rattle.service.specs.Service.{answerMessage, replyMessage, answerBytes}
 use Rattle.service.specs.Runs.{enough, finishing}
 
 -- a message that isn't an ask is told its answer
-pub not-asked : (w : What) (o : Outcome) → OneOf (0 ∷ 1 ∷ 2 ∷ 3 ∷ 5 ∷ 6 ∷ []) (tagOf what.the-type w) → toldOf w o ≡ told (o .answer)
+pub not-asked : (w : What) (o : Outcome) → OneOf (0 ∷ 1 ∷ 2 ∷ 3 ∷ 5 ∷ 6 ∷ []) (tagOf what.the-type w) → replyMessage w o ≡ answerMessage (o .answer)
 not-asked Request o h = refl
 not-asked (Event way) o h = refl
 not-asked (Result number done) o h = refl
@@ -37,8 +37,8 @@ not-asked (Held r) o h = refl
 -- ---- writing
 
 -- a message that holds no instruction, its fields in their ranges
-pub plain-written : (w : What) (room : List ℕ) → inRange w ≡ true → writing (plain w) room ≡ put (said w) room
-unfolding said writing least
+pub plain-written : (w : What) (room : List ℕ) → inRange w ≡ true → writing (plain w) room ≡ put (answerBytes w) room
+unfolding answerBytes writing least
 plain-written Request room e = refl
 plain-written (Event way) room e = ranged (plain (Event way)) room (Event way) refl refl e
 plain-written (Result number done) room e = ranged (plain (Result number done)) room (Result number done) refl refl e
@@ -48,24 +48,24 @@ plain-written (What.Answer number place) room e = ranged (plain (What.Answer num
 plain-written (Held r) room e = refl
 
 -- and room that is long enough for it
-pub wrote : (w : What) (room : List ℕ) {r : Written} {last : List ℕ} → inRange w ≡ true → length (said w) ≤ length room
-    → Leaves (writing (plain w) room) r last → (r .size ≡ length (said w)) × (last ≡ said w ++ drop (length (said w)) room)
+pub wrote : (w : What) (room : List ℕ) {r : Written} {last : List ℕ} → inRange w ≡ true → length (answerBytes w) ≤ length room
+    → Leaves (writing (plain w) room) r last → (r .size ≡ length (answerBytes w)) × (last ≡ answerBytes w ++ drop (length (answerBytes w)) room)
 wrote w room f h (e, l) =
-    let p : put (said w) room ≡ record { says = record { answer = Taken; size = length (said w) }; leaves = said w ++ drop (length (said w)) room }
-    = simp (le-ltb (length room) (length (said w)) h) in
+    let p : put (answerBytes w) room ≡ record { says = record { answer = Taken; size = length (answerBytes w) }; leaves = answerBytes w ++ drop (length (answerBytes w)) room }
+    = simp (le-ltb (length room) (length (answerBytes w)) h) in
     let q = plain-written w room f ∙ p in
     (ap (λ (x : Written). x .size) (e ∙ ap (λ (x : Writing). x .says) q), l ∙ ap (λ (x : Writing). x .leaves) q)
 
 -- no reply has more than twelve bytes
-pub said-length : (w : What) → length (said w) ≤ 12
-unfolding said
-said-length Request = omega arith
-said-length (Event way) = omega arith
-said-length (Result number done) = omega arith
-said-length (Image r) = omega arith
-said-length Ask = omega arith
-said-length (What.Answer number place) = omega arith
-said-length (Held r) = omega arith
+pub answer-bytes-length : (w : What) → length (answerBytes w) ≤ 12
+unfolding answerBytes
+answer-bytes-length Request = omega arith
+answer-bytes-length (Event way) = omega arith
+answer-bytes-length (Result number done) = omega arith
+answer-bytes-length (Image r) = omega arith
+answer-bytes-length Ask = omega arith
+answer-bytes-length (What.Answer number place) = omega arith
+answer-bytes-length (Held r) = omega arith
 
 -- a third of what is left beside the last answer
 pub fits-by-third : (n room : ℕ) → 12 ≤ room → leb n ((room - 12) / 3) ≡ leb (enough n) room
@@ -83,11 +83,11 @@ pub nothing-left : (held room : List ℕ) → length held ≡ 0 → Leaves (fini
 nothing-left [] room e = simp (le-ltb (length room) 0 (omega arith)) (refl, refl)
 nothing-left (b ∷ bs) room e = absurd (omega arith)
 
-pub something-left : (held room : List ℕ) {w : What} {r : Written} {last : List ℕ} → (length held ≡ 0 → ⊥) → w ≡ told TooFewBytes
+pub something-left : (held room : List ℕ) {w : What} {r : Written} {last : List ℕ} → (length held ≡ 0 → ⊥) → w ≡ answerMessage TooFewBytes
     → Leaves (writing (plain w) room) r last → Leaves (finishing held room) r last
 something-left [] room h e f = absurd (h refl)
 something-left (b ∷ bs) room {w} {r} {last} h e f =
-    let p : writing (plain w) room ≡ put (said (told TooFewBytes)) room = rw e (plain-written (told TooFewBytes) room refl) in
+    let p : writing (plain w) room ≡ put (answerBytes (answerMessage TooFewBytes)) room = rw e (plain-written (answerMessage TooFewBytes) room refl) in
     (f .0 ∙ ap (λ (x : Writing). x .says) p, f .1 ∙ ap (λ (x : Writing). x .leaves) p)
 
 -- what was put stands within the room

@@ -16,9 +16,9 @@ use Rattle.wire.specs.declared.Frame.{Frame}
 use Rattle.wire.specs.declared.Frame.the-variants.{Cut, Wrong, Whole}
 use Rattle.wire.specs.Reads.{frameOf}
 use Rattle.wire.proofs.Frames.{whole-frame}
-use Rattle.service.specs.Service.{respond, told, said}
+use Rattle.service.specs.Service.{respond, answerMessage, answerBytes}
 use Rattle.service.specs.Runs.{Ran, ends, further, after, runOf, run, enough, serving}
-use Rattle.service.proofs.Replies.{said-length}
+use Rattle.service.proofs.Replies.{answer-bytes-length}
 
 -- no bytes are no whole message
 pub none-cut : (input : List ℕ) → length input ≤ 0 → frameOf input ≡ Cut
@@ -34,7 +34,7 @@ same-after : (f : Frame) (go ho : Station → List ℕ → Ran) (s : Station) (i
 same-after Cut go ho s input e h = refl
 same-after Wrong go ho s input e h = refl
 same-after (Whole n) go ho s input e h =
-    ap (further n (said (respond s input .answer))) (h (respond s input .station) (drop n input) (shorter input n e))
+    ap (further n (answerBytes (respond s input .answer))) (h (respond s input .station) (drop n input) (shorter input n e))
 
 -- more turns than bytes change nothing
 same : (k j : ℕ) (s : Station) (input : List ℕ) → length input ≤ k → length input ≤ j → runOf k s input ≡ runOf j s input
@@ -53,16 +53,16 @@ unrolled s input = same (length input) (suc (length input)) s input (omega arith
 pub turn-cut : (s : Station) (input : List ℕ) → frameOf input ≡ Cut → run s input ≡ ends s [] false
 turn-cut s input e = unrolled s input ∙ rw e
 
-pub turn-wrong : (s : Station) (input : List ℕ) → frameOf input ≡ Wrong → run s input ≡ ends s (said (told BadLength)) true
+pub turn-wrong : (s : Station) (input : List ℕ) → frameOf input ≡ Wrong → run s input ≡ ends s (answerBytes (answerMessage BadLength)) true
 turn-wrong s input e = unrolled s input ∙ rw e
 
 pub turn-whole : (s : Station) (input : List ℕ) (n : ℕ) → frameOf input ≡ Whole n
-    → run s input ≡ further n (said (respond s input .answer)) (run (respond s input .station) (drop n input))
+    → run s input ≡ further n (answerBytes (respond s input .answer)) (run (respond s input .station) (drop n input))
 turn-whole s input n e =
     let l = shorter input n e in
     unrolled s input
     ∙ rw e
-    (ap (further n (said (respond s input .answer)))
+    (ap (further n (answerBytes (respond s input .answer)))
     (same (length input) (length (drop n input)) (respond s input .station) (drop n input) (omega arith) (omega arith)))
 
 -- nothing before it, and one thing after another before it
@@ -81,13 +81,13 @@ pub record Within (r : Ran) (n : ℕ) : Type 0 where
 after-within : (f : Frame) (go : Station → List ℕ → Ran) (s : Station) (input : List ℕ) → frameOf input ≡ f
     → ((x : Station) (rest : List ℕ) → length rest + 4 ≤ length input → Within (go x rest) (length rest)) → Within (after f go s input) (length input)
 after-within Cut go s input e h = record { used = omega arith; made = omega arith }
-after-within Wrong go s input e h = record { used = omega arith; made = omega (arith, said-length (told BadLength)) }
+after-within Wrong go s input e h = record { used = omega arith; made = omega (arith, answer-bytes-length (answerMessage BadLength)) }
 after-within (Whole n) go s input e h =
     let x = respond s input in
     let f = whole-frame input n e in
     let l = length-drop n input in
     let r = h (x .station) (drop n input) (shorter input n e) in
-    let b = said-length (x .answer) in
+    let b = answer-bytes-length (x .answer) in
     record { used = omega arith; made = rw length-append (omega arith) }
 
 run-within : (k : ℕ) (s : Station) (input : List ℕ) → length input ≤ k → Within (runOf k s input) (length input)

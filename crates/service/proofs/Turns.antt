@@ -14,9 +14,9 @@ use Rattle.wire.specs.declared.What.{What}
 use Rattle.wire.specs.Reads.{frameOf}
 use Rattle.wire.proofs.Frames.{whole-frame}
 use Rattle.service.specs.declared.Reply.{Reply}
-use Rattle.service.specs.Service.{respond, told, said}
+use Rattle.service.specs.Service.{respond, answerMessage, answerBytes}
 use Rattle.service.specs.Runs.{ends, further, run, Serves, served}
-use Rattle.service.proofs.Replies.{said-length}
+use Rattle.service.proofs.Replies.{answer-bytes-length}
 use Rattle.service.proofs.Running.{turn-cut, turn-wrong, turn-whole, further-none, further-more}
 
 -- the room after a call that put b at the start of what stands past the first `made` bytes
@@ -53,8 +53,8 @@ module _ {input before : List ℕ} {s₀ : Station} {out : List ℕ} {s : Statio
   done-length = length-take-le made out (omega arith)
 
   -- there is room for one more
-  pub room-left : (w : What) → length (said w) ≤ length (take (length out - made) (drop made out))
-  room-left w = let b = said-length w in simp (length-take, length-drop) (omega arith)
+  pub room-left : (w : What) → length (answerBytes w) ≤ length (take (length out - made) (drop made out))
+  room-left w = let b = answer-bytes-length w in simp (length-take, length-drop) (omega arith)
 
   -- the run ends here, and b is the last that it says
   ended : (b last : List ℕ) (stop : Bool) → run s (drop at input) ≡ ends s b stop → last ≡ (take made out ++ b) ++ drop (made + length b) before
@@ -69,21 +69,21 @@ module _ {input before : List ℕ} {s₀ : Station} {out : List ℕ} {s : Statio
       rw add-zero at
       (ended [] out false (turn-cut s (drop at input) e) (m .room ∙ rw (append-nil, add-zero)))
 
-  module _ (w : What) {last : List ℕ} {k : ℕ} (size : k ≡ length (said w))
-      (wrote : last ≡ said w ++ drop (length (said w)) (take (length out - made) (drop made out))) where
-    more : put-at out last made ≡ (take made out ++ said w) ++ drop (made + length (said w)) before
-    more = room-more (take made out) (said w) before out last made done-length (m .room) (m .long) (omega arith) wrote
+  module _ (w : What) {last : List ℕ} {k : ℕ} (size : k ≡ length (answerBytes w))
+      (wrote : last ≡ answerBytes w ++ drop (length (answerBytes w)) (take (length out - made) (drop made out))) where
+    more : put-at out last made ≡ (take made out ++ answerBytes w) ++ drop (made + length (answerBytes w)) before
+    more = room-more (take made out) (answerBytes w) before out last made done-length (m .room) (m .long) (omega arith) wrote
 
     -- a wrong length
-    pub wrong-length : frameOf (drop at input) ≡ Wrong → w ≡ told BadLength
+    pub wrong-length : frameOf (drop at input) ≡ Wrong → w ≡ answerMessage BadLength
         → Serves (served (run s₀ input) before) (record { answer = Taken; station = s; used = at; made = made + k; stop = true }) (put-at out last made)
     wrong-length e f =
-        rw size (ended (said w) (put-at out last made) true (turn-wrong s (drop at input) e ∙ rw f) more)
+        rw size (ended (answerBytes w) (put-at out last made) true (turn-wrong s (drop at input) e ∙ rw f) more)
 
-    all-said : take (made + k) (put-at out last made) ≡ take made out ++ said w
+    all-said : take (made + k) (put-at out last made) ≡ take made out ++ answerBytes w
     all-said =
         rw more
-        (take-at (take made out ++ said w) _ (made + k) (length-append (take made out) (said w) ∙ rw (done-length, size)))
+        (take-at (take made out ++ answerBytes w) _ (made + k) (length-append (take made out) (answerBytes w) ∙ rw (done-length, size)))
 
     -- a whole message
     pub answered : (n : ℕ) (r : Reply) → frameOf (drop at input) ≡ Whole n → r ≡ respond s (drop at input) → w ≡ r .answer
@@ -92,7 +92,7 @@ module _ {input before : List ℕ} {s₀ : Station} {out : List ℕ} {s : Statio
         let x = respond s (drop at input) in
         let h = whole-frame (drop at input) n e in
         let l = length-drop at input in
-        let b = said-length w in
+        let b = answer-bytes-length w in
         record {
           within = omega arith;
           small = omega arith;
@@ -101,6 +101,6 @@ module _ {input before : List ℕ} {s₀ : Station} {out : List ℕ} {s : Statio
           rest =
               m .rest
               ∙ ap (further at (take made out)) (turn-whole s (drop at input) n e)
-              ∙ further-more at n (take made out) (said (x .answer)) (run (x .station) (drop n (drop at input)))
+              ∙ further-more at n (take made out) (answerBytes (x .answer)) (run (x .station) (drop n (drop at input)))
               ∙ rw (← f, ← g, all-said, drop-drop n at input);
         }

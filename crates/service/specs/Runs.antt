@@ -13,7 +13,7 @@ use Rattle.wire.specs.declared.Frame.the-variants.{Cut, Wrong, Whole}
 use Rattle.wire.specs.Reads.{frameOf}
 use Rattle.wire.specs.Writes.{Writing, put}
 use Rattle.service.specs.declared.Served.{Served}
-use Rattle.service.specs.Service.{respond, told, said, noBytes}
+use Rattle.service.specs.Service.{respond, answerMessage, answerBytes, noBytes}
 
 -- what a run leaves: the station, how many bytes its messages took, their answers, and whether nothing more is to be read
 pub record Ran : Type 0 where
@@ -33,8 +33,8 @@ further n bytes r = record { station = r .station; used = n + r .used; bytes = b
 -- one message, and then what go says of the rest: a message that is cut short is left, a wrong length is answered with 2 and stops the run
 abbrev pub after : Frame → (Station → List ℕ → Ran) → Station → List ℕ → Ran
 after Cut go s input = ends s [] false
-after Wrong go s input = ends s (said (told BadLength)) true
-after (Whole n) go s input = further n (said (respond s input .answer)) (go (respond s input .station) (drop n input))
+after Wrong go s input = ends s (answerBytes (answerMessage BadLength)) true
+after (Whole n) go s input = further n (answerBytes (respond s input .answer)) (go (respond s input .station) (drop n input))
 
 -- at most so many messages
 unfoldable pub runOf : ℕ → Station → List ℕ → Ran
@@ -80,7 +80,7 @@ serving s input room = cond (leb (enough (length input)) (length room)) (served 
 
 -- the answer to bytes that are left over: 1; to none, none
 abbrev pub lastOf : List ℕ → List ℕ
-lastOf held = cond (noBytes held) [] (said (told TooFewBytes))
+lastOf held = cond (noBytes held) [] (answerBytes (answerMessage TooFewBytes))
 
 -- the same in lent room: 17 exactly if it is shorter than the answer
 abbrev pub finishing : List ℕ → List ℕ → Writing

@@ -32,22 +32,22 @@ called (What.Answer number place) s count set = refused s UnknownKind
 called (Held r) s count set = refused s UnknownKind
 
 -- an answer as a message
-abbrev pub told : Answer → What
-told a = What.Answer (numberOf a) (placeOf a)
+abbrev pub answerMessage : Answer → What
+answerMessage a = What.Answer (numberOf a) (placeOf a)
 
 -- a call's answer as a message: the image after an ask that was taken
-abbrev pub toldOf : What → Outcome → What
-toldOf Request o = told (o .answer)
-toldOf (Event way) o = told (o .answer)
-toldOf (Result number done) o = told (o .answer)
-toldOf (Image r) o = told (o .answer)
-toldOf Ask o = cond (eqb (numberOf (o .answer)) 0) (Held (o .station .bits)) (told (o .answer))
-toldOf (What.Answer number place) o = told (o .answer)
-toldOf (Held r) o = told (o .answer)
+abbrev pub replyMessage : What → Outcome → What
+replyMessage Request o = answerMessage (o .answer)
+replyMessage (Event way) o = answerMessage (o .answer)
+replyMessage (Result number done) o = answerMessage (o .answer)
+replyMessage (Image r) o = answerMessage (o .answer)
+replyMessage Ask o = cond (eqb (numberOf (o .answer)) 0) (Held (o .station .bits)) (answerMessage (o .answer))
+replyMessage (What.Answer number place) o = answerMessage (o .answer)
+replyMessage (Held r) o = answerMessage (o .answer)
 
 -- the reply to a call
 abbrev pub replyOf : What → Outcome → Reply
-replyOf w o = record { station = o .station; answer = toldOf w o }
+replyOf w o = record { station = o .station; answer = replyMessage w o }
 
 -- the reply to the first message of some bytes: what is refused in reading makes no call
 unfoldable pub respond : Station → List ℕ → Reply
@@ -56,11 +56,11 @@ respond s bytes =
     let m = r .message in
     cond (eqb (numberOf (r .answer)) 0)
     (replyOf (m .what) (called (m .what) s (m .count) (m .set)))
-    (record { station = s; answer = told (r .answer) })
+    (record { station = s; answer = answerMessage (r .answer) })
 
 -- an answer in bytes
-unfoldable pub said : What → List ℕ
-said w = messageBytes (plain w)
+unfoldable pub answerBytes : What → List ℕ
+answerBytes w = messageBytes (plain w)
 
 -- whether there are no bytes
 abbrev pub noBytes : List ℕ → Bool
@@ -68,7 +68,7 @@ noBytes [] = true
 noBytes (b ∷ bs) = false
 
 -- after a message: on with the rest, but not after 1, nor after a length below 2 or above 43
-abbrev pub goOn : Frame → (ℕ → List ℕ) → List ℕ
+abbrev pub goOn : {A : Type 0} → Frame → (ℕ → List A) → List A
 goOn Cut rest = []
 goOn Wrong rest = []
 goOn (Whole n) rest = rest n
@@ -78,7 +78,7 @@ unfoldable pub answersFor : ℕ → Station → List ℕ → List ℕ
 answersFor zero s input = []
 answersFor (suc k) s input =
     cond (noBytes input) []
-    (said (respond s input .answer) ++ goOn (frameOf input) (λ n. answersFor k (respond s input .station) (drop n input)))
+    (answerBytes (respond s input .answer) ++ goOn (frameOf input) (λ n. answersFor k (respond s input .station) (drop n input)))
 
 -- all that a station answers to a whole input
 abbrev pub answersOn : Station → List ℕ → List ℕ

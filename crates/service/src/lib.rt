@@ -9,7 +9,7 @@ ghost use Rattle.answers.specs.Answers.{numberOf};
 ghost use Rattle.wire.specs.declared.What.the-variants.{Held};
 ghost use Rattle.wire.specs.Kinds.{inRange};
 ghost use Rattle.wire.specs.Writes.{Leaves};
-ghost use Rattle.service.specs.Service.{called, told, replyOf, respond, said};
+ghost use Rattle.service.specs.Service.{called, answerMessage, replyOf, respond, answerBytes};
 ghost use Rattle.service.specs.Runs.{Serves, run, enough, served, serving, finishing};
 use answers::Answer;
 use garage::Outcome;
@@ -61,8 +61,8 @@ fn call(what: What, s: Station, count: u8, set: [u8; 40]) -> Outcome
 }
 
 // An answer as a message.
-fn told(answer: Answer) -> What
-    ensures { λ w. ⌜ w ≡ told answer ⌝ }
+fn answer_message(answer: Answer) -> What
+    ensures { λ w. ⌜ w ≡ answerMessage answer ⌝ }
 {
     What::Answer {
         number: answer.number(),
@@ -72,12 +72,12 @@ fn told(answer: Answer) -> What
 
 // The image after an ask that was taken.
 fn image_or(s: Station, answer: Answer) -> What
-    ensures { λ w. ⌜ w ≡ cond (eqb (numberOf answer) 0) (Held (s .bits)) (told answer) ⌝ }
+    ensures { λ w. ⌜ w ≡ cond (eqb (numberOf answer) 0) (Held (s .bits)) (answerMessage answer) ⌝ }
 {
     if answer.number() == 0 {
         return What::Held(s.bits);
     }
-    told(answer)
+    answer_message(answer)
 }
 
 // The reply to a call.
@@ -92,7 +92,7 @@ fn in_reply(what: What, o: Outcome) -> Reply
             Reply { station, answer }
         }
         _ => {
-            let answer = told(answer);
+            let answer = answer_message(answer);
             Reply { station, answer }
         }
     }
@@ -105,7 +105,7 @@ pub fn respond(s: Station, m: &[u8]) -> Reply
     let r = wire::read_asked(m);
     let answer = r.answer;
     if answer.number() != 0 {
-        let answer = told(answer);
+        let answer = answer_message(answer);
         return Reply { station: s, answer };
     }
     let message = r.message;
@@ -118,8 +118,8 @@ pub fn respond(s: Station, m: &[u8]) -> Reply
 
 // Puts a message that holds no instruction at the start of out, and says how many bytes it took.
 fn say(what: What, out: &mut [u8]) -> usize
-    requires { ⌜ (inRange what ≡ true) × (length (said what) ≤ length (now out)) ⌝ }
-    ensures { λ n. ⌜ (n ≡ length (said what)) × (now (out .exit) ≡ said what ++ drop (length (said what)) (now (out .entry))) ⌝ }
+    requires { ⌜ (inRange what ≡ true) × (length (answerBytes what) ≤ length (now out)) ⌝ }
+    ensures { λ n. ⌜ (n ≡ length (answerBytes what)) × (now (out .exit) ≡ answerBytes what ++ drop (length (answerBytes what)) (now (out .entry))) ⌝ }
 {
     let w = wire::writing::write_plain(what, out);
     w.size
@@ -147,7 +147,7 @@ fn answer_all(s: Station, input: &[u8], out: &mut [u8]) -> Served
                 };
             }
             Frame::Wrong => {
-                let answer = told(Answer::BadLength);
+                let answer = answer_message(Answer::BadLength);
                 let n = say(answer, &mut out[made..]);
                 return Served {
                     answer: Answer::Taken,
@@ -205,6 +205,6 @@ pub fn finish(held: &[u8], out: &mut [u8]) -> Written
             size: 0,
         };
     }
-    let answer = told(Answer::TooFewBytes);
+    let answer = answer_message(Answer::TooFewBytes);
     wire::writing::write_plain(answer, out)
 }

@@ -1,1 +1,1 @@
-mod Shifting
+mod Short

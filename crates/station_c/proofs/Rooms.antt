@@ -1,14 +1,14 @@
 -- A station laid out in bytes, and what an entry leaves, case by case: one pair of laws serves every entry. Assumes nothing.
 use mathlib.Core.Path.{_≡_, refl, _∙_}
 use mathlib.Core.List.{List, [], _∷_, _++_, append-nil}
-use Prim.Native.Nat.{ℕ, _-_, _≤_, _<_}
+use Prim.Native.Nat.{ℕ, _≤_, _<_}
 use native.Mathlib.Omega.{arith}
 use borrow.Author.Tests.{lt-ltb, le-ltb, eq-eqb, ne-eqb}
 use lib.ListN as list
 use lib.ListN.{length, take, drop, replicate}
 use lib.Seq.{take-length, length-take-le}
 use Rattle.answers.specs.declared.Answer.{Answer}
-use Rattle.answers.specs.declared.Answer.the-variants.{NoRoom}
+use Rattle.answers.specs.declared.Answer.the-variants.{TooFewBytes, NoRoom}
 use Rattle.answers.specs.Answers.{numberOf}
 use Rattle.garage.specs.declared.Station.{Station}
 use Rattle.garage.specs.declared.Outcome.{Outcome}
@@ -16,7 +16,7 @@ use Rattle.garage.specs.Calls.{ask}
 use Rattle.rules.specs.declared.Moved.{Moved}
 use Rattle.wire.specs.Kinds.{littleEndian, setOf}
 use Rattle.wire.proofs.Parts.{set-short}
-use Rattle.station_c.specs.Entries.{stationBytes, stationOf, said, Leaves, writes, entry, asking, moved, told, recordIn, nexting}
+use Rattle.station_c.specs.Entries.{stationBytes, stationOf, returned, Leaves, writes, entry, asking, moved, answerTo, judgement, recordIn, nexting}
 
 -- ---- a station in bytes
 
@@ -36,18 +36,18 @@ laid-out s image head rest e h r = rw (h, e, r)
 -- ---- what an entry leaves
 
 -- refused, nothing is written
-pub not-taken : (a : Answer) (bytes room : List ℕ) {n r : ℕ} → n ≡ numberOf a → (n ≡ 0 → ⊥) → r ≡ said a → Leaves (writes a bytes room) r room
+pub not-taken : (a : Answer) (bytes room : List ℕ) {n r : ℕ} → n ≡ numberOf a → (n ≡ 0 → ⊥) → r ≡ returned a → Leaves (writes a bytes room) r room
 unfolding writes
 not-taken a bytes room e h f = (f, rw (← e, ne-eqb _ _ h))
 
 -- taken, the bytes are
-pub all-taken : (a : Answer) (bytes room : List ℕ) {n r : ℕ} {last : List ℕ} → n ≡ numberOf a → n ≡ 0 → r ≡ said a
+pub all-taken : (a : Answer) (bytes room : List ℕ) {n r : ℕ} {last : List ℕ} → n ≡ numberOf a → n ≡ 0 → r ≡ returned a
     → last ≡ take (length bytes) bytes ++ drop (length bytes) room → Leaves (writes a bytes room) r last
 unfolding writes
 all-taken a bytes room e h f l = (f, l ∙ rw (← e, eq-eqb _ _ h, take-length))
 
 -- an entry whose room is too short
-pub short : (call : Station → Outcome) (room : List ℕ) {r : ℕ} → length room < 50 → r ≡ said NoRoom → Leaves (entry call room) r room
+pub short : (call : Station → Outcome) (room : List ℕ) {r : ℕ} → length room < 50 → r ≡ returned NoRoom → Leaves (entry call room) r room
 unfolding entry
 short call room h e = rw (lt-ltb _ _ h) (e, refl)
 
@@ -63,8 +63,13 @@ pub asked : (room image : List ℕ) {s : Station} {o : Outcome} {b : List ℕ} {
 unfolding asking
 asked room image h k e f g w = rw (le-ltb _ _ h, le-ltb _ _ k, ← e, ← f, ← g) w
 
--- the next record
-pub followed : (x : ℕ) (five room : List ℕ) {m : Moved} {a : Answer} {y : ℕ} {b : List ℕ} {r : ℕ} {last : List ℕ} → 8 ≤ length room
-    → m ≡ moved x five → a ≡ told m → y ≡ recordIn m → b ≡ littleEndian 8 y → Leaves (writes a b room) r last → Leaves (nexting x five room) r last
-unfolding nexting
-followed x five room h e f g k w = rw (le-ltb _ _ h, ← e, ← f, ← g, ← k) w
+-- the next record: too few bytes say no instruction
+pub few : (x : ℕ) (five room : List ℕ) {r : ℕ} → 8 ≤ length room → length five < 5 → r ≡ returned TooFewBytes → Leaves (nexting x five room) r room
+unfolding nexting judgement writes
+few x five room h l e = rw (le-ltb _ _ h, lt-ltb _ _ l) (e, refl)
+
+-- or it is there
+pub followed : (x : ℕ) (five room : List ℕ) {m : Moved} {a : Answer} {y : ℕ} {b : List ℕ} {r : ℕ} {last : List ℕ} → 8 ≤ length room → 5 ≤ length five
+    → m ≡ moved x five → a ≡ answerTo m → y ≡ recordIn m → b ≡ littleEndian 8 y → Leaves (writes a b room) r last → Leaves (nexting x five room) r last
+unfolding nexting judgement
+followed x five room h l e f g k w = rw (le-ltb _ _ h, le-ltb _ _ l, ← e, ← f, ← g, ← k) w

@@ -2,7 +2,7 @@
 use mathlib.Core.Path.{_≡_}
 use mathlib.Core.Bool.{cond, _&&_, _||_}
 use mathlib.Core.List.{List, _∷_, _++_}
-use Prim.Native.Nat.{ℕ, _+_, _*_}
+use Prim.Native.Nat.{ℕ, _+_, _*_, _%_}
 use lib.Dec.{eqb, leb, ltb}
 use lib.ListN.{length, getD, take, drop}
 use Rattle.floor.specs.declared.Total.{Total}
@@ -40,8 +40,8 @@ stationOf m = record { bits = fromLittleEndian 8 0 m; count = getD m 8 0; answer
 -- ---- what an entry does
 
 -- an answer as one number: that of the table, and 256 times its place
-abbrev pub said : Answer → ℕ
-said a = numberOf a + 256 * placeOf a
+abbrev pub returned : Answer → ℕ
+returned a = numberOf a + 256 * placeOf a
 
 -- what an entry answers, and what it leaves in the room that it may write
 pub record Entry : Type 0 where
@@ -54,11 +54,11 @@ Leaves e r room = (r ≡ e .says) × (room ≡ e .leaves)
 
 -- taken, it writes these bytes at the start of the room and keeps what stands past them; refused, it writes nothing
 unfoldable pub writes : Answer → List ℕ → List ℕ → Entry
-writes a bytes room = record { says = said a; leaves = cond (eqb (numberOf a) 0) (bytes ++ drop (length bytes) room) room }
+writes a bytes room = record { says = returned a; leaves = cond (eqb (numberOf a) 0) (bytes ++ drop (length bytes) room) room }
 
 -- the room is too short
 abbrev pub noRoom : List ℕ → Entry
-noRoom room = record { says = said NoRoom; leaves = room }
+noRoom room = record { says = returned NoRoom; leaves = room }
 
 -- a call on the lent station: 17, then the call's own answers
 unfoldable pub entry : (Station → Outcome) → List ℕ → Entry
@@ -78,15 +78,15 @@ asking room image =
 
 -- ---- a message on a lent station
 
--- what is said besides a message that answers: its number and place, or 0 with the image after an ask
-abbrev pub saidOf : What → ℕ
-saidOf (What.Answer number place) = number + 256 * place
-saidOf (Held r) = said Taken
-saidOf Request = said Taken
-saidOf (Event way) = said Taken
-saidOf (Result number done) = said Taken
-saidOf (Image r) = said Taken
-saidOf Ask = said Taken
+-- what is returned besides a message that answers: its number and place, or 0 with the image after an ask
+abbrev pub returnedOf : What → ℕ
+returnedOf (What.Answer number place) = number + 256 * place
+returnedOf (Held r) = returned Taken
+returnedOf Request = returned Taken
+returnedOf (Event way) = returned Taken
+returnedOf (Result number done) = returned Taken
+returnedOf (Image r) = returned Taken
+returnedOf Ask = returned Taken
 
 -- what the entry answers, and what it leaves in the station's room and in the reply's
 pub record Exchange : Type 0 where
@@ -94,17 +94,24 @@ pub record Exchange : Type 0 where
   pub station : List ℕ
   pub reply : List ℕ
 
+-- what it answers is answered, and what it leaves is left
 abbrev pub Exchanges : Exchange → ℕ → List ℕ → List ℕ → Type 0
 Exchanges e r room reply = (r ≡ e .says) × (room ≡ e .station) × (reply ≡ e .reply)
 
--- the first message of a run is answered: 17 where either room is too short, and then neither is written
+-- the first message of a run is answered: 17 where either room is too short, and then neither is written; else the reply is written, and
+-- the next station if the message was taken
 unfoldable pub exchange : List ℕ → List ℕ → List ℕ → Exchange
 exchange room message reply =
     let o = respond (stationOf room) message in
-    let bytes = service.said (o .answer) in
+    let answer = returnedOf (o .answer) in
+    let bytes = service.answerBytes (o .answer) in
     cond (ltb (length room) stationSize || ltb (length reply) (length bytes))
-    (record { says = said NoRoom; station = room; reply = reply })
-    (record { says = saidOf (o .answer); station = stationBytes (o .station) ++ drop stationSize room; reply = bytes ++ drop (length bytes) reply })
+    (record { says = returned NoRoom; station = room; reply = reply })
+    (record {
+      says = answer;
+      station = cond (eqb (answer % 256) 0) (stationBytes (o .station) ++ drop stationSize room) room;
+      reply = bytes ++ drop (length bytes) reply;
+    })
 
 -- ---- questions on a record, without a station
 
@@ -112,11 +119,15 @@ exchange room message reply =
 unfoldable pub moved : ℕ → List ℕ → Moved
 moved r five = onCode (λ i. movedOf i r) IllFormed (readBytes five)
 
--- what is answered: it is allowed; 9; 4 where the bytes are fewer than five or say no instruction
-abbrev pub told : Moved → Answer
-told (Record r) = Taken
-told Moved.NotAllowed = NotAllowed nowhere
-told IllFormed = BadField nowhere
+-- what is answered of it: it is allowed; 9; 4 where the bytes say no instruction
+abbrev pub answerTo : Moved → Answer
+answerTo (Record r) = Taken
+answerTo Moved.NotAllowed = NotAllowed nowhere
+answerTo IllFormed = BadField nowhere
+
+-- whether the record r allows the instruction that the first five bytes say: 1 where they are fewer
+unfoldable pub judgement : ℕ → List ℕ → Answer
+judgement r five = cond (ltb (length five) 5) TooFewBytes (answerTo (moved r five))
 
 -- the record after it, if it is allowed
 abbrev pub recordIn : Moved → ℕ
@@ -124,13 +135,12 @@ recordIn (Record r) = r
 recordIn Moved.NotAllowed = 0
 recordIn IllFormed = 0
 
--- the next record is asked for
+-- the next record is asked for: 17, then as above
 unfoldable pub nexting : ℕ → List ℕ → List ℕ → Entry
 nexting r five room =
-    let m = moved r five in
-    cond (ltb (length room) 8) (noRoom room) (writes (told m) (littleEndian 8 (recordIn m)) room)
+    cond (ltb (length room) 8) (noRoom room) (writes (judgement r five) (littleEndian 8 (recordIn (moved r five))) room)
 
--- the number of cars: 255 where the record isn't sound, which is no sound record's number, as a layout has at most 31 cars
+-- the number of cars: 255 where the record isn't sound, which is no sound record's number, as a layout has at most 30 cars
 abbrev pub carsOr255 : Total → ℕ
 carsOr255 (Cars n) = n
 carsOr255 Unsound = 255

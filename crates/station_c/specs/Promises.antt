@@ -4,11 +4,11 @@ use mathlib.Core.List.{List, _++_}
 use Prim.Native.Nat.{ℕ, _/_, _%_, _^_, _≤_, _<_}
 use lib.ListN.{length, take}
 use Rattle.answers.specs.declared.Answer.{Answer}
-use Rattle.answers.specs.Answers.{numberOf, placeOf}
+use Rattle.answers.specs.Answers.{numberOf, OfTable, placeOf}
 use Rattle.garage.specs.declared.Station.{Station}
 use Rattle.garage.specs.declared.Outcome.{Outcome}
 use Rattle.wire_laws.specs.Statements.{Bytes}
-use Rattle.station_c.specs.Entries.{stationSize, stationBytes, stationOf, said, entry}
+use Rattle.station_c.specs.Entries.{stationSize, stationBytes, stationOf, returned, entry, asking, exchange, judgement, nexting}
 
 -- a station as code holds it: the record is a number of 64 bits, the set has forty places
 pub record Typed (s : Station) : Type 0 where
@@ -28,9 +28,32 @@ abbrev pub StationOneForm : Type 0
 StationOneForm = (room : List ℕ) → Bytes room → stationSize ≤ length room → stationBytes (stationOf room) ≡ take stationSize room
 
 -- an answer's number and place read back from what an entry says
-abbrev pub SaidReadsBack : Type 0
-SaidReadsBack = (a : Answer) → (said a % 256 ≡ numberOf a) × (said a / 256 ≡ placeOf a)
+abbrev pub ReturnedReadsBack : Type 0
+ReturnedReadsBack = (a : Answer) → (returned a % 256 ≡ numberOf a) × (returned a / 256 ≡ placeOf a)
 
 -- an entry that refuses leaves the room as it was
 abbrev pub RefusedUntouched : Type 0
 RefusedUntouched = (call : Station → Outcome) (room : List ℕ) → (entry call room .says % 256 ≡ 0 → ⊥) → entry call room .leaves ≡ room
+
+-- so does an ask, of the image's room
+abbrev pub AskRefusedUntouched : Type 0
+AskRefusedUntouched = (room image : List ℕ) → (asking room image .says % 256 ≡ 0 → ⊥) → asking room image .leaves ≡ image
+
+-- and a question for the next record
+abbrev pub NextRefusedUntouched : Type 0
+NextRefusedUntouched = (r : ℕ) (five room : List ℕ) → (nexting r five room .says % 256 ≡ 0 → ⊥) → nexting r five room .leaves ≡ room
+
+-- and a message, of the station's room; where 17 is returned the reply's is as it was too, else it has the refusal
+abbrev pub MessageRefusedUntouched : Type 0
+MessageRefusedUntouched =
+    (room message reply : List ℕ) → (exchange room message reply .says % 256 ≡ 0 → ⊥)
+    → (exchange room message reply .station ≡ room) × (exchange room message reply .says % 256 ≡ 17 → exchange room message reply .reply ≡ reply)
+
+-- the number that an entry returns is always one of the table's
+abbrev pub NumbersInTable : Type 0
+NumbersInTable =
+    ((call : Station → Outcome) (room : List ℕ) → OfTable (entry call room .says % 256))
+    × ((room image : List ℕ) → OfTable (asking room image .says % 256))
+    × ((room message reply : List ℕ) → OfTable (exchange room message reply .says % 256))
+    × ((r : ℕ) (five : List ℕ) → OfTable (returned (judgement r five) % 256))
+    × ((r : ℕ) (five room : List ℕ) → OfTable (nexting r five room .says % 256))

@@ -7,7 +7,7 @@ ghost use Rattle.floor.specs.Sound.{sound, total};
 ghost use Rattle.rules.specs.Verdicts.{movedOf};
 ghost use Rattle.garage.specs.Station.{startOf};
 ghost use Rattle.garage.specs.Calls.{taken, event, result, takeImage};
-ghost use Rattle.station_c.specs.Entries.{stationBytes, stationOf, said, Leaves, writes, entry, requestOf, asking, saidOf, Exchanges, exchange, moved, told, recordIn, nexting, carsOr255};
+ghost use Rattle.station_c.specs.Entries.{stationSize, stationBytes, stationOf, returned, Leaves, writes, entry, requestOf, asking, returnedOf, Exchanges, exchange, moved, answerTo, judgement, recordIn, nexting, carsOr255};
 use answers::Answer;
 use answers::NOWHERE;
 use floor::Total;
@@ -19,19 +19,21 @@ use rules::Reading;
 use rules::Verdict;
 use wire::What;
 
-// The bytes of a lent station, and of a record.
+// The bytes of a lent station, of a record, and of an instruction.
 const STATION: usize = 50;
 
 const RECORD: usize = 8;
+
+const CODE: usize = 5;
 
 // ---- stations and answers in bytes and numbers
 
 // The station that the first 50 bytes hold.
 fn load(room: &[u8]) -> Station
-    requires { ⌜ 50 ≤ length (now room) ⌝ }
+    requires { ⌜ stationSize ≤ length (now room) ⌝ }
     ensures { λ s. ⌜ s ≡ stationOf (now (room .entry)) ⌝ }
 {
-    let set = wire::set_of(&room[10..50]);
+    let set = wire::set_of(&room[10..STATION]);
     Station {
         bits: wire::image_of(room),
         count: room[8],
@@ -41,10 +43,10 @@ fn load(room: &[u8]) -> Station
 }
 
 // A station as 50 bytes, by its fields.
-fn stored(bits: u64, count: u8, answered: u8, set: [u8; 40]) -> [u8; 50]
+fn stored(bits: u64, count: u8, answered: u8, set: [u8; 40]) -> [u8; STATION]
     ensures { λ b. ⌜ b ≡ stationBytes (record { bits = bits; count = count; answered = answered; set = set }) ⌝ }
 {
-    let mut b = [0u8; 50];
+    let mut b = [0u8; STATION];
     bytes::copy(&set, &mut b[10..]);
     let image = wire::image_bytes(bits);
     bytes::copy(&image, &mut b[..8]);
@@ -55,7 +57,7 @@ fn stored(bits: u64, count: u8, answered: u8, set: [u8; 40]) -> [u8; 50]
 
 // An answer as one number.
 fn say(a: Answer) -> u32
-    ensures { λ r. ⌜ r ≡ said a ⌝ }
+    ensures { λ r. ⌜ r ≡ returned a ⌝ }
 {
     a.number() as u32 + 256 * (a.place() as u32)
 }
@@ -74,7 +76,7 @@ fn answer(a: Answer, src: &[u8], room: &mut [u8]) -> u32
 
 // The same of a call's outcome.
 fn keep(o: Outcome, room: &mut [u8]) -> u32
-    requires { ⌜ 50 ≤ length (now room) ⌝ }
+    requires { ⌜ stationSize ≤ length (now room) ⌝ }
     ensures { λ r. ⌜ Leaves (writes (o .answer) (stationBytes (o .station)) (now (room .entry))) r (now (room .exit)) ⌝ }
 {
     let s = o.station;
@@ -192,9 +194,9 @@ pub extern "C" fn station_ask(room: &[u8], image: &mut [u8]) -> u32
 
 // ---- a message on a lent station
 
-// What is said besides a message that answers.
-fn said_of(what: What) -> u32
-    ensures { λ r. ⌜ r ≡ saidOf what ⌝ }
+// What is returned besides a message that answers.
+fn returned_of(what: What) -> u32
+    ensures { λ r. ⌜ r ≡ returnedOf what ⌝ }
 {
     match what {
         What::Answer { number, place } => number as u32 + 256 * (place as u32),
@@ -202,7 +204,7 @@ fn said_of(what: What) -> u32
     }
 }
 
-// Answers the first message of a run: the next station to room, the message that answers to reply.
+// Answers the first message of a run: the message that answers to reply and, if the message was taken, the next station to room.
 #[no_mangle]
 pub extern "C" fn station_message(room: &mut [u8], message: &[u8], reply: &mut [u8]) -> u32
     ensures { λ r. ⌜ Exchanges (exchange (now (room .entry)) (now (message .entry)) (now (reply .entry))) r (now (room .exit)) (now (reply .exit)) ⌝ }
@@ -218,11 +220,15 @@ pub extern "C" fn station_message(room: &mut [u8], message: &[u8], reply: &mut [
     if refused != 0 {
         return say(a);
     }
+    let r = returned_of(what);
+    if r % 256 != 0 {
+        return r;
+    }
     let s = o.station;
     let set = s.set;
     let b = stored(s.bits, s.count, s.answered, set);
     bytes::copy(&b, room);
-    said_of(what)
+    r
 }
 
 // ---- questions on a record
@@ -259,8 +265,8 @@ fn moved(image: u64, five: &[u8]) -> Moved
 }
 
 // What is answered with a next record, or none.
-fn told(m: Moved) -> Answer
-    ensures { λ a. ⌜ a ≡ told m ⌝ }
+fn answer_to(m: Moved) -> Answer
+    ensures { λ a. ⌜ a ≡ answerTo m ⌝ }
 {
     match m {
         Moved::Record(_) => Answer::Taken,
@@ -281,7 +287,7 @@ fn record_in(m: Moved) -> u64
 
 // What is answered of an instruction, by its verdict: the next record isn't asked for.
 fn judged(i: Instruction, image: u64) -> Answer
-    ensures { λ a. ⌜ a ≡ told (movedOf i image) ⌝ }
+    ensures { λ a. ⌜ a ≡ answerTo (movedOf i image) ⌝ }
 {
     let v = engine::verdict(i, image);
     match v {
@@ -291,11 +297,14 @@ fn judged(i: Instruction, image: u64) -> Answer
     }
 }
 
-// Whether a record allows an instruction.
+// Whether a record allows the instruction that five bytes say.
 #[no_mangle]
 pub extern "C" fn garage_allowed(image: u64, five: &[u8]) -> u32
-    ensures { λ r. ⌜ r ≡ said (told (moved image (now (five .entry)))) ⌝ }
+    ensures { λ r. ⌜ r ≡ returned (judgement image (now (five .entry))) ⌝ }
 {
+    if five.len() < CODE {
+        return say(Answer::TooFewBytes);
+    }
     let one = rules::read_bytes(five);
     match one {
         Reading::Good(i) => {
@@ -314,8 +323,11 @@ pub extern "C" fn garage_next(image: u64, five: &[u8], next: &mut [u8]) -> u32
     if next.len() < RECORD {
         return say(Answer::NoRoom);
     }
+    if five.len() < CODE {
+        return say(Answer::TooFewBytes);
+    }
     let m = moved(image, five);
-    let a = told(m);
+    let a = answer_to(m);
     let r = record_in(m);
     let b = wire::image_bytes(r);
     answer(a, &b, next)

@@ -1,21 +1,26 @@
 -- What is promised of messages and of record images: what was written reads back as what was meant, and bytes that read as a meaning
--- are exactly the bytes that writing it gives. Of the station's reader: it says what the library's says, but of kinds above 5.
+-- are exactly the bytes that writing it gives. Where a field is bad, the place that is told is the least bad instruction's. Of the
+-- station's reader: it says what the library's says, but of kinds above 5.
 -- Proved in proofs/. Assumes nothing.
 use mathlib.Core.Path.{_≡_}
 use mathlib.Core.Bool.{true}
 use mathlib.Core.List.{List, _++_}
 use Prim.Native.Nat.{ℕ, _≤_, _*_, _<_, _^_}
 use lib.ListN.{getD, length, take, drop}
+use Rattle.bits.specs.Search.{IsLeast}
 use Rattle.rules.specs.declared.Instruction.{Instruction}
+use Rattle.rules.specs.declared.Reading.the-variants.{Good}
 use Rattle.rules.specs.Rules.{wellFormed}
-use Rattle.rules.specs.Codes.{bytesOf}
-use Rattle.answers.specs.declared.Answer.the-variants.{Taken, UnknownKind}
+use Rattle.rules.specs.Codes.{bytesOf, codeFrom, readCode}
+use Rattle.answers.specs.declared.Answer.the-variants.{Taken, UnknownKind, BadField}
+use Rattle.answers.specs.Answers.{nowhere}
 use Rattle.wire.specs.declared.What.{What}
 use Rattle.wire.specs.declared.What.the-variants.{Request, Event, Result, Image, Ask, Answer, Held}
 use Rattle.wire.specs.declared.Message.{Message}
+use Rattle.wire.specs.declared.Received.{Received}
 use Rattle.wire.specs.declared.Frame.the-variants.{Whole}
-use Rattle.wire.specs.Kinds.{littleEndian, fromLittleEndian}
-use Rattle.wire.specs.Reads.{frameOf, kindAt, refused, taken, readMessage, readAsked}
+use Rattle.wire.specs.Kinds.{littleEndian, fromLittleEndian, first, request}
+use Rattle.wire.specs.Reads.{frameOf, kindAt, refused, taken, badIn, readMessage, readAsked}
 use Rattle.wire.specs.Writes.{messageBytes, isRequest, writing, oneForm}
 
 -- each number of a run is a byte
@@ -64,10 +69,24 @@ OneForm = (s : List ℕ) (m : Message) (n : ℕ) → Bytes s → readMessage s �
 abbrev pub fiveOf : Message → ℕ → List ℕ
 fiveOf m i = take 5 (drop (5 * i) (m .set))
 
--- each instruction of a request that was read is well formed and stands in its one form
+-- each instruction of a request that was read is the one that a station reads there, is well formed and stands in its one form
 abbrev pub InstructionsOneForm : Type 0
 InstructionsOneForm = (s : List ℕ) (m : Message) (n : ℕ) → Bytes s → readMessage s ≡ taken m n → isRequest m ≡ true
-    → (i : ℕ) → i < m .count → (j : Instruction) × (wellFormed j ≡ true) × (fiveOf m i ≡ bytesOf j)
+    → (i : ℕ) → i < m .count
+    → (j : Instruction) × (readCode (codeFrom (drop (5 * i) (m .set))) ≡ Good j) × (wellFormed j ≡ true) × (fiveOf m i ≡ bytesOf j)
+
+-- the place of a reader's 4: in a request the least bad of the instructions after the count, in any other message nowhere
+abbrev pub Placed : (List ℕ → Received) → Type 0
+Placed reader = (s : List ℕ) (p n : ℕ) → reader s ≡ refused (BadField p) n
+    → (kindAt s ≡ request → IsLeast (getD s 4 0) (badIn (drop first s)) p) × ((kindAt s ≡ request → ⊥) → p ≡ nowhere)
+
+-- so it is of the library's reader
+abbrev pub PlaceRead : Type 0
+PlaceRead = Placed readMessage
+
+-- and of the station's
+abbrev pub PlaceAsked : Type 0
+PlaceAsked = Placed readAsked
 
 -- on kinds up to 5 the station's reader says what the library's says
 abbrev pub AskedAlike : Type 0

@@ -9,7 +9,7 @@ use Rattle.wire.specs.Reads.{frameOf}
 use Rattle.wire.proofs.Frames.{Framed, whole-frame}
 use Rattle.wire.proofs.Parts.{from-on}
 use Rattle.service.specs.Service.{respond}
-use Rattle.service.proofs.Replies.{said-length}
+use Rattle.service.proofs.Replies.{answer-bytes-length}
 use Rattle.service.proofs.Ranges.{replies-in-range}
 use Rattle.service.proofs.Turns.{Midway, started, room-left, cut-short, wrong-length, answered}
 use Rattle.service.proofs.answer_all.Statement.{statement}
@@ -66,8 +66,8 @@ returns c = cut-short (c .before .before .before .before .loop .inv) (c .before 
 enum-told-2 : tie.Need-enum-told-2 Inv-loop μ-loop
 enum-told-2 c = search needs
 
-told-requires : tie.Need-told-requires Inv-loop μ-loop
-told-requires c κs = search needs
+answer-message-requires : tie.Need-answer-message-requires Inv-loop μ-loop
+answer-message-requires c κs = search needs
 
 sub-say : tie.Need-sub-say Inv-loop μ-loop
 sub-say c = search needs
@@ -79,17 +79,17 @@ part-say-end : tie.Need-part-say-end Inv-loop μ-loop
 part-say-end c = search needs
 
 say-requires : tie.Need-say-requires Inv-loop μ-loop
-say-requires c κs = (rw (c .before .told .ensures), room-left (c .before .before .before .before .before .before .loop .inv) (c .before .before .before .before .before .before .before .before .before .pre) (c .before .told .result))
+say-requires c κs = (rw (c .before .answer-message .ensures), room-left (c .before .before .before .before .before .before .loop .inv) (c .before .before .before .before .before .before .before .before .before .pre) (c .before .answer-message .result))
 
 add-t20 : tie.Need-add-t20 Inv-loop μ-loop
-add-t20 c = omega (arith, c .before .before .say .ensures .0, said-length (c .before .before .before .before .told .result))
+add-t20 c = omega (arith, c .before .before .say .ensures .0, answer-bytes-length (c .before .before .before .before .answer-message .result))
 
 same-length-2 : tie.Need-same-length-2 Inv-loop μ-loop
 same-length-2 c = search needs
 
 returns-2 : tie.Need-returns-2 Inv-loop μ-loop
-returns-2 c = wrong-length (c .before .before .before .before .before .before .before .before .before .loop .inv) (c .before .before .before .before .before .before .before .before .before .before .before .before .pre) (c .before .before .before .before .told .result) (c .before .before .say .ensures .0) (c .before .before .say .ensures .1)
-    (seen (c .before .before .before .before .before .before .before) ∙ c .before .before .before .before .before .enum-told2 .given .1) (c .before .before .before .before .told .ensures)
+returns-2 c = wrong-length (c .before .before .before .before .before .before .before .before .before .loop .inv) (c .before .before .before .before .before .before .before .before .before .before .before .before .pre) (c .before .before .before .before .answer-message .result) (c .before .before .say .ensures .0) (c .before .before .say .ensures .1)
+    (seen (c .before .before .before .before .before .before .before) ∙ c .before .before .before .before .before .enum-told2 .given .1) (c .before .before .before .before .answer-message .ensures)
 
 enum-known-frame : tie.Need-enum-known-frame Inv-loop μ-loop
 enum-known-frame c = search needs
@@ -110,7 +110,7 @@ say-requires-2 : tie.Need-say-requires-2 Inv-loop μ-loop
 say-requires-2 c κs = (rw (heard (c .before)) (replies-in-range _ _), room-left (c .before .before .before .before .before .before .before .loop .inv) (c .before .before .before .before .before .before .before .before .before .before .pre) (c .before .respond .result .answer))
 
 add-made : tie.Need-add-made Inv-loop μ-loop
-add-made c = omega (arith, c .before .before .say2 .ensures .0, said-length (c .before .before .before .before .respond .result .answer))
+add-made c = omega (arith, c .before .before .say2 .ensures .0, answer-bytes-length (c .before .before .before .before .respond .result .answer))
 
 add-at : tie.Need-add-at Inv-loop μ-loop
 add-at c = omega (arith, whole (c .before .before .before .before .before .before .before) .within, length-drop (c .before .before .before .before .before .before .before .before .before .before .before .loop .at) (now (c .before .before .before .before .before .before .before .before .before .before .before .before .before .before .args .input)))
@@ -138,7 +138,7 @@ answer-all-spec =
     same-length
     returns
     enum-told-2
-    told-requires
+    answer-message-requires
     sub-say
     part-say-start
     part-say-end

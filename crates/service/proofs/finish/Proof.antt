@@ -8,8 +8,8 @@ use Rattle.service.proofs.finish.Tie as tie
 returns : tie.Need-returns
 returns c = let a = c .before .before .before .args in nothing-left (now (a .held)) (now (a .out)) (c .if1 .taken)
 
-told-requires : tie.Need-told-requires
-told-requires c κs = search needs
+answer-message-requires : tie.Need-answer-message-requires
+answer-message-requires c κs = search needs
 
 write-plain-requires : tie.Need-write-plain-requires
 write-plain-requires c κs = search needs
@@ -19,7 +19,7 @@ same-length c = search needs
 
 returns-2 : tie.Need-returns-2
 returns-2 c = let a = c .before .before .before .before .before .before .before .before .args in
-    something-left (now (a .held)) (now (a .out)) (c .before .before .before .before .before .if1 .left) (c .before .before .before .before .told .ensures) (c .before .before .write-plain .ensures)
+    something-left (now (a .held)) (now (a .out)) (c .before .before .before .before .before .if1 .left) (c .before .before .before .before .answer-message .ensures) (c .before .before .write-plain .ensures)
 
 pub finish-spec : {M : Type 1} → statement M
-finish-spec = tie.close (tie.spec returns told-requires write-plain-requires same-length returns-2)
+finish-spec = tie.close (tie.spec returns answer-message-requires write-plain-requires same-length returns-2)

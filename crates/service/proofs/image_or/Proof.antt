@@ -11,11 +11,11 @@ number-requires c κs = search needs
 returns : tie.Need-returns
 returns c = rw (← c .before .number .ensures) (simp (eq-eqb _ _ (c .if1 .taken)))
 
-told-requires : tie.Need-told-requires
-told-requires c κs = search needs
+answer-message-requires : tie.Need-answer-message-requires
+answer-message-requires c κs = search needs
 
 returns-2 : tie.Need-returns-2
-returns-2 c = c .told .ensures ∙ rw (← c .before .before .number .ensures) (simp (ne-eqb _ _ (c .before .if1 .left)))
+returns-2 c = c .answer-message .ensures ∙ rw (← c .before .before .number .ensures) (simp (ne-eqb _ _ (c .before .if1 .left)))
 
 pub image-or-spec : {M : Type 1} → statement M
-image-or-spec = tie.close (tie.spec number-requires returns told-requires returns-2)
+image-or-spec = tie.close (tie.spec number-requires returns answer-message-requires returns-2)

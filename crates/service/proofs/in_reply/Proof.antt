@@ -10,14 +10,14 @@ enum-told c = search needs
 image-or-requires : tie.Need-image-or-requires
 image-or-requires c κs = search needs
 
-told-requires : tie.Need-told-requires
-told-requires c κs = search needs
+answer-message-requires : tie.Need-answer-message-requires
+answer-message-requires c κs = search needs
 
 returns : tie.Need-returns
 returns c = rw (c .image-or .ensures, c .before .enum-told .given .1)
 
 returns-2 : tie.Need-returns-2
-returns-2 c = rw (c .told .ensures, not-asked _ (c .before .before .before .args .o) (c .before .match .keys2))
+returns-2 c = rw (c .answer-message .ensures, not-asked _ (c .before .before .before .args .o) (c .before .match .keys2))
 
 pub in-reply-spec : {M : Type 1} → statement M
-in-reply-spec = tie.close (tie.spec enum-told image-or-requires told-requires returns returns-2)
+in-reply-spec = tie.close (tie.spec enum-told image-or-requires answer-message-requires returns returns-2)

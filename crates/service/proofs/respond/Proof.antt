@@ -12,12 +12,12 @@ read-asked-requires c κs = search needs
 number-requires : tie.Need-number-requires
 number-requires c κs = search needs
 
-told-requires : tie.Need-told-requires
-told-requires c κs = search needs
+answer-message-requires : tie.Need-answer-message-requires
+answer-message-requires c κs = search needs
 
 returns : tie.Need-returns
 unfolding respond
-returns c = rw (c .told .ensures, ← c .before .before .before .read-asked .ensures, ne-eqb _ _ (rw (c .before .before .number .ensures) at (c .before .if1 .taken)))
+returns c = rw (c .answer-message .ensures, ← c .before .before .before .read-asked .ensures, ne-eqb _ _ (rw (c .before .before .number .ensures) at (c .before .if1 .taken)))
 
 call-requires : tie.Need-call-requires
 call-requires c κs = search needs
@@ -35,7 +35,7 @@ respond-spec =
     (tie.spec
     read-asked-requires
     number-requires
-    told-requires
+    answer-message-requires
     returns
     call-requires
     in-reply-requires

@@ -1,13 +1,13 @@
--- `station::session` meets its contract: the held bytes lie within the buffer, and the turns that are left shrink. Assumes nothing.
+-- `station::session` meets its contract: less than a message is held, and the turns that are left shrink. Assumes nothing.
 use mathlib.Core.Path.{_≡_}
-use Prim.Native.Nat.{_≤_}
+use Prim.Native.Nat.{_<_}
 use borrow.Author.Needs.{needs}
 use lib.ListN.{length}
 use Rattle.station.proofs.session.Statement.{statement}
 use Rattle.station.proofs.session.Tie as tie
 
 abbrev Inv-loop : tie.InvT-loop
-Inv-loop buf₀ out₀ t₀ turns₀ buf out t turns = (length buf ≡ length buf₀) × (length out ≡ length out₀) × (t .have ≤ length buf₀)
+Inv-loop buf₀ out₀ t₀ turns₀ buf out t turns = (length buf ≡ length buf₀) × (length out ≡ length out₀) × (t .have < 45)
 
 abbrev μ-loop : tie.MeasureT-loop
 μ-loop buf₀ out₀ t₀ turns₀ buf out t turns = turns
@@ -37,7 +37,7 @@ loop-less : tie.Need-loop-less Inv-loop μ-loop
 loop-less c = search needs
 
 loop-again : tie.Need-loop-again Inv-loop μ-loop
-loop-again c = search needs
+loop-again c = (search needs, search needs, c .before .before .before .before .before .one-turn .ensures (c .if1 .left))
 
 same-length-3 : tie.Need-same-length-3 Inv-loop μ-loop
 same-length-3 c = search needs

@@ -1,9 +1,16 @@
--- `station_c::garage_allowed` meets its contract: by what the five bytes say. Assumes nothing.
-use mathlib.Core.Path.{_∙_}
+-- `station_c::garage_allowed` meets its contract: too few bytes, or by what they say. Assumes nothing.
+use mathlib.Core.Path.{ap, _∙_}
 use borrow.Author.Needs.{needs}
-use Rattle.station_c.specs.Entries.{moved}
+use Rattle.station_c.specs.Entries.{returned}
+use Rattle.station_c.proofs.Judging.{too-few, by-reading}
 use Rattle.station_c.proofs.garage_allowed.Statement.{statement}
 use Rattle.station_c.proofs.garage_allowed.Tie as tie
+
+say-requires : tie.Need-say-requires
+say-requires c κs = search needs
+
+returns : tie.Need-returns
+returns c = too-few _ _ (c .before .if1 .taken) (c .say .ensures)
 
 read-bytes-requires : tie.Need-read-bytes-requires
 read-bytes-requires c κs = search needs
@@ -14,32 +21,32 @@ enum-known-one c = search needs
 judged-requires : tie.Need-judged-requires
 judged-requires c κs = search needs
 
-say-requires : tie.Need-say-requires
-say-requires c κs = search needs
+say-requires-2 : tie.Need-say-requires-2
+say-requires-2 c κs = search needs
 
 enum-told : tie.Need-enum-told
 enum-told c = search needs
 
-say-requires-2 : tie.Need-say-requires-2
-say-requires-2 c κs = search needs
-
-returns : tie.Need-returns
-unfolding moved
-returns c = c .say .ensures ∙ rw (c .before .judged .ensures, ← c .before .before .before .before .before .read-bytes .ensures, c .before .before .before .one .given .1)
+say-requires-3 : tie.Need-say-requires-3
+say-requires-3 c κs = search needs
 
 returns-2 : tie.Need-returns-2
-unfolding moved
-returns-2 c = c .say2 .ensures ∙ rw (← c .before .before .before .read-bytes .ensures, c .before .enum-told .given .1)
+returns-2 c = by-reading _ _ (c .before .before .before .before .before .before .if1 .left) (c .before .before .before .before .before .read-bytes .ensures) (c .before .before .before .one .given .1) (c .say2 .ensures ∙ ap returned (c .before .judged .ensures))
+
+returns-3 : tie.Need-returns-3
+returns-3 c = by-reading _ _ (c .before .before .before .before .if1 .left) (c .before .before .before .read-bytes .ensures) (c .before .enum-told .given .1) (c .say3 .ensures)
 
 pub garage-allowed-spec : {M : Type 1} → statement M
 garage-allowed-spec =
     tie.close
     (tie.spec
+    say-requires
+    returns
     read-bytes-requires
     enum-known-one
     judged-requires
-    say-requires
-    enum-told
     say-requires-2
-    returns
-    returns-2)
+    enum-told
+    say-requires-3
+    returns-2
+    returns-3)

@@ -1,7 +1,7 @@
--- `station_c::station_message` meets its contract: either room too short, or the reply. Assumes nothing.
+-- `station_c::station_message` meets its contract: either room too short, or the reply, and the station if the message was taken. Assumes nothing.
 use native.Mathlib.Omega.{arith}
 use borrow.Author.Needs.{needs}
-use Rattle.station_c.proofs.Exchanging.{short-room, short-reply, replied}
+use Rattle.station_c.proofs.Exchanging.{short-room, short-reply, told-why, replied}
 use Rattle.station_c.proofs.station_message.Statement.{statement}
 use Rattle.station_c.proofs.station_message.Tie as tie
 
@@ -35,6 +35,18 @@ same-length-2 c = search needs
 returns-2 : tie.Need-returns-2
 returns-2 c = short-reply _ _ _ (c .before .before .before .before .before .before .before .before .before .before .if1 .left) (c .before .before .before .before .before .before .before .before .load .ensures) (c .before .before .before .before .before .before .before .respond .ensures) (c .before .before .before .before .before .write-plain .ensures) (c .before .before .number .ensures) (c .before .if2 .taken) (c .say2 .ensures)
 
+returned-of-requires : tie.Need-returned-of-requires
+returned-of-requires c κs = search needs
+
+same-length-3 : tie.Need-same-length-3
+same-length-3 c = search needs
+
+same-length-4 : tie.Need-same-length-4
+same-length-4 c = search needs
+
+returns-3 : tie.Need-returns-3
+returns-3 c = told-why _ _ _ (c .before .before .before .before .before .before .before .before .before .before .before .if1 .left) (c .before .before .before .before .before .before .before .before .before .load .ensures) (c .before .before .before .before .before .before .before .before .respond .ensures) (c .before .before .before .before .before .before .write-plain .ensures) (c .before .before .before .number .ensures) (c .before .before .if2 .left) (c .before .returned-of .ensures) (c .if3 .taken)
+
 stored-requires : tie.Need-stored-requires
 stored-requires c κs = search needs
 
@@ -44,17 +56,14 @@ slice-aggregate-copy c = search needs
 copy-requires : tie.Need-copy-requires
 copy-requires c κs = search needs
 
-said-of-requires : tie.Need-said-of-requires
-said-of-requires c κs = search needs
+same-length-5 : tie.Need-same-length-5
+same-length-5 c = search needs
 
-same-length-3 : tie.Need-same-length-3
-same-length-3 c = search needs
+same-length-6 : tie.Need-same-length-6
+same-length-6 c = search needs
 
-same-length-4 : tie.Need-same-length-4
-same-length-4 c = search needs
-
-returns-3 : tie.Need-returns-3
-returns-3 c = replied _ _ _ (c .before .before .before .before .before .before .before .before .before .before .before .before .before .before .before .before .before .before .if1 .left) (c .before .before .before .before .before .before .before .before .before .before .before .before .before .before .before .before .load .ensures) (c .before .before .before .before .before .before .before .before .before .before .before .before .before .before .before .respond .ensures) (c .before .before .before .before .before .before .before .before .before .before .before .before .before .write-plain .ensures) (c .before .before .before .before .before .before .before .before .before .before .number .ensures) (c .before .before .before .before .before .before .before .before .before .if2 .left) (c .before .before .before .before .before .before .stored .ensures) (omega arith) (c .before .before .before .copy .ensures .1) (c .said-of .ensures)
+returns-4 : tie.Need-returns-4
+returns-4 c = replied _ _ _ (c .before .before .before .before .before .before .before .before .before .before .before .before .before .before .before .before .before .before .before .if1 .left) (c .before .before .before .before .before .before .before .before .before .before .before .before .before .before .before .before .before .load .ensures) (c .before .before .before .before .before .before .before .before .before .before .before .before .before .before .before .before .respond .ensures) (c .before .before .before .before .before .before .before .before .before .before .before .before .before .before .write-plain .ensures) (c .before .before .before .before .before .before .before .before .before .before .before .number .ensures) (c .before .before .before .before .before .before .before .before .before .before .if2 .left) (c .before .before .before .before .before .before .before .before .before .returned-of .ensures) (c .before .before .before .before .before .before .before .before .if3 .left) (c .before .before .before .before .before .stored .ensures) (omega arith) (c .before .before .copy .ensures .1)
 
 pub station-message-spec : {M : Type 1} → statement M
 station-message-spec =
@@ -70,10 +79,13 @@ station-message-spec =
     same-length
     same-length-2
     returns-2
+    returned-of-requires
+    same-length-3
+    same-length-4
+    returns-3
     stored-requires
     slice-aggregate-copy
     copy-requires
-    said-of-requires
-    same-length-3
-    same-length-4
-    returns-3)
+    same-length-5
+    same-length-6
+    returns-4)

@@ -27,7 +27,17 @@ low-requires-8 : tie.Need-low-requires-8
 low-requires-8 c κs = search needs
 
 returns : tie.Need-returns
-returns c = cc
+returns c =
+    rw (
+      c .before .before .before .before .before .before .before .low .ensures,
+      c .before .before .before .before .before .before .low2 .ensures,
+      c .before .before .before .before .before .low3 .ensures,
+      c .before .before .before .before .low4 .ensures,
+      c .before .before .before .low5 .ensures,
+      c .before .before .low6 .ensures,
+      c .before .low7 .ensures,
+      c .low8 .ensures,
+    )
 
 pub image-bytes-spec : {M : Type 1} → statement M
 image-bytes-spec =

@@ -1,0 +1,286 @@
+-- Every entry that takes a lent station is the call that it stands for: what its room holds after it, and what it returns. And what is
+-- promised of whatever entries follow on one room. Assumes nothing.
+use mathlib.Core.Path.{_≡_, refl, sym, ap, subst, _∙_}
+use mathlib.Core.Bool.{Bool, true, false, _&&_}
+use mathlib.Core.List.{List, [], _∷_, _++_}
+use Prim.Native.Nat.{ℕ, _+_, _*_, _%_, _≤_}
+use native.Mathlib.Omega.{arith}
+use borrow.Author.Tests.{le-leb, le-ltb, ltb-false, eqb-false, eq-eqb}
+use lib.Dec.{eqb, leb, ltb}
+use lib.ListN.{length, take, drop, length-append, length-drop}
+use lib.Seq.{length-take-le}
+use Rattle.bits.proofs.Cases.{split, clash}
+use Rattle.rules.specs.Codes.{most}
+use Rattle.answers.specs.declared.Answer.{Answer}
+use Rattle.answers.specs.declared.Answer.the-variants.{NoRoom}
+use Rattle.answers.specs.Answers.{numberOf}
+use Rattle.answers.proofs.Promises.{in-table}
+use Rattle.garage.specs.declared.Station.{Station}
+use Rattle.garage.specs.declared.Outcome.{Outcome}
+use Rattle.garage.specs.Station.{startOf, fit}
+use Rattle.garage.specs.Calls as station
+use Rattle.garage_laws.specs.Runs as run
+use Rattle.garage_laws.specs.Runs.{Call, call, left, Reached, byImage}
+use Rattle.garage_laws.proofs.Calls.{untouched}
+use Rattle.wire.specs.declared.What.{What}
+use Rattle.wire.specs.declared.What.the-variants.{Request, Event, Result, Image, Ask, Held}
+use Rattle.wire_laws.specs.Statements.{Bytes}
+use Rattle.service.specs.declared.Reply.{Reply}
+use Rattle.service.specs.Service.{respond, answerBytes}
+use Rattle.service.specs.Statements.{Answers}
+use Rattle.service.proofs.Replies.{answer-bytes-length}
+use Rattle.service.proofs.Ranges.{ways, always-answered, refused-keeps}
+use Rattle.station_c.specs.Entries.{stationBytes, stationOf, returned, Entry, writes, entry, requestOf, asking, returnedOf, exchange}
+use Rattle.station_c.specs.Promises.{Typed}
+use Rattle.station_c.proofs.Promises.{station-fits, station-reads-back, returned-reads-back}
+use Rattle.boundary.specs.Calls.{Heard, makes, heard, reply}
+use Rattle.boundary.specs.Uses.{Use, start, request, event, result, image, ask, message, used, uses, heardRequest, meant, AsPassed, AllPassed, Roomy, Begun, started, imaged}
+use Rattle.boundary.specs.Statements.{EntryIsCall, AskWrites, MessageWrites, LentSound, LentNever}
+use Rattle.boundary.proofs.Messages.{message-is-call, below, Fine, heard-fine}
+use Rattle.boundary.proofs.Reaching.{reached-reply, start-reached, reached-fit, reached-sound, returned-reply, never-so, typed-reply}
+
+-- ---- what an entry stands for
+
+asked-fine : (n : ℕ) (set : List ℕ) → Fine (heardRequest n set)
+asked-fine n set =
+    ways Fine (leb n most && ltb (length set) (5 * n)) (λ _. omega arith)
+    (λ t h.
+    let few : ltb (length set) (5 * n) ≡ false = rw (le-leb n most h) at t in
+    let l = ltb-false (length set) (5 * n) few in
+    let k = length-take-le (5 * n) set l in
+    omega arith)
+
+-- what holds of the start and of every reply to what is heard holds of it
+by-meaning : (P : Reply → Type 0) (s : Station) → P (meant s start) → ((h : Heard) → Fine h → P (reply s h)) → (u : Use) → AsPassed u → P (meant s u)
+by-meaning P s b f start p = b
+by-meaning P s b f (request n set) p = f (heardRequest n set) (asked-fine n set)
+by-meaning P s b f (event e) p = f (makes (run.event e)) tt
+by-meaning P s b f (result i done) p = f (makes (run.result i done)) tt
+by-meaning P s b f (image r) p = f (makes (run.image r)) p
+by-meaning P s b f (ask out) p = f (makes run.ask) tt
+by-meaning P s b f (message m out) p = f (heard m) (heard-fine m p)
+
+start-typed : Typed startOf
+start-typed = record { image = omega arith; places = refl }
+
+-- a room of bytes holds a station as code holds it
+room-typed : (room : List ℕ) → Bytes room → 50 ≤ length room → Typed (stationOf room)
+unfolding stationOf
+room-typed room b h = record { image = below 8 0 room b; places = length-take-le 40 (drop 10 room) (rw (length-drop 10 room) (omega arith)) }
+
+meant-typed : (s : Station) → Typed s → (u : Use) → AsPassed u → Typed (meant s u .station)
+meant-typed s T = by-meaning (λ (x : Reply). Typed (x .station)) s start-typed (typed-reply s T)
+
+-- ---- what it leaves and returns
+
+record Done (e : Entry) (x : Reply) : Type 0 where
+  long : 50 ≤ length (e .leaves)
+  holds : stationOf (e .leaves) ≡ x .station
+  returns : e .says ≡ returnedOf (x .answer)
+
+-- a station written over the first bytes of a room
+written-long : (s : Station) (past : List ℕ) → Typed s → 50 ≤ length (stationBytes s ++ past)
+written-long s past T = let l = station-fits s T in rw (length-append (stationBytes s) past) (omega arith)
+
+-- a call's entry
+entered : (c : Station → Outcome) (room : List ℕ) (x : Reply) → 50 ≤ length room → Typed (x .station) → c (stationOf room) .station ≡ x .station
+    → returned (c (stationOf room) .answer) ≡ returnedOf (x .answer) → ((numberOf (c (stationOf room) .answer) ≡ 0 → ⊥) → x .station ≡ stationOf room)
+    → Done (entry c room) x
+unfolding entry writes
+entered c room x h T e f k =
+    let o = c (stationOf room) in
+    let past = drop (length (stationBytes (o .station))) room in
+    let U : Typed (o .station) = subst Typed (sym e) T in
+    split (eqb (numberOf (o .answer)) 0)
+    (λ t. record {
+      long = rw (le-ltb (length room) 50 h, t) (written-long (o .station) past U);
+      holds = rw (le-ltb (length room) 50 h, t) (station-reads-back (o .station) past U ∙ e);
+      returns = rw (le-ltb (length room) 50 h) f;
+    })
+    (λ t. record {
+      long = rw (le-ltb (length room) 50 h, t) h;
+      holds = rw (le-ltb (length room) 50 h, t) (sym (k (eqb-false _ 0 t)));
+      returns = rw (le-ltb (length room) 50 h) f;
+    })
+
+by-call : (c : Call) (room : List ℕ) → 50 ≤ length room → Typed (left (stationOf room) c) → Done (entry (λ s. call s c) room) (reply (stationOf room) (makes c))
+by-call c room h T =
+    let s = stationOf room in
+    entered (λ s. call s c) room (reply s (makes c)) h T refl (returned-reply s c) (untouched s c)
+
+by-request : (n : ℕ) (set room : List ℕ) → 50 ≤ length room → Typed (reply (stationOf room) (heardRequest n set) .station)
+    → Done (entry (requestOf n set) room) (reply (stationOf room) (heardRequest n set))
+unfolding requestOf
+by-request n set room h T = let (e, f, k) = as-call in entered (requestOf n set) room (reply s (heardRequest n set)) h T e f k
+  where
+    s : Station
+    s = stationOf room
+
+    as-call : (requestOf n set s .station ≡ reply s (heardRequest n set) .station)
+        × (returned (requestOf n set s .answer) ≡ returnedOf (reply s (heardRequest n set) .answer))
+        × ((numberOf (requestOf n set s .answer) ≡ 0 → ⊥) → reply s (heardRequest n set) .station ≡ s)
+    as-call =
+        let c = run.request n (take (5 * n) set) in
+        split (leb n most && ltb (length set) (5 * n)) (λ t. rw t (refl, refl, λ _. refl)) (λ t. rw t (refl, returned-reply s c, untouched s c))
+
+-- an ask
+by-ask : (room out : List ℕ) → 50 ≤ length room → ltb (length out) 8 ≡ false → Done (used room (ask out)) (reply (stationOf room) (makes run.ask))
+unfolding asking writes station.ask
+by-ask room out h l =
+    let s = stationOf room in
+    record {
+      long = h;
+      holds = split (fit s) (λ t. rw t) (λ t. rw t);
+      returns = rw (le-ltb (length room) 50 h, l) (returned-reply s run.ask);
+    }
+
+-- a message that is refused leaves the station
+kept : (s : Station) (bytes : List ℕ) → (returnedOf (respond s bytes .answer) % 256 ≡ 0 → ⊥) → respond s bytes .station ≡ s
+kept s bytes n = go (respond s bytes .answer) refl (always-answered s bytes)
+  where
+    go : (w : What) → respond s bytes .answer ≡ w → Answers w → respond s bytes .station ≡ s
+    go (What.Answer number place) e a =
+        let (b, f) = a .0 in
+        let l = in-table b in
+        refused-keeps s bytes number place e (λ z. n (ap (λ (w : What). returnedOf w % 256) e ∙ omega arith))
+    go (Held r) e a = absurd (n (ap (λ (w : What). returnedOf w % 256) e))
+    go Request e a = absurd a
+    go (Event way) e a = absurd a
+    go (Result number done) e a = absurd a
+    go (Image r) e a = absurd a
+    go Ask e a = absurd a
+
+by-message : (room m out : List ℕ) → 50 ≤ length room → ltb (length out) (length (answerBytes (respond (stationOf room) m .answer))) ≡ false
+    → Typed (reply (stationOf room) (heard m) .station) → Done (used room (message m out)) (reply (stationOf room) (heard m))
+unfolding exchange
+by-message room m out h l T =
+    let s = stationOf room in
+    let o = respond s m in
+    let same = message-is-call s m in
+    let e = ap (λ (x : Reply). x .station) same in
+    let f = ap (λ (x : Reply). returnedOf (x .answer)) same in
+    let U : Typed (o .station) = subst Typed (sym e) T in
+    split (eqb (returnedOf (o .answer) % 256) 0)
+    (λ t. record {
+      long = rw (le-ltb (length room) 50 h, l, t) (written-long (o .station) (drop 50 room) U);
+      holds = rw (le-ltb (length room) 50 h, l, t) (station-reads-back (o .station) (drop 50 room) U ∙ e);
+      returns = rw (le-ltb (length room) 50 h, l) f;
+    })
+    (λ t. record {
+      long = rw (le-ltb (length room) 50 h, l, t) h;
+      holds = rw (le-ltb (length room) 50 h, l, t) (sym (kept s m (eqb-false _ 0 t)) ∙ e);
+      returns = rw (le-ltb (length room) 50 h, l) f;
+    })
+
+-- the room for an image or a reply is too short
+abbrev short : List ℕ → Use → Bool
+short room start = false
+short room (request n set) = false
+short room (event e) = false
+short room (result i done) = false
+short room (image r) = false
+short room (ask out) = ltb (length out) 8
+short room (message m out) = ltb (length out) (length (answerBytes (respond (stationOf room) m .answer)))
+
+done : (room : List ℕ) → 50 ≤ length room → Typed (stationOf room) → (u : Use) → AsPassed u → short room u ≡ false → Done (used room u) (meant (stationOf room) u)
+done room h T start p l = entered (λ s. station.taken startOf) room (meant (stationOf room) start) h start-typed refl refl (λ n. absurd (n refl))
+done room h T (request n set) p l = by-request n set room h (meant-typed (stationOf room) T (request n set) p)
+done room h T (event e) p l = by-call (run.event e) room h (meant-typed (stationOf room) T (event e) p)
+done room h T (result i d) p l = by-call (run.result i d) room h (meant-typed (stationOf room) T (result i d) p)
+done room h T (image r) p l = by-call (run.image r) room h (meant-typed (stationOf room) T (image r) p)
+done room h T (ask out) p l = by-ask room out h l
+done room h T (message m out) p l = by-message room m out h l (meant-typed (stationOf room) T (message m out) p)
+
+-- then nothing is done
+skipped : (room : List ℕ) → 50 ≤ length room → (u : Use) → short room u ≡ true → (used room u .leaves ≡ room) × (used room u .says ≡ returned NoRoom)
+unfolding asking exchange
+skipped room h start l = clash l refl
+skipped room h (request n set) l = clash l refl
+skipped room h (event e) l = clash l refl
+skipped room h (result i d) l = clash l refl
+skipped room h (image r) l = clash l refl
+skipped room h (ask out) l = (refl, rw (le-ltb (length room) 50 h, l))
+skipped room h (message m out) l = rw (le-ltb (length room) 50 h, l) (refl, refl)
+
+long-enough : (room : List ℕ) (u : Use) → Roomy u → short room u ≡ false
+long-enough room start r = refl
+long-enough room (request n set) r = refl
+long-enough room (event e) r = refl
+long-enough room (result i d) r = refl
+long-enough room (image x) r = refl
+long-enough room (ask out) r = le-ltb (length out) 8 r
+long-enough room (message m out) r = let w = respond (stationOf room) m .answer in le-ltb (length out) (length (answerBytes w)) (omega (arith, answer-bytes-length w))
+
+pub entry-is-call : EntryIsCall
+entry-is-call room b h u p r = let D = done room h (room-typed room b h) u p (long-enough room u r) in (D .holds, D .returns)
+
+pub ask-writes : AskWrites
+unfolding asking writes
+ask-writes room out h l z =
+    let a = station.ask (stationOf room) .answer in
+    let e : asking room out .says ≡ returned a = rw (le-ltb (length room) 50 h, le-ltb (length out) 8 l) in
+    let n : numberOf a ≡ 0 = sym (returned-reads-back a .0) ∙ ap (λ (k : ℕ). k % 256) (sym e) ∙ z in
+    rw (le-ltb (length room) 50 h, le-ltb (length out) 8 l, eq-eqb (numberOf a) 0 n)
+
+pub message-writes : MessageWrites
+unfolding exchange
+message-writes room m out h l =
+    let s = stationOf room in
+    let w = respond s m .answer in
+    let k : length (answerBytes w) ≤ length out = omega (arith, answer-bytes-length w) in
+    rw (le-ltb (length room) 50 h, le-ltb (length out) (length (answerBytes w)) k)
+    (ap (λ (x : Reply). answerBytes (x .answer) ++ drop (length (answerBytes (x .answer))) out) (message-is-call s m))
+
+-- ---- whatever entries follow
+
+-- a room that holds a station which was reached
+record Lent (room : List ℕ) : Type 0 where
+  long : 50 ≤ length room
+  typed : Typed (stationOf room)
+  reached : Reached (stationOf room)
+
+held : (room : List ℕ) (x : Reply) {e : Entry} → Done e x → Typed (x .station) → Reached (x .station) → Lent (e .leaves)
+held room x D T R = record { long = D .long; typed = subst Typed (sym (D .holds)) T; reached = subst Reached (sym (D .holds)) R }
+
+lent-used : (room : List ℕ) → Lent room → (u : Use) → AsPassed u → Lent (used room u .leaves)
+lent-used room L u p =
+    let s = stationOf room in
+    split (short room u)
+    (λ t. subst Lent (sym (skipped room (L .long) u t .0)) L)
+    (λ t. held room (meant s u) (done room (L .long) (L .typed) u p t) (meant-typed s (L .typed) u p)
+    (by-meaning (λ (x : Reply). Reached (x .station)) s start-reached (reached-reply s (L .reached)) u p))
+
+lent-uses : (room : List ℕ) → Lent room → (l : List Use) → AllPassed l → Lent (uses room l)
+lent-uses room L [] p = L
+lent-uses room L (u ∷ l) p = lent-uses (used room u .leaves) (lent-used room L u (p .0)) l (p .1)
+
+begun : (room : List ℕ) → Begun room → Lent room
+begun room (started before h) =
+    let s = stationOf before in
+    held before (meant s start) (entered (λ s. station.taken startOf) before (meant s start) h start-typed refl refl (λ n. absurd (n refl))) start-typed start-reached
+begun room (imaged before r b h m z) =
+    let s = stationOf before in
+    let T = room-typed before b h in
+    let D = done before h T (image r) m refl in
+    let a = call s (run.image r) .answer in
+    let taken : numberOf a ≡ 0 = sym (returned-reads-back a .0) ∙ ap (λ (k : ℕ). k % 256) (sym (D .returns)) ∙ z in
+    held before (meant s (image r)) D (meant-typed s T (image r) m)
+    (record { origin = left s (run.image r); begins = byImage s r m taken; since = []; noImages = tt; here = refl })
+
+pub lent-sound : LentSound
+lent-sound room b l p =
+    let L = lent-uses room (begun room b) l p in
+    (reached-fit _ (L .reached), reached-sound _ (L .reached))
+
+pub lent-never : LentNever
+lent-never room b l p u q =
+    let last = uses room l in
+    let L = lent-uses room (begun room b) l p in
+    let s = stationOf last in
+    split (short last u)
+    (λ t. let e = skipped last (L .long) u t .1 in (λ z. omega arith, λ z. omega arith))
+    (λ t.
+    let e = ap (λ (k : ℕ). k % 256) (done last (L .long) (L .typed) u q t .returns) in
+    let (no14, no16) = by-meaning (λ (x : Reply). (returnedOf (x .answer) % 256 ≡ 14 → ⊥) × (returnedOf (x .answer) % 256 ≡ 16 → ⊥)) s
+    (λ z. omega arith, λ z. omega arith) (never-so s (L .reached)) u q in
+    (λ z. no14 (sym e ∙ z), λ z. no16 (sym e ∙ z)))

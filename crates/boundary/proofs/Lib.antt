@@ -1,0 +1,6 @@
+pub mod Messages
+pub mod Runs
+pub mod Reaching
+pub mod Sent
+pub mod Lent
+pub mod Places

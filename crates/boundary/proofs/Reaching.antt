@@ -1,0 +1,160 @@
+-- Where calls lead: a station that was reached stays so, an image that is taken being a new beginning; it is fit, and its next answer is
+-- neither 14 nor 16. And a station as code holds it stays one. Assumes nothing.
+use mathlib.Core.Path.{_≡_, refl, sym, ap, subst, _∙_}
+use mathlib.Core.Bool.{true}
+use mathlib.Core.List.{List, [], _∷_, _++_}
+use Prim.Native.Nat.{ℕ, _+_, _*_, _-_, _%_, _≤_}
+use native.Mathlib.Omega.{arith}
+use borrow.Author.Tests.{eqb-true, eqb-false}
+use lib.Dec.{eqb}
+use lib.ListN.{length, take, replicate, length-append, length-replicate}
+use lib.Seq.{length-take-le}
+use Rattle.bits.specs.Bits.{bit}
+use Rattle.bits.proofs.Cases.{split}
+use Rattle.floor.specs.Sound.{Sound}
+use Rattle.answers.specs.declared.Answer.{Answer}
+use Rattle.answers.specs.Answers.{numberOf}
+use Rattle.garage.specs.declared.Station.{Station}
+use Rattle.garage.specs.declared.Outcome.{Outcome}
+use Rattle.garage.specs.Station.{startOf, fit}
+use Rattle.garage.specs.Calls as station
+use Rattle.garage_laws.specs.Runs as run
+use Rattle.garage_laws.specs.Runs.{Call, call, said, left, calls, atStart, byImage, NoImages, Reached}
+use Rattle.garage_laws.proofs.Fits.{fit-start, after-result}
+use Rattle.garage_laws.proofs.Calls.{image-has, image-is, untouched, fit-says, following}
+use Rattle.garage_laws.proofs.Steps.{Step, refuses, opens, fails, succeeds, drives, tells, steps, reached}
+use Rattle.garage_laws.proofs.Always.{begins-has, fit-step, small-step, fit-stays, always-laid-out}
+use Rattle.garage_laws.proofs.Demands.{never-fourteen}
+use Rattle.station_c.specs.Entries.{returned, returnedOf}
+use Rattle.station_c.specs.Promises.{Typed}
+use Rattle.station_c.proofs.Promises.{returned-reads-back}
+use Rattle.boundary.specs.Calls as made
+use Rattle.boundary.specs.Calls.{Heard, makes, replyTo, reply, Sized}
+use Rattle.boundary.specs.Statements.{StaysReached, ReachedFit}
+use Rattle.boundary.proofs.Messages.{AsMade, Fine}
+
+-- ---- reached
+
+calls-more : (s : Station) (l : List Call) (c : Call) → calls s (l ++ (c ∷ [])) ≡ left (calls s l) c
+calls-more s [] c = refl
+calls-more s (d ∷ l) c = calls-more (left s d) l c
+
+no-images-more : (l : List Call) (c : Call) → NoImages l → NoImages (c ∷ []) → NoImages (l ++ (c ∷ []))
+no-images-more [] c p q = q
+no-images-more (run.request n set ∷ l) c p q = no-images-more l c p q
+no-images-more (run.result i done ∷ l) c p q = no-images-more l c p q
+no-images-more (run.event e ∷ l) c p q = no-images-more l c p q
+no-images-more (run.image r ∷ l) c p q = absurd p
+no-images-more (run.ask ∷ l) c p q = no-images-more l c p q
+
+-- a call as code makes it has such an image, and several are one and the rest
+pub one-sized : (c : Call) → AsMade c → Sized (c ∷ [])
+one-sized (run.request n set) m = tt
+one-sized (run.result i done) m = tt
+one-sized (run.event e) m = tt
+one-sized (run.image r) m = (m, tt)
+one-sized run.ask m = tt
+
+sized-parts : (c : Call) (l : List Call) → Sized (c ∷ l) → Sized (c ∷ []) × Sized l
+sized-parts (run.request n set) l m = (tt, m)
+sized-parts (run.result i done) l m = (tt, m)
+sized-parts (run.event e) l m = (tt, m)
+sized-parts (run.image r) l m = ((m .0, tt), m .1)
+sized-parts run.ask l m = (tt, m)
+
+module _ (s : Station) (R : Reached s) where
+  by-plain : (c : Call) → NoImages (c ∷ []) → Reached (left s c)
+  by-plain c p = record {
+    origin = R .origin;
+    begins = R .begins;
+    since = R .since ++ (c ∷ []);
+    noImages = no-images-more (R .since) c (R .noImages) p;
+    here = ap (λ (t : Station). left t c) (R .here) ∙ sym (calls-more (R .origin) (R .since) c);
+  }
+
+  pub reached-call : (c : Call) → Sized (c ∷ []) → Reached (left s c)
+  reached-call (run.request n set) m = by-plain (run.request n set) tt
+  reached-call (run.result i done) m = by-plain (run.result i done) tt
+  reached-call (run.event e) m = by-plain (run.event e) tt
+  reached-call (run.image r) m = split (eqb (said s (run.image r)) 0)
+      (λ t. record { origin = left s (run.image r); begins = byImage s r (m .0) (eqb-true _ 0 t); since = []; noImages = tt; here = refl })
+      (λ t. subst Reached (sym (untouched s (run.image r) (eqb-false _ 0 t))) R)
+  reached-call run.ask m = by-plain run.ask tt
+
+  pub reached-reply : (h : Heard) → Fine h → Reached (reply s h .station)
+  reached-reply (makes c) f = reached-call c (one-sized c f)
+  reached-reply (made.refuses a) f = R
+
+pub stays-reached : StaysReached
+stays-reached s R [] m = R
+stays-reached s R (c ∷ l) m = let (a, b) = sized-parts c l m in stays-reached (left s c) (reached-call s R c a) l b
+
+pub start-reached : Reached startOf
+start-reached = record { origin = startOf; begins = atStart; since = []; noImages = tt; here = refl }
+
+-- ---- fit and sound
+
+pub reached-fit : ReachedFit
+reached-fit s R = reached (λ t. fit t ≡ true) fit-step (λ t b. begins-has t b .0) s R
+
+pub reached-sound : (s : Station) → Reached s → Sound (bit (s .bits))
+reached-sound s R = subst (λ (t : Station). Sound (bit (t .bits))) (sym (R .here)) (always-laid-out (R .origin) (R .begins) (R .since))
+
+fit-calls : (l : List Call) (s : Station) → fit (calls s l) ≡ fit s
+fit-calls [] s = refl
+fit-calls (c ∷ l) s = fit-calls l (left s c) ∙ fit-stays s c
+
+pub start-fit : (l : List Call) → fit (calls startOf l) ≡ true
+start-fit l = fit-calls l startOf ∙ fit-start
+
+-- ---- neither 14 nor 16
+
+-- what is returned of a call's answer as a message is its number and place
+pub returned-reply : (s : Station) (c : Call) → returned (call s c .answer) ≡ returnedOf (replyTo s c)
+unfolding station.ask
+returned-reply s (run.request n set) = refl
+returned-reply s (run.result i done) = refl
+returned-reply s (run.event e) = refl
+returned-reply s (run.image r) = refl
+returned-reply s run.ask = split (fit s) (λ t. rw t) (λ t. rw t)
+
+-- a refusal that the reader can give
+low : (a : Answer) (n : ℕ) → numberOf a ≤ 5 → returned a % 256 ≡ n → n ≤ 5
+low a n f e = let b = returned-reads-back a .0 in omega arith
+
+pub never-so : (s : Station) → Reached s → (h : Heard) → Fine h
+    → (returnedOf (reply s h .answer) % 256 ≡ 14 → ⊥) × (returnedOf (reply s h .answer) % 256 ≡ 16 → ⊥)
+never-so s R (makes c) f =
+    let e : returnedOf (replyTo s c) % 256 ≡ said s c = ap (λ (n : ℕ). n % 256) (sym (returned-reply s c)) ∙ returned-reads-back (call s c .answer) .0 in
+    (λ z. never-fourteen s R c (sym e ∙ z), λ z. fit-says s (reached-fit s R) c (sym e ∙ z))
+never-so s R (made.refuses a) f = (λ z. let l = low a 14 f z in omega arith, λ z. let l = low a 16 f z in omega arith)
+
+-- ---- as code holds it
+
+places-step : (s t : Station) (c : Call) → Step s c t → AsMade c → length (s .set) ≡ 40 → length (t .set) ≡ 40
+places-step s t c (refuses n) m h = h
+places-step s t c (opens {n} {set} A) m h =
+    let k = length-take-le (5 * n) set (m (A .few)) in
+    let l = A .few in
+    length-append (take (5 * n) set) (replicate (40 - 5 * n) 0) ∙ rw (k, length-replicate {A = ℕ} (40 - 5 * n) 0) (omega arith)
+places-step s t c (fails {i} w) m h = after-result (λ (x : Station). length (x .set) ≡ 40) s i (s .bits) (λ _. refl) (λ _. h)
+places-step s t c (succeeds {i} w a) m h = after-result (λ (x : Station). length (x .set) ≡ 40) s i (following s i) (λ _. refl) (λ _. h)
+places-step s t c (drives d) m h = h
+places-step s t c tells m h = h
+
+module _ (s : Station) (T : Typed s) where
+  by-step : (c : Call) → NoImages (c ∷ []) → AsMade c → Typed (left s c)
+  by-step c p m = let q = steps s c p in record { image = small-step s (left s c) c q (T .image); places = places-step s (left s c) c q m (T .places) }
+
+  pub typed-call : (c : Call) → AsMade c → Typed (left s c)
+  typed-call (run.request n set) m = by-step (run.request n set) tt m
+  typed-call (run.result i done) m = by-step (run.result i done) tt m
+  typed-call (run.event e) m = by-step (run.event e) tt m
+  typed-call (run.image r) m = split (eqb (said s (run.image r)) 0)
+      (λ t. let w = image-has s r (eqb-true _ 0 t) in subst Typed (sym (ap (λ (o : Outcome). o .station) (image-is s r w))) (record { image = m; places = T .places }))
+      (λ t. subst Typed (sym (untouched s (run.image r) (eqb-false _ 0 t))) T)
+  typed-call run.ask m = by-step run.ask tt m
+
+  pub typed-reply : (h : Heard) → Fine h → Typed (reply s h .station)
+  typed-reply (makes c) f = typed-call c f
+  typed-reply (made.refuses a) f = T

@@ -1,0 +1,116 @@
+-- The three demands of bytes: every message and every entry is a call of the station, and what is promised of calls holds of whatever is
+-- sent. Proved in proofs/. Assumes nothing.
+use mathlib.Core.Path.{_≡_}
+use mathlib.Core.Logic.{_⊎_}
+use mathlib.Core.Bool.{true}
+use mathlib.Core.List.{List, [], _∷_, _++_}
+use Prim.Native.Nat.{ℕ, _/_, _%_, _≤_}
+use lib.ListN.{length, drop}
+use Rattle.bits.specs.Bits.{bit}
+use Rattle.bits.specs.Places.{join}
+use Rattle.floor.specs.Sound.{Sound}
+use Rattle.answers.specs.declared.Answer.the-variants.{Taken}
+use Rattle.answers.specs.Answers.{nowhere}
+use Rattle.garage.specs.declared.Station.{Station}
+use Rattle.garage.specs.Station.{startOf, fit}
+use Rattle.garage_laws.specs.Runs.{Call, calls, Reached}
+use Rattle.wire.specs.declared.What.{What}
+use Rattle.wire.specs.declared.Message.{Message}
+use Rattle.wire.specs.Kinds.{littleEndian, kindOf}
+use Rattle.wire.specs.Writes.{writing, oneForm}
+use Rattle.wire_laws.specs.Statements.{Bytes, Typed}
+use Rattle.service.specs.Service.{respond, answerBytes, answersOn}
+use Rattle.service.specs.Runs.{run, fed}
+use Rattle.station_c.specs.Entries.{stationSize, stationOf, asking, returnedOf, exchange}
+use Rattle.boundary.specs.Calls.{heardAs, heard, reply, heardIn, callsIn, repliesTo, inBytes, fedStation, Sized}
+use Rattle.boundary.specs.Uses.{Use, used, uses, meant, AsPassed, AllPassed, Roomy, Begun}
+
+-- ---- messages and entries are calls
+
+-- on every station, any bytes are answered as the call that they make, which leaves the station; or the reader refuses and it stays
+abbrev pub MessageIsCall : Type 0
+MessageIsCall = (s : Station) (bytes : List ℕ) → respond s bytes ≡ reply s (heard bytes)
+
+-- an input is a list of calls: its answers are theirs, with the reader's refusals between them, and the station is the one that they leave
+abbrev pub RunsAreCalls : Type 0
+RunsAreCalls =
+    (s : Station) (input : List ℕ)
+    → (answersOn s input ≡ inBytes (repliesTo s (heardIn input))) × (run s input .station ≡ calls s (callsIn (heardIn input)))
+
+-- so is one that comes in pieces
+abbrev pub PiecesAreCalls : Type 0
+PiecesAreCalls =
+    (s : Station) (pieces : List (List ℕ))
+    → (fed s pieces ≡ inBytes (repliesTo s (heardIn (join pieces)))) × (fedStation s [] pieces ≡ calls s (callsIn (heardIn (join pieces))))
+
+-- and an image that bytes carry is a number of 64 bits
+abbrev pub ImagesSized : Type 0
+ImagesSized = (input : List ℕ) → Bytes input → Sized (callsIn (heardIn input))
+
+-- every call can be made: a message of kinds 1 to 5 that was written is heard as what it says
+abbrev pub WrittenIsHeard : Type 0
+WrittenIsHeard =
+    (m : Message) (room : List ℕ) → Typed m → kindOf (m .what) ≤ 5 → writing m room .says .answer ≡ Taken
+    → let f = oneForm m in heard (writing m room .leaves) ≡ heardAs (f .what) (f .count) (f .set)
+
+-- an entry leaves in the room the station that its call leaves, and returns that call's number and place
+abbrev pub EntryIsCall : Type 0
+EntryIsCall =
+    (room : List ℕ) → Bytes room → stationSize ≤ length room → (u : Use) → AsPassed u → Roomy u
+    → (stationOf (used room u .leaves) ≡ meant (stationOf room) u .station)
+    × (used room u .says ≡ returnedOf (meant (stationOf room) u .answer))
+
+-- on any room, the place that an entry returns is that of one of eight instructions, or none
+abbrev pub EntryPlacesInRange : Type 0
+EntryPlacesInRange = (room : List ℕ) (u : Use) → (used room u .says / 256 ≤ 7) ⊎ (used room u .says / 256 ≡ nowhere)
+
+-- an ask that is taken writes the record's eight bytes
+abbrev pub AskWrites : Type 0
+AskWrites =
+    (room out : List ℕ) → stationSize ≤ length room → 8 ≤ length out → asking room out .says % 256 ≡ 0
+    → asking room out .leaves ≡ littleEndian 8 (stationOf room .bits) ++ drop 8 out
+
+-- a message writes its reply, a refusal too
+abbrev pub MessageWrites : Type 0
+MessageWrites =
+    (room m out : List ℕ) → stationSize ≤ length room → 12 ≤ length out
+    → let b = answerBytes (reply (stationOf room) (heard m) .answer) in exchange room m out .reply ≡ b ++ drop (length b) out
+
+-- ---- so what is promised of calls holds of bytes
+
+-- every station that calls lead to from one that was reached, images too, is reached
+abbrev pub StaysReached : Type 0
+StaysReached = (s : Station) → Reached s → (l : List Call) → Sized l → Reached (calls s l)
+
+-- a reached station is fit
+abbrev pub ReachedFit : Type 0
+ReachedFit = (s : Station) → Reached s → fit s ≡ true
+
+-- whatever the program is sent, and however it is cut, its station is fit and its record sound
+abbrev pub ProgramSound : Type 0
+ProgramSound =
+    (pieces : List (List ℕ))
+    → (fit (fedStation startOf [] pieces) ≡ true) × Sound (bit (fedStation startOf [] pieces .bits))
+
+-- each of some replies is no answer 14, 16 or 17
+abbrev pub NoSuch : List What → Type 0
+NoSuch [] = Unit {0}
+NoSuch (w ∷ l) =
+    ((place : ℕ) → (w ≡ What.Answer 14 place → ⊥) × (w ≡ What.Answer 16 place → ⊥) × (w ≡ What.Answer 17 place → ⊥))
+    × NoSuch l
+
+-- whatever bytes the program is sent, it never answers 14, 16 or 17
+abbrev pub ProgramNever : Type 0
+ProgramNever = (input : List ℕ) → Bytes input → NoSuch (repliesTo startOf (heardIn input))
+
+-- from where a lent station begins, whatever entries follow on its room, it is fit and its record sound
+abbrev pub LentSound : Type 0
+LentSound =
+    (room : List ℕ) → Begun room → (l : List Use) → AllPassed l
+    → (fit (stationOf (uses room l)) ≡ true) × Sound (bit (stationOf (uses room l) .bits))
+
+-- and no entry then returns 14 or 16
+abbrev pub LentNever : Type 0
+LentNever =
+    (room : List ℕ) → Begun room → (l : List Use) → AllPassed l → (u : Use) → AsPassed u
+    → (used (uses room l) u .says % 256 ≡ 14 → ⊥) × (used (uses room l) u .says % 256 ≡ 16 → ⊥)

@@ -1,0 +1,88 @@
+-- The entries that take a lent station, as one list of cases: what each returns and leaves, and the call that it is. Assumes nothing.
+use mathlib.Core.Path.{_≡_}
+use mathlib.Core.Bool.{cond, _&&_}
+use mathlib.Core.List.{List, [], _∷_}
+use Prim.Native.Nat.{ℕ, _*_, _%_, _^_, _≤_, _<_}
+use lib.Dec.{leb, ltb}
+use lib.ListN.{length, take}
+use Rattle.rules.specs.Codes.{most}
+use Rattle.answers.specs.declared.Answer.the-variants.{Taken, TooFewBytes}
+use Rattle.garage.specs.declared.Station.{Station}
+use Rattle.garage.specs.Station.{startOf}
+use Rattle.garage.specs.Calls as station
+use Rattle.garage_laws.specs.Runs as run
+use Rattle.wire_laws.specs.Statements.{Bytes}
+use Rattle.service.specs.declared.Reply.{Reply}
+use Rattle.service.specs.Service.{answerMessage}
+use Rattle.station_c.specs.Entries.{stationSize, Entry, entry, requestOf, asking, exchange}
+use Rattle.boundary.specs.Calls.{Heard, makes, refuses, heard, reply}
+
+-- an entry with what it is given: a set of so many instructions; an event; a result; an image; the image's room; a message and the reply's room
+pub data Use : Type 0 where
+  start : Use
+  request : ℕ → List ℕ → Use
+  event : ℕ → Use
+  result : ℕ → ℕ → Use
+  image : ℕ → Use
+  ask : List ℕ → Use
+  message : List ℕ → List ℕ → Use
+
+-- what it returns, and what it leaves in the station's room
+abbrev pub used : List ℕ → Use → Entry
+used room start = entry (λ s. station.taken startOf) room
+used room (request n set) = entry (requestOf n set) room
+used room (event e) = entry (λ s. station.event s e) room
+used room (result i done) = entry (λ s. station.result s i done) room
+used room (image r) = entry (λ s. station.takeImage s r) room
+used room (ask out) = record { says = asking room out .says; leaves = room }
+used room (message m out) = record { says = exchange room m out .says; leaves = exchange room m out .station }
+
+-- the station's room after several
+abbrev pub uses : List ℕ → List Use → List ℕ
+uses room [] = room
+uses room (u ∷ l) = uses (used room u .leaves) l
+
+-- what a request makes whose set is lent as a run of bytes: 1 where they are fewer than its count says
+abbrev pub heardRequest : ℕ → List ℕ → Heard
+heardRequest n set = cond (leb n most && ltb (length set) (5 * n)) (refuses TooFewBytes) (makes (run.request n (take (5 * n) set)))
+
+-- the answer and the next station that it stands for: a call's, a message's, or the start
+abbrev pub meant : Station → Use → Reply
+meant s start = record { station = startOf; answer = answerMessage Taken }
+meant s (request n set) = reply s (heardRequest n set)
+meant s (event e) = reply s (makes (run.event e))
+meant s (result i done) = reply s (makes (run.result i done))
+meant s (image r) = reply s (makes (run.image r))
+meant s (ask out) = reply s (makes run.ask)
+meant s (message m out) = reply s (heard m)
+
+-- as C passes it: an image of 64 bits, a message of bytes
+abbrev pub AsPassed : Use → Type 0
+AsPassed start = Unit {0}
+AsPassed (request n set) = Unit {0}
+AsPassed (event e) = Unit {0}
+AsPassed (result i done) = Unit {0}
+AsPassed (image r) = r < 2 ^ 64
+AsPassed (ask out) = Unit {0}
+AsPassed (message m out) = Bytes m
+
+-- each of several
+abbrev pub AllPassed : List Use → Type 0
+AllPassed [] = Unit {0}
+AllPassed (u ∷ l) = AsPassed u × AllPassed l
+
+-- the room that it writes an image or a reply to is long enough for any
+abbrev pub Roomy : Use → Type 0
+Roomy start = Unit {0}
+Roomy (request n set) = Unit {0}
+Roomy (event e) = Unit {0}
+Roomy (result i done) = Unit {0}
+Roomy (image r) = Unit {0}
+Roomy (ask out) = 8 ≤ length out
+Roomy (message m out) = 12 ≤ length out
+
+-- a room where a lent station begins: after station_start, or after a station_image that was taken
+pub data Begun : List ℕ → Type 0 where
+  started : (room : List ℕ) → stationSize ≤ length room → Begun (used room start .leaves)
+  imaged : (room : List ℕ) (r : ℕ) → Bytes room → stationSize ≤ length room → r < 2 ^ 64
+      → used room (image r) .says % 256 ≡ 0 → Begun (used room (image r) .leaves)

@@ -1,0 +1,1 @@
+// The station behind its bytes: messages and entries as calls; no code.

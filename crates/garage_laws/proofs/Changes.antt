@@ -1,0 +1,56 @@
+-- What a call that is taken says, and which calls change the record. Assumes nothing.
+use mathlib.Core.Path.{_≡_, refl, ap}
+use mathlib.Core.Bool.{true}
+use mathlib.Core.Logic.{_⊎_, inl, inr}
+use Prim.Native.Nat.{zero, suc}
+use native.Mathlib.Omega.{arith}
+use lib.Dec.{eqb}
+use borrow.Author.Tests.{eqb-true, eqb-false}
+use Rattle.bits.proofs.Cases.{split, clash}
+use Rattle.rules.specs.declared.Event.the-variants.{CarIn, CarOut}
+use Rattle.rules.specs.declared.EventReading.{EventReading}
+use Rattle.rules.specs.declared.EventReading.the-variants.{Good as Told, Bad as Untold}
+use Rattle.rules.specs.Codes.{readEvent}
+use Rattle.rules.proofs.CodeLaws.{event-one-form}
+use Rattle.garage.specs.declared.Station.{Station}
+use Rattle.garage_laws.specs.Runs as run
+use Rattle.garage_laws.specs.Runs.{Call, said}
+use Rattle.garage_laws.specs.Demands.{ResultTaken, EventTaken, Changes, OnlySuccessChanges}
+use Rattle.garage_laws.proofs.Instance.{possibleAs}
+use Rattle.garage_laws.proofs.Calls.{success-is, done-has, answering-bits, event-has, event-is, untouched}
+use Rattle.garage_laws.proofs.Steps.{Step, refuses, opens, fails, succeeds, drives, tells, steps}
+
+pub result-taken : ResultTaken
+result-taken s i zero e = inl refl
+result-taken s i (suc zero) e = inr refl
+result-taken s i (suc (suc done)) e = absurd (omega (arith, done-has s i (suc (suc done)) e))
+
+pub event-taken : EventTaken
+event-taken s e z = go (readEvent e) refl (event-has s e z .2)
+  where
+    go : (v : EventReading) → readEvent e ≡ v → possibleAs v (s .bits) ≡ true → (e ≡ 1) ⊎ (e ≡ 2)
+    go (Told CarIn) p t = inl (event-one-form e CarIn p)
+    go (Told CarOut) p t = inr (event-one-form e CarOut p)
+    go Untold p t = clash t refl
+
+-- ---- the record
+
+abbrev Kept : Station → Call → Station → Type 0
+Kept s c t = (t .bits ≡ s .bits) ⊎ ((said s c ≡ 0) × Changes c)
+
+kept-step : (s t : Station) (c : Call) → Step s c t → Kept s c t
+kept-step s t c (refuses n) = inl refl
+kept-step s t c (opens A) = inl refl
+kept-step s t c (fails {i} w) = inl (answering-bits s i (s .bits))
+kept-step s t c (succeeds {i} w a) = inr (rw (success-is s i w a), refl)
+kept-step s t c (drives {e} d) = inr (rw (event-is s e d), tt)
+kept-step s t c tells = inl refl
+
+pub only-success-changes : OnlySuccessChanges
+only-success-changes s (run.request n set) = kept-step s _ _ (steps s (run.request n set) tt)
+only-success-changes s (run.result i done) = kept-step s _ _ (steps s (run.result i done) tt)
+only-success-changes s (run.event e) = kept-step s _ _ (steps s (run.event e) tt)
+only-success-changes s run.ask = kept-step s _ _ (steps s run.ask tt)
+only-success-changes s (run.image r) = split (eqb (said s (run.image r)) 0)
+    (λ t. inr (eqb-true _ 0 t, tt))
+    (λ t. inl (ap (λ (u : Station). u .bits) (untouched s (run.image r) (eqb-false _ 0 t))))

@@ -1,0 +1,144 @@
+-- The places: a request's answer names the least instruction at fault, every other answer none. Assumes nothing.
+use mathlib.Core.Path.{_≡_, refl}
+use mathlib.Core.Logic.{_⊎_, inl, inr}
+use mathlib.Core.Bool.{Bool, true, cond}
+use mathlib.Core.List.{List}
+use Prim.Native.Nat.{ℕ, _≤_, _<_}
+use native.Mathlib.Omega.{arith}
+use lib.Dec.{eqb, leb, ltb}
+use borrow.Author.Tests.{ltb-true, ltb-false}
+use Rattle.bits.specs.Bits.{bit}
+use Rattle.bits.specs.Search.{least, IsLeast}
+use Rattle.bits.proofs.Least.{found-least}
+use Rattle.floor.specs.Sound.{sound}
+use Rattle.rules.specs.declared.EventReading.{EventReading}
+use Rattle.rules.specs.declared.EventReading.the-variants.{Good as Told, Bad as Untold}
+use Rattle.rules.specs.Events.{possible}
+use Rattle.rules.specs.Codes.{readEvent, most}
+use Rattle.answers.specs.declared.Answer.{Answer}
+use Rattle.answers.specs.declared.Answer.the-variants.{Taken, TooFewBytes, BadLength, UnknownKind, BadField, TooMany, SetOutstanding, EmptySet, Overlap, NotAllowed, EventImpossible, NoSet, NotInSet, AlreadyAnswered, NowNotAllowed, Unsound, Unfit, NoRoom}
+use Rattle.answers.specs.Answers.{numberOf, placeOf, nowhere}
+use Rattle.garage.specs.declared.Station.{Station}
+use Rattle.garage.specs.declared.Outcome.{Outcome}
+use Rattle.garage.specs.Held.{codeAt, heldAllowed, bad, overlapsEarlier, barred, liftIn}
+use Rattle.garage.specs.Station.{marked, fit}
+use Rattle.garage.specs.Calls as station
+use Rattle.garage_laws.specs.Runs as run
+use Rattle.garage_laws.specs.Runs.{call}
+use Rattle.garage_laws.specs.Demands.{PlacesRight, PlacesElse, PlacesInRange}
+use Rattle.garage_laws.proofs.Calls.{either, event-as, drivenAs}
+
+-- the number and the place of an outcome
+abbrev number : Outcome → ℕ
+number o = numberOf (o .answer)
+
+abbrev place : Outcome → ℕ
+place o = placeOf (o .answer)
+
+-- ---- a request
+
+least-fault : (n : ℕ) (fault : ℕ → Bool) → ltb (least n fault) n ≡ true → IsLeast n fault (least n fault)
+least-fault n fault t = found-least n fault (ltb-true (least n fault) n t)
+
+module _ (s : Station) (n : ℕ) (set : List ℕ) where
+  record Right (o : Outcome) : Type 0 where
+    four : number o ≡ 4 → IsLeast n (bad set) (place o)
+    eight : number o ≡ 8 → IsLeast n (overlapsEarlier set) (place o)
+    nine : number o ≡ 9 → IsLeast n (barred set (s .bits)) (place o)
+    range : (place o < most) ⊎ (place o ≡ nowhere)
+
+  -- an answer that names no instruction
+  plain : (o : Outcome) → (number o ≡ 4 → ⊥) × (number o ≡ 8 → ⊥) × (number o ≡ 9 → ⊥) → place o ≡ nowhere → Right o
+  plain o other e = record { four = λ z. absurd (other .0 z); eight = λ z. absurd (other .1 z); nine = λ z. absurd (other .2 z); range = inr e }
+
+  -- one of at most eight
+  small : (fault : ℕ → Bool) → n ≤ most → ltb (least n fault) n ≡ true → least n fault < most
+  small fault h t = let l = ltb-true (least n fault) n t in omega arith
+
+  request-right : Right (station.request s n set)
+  unfolding station.request
+  request-right =
+      either Right (fit s) (λ f.
+      either Right (ltb 0 (s .count)) (λ t. plain _ (omega arith) refl) (λ a.
+      either Right (ltb most n) (λ t. plain _ (omega arith) refl) (λ b.
+      either Right (eqb n 0) (λ t. plain _ (omega arith) refl) (λ c.
+      let few = ltb-false most n b in
+      either Right (ltb (least n (bad set)) n)
+      (λ t. record { four = λ z. least-fault n _ t; eight = λ z. absurd (omega arith); nine = λ z. absurd (omega arith); range = inl (small _ few t) }) (λ d.
+      either Right (ltb (least n (overlapsEarlier set)) n)
+      (λ t. record { four = λ z. absurd (omega arith); eight = λ z. least-fault n _ t; nine = λ z. absurd (omega arith); range = inl (small _ few t) }) (λ g.
+      either Right (ltb (least n (barred set (s .bits))) n)
+      (λ t. record { four = λ z. absurd (omega arith); eight = λ z. absurd (omega arith); nine = λ z. least-fault n _ t; range = inl (small _ few t) })
+      (λ h. plain _ (omega arith) refl)))))))
+      (λ f. plain _ (omega arith) refl)
+
+pub places-right : PlacesRight
+places-right s n set = let R = request-right s n set in (R .four, R .eight, R .nine)
+
+-- ---- every other answer
+
+answer-nowhere : (a : Answer) → ((numberOf a ≡ 4) ⊎ ((numberOf a ≡ 8) ⊎ (numberOf a ≡ 9)) → ⊥) → placeOf a ≡ nowhere
+answer-nowhere Taken other = refl
+answer-nowhere TooFewBytes other = refl
+answer-nowhere BadLength other = refl
+answer-nowhere UnknownKind other = refl
+answer-nowhere (BadField p) other = absurd (other (inl refl))
+answer-nowhere TooMany other = refl
+answer-nowhere SetOutstanding other = refl
+answer-nowhere EmptySet other = refl
+answer-nowhere (Overlap p) other = absurd (other (inr (inl refl)))
+answer-nowhere (NotAllowed p) other = absurd (other (inr (inr refl)))
+answer-nowhere EventImpossible other = refl
+answer-nowhere NoSet other = refl
+answer-nowhere NotInSet other = refl
+answer-nowhere AlreadyAnswered other = refl
+answer-nowhere NowNotAllowed other = refl
+answer-nowhere Unsound other = refl
+answer-nowhere Unfit other = refl
+answer-nowhere NoRoom other = refl
+
+record Flat (o : Outcome) : Type 0 where
+  flat : place o ≡ nowhere
+
+-- a test with no place on either side
+fork : (t : Bool) {o p : Outcome} → Flat o → Flat p → Flat (cond t o p)
+fork t f g = either Flat t (λ e. f) (λ e. g)
+
+flatly : {o : Outcome} → place o ≡ nowhere → Flat o
+flatly e = record { flat = e }
+
+module _ (s : Station) where
+  result-flat : (i done : ℕ) → Flat (station.result s i done)
+  unfolding station.result
+  result-flat i done =
+      fork (fit s) (fork (ltb 1 done) (flatly refl) (fork (eqb (s .count) 0) (flatly refl) (fork (leb (s .count) i) (flatly refl) (fork (marked s i) (flatly refl)
+      (fork (eqb done 0) (flatly refl) (fork (heldAllowed (codeAt (s .set) i) (bit (s .bits))) (flatly refl) (flatly refl))))))) (flatly refl)
+
+  driven-flat : (v : EventReading) → Flat (drivenAs s v)
+  driven-flat (Told e) = fork (fit s) (fork (liftIn (s .set) (s .count)) (flatly refl) (fork (possible e (bit (s .bits))) (flatly refl) (flatly refl))) (flatly refl)
+  driven-flat Untold = fork (fit s) (flatly refl) (flatly refl)
+
+  image-flat : (r : ℕ) → Flat (station.takeImage s r)
+  unfolding station.takeImage
+  image-flat r = fork (fit s) (fork (ltb 0 (s .count)) (flatly refl) (fork (sound r) (flatly refl) (flatly refl))) (flatly refl)
+
+  ask-flat : Flat (station.ask s)
+  unfolding station.ask
+  ask-flat = fork (fit s) (flatly refl) (flatly refl)
+
+  event-flat : (e : ℕ) → Flat (station.event s e)
+  event-flat e = rw (event-as s e) (driven-flat (readEvent e))
+
+pub places-else : PlacesElse
+places-else s (run.request n set) other = answer-nowhere (call s (run.request n set) .answer) other
+places-else s (run.result i done) other = result-flat s i done .flat
+places-else s (run.event e) other = event-flat s e .flat
+places-else s (run.image r) other = image-flat s r .flat
+places-else s run.ask other = ask-flat s .flat
+
+pub places-in-range : PlacesInRange
+places-in-range s (run.request n set) = request-right s n set .range
+places-in-range s (run.result i done) = inr (result-flat s i done .flat)
+places-in-range s (run.event e) = inr (event-flat s e .flat)
+places-in-range s (run.image r) = inr (image-flat s r .flat)
+places-in-range s run.ask = inr (ask-flat s .flat)

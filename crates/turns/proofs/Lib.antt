@@ -1,0 +1,5 @@
+mod Shifting
+mod Holding
+mod Turning
+pub mod Statements
+pub mod Determined
