@@ -29,7 +29,7 @@ use Rattle.garage.specs.Calls.{refused, taken, onFit, driven, succeeded}
 use Rattle.garage_laws.specs.Runs as run
 use Rattle.garage_laws.specs.Runs.{Call, call, said, left}
 use Rattle.garage_laws.specs.Demands.{Acceptable, Waiting}
-use Rattle.garage_laws.proofs.Instance.{onEvent, possibleAs, afterAs}
+use Rattle.garage_laws.proofs.Instance.{onEvent, possibleAs, afterAs, heldAs, replyAs}
 use Rattle.garage_laws.proofs.Fits.{after-result}
 
 -- an outcome that is answered 0
@@ -140,10 +140,6 @@ module _ (s : Station) (i : ℕ) where
 
 -- ---- a car event, by what its number says
 
--- the number that a fit station answers
-abbrev pub numberAs : EventReading → Bool → Bool → ℕ
-numberAs v blocked ok = onEvent (λ e. cond blocked 6 (cond ok 0 10)) 4 v
-
 module _ (s : Station) where
   -- what the station makes of it
   abbrev pub drivenAs : EventReading → Outcome
@@ -169,9 +165,9 @@ module _ (s : Station) where
   driven-is (Told e) d = rw (d .0, d .1, d .2)
   driven-is Untold d = clash (d .2) refl
 
-  driven-number : (v : EventReading) → fit s ≡ true → numberOf (drivenAs v .answer) ≡ numberAs v (liftIn (s .set) (s .count)) (possibleAs v (s .bits))
+  driven-number : (v : EventReading) → fit s ≡ true → numberOf (drivenAs v .answer) ≡ cond (liftIn (s .set) (s .count)) (heldAs v) (replyAs v (s .bits))
   driven-number (Told e) f = rw f (split (liftIn (s .set) (s .count)) (λ t. rw t) (λ t. rw t (split (possible e (bit (s .bits))) (λ u. rw u) (λ u. rw u))))
-  driven-number Untold f = rw f
+  driven-number Untold f = rw f (split (liftIn (s .set) (s .count)) (λ t. rw t) (λ t. rw t))
 
   module _ (e : ℕ) where
     pub event-has : said s (run.event e) ≡ 0 → Drivable (readEvent e)
@@ -180,7 +176,7 @@ module _ (s : Station) where
     pub event-is : Drivable (readEvent e) → station.event s e ≡ taken (holding s (afterAs (readEvent e) (s .bits)))
     event-is d = event-as e ∙ driven-is (readEvent e) d
 
-    pub event-number : fit s ≡ true → said s (run.event e) ≡ numberAs (readEvent e) (liftIn (s .set) (s .count)) (possibleAs (readEvent e) (s .bits))
+    pub event-number : fit s ≡ true → said s (run.event e) ≡ cond (liftIn (s .set) (s .count)) (heldAs (readEvent e)) (replyAs (readEvent e) (s .bits))
     event-number f = ap (λ (o : Outcome). numberOf (o .answer)) (event-as e) ∙ driven-number (readEvent e) f
 
 -- ---- an image

@@ -7,7 +7,7 @@ use Prim.Native.Nat.{ℕ, _+_}
 use native.Mathlib.Omega.{arith}
 use lib.Dec.{eqb}
 use Rattle.bits.specs.Bits.{digit}
-use Rattle.sets.proofs.Machine.{Outcome, failed, finished, moves, Act, result, event}
+use Rattle.sets.proofs.Machine.{Outcome, failed, finished, stuck, sticks, Act, result, event}
 use Rattle.sets.proofs.Orders as machine-orders
 use Rattle.sets.proofs.Exists as exists
 use Rattle.garage_laws.specs.Runs as run
@@ -20,9 +20,15 @@ abbrev pub outcome : Bool → Outcome
 outcome true = finished
 outcome false = failed
 
+-- and its number: 2 is none of the station's yet
+abbrev pub told : Outcome → ℕ
+told failed = 0
+told finished = 1
+told stuck = 2
+
 -- an act as a call
 abbrev pub asCall : Act ℕ → Call
-asCall (result j o) = run.result j (digit (moves o))
+asCall (result j o) = run.result j (told o)
 asCall (event e) = run.event e
 
 pub no-images : (l : List (Act ℕ)) → NoImages (map asCall l)
@@ -42,15 +48,27 @@ same-events [] = refl
 same-events (result j o ∷ l) = same-events l
 same-events (event e ∷ l) = ap (λ (es : List ℕ). e ∷ es) (same-events l)
 
-moves-outcome : (b : Bool) → moves (outcome b) ≡ b
-moves-outcome true = refl
-moves-outcome false = refl
+told-outcome : (b : Bool) → told (outcome b) ≡ digit b
+told-outcome true = refl
+told-outcome false = refl
 
-by-digit : (o : Outcome) (b : Bool) → digit (moves o) ≡ digit b → o ≡ outcome b
-by-digit failed true e = absurd (omega arith)
-by-digit failed false e = refl
-by-digit finished true e = refl
-by-digit finished false e = absurd (omega arith)
+by-number : (o : Outcome) (b : Bool) → told o ≡ digit b → o ≡ outcome b
+by-number failed true e = absurd (omega arith)
+by-number failed false e = refl
+by-number finished true e = refl
+by-number finished false e = absurd (omega arith)
+by-number stuck true e = absurd (omega arith)
+by-number stuck false e = absurd (omega arith)
+
+-- no result says that an instruction is stuck
+abbrev pub Unstuck : List (Act ℕ) → Type 0
+Unstuck [] = Unit {0}
+Unstuck (result j o ∷ l) = (sticks o ≡ false) × Unstuck l
+Unstuck (event e ∷ l) = Unstuck l
+
+unstuck-outcome : (b : Bool) → sticks (outcome b) ≡ false
+unstuck-outcome true = refl
+unstuck-outcome false = refl
 
 module _ (succeeds : ℕ → Bool) where
   abbrev pub choice : ℕ → Outcome
@@ -58,13 +76,18 @@ module _ (succeeds : ℕ → Bool) where
 
   heard : (l : List (Act ℕ)) → AsChosen succeeds (map asCall l) → machine-orders.AsChosen choice l
   heard [] c = tt
-  heard (result j o ∷ l) c = (by-digit o (succeeds j) (c .0), heard l (c .1))
+  heard (result j o ∷ l) c = (by-number o (succeeds j) (c .0), heard l (c .1))
   heard (event e ∷ l) c = heard l c
 
   spoken : (l : List (Act ℕ)) → machine-orders.AsChosen choice l → AsChosen succeeds (map asCall l)
   spoken [] c = tt
-  spoken (result j o ∷ l) c = (ap (λ (o : Outcome). digit (moves o)) (c .0) ∙ ap digit (moves-outcome (succeeds j)), spoken l (c .1))
+  spoken (result j o ∷ l) c = (ap told (c .0) ∙ told-outcome (succeeds j), spoken l (c .1))
   spoken (event e ∷ l) c = spoken l c
+
+  pub unstuck : (l : List (Act ℕ)) → machine-orders.AsChosen choice l → Unstuck l
+  unstuck [] c = tt
+  unstuck (result j o ∷ l) c = (ap sticks (c .0) ∙ unstuck-outcome (succeeds j), unstuck l (c .1))
+  unstuck (event e ∷ l) c = unstuck l c
 
   -- results and events as chosen are acts
   pub acts : (l : List Call) → AsChosen succeeds l → (a : List (Act ℕ)) × (l ≡ map asCall a)
@@ -72,7 +95,7 @@ module _ (succeeds : ℕ → Bool) where
   acts (run.request n set ∷ l) c = absurd c
   acts (run.result j done ∷ l) c =
       let (a, e) = acts l (c .1) in
-      (result j (choice j) ∷ a, ap₂ (λ (d : ℕ) (m : List Call). run.result j d ∷ m) (c .0 ∙ ap digit (sym (moves-outcome (succeeds j)))) e)
+      (result j (choice j) ∷ a, ap₂ (λ (d : ℕ) (m : List Call). run.result j d ∷ m) (c .0 ∙ sym (told-outcome (succeeds j))) e)
   acts (run.event x ∷ l) c = let (a, e) = acts l c in (event x ∷ a, ap (λ (m : List Call). run.event x ∷ m) e)
   acts (run.image r ∷ l) c = absurd c
   acts (run.ask ∷ l) c = absurd c
@@ -84,7 +107,7 @@ map-append [] m = refl
 map-append (a ∷ l) m = ap (λ (n : List Call). asCall a ∷ n) (map-append l m)
 
 -- where the calls end with a result, so do the acts
-abbrev pub Last : List (Act ℕ) → Type 0
+abbrev Last : List (Act ℕ) → Type 0
 Last l = (front : List (Act ℕ)) × (j : ℕ) × (o : Outcome) × (l ≡ front ++ (result j o ∷ []))
 
 never : {A : Type 0} → _≡_ {A = ℕ} 0 1 → A
@@ -128,5 +151,5 @@ pub orders-exist : OrdersExist
 orders-exist n i h succeeds events =
     let (f, O) = exists.orders-exist ℕ n i h (choice succeeds) events in
     let e : map asCall (f ++ (result i (choice succeeds i) ∷ [])) ≡ map asCall f ++ (run.result i (digit (succeeds i)) ∷ []) =
-    map-append f (result i (choice succeeds i) ∷ []) ∙ ap (λ (b : Bool). map asCall f ++ (run.result i (digit b) ∷ [])) (moves-outcome (succeeds i)) in
+    map-append f (result i (choice succeeds i) ∷ []) ∙ ap (λ (d : ℕ). map asCall f ++ (run.result i d ∷ [])) (told-outcome (succeeds i)) in
     (map asCall f, subst (Order n succeeds events) e (order-spoken O (map asCall f) i (digit (succeeds i)) e))
