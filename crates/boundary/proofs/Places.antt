@@ -11,7 +11,7 @@ use Rattle.bits.proofs.Cases.{split}
 use Rattle.rules.specs.Codes.{most}
 use Rattle.answers.specs.declared.Answer.{Answer}
 use Rattle.answers.specs.Answers.{placeOf}
-use Rattle.answers.proofs.Promises.{in-table}
+use Rattle.answers.proofs.Promises.{number-byte}
 use Rattle.garage.specs.declared.Station.{Station}
 use Rattle.garage.specs.declared.Outcome.{Outcome}
 use Rattle.garage.specs.Station.{startOf}
@@ -45,7 +45,7 @@ request-placed n set s =
 reply-placed : (w : What) → Answers w → Placed (returnedOf w / 256)
 reply-placed (What.Answer number place) a =
     let (b, e) = a .0 in
-    let h = in-table b in
+    let h = number-byte b in
     let p : (number + 256 * place) / 256 ≡ place = omega arith in
     rw p (a .1)
 reply-placed (Held r) a = inr refl

@@ -21,6 +21,10 @@ closed r = record { bits = r; count = 0; answered = 0; set = replicate 40 0 }
 abbrev pub startOf : Station
 startOf = closed 0x00091B0000000000
 
+-- i is the number of an instruction of the set, which has at most eight
+abbrev pub inSet : Station → ℕ → Bool
+inSet s i = leb (s .count) most && ltb i (s .count)
+
 -- instruction i is answered
 abbrev pub marked : Station → ℕ → Bool
 marked s i = bit (s .answered) i

@@ -35,7 +35,7 @@ use Rattle.garage_laws.specs.Demands.{Acceptable, Waiting, NeverFourteen
 use Rattle.garage_laws.proofs.Instance.{rules, framed, blank, possibleAs}
 use Rattle.garage.proofs.Padding.{five-at, zeros-at, kept-code}
 use Rattle.garage_laws.proofs.Fits.{fit-has, some-every, marksWith, after-result}
-use Rattle.garage_laws.proofs.Calls.{following, each-call}
+use Rattle.garage_laws.proofs.Calls.{following, success-either, each-call}
 use Rattle.garage_laws.proofs.Always.{begins-has}
 use Rattle.garage_laws.proofs.Steps.{Step, refuses, opens, fails, succeeds, drives, tells, reached}
 
@@ -155,4 +155,5 @@ begins-good s b =
 pub never-fourteen : NeverFourteen
 never-fourteen s R =
     let G = reached Sane (λ t u c p g. good-step t g u c p) begins-good s R in
-    each-call (λ o. numberOf (o .answer) ≡ 14 → ⊥) s (λ e z. omega arith) (λ a h. h .1) (λ t z. omega arith) (λ i w. rw (G .allowed i (w .1, w .2)) (λ z. omega arith))
+    each-call (λ o. numberOf (o .answer) ≡ 14 → ⊥) s (λ e z. omega arith) (λ a h. h .1) (λ t z. omega arith)
+    (λ i w. success-either s i (λ o. numberOf (o .answer) ≡ 14 → ⊥) (λ t z. omega arith) (λ t. clash (G .allowed i (w .1, w .2)) t))

@@ -23,8 +23,8 @@ use Rattle.rules.specs.Events.{possible}
 use Rattle.garage.specs.declared.Station.{Station}
 use Rattle.garage.specs.declared.Outcome.{Outcome}
 use Rattle.garage.specs.Held.{bad, overlapsEarlier, barred, liftIn, codeAt, heldAllowed}
-use Rattle.garage.specs.Station.{fit, marked}
-use Rattle.garage.specs.Calls.{refused, taken, onFit, unlessAny, request, driven, event, result, takeImage, ask}
+use Rattle.garage.specs.Station.{inSet, fit, marked}
+use Rattle.garage.specs.Calls.{refused, taken, onFit, unlessAny, accepted, requested, request, occurred, driven, evented, event, succeeded, ended, numbered, resulted, result, imaged, takeImage, ask}
 use Rattle.wire.specs.declared.What.{What}
 use Rattle.wire.specs.declared.What.the-variants.{Request, Result, Image, Ask, Held}
 use Rattle.wire.specs.declared.Received.{Received}
@@ -92,7 +92,7 @@ module _ (s : Station) where
       ways (Outcome-fine s) (ltb (least n fault) n) (λ l. let k = ltb-true (least n fault) n l in refuses (f (least n fault) (omega arith))) (λ _. r)
 
   request-fine : (n : ℕ) (set : List ℕ) → Outcome-fine s (request s n set)
-  unfolding request
+  unfolding request requested accepted
   request-fine n set =
       on-fit
       (either (ltb 0 (s .count)) (refuses refl)
@@ -105,24 +105,25 @@ module _ (s : Station) where
       (unless-any n (barred set (s .bits)) NotAllowed h barred-told takes))))))
 
   driven-fine : (e : Event) → Outcome-fine s (driven s e)
+  unfolding driven occurred
   driven-fine e = either (liftIn (s .set) (s .count)) (refuses refl) (either (possible e (bit (s .bits))) takes (refuses refl))
 
   event-fine : (e : ℕ) → Outcome-fine s (event s e)
-  unfolding event
+  unfolding event evented
   event-fine e = on-fit (either (eqb e 1) (driven-fine CarIn) (either (eqb e 2) (driven-fine CarOut) (refuses refl)))
 
   result-fine : (i done : ℕ) → Outcome-fine s (result s i done)
-  unfolding result
+  unfolding result resulted numbered ended succeeded
   result-fine i done =
       on-fit
       (either (ltb 1 done) (refuses refl)
       (either (eqb (s .count) 0) (refuses refl)
-      (either (leb (s .count) i) (refuses refl)
+      (either (not (inSet s i)) (refuses refl)
       (either (marked s i) (refuses refl)
       (either (eqb done 0) takes (either (heldAllowed (codeAt (s .set) i) (bit (s .bits))) takes (refuses refl)))))))
 
   image-fine : (r : ℕ) → Outcome-fine s (takeImage s r)
-  unfolding takeImage
+  unfolding takeImage imaged
   image-fine r = on-fit (either (ltb 0 (s .count)) (refuses refl) (either (sound r) takes (refuses refl)))
 
   ask-fine : Outcome-fine s (ask s)

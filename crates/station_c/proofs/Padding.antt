@@ -16,7 +16,7 @@ use Rattle.answers.specs.declared.Answer.the-variants.{TooFewBytes, TooMany, Se
 use Rattle.garage.specs.declared.Station.{Station}
 use Rattle.garage.specs.declared.Outcome.{Outcome}
 use Rattle.garage.specs.Held.{codeAt, isGood, heldArea, heldAllowed, overlapsEarlier}
-use Rattle.garage.specs.Calls.{refused, taken, onFit, unlessAny, request}
+use Rattle.garage.specs.Calls.{refused, taken, onFit, unlessAny, accepted, requested, request}
 use Rattle.garage.proofs.Padding.{padded-code}
 use Rattle.wire.specs.Kinds.{setOf}
 use Rattle.wire.proofs.Parts.{set-short}
@@ -36,7 +36,7 @@ module _ (s : Station) (n : ℕ) where
       (taken (record { bits = s .bits; count = n; answered = 0; set = kept ++ replicate (40 - 5 * n) 0 }))))))))
 
   as-form : (set : List ℕ) → request s n set ≡ form (codeAt set) (take (5 * n) set)
-  unfolding request form overlapsEarlier
+  unfolding request requested accepted form overlapsEarlier
   as-form set = refl
 
   padded : (l : List ℕ) (m : ℕ) → length l ≡ 5 * n → request s n (l ++ replicate m 0) ≡ request s n l
@@ -47,7 +47,7 @@ module _ (s : Station) (n : ℕ) where
   module _ (set : List ℕ) where
     -- more than eight: no byte is looked at
     pub too-many : (a : List ℕ) → 8 < n → request s n a ≡ requestOf n set s
-    unfolding request requestOf
+    unfolding request requested requestOf
     too-many a h = rw (lt-leb _ _ h, lt-ltb _ _ h)
 
     -- fewer bytes than the count says
