@@ -29,7 +29,8 @@ use Rattle.service.specs.declared.Reply.{Reply}
 use Rattle.service.specs.Service.{respond, answerBytes}
 use Rattle.service.specs.Statements.{Answers}
 use Rattle.service.proofs.Replies.{answer-bytes-length}
-use Rattle.service.proofs.Ranges.{ways, always-answered, refused-keeps}
+use Rattle.service.proofs.Readings.{ways}
+use Rattle.service.proofs.Ranges.{always-answered, refused-keeps}
 use Rattle.station_c.specs.Entries.{stationBytes, stationOf, returned, Entry, writes, entry, requestOf, asking, returnedOf, exchange}
 use Rattle.station_c.specs.Promises.{Typed}
 use Rattle.station_c.proofs.Promises.{station-fits, station-reads-back, returned-reads-back}

@@ -28,7 +28,7 @@ use Rattle.wire_laws.proofs.Numbers.{bytes-take}
 use Rattle.wire_laws.proofs.Back.{wrote, reads-back}
 use Rattle.wire_laws.proofs.Asked.{asked-alike}
 use Rattle.service.specs.Service.{called, replyOf, respond}
-use Rattle.service.proofs.Ranges.{ways}
+use Rattle.service.proofs.Readings.{ways}
 use Rattle.boundary.specs.Calls.{Heard, makes, refuses, heardAs, heard, reply}
 use Rattle.boundary.specs.Statements.{MessageIsCall, WrittenIsHeard}
 

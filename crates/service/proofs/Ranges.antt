@@ -27,26 +27,17 @@ use Rattle.garage.specs.Station.{inSet, fit, marked}
 use Rattle.garage.specs.Calls.{refused, taken, onFit, unlessAny, accepted, requested, request, occurred, driven, evented, event, succeeded, ended, numbered, resulted, result, imaged, takeImage, ask}
 use Rattle.wire.specs.declared.What.{What}
 use Rattle.wire.specs.declared.What.the-variants.{Request, Result, Image, Ask, Held}
-use Rattle.wire.specs.declared.Received.{Received}
-use Rattle.wire.specs.declared.Frame.{Frame}
-use Rattle.wire.specs.declared.Frame.the-variants.{Cut, Wrong, Whole}
-use Rattle.wire.specs.Kinds.{Kind, inRange, asked}
-use Rattle.wire.specs.Reads.{frameOf, kindAt, sized, badIn, readRequest, readAmong, readWhole, readFramed, readAsked}
+use Rattle.wire.specs.Kinds.{inRange}
+use Rattle.wire.specs.Reads.{readAsked}
 use Rattle.service.specs.declared.Reply.{Reply}
 use Rattle.service.specs.Service.{called, answerMessage, replyOf, respond}
 use Rattle.service.specs.Statements.{RepliesInRange, Answers, AlwaysAnswered, RefusedKeeps, NeverSeventeen}
+use Rattle.service.proofs.Readings.{tellable, ways, bad-told, read-fine}
 
--- an answer that a message can be told: in its ranges, and not 17
-abbrev tellable : Answer → Bool
-tellable a = inRange (answerMessage a) && not (eqb (numberOf a) 17)
-
--- the outcome of a call on s, or what a reader says, with such an answer; refused, s is as it was
+-- the outcome of a call on s: an answer that a message can be told; refused, s is as it was
 record Outcome-fine (s : Station) (o : Outcome) : Type 0 where
   outcome : tellable (o .answer) ≡ true
   kept : (numberOf (o .answer) ≡ 0 → ⊥) → o .station ≡ s
-
-record Received-fine (r : Received) : Type 0 where
-  received : tellable (r .answer) ≡ true
 
 -- a reply on s: it can be written; it is an image or an answer; refused, s is as it was; it isn't 17
 record Reply-fine (s : Station) (r : Reply) : Type 0 where
@@ -55,15 +46,7 @@ record Reply-fine (s : Station) (r : Reply) : Type 0 where
   kept : (number place : ℕ) → r .answer ≡ What.Answer number place → (number ≡ 0 → ⊥) → r .station ≡ s
   never : (place : ℕ) → r .answer ≡ What.Answer 17 place → ⊥
 
--- both ways of a test
-pub ways : {A : Type 0} (P : A → Type 0) (t : Bool) {x y : A} → (t ≡ true → P x) → (t ≡ false → P y) → P (cond t x y)
-ways P true f g = f refl
-ways P false f g = g refl
-
--- the three answers that name an instruction
-bad-told : (p : ℕ) → p < 8 → tellable (BadField p) ≡ true
-bad-told p h = rw (le-leb p 7 (omega arith))
-
+-- the other two answers that name an instruction
 overlap-told : (p : ℕ) → p < 8 → tellable (Overlap p) ≡ true
 overlap-told p h = rw (le-leb p 7 (omega arith))
 
@@ -139,44 +122,6 @@ module _ (s : Station) where
   called-fine (What.Answer number place) count set = refuses refl
   called-fine (Held r) count set = refuses refl
 
--- ---- the reader
-
--- an answer that needs no test
-simply : {r : Received} → tellable (r .answer) ≡ true → Received-fine r
-simply e = record { received = e }
-
-sized-fine : (m : List ℕ) (n : ℕ) (w : What) → Received-fine (sized m n w)
-sized-fine m n w =
-    ways Received-fine (eqb (length m) n) (λ _. ways Received-fine (inRange w) (λ _. simply refl) (λ _. simply refl)) (λ _. simply refl)
-
-read-request-fine : (m : List ℕ) → Received-fine (readRequest m)
-unfolding readRequest
-read-request-fine m =
-    let count = getD m 4 0 in
-    let least-bad = least count (badIn (drop 5 m)) in
-    ways Received-fine (ltb (length m) 5) (λ _. simply refl)
-    (λ _. ways Received-fine (ltb 8 count) (λ _. simply refl)
-    (λ b.
-    let h = ltb-false 8 count b in
-    ways Received-fine (eqb (length m) (5 + 5 * count))
-    (λ _. ways Received-fine (ltb least-bad count)
-    (λ l. let k = ltb-true least-bad count l in simply (bad-told least-bad (omega arith)))
-    (λ _. simply refl))
-    (λ _. simply refl)))
-
-among-fine : (ks : List Kind) (m : List ℕ) → Received-fine (readAmong ks m)
-among-fine [] m = simply refl
-among-fine (k ∷ ks) m = ways Received-fine (eqb (kindAt m) (k .number)) (λ _. sized-fine m (4 + k .size) (k .says m)) (λ _. among-fine ks m)
-
-whole-fine : (ks : List Kind) (m : List ℕ) → Received-fine (readWhole ks m)
-unfolding readWhole
-whole-fine ks m = ways Received-fine (eqb (kindAt m) 1) (λ _. read-request-fine m) (λ _. among-fine ks m)
-
-framed-fine : (f : Frame) (s : List ℕ) → Received-fine (readFramed asked f s)
-framed-fine Cut s = simply refl
-framed-fine Wrong s = simply refl
-framed-fine (Whole n) s = whole-fine asked (take n s)
-
 -- ---- the reply
 
 -- the number that a message answers with
@@ -230,12 +175,12 @@ module _ (s : Station) where
   reply-fine (Held r) o f = told (o .station) (o .answer) (f .outcome) (f .kept)
 
   replied : (bytes : List ℕ) → Reply-fine s (respond s bytes)
-  unfolding respond readAsked
+  unfolding respond
   replied bytes =
       let m = readAsked bytes .message in
       ways (Reply-fine s) (eqb (numberOf (readAsked bytes .answer)) 0)
       (λ _. reply-fine (m .what) (called (m .what) s (m .count) (m .set)) (called-fine s (m .what) (m .count) (m .set)))
-      (λ _. told s (readAsked bytes .answer) (framed-fine (frameOf bytes) bytes .received) (λ _. refl))
+      (λ _. told s (readAsked bytes .answer) (read-fine bytes .told) (λ _. refl))
 
 pub replies-in-range : RepliesInRange
 replies-in-range s bytes = replied s bytes .written
