@@ -11,7 +11,7 @@ use Rattle.answers.specs.declared.Answer.the-variants.{Taken, TooFewByte
 use Rattle.answers.specs.Answers.{numberOf, OfTable, inTable}
 use Rattle.answers.specs.Promises.{TableExactly}
 
-answer-in : (a : Answer) → inTable (numberOf a) ≡ true
+pub answer-in : (a : Answer) → inTable (numberOf a) ≡ true
 answer-in Taken = refl
 answer-in TooFewBytes = refl
 answer-in BadLength = refl

@@ -19,7 +19,7 @@ use Rattle.bits.proofs.Least.{every-least}
 use Rattle.floor.specs.Sound.{sound}
 use Rattle.garage.specs.declared.Station.{Station}
 use Rattle.garage.specs.Held.{bad}
-use Rattle.garage.specs.Station.{closed, inSet, used, fit, answering}
+use Rattle.garage.specs.Station.{closed, inSet, used, fit, noting, answering}
 
 -- n marks are a byte
 pub pow-small : (n : ℕ) → n ≤ 8 → (0 < 2 ^ n) × (2 ^ n ≤ 256)
@@ -87,7 +87,7 @@ last-answer s i r m a e = rw (all-marked (s .count) (bitOr (s .answered) (2 ^ i)
 -- one is missing
 pub one-answer : (s : Station) (i r : ℕ) {mark all : ℕ} → mark ≡ 2 ^ i → all ≡ 2 ^ s .count - 1
     → (bitAnd (bitOr (s .answered) mark) all ≡ all → ⊥)
-    → _≡_ {A = Station} (record { bits = r; count = s .count; answered = bitOr (s .answered) mark; set = s .set }) (answering s i r)
+    → noting s (bitOr (s .answered) mark) r ≡ answering s i r
 unfolding answering
 one-answer s i r m a e = rw (all-marked (s .count) (bitOr (s .answered) (2 ^ i)), ← m, ← a, ne-eqb _ _ e)
 

@@ -19,6 +19,8 @@ use Rattle.rules.specs.Codes.{most}
 use Rattle.answers.specs.declared.Answer.{Answer}
 use Rattle.garage.specs.declared.Station.{Station}
 use Rattle.garage.specs.declared.Outcome.{Outcome}
+use Rattle.garage.specs.declared.Report.{Report}
+use Rattle.garage.specs.declared.Picture.{Picture}
 use Rattle.garage.specs.declared.Turn.{Turn}
 use Rattle.garage.specs.Held.{codeAt, heldAllowed, bad, overlapsEarlier, barred, liftIn}
 use Rattle.garage.specs.Station.{inSet, marked, holding, answering}
@@ -33,9 +35,7 @@ module _ (s : Station) (fresh : List ℕ) where
 
   -- so the outcome is that of its turn
   pub rebuilt : {o : Outcome} {t : Turn} → t ≡ turnOf o → Kept o → afterTurn s t fresh ≡ o
-  rebuilt {o} e k =
-      ap (λ (t : Turn). afterTurn s t fresh) e
-      ∙ ap (λ (l : List ℕ). record { station = record { bits = o .station .bits; count = o .station .count; answered = o .station .answered; set = l }; answer = o .answer }) (sym (k .kept))
+  rebuilt e k = ap (λ (t : Turn). afterTurn s t fresh) e ∙ rw (← k .kept)
 
   held : s .set ≡ keptSet (s .set) (s .count) (s .count) fresh
   unfolding keptSet
@@ -110,12 +110,12 @@ module _ (s : Station) (fresh : List ℕ) where
   unfolding numbered
   kept-numbered i done = unless (not (inSet s i)) _ (λ a. unless (marked s i) _ (λ b. kept-ended i done (in-set s i (not-false _ a) .1)))
 
-  pub kept-resulted : (i done : ℕ) → Kept (resulted s i done)
+  pub kept-resulted : (r : Report) → Kept (resulted s r)
   unfolding resulted
-  kept-resulted i done = unless (ltb 1 done) _ (λ a. unless (eqb (s .count) 0) _ (λ b. kept-numbered i done))
+  kept-resulted r = unless (ltb 1 (r .done)) _ (λ a. unless (eqb (s .count) 0) _ (λ b. kept-numbered (r .number) (r .done)))
 
   -- ---- an image
 
-  pub kept-imaged : (r : ℕ) → Kept (imaged s r)
+  pub kept-imaged : (p : Picture) → Kept (imaged s p)
   unfolding imaged
-  kept-imaged r = unless (ltb 0 (s .count)) _ (λ a. either (sound r) (λ b. kept-holding r) (λ b. kept-refused _))
+  kept-imaged p = unless (ltb 0 (s .count)) _ (λ a. either (sound (p .bits)) (λ b. kept-holding (p .bits)) (λ b. kept-refused _))

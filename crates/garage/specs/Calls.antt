@@ -16,6 +16,8 @@ use Rattle.answers.specs.declared.Answer.the-variants.{Taken, BadField, TooMany
 use Rattle.answers.specs.Answers.{nowhere}
 use Rattle.garage.specs.declared.Station.{Station}
 use Rattle.garage.specs.declared.Outcome.{Outcome}
+use Rattle.garage.specs.declared.Report.{Report}
+use Rattle.garage.specs.declared.Picture.{Picture}
 use Rattle.garage.specs.Held.{codeAt, heldAllowed, heldNext, bad, overlapsEarlier, barred, liftIn}
 use Rattle.garage.specs.Station.{inSet, marked, fit, holding, opened, answering}
 
@@ -85,23 +87,23 @@ numbered s i done =
     (ended s i done))
 
 -- a result past the test of fitness: 0 failed or 1 done, and a set is outstanding
-unfoldable pub resulted : Station → ℕ → ℕ → Outcome
-resulted s i done =
-    cond (ltb 1 done) (refused s (BadField nowhere))
+unfoldable pub resulted : Station → Report → Outcome
+resulted s r =
+    cond (ltb 1 (r .done)) (refused s (BadField nowhere))
     (cond (eqb (s .count) 0) (refused s NoSet)
-    (numbered s i done))
+    (numbered s (r .number) (r .done)))
 
 -- a result
-unfoldable pub result : Station → ℕ → ℕ → Outcome
-result s i done = onFit s (resulted s i done)
+unfoldable pub result : Station → Report → Outcome
+result s r = onFit s (resulted s r)
 
 -- an image past the test of fitness: no set is outstanding, and it is sound; it becomes the record
-unfoldable pub imaged : Station → ℕ → Outcome
-imaged s r = cond (ltb 0 (s .count)) (refused s SetOutstanding) (cond (sound r) (taken (holding s r)) (refused s Unsound))
+unfoldable pub imaged : Station → Picture → Outcome
+imaged s p = cond (ltb 0 (s .count)) (refused s SetOutstanding) (cond (sound (p .bits)) (taken (holding s (p .bits))) (refused s Unsound))
 
 -- an image
-unfoldable pub takeImage : Station → ℕ → Outcome
-takeImage s r = onFit s (imaged s r)
+unfoldable pub takeImage : Station → Picture → Outcome
+takeImage s p = onFit s (imaged s p)
 
 -- the record is asked for
 unfoldable pub ask : Station → Outcome

@@ -25,6 +25,17 @@ pub struct Station {
     pub set: [u8; 40],
 }
 
+// What a result says: the instruction's number from 0, and 0 failed or 1 done.
+pub struct Report {
+    pub number: u8,
+    pub done: u8,
+}
+
+// What an image says: the record.
+pub struct Picture {
+    pub bits: u64,
+}
+
 // What a call hands back.
 pub struct Outcome {
     pub station: Station,
@@ -299,52 +310,52 @@ impl Station {
         self.ended(i, done)
     }
 
-    // The result of an instruction, by its number from 0, past the test of fitness: 0 failed, 1 done.
-    pub fn resulted(self, number: u8, done: u8) -> Turn
-        ensures { λ t. ⌜ t ≡ turnOf (resulted self number done) ⌝ }
+    // A result past the test of fitness.
+    pub fn resulted(self, report: Report) -> Turn
+        ensures { λ t. ⌜ t ≡ turnOf (resulted self report) ⌝ }
     {
-        if 1 < done {
+        if 1 < report.done {
             return self.unmoved(Answer::BadField(NOWHERE));
         }
         if self.count == 0 {
             return self.unmoved(Answer::NoSet);
         }
-        self.numbered(number, done)
+        self.numbered(report.number, report.done)
     }
 
     // A result.
-    pub fn result(self, number: u8, done: u8) -> Outcome
-        ensures { λ o. ⌜ o ≡ result self number done ⌝ }
+    pub fn result(self, report: Report) -> Outcome
+        ensures { λ o. ⌜ o ≡ result self report ⌝ }
     {
         if !self.fit() {
             return refused(self, Answer::Unfit);
         }
-        let t = self.resulted(number, done);
+        let t = self.resulted(report);
         let held = self.set;
         self.after(t, held)
     }
 
     // An image, which becomes the record, past the test of fitness.
-    pub fn imaged(self, r: u64) -> Turn
-        ensures { λ t. ⌜ t ≡ turnOf (imaged self r) ⌝ }
+    pub fn imaged(self, picture: Picture) -> Turn
+        ensures { λ t. ⌜ t ≡ turnOf (imaged self picture) ⌝ }
     {
         if 0 < self.count {
             return self.unmoved(Answer::SetOutstanding);
         }
-        if !floor::sound(r) {
+        if !floor::sound(picture.bits) {
             return self.unmoved(Answer::Unsound);
         }
-        self.holding(r)
+        self.holding(picture.bits)
     }
 
     // An image.
-    pub fn image(self, r: u64) -> Outcome
-        ensures { λ o. ⌜ o ≡ takeImage self r ⌝ }
+    pub fn image(self, picture: Picture) -> Outcome
+        ensures { λ o. ⌜ o ≡ takeImage self picture ⌝ }
     {
         if !self.fit() {
             return refused(self, Answer::Unfit);
         }
-        let t = self.imaged(r);
+        let t = self.imaged(picture);
         let held = self.set;
         self.after(t, held)
     }

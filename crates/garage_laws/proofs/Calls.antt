@@ -22,6 +22,7 @@ use Rattle.answers.specs.declared.Answer.the-variants.{BadField, TooMany, SetOu
 use Rattle.answers.specs.Answers.{numberOf, nowhere}
 use Rattle.garage.specs.declared.Station.{Station}
 use Rattle.garage.specs.declared.Outcome.{Outcome}
+use Rattle.garage.specs.declared.Report.{Report}
 use Rattle.garage.specs.Held.{codeAt, heldAllowed, heldNext, bad, overlapsEarlier, barred, liftIn}
 use Rattle.garage.specs.Station.{inSet, marked, fit, holding, opened, answering}
 use Rattle.garage.specs.Calls as station
@@ -129,22 +130,6 @@ module _ (s : Station) (i : ℕ) where
       let (b, e₂) = passed (marked s i) s AlreadyAnswered _ (λ z. omega arith) e₁ in
       (in-set s i (not-false _ a) .1, b, e₂)
 
-  resulted-has : (done : ℕ) → Zero (station.resulted s i done) → (done < 2) × Zero (station.numbered s i done)
-  unfolding station.resulted
-  resulted-has done e =
-      let (a, e₁) = passed (ltb 1 done) s (BadField nowhere) _ (λ z. omega arith) e in
-      let (b, e₂) = passed (eqb (s .count) 0) s NoSet _ (λ z. omega arith) e₁ in
-      ((let l = ltb-false 1 done a in omega arith), e₂)
-
-  -- whatever is reported, the instruction waits
-  result-has : (done : ℕ) → said s (run.result i done) ≡ 0 → Waiting s i × (done < 2) × Zero (station.ended s i done)
-  unfolding station.result
-  result-has done e =
-      let (a, e₁) = met (fit s) s Unfit (station.resulted s i done) (λ z. omega arith) e in
-      let (b, e₂) = resulted-has done e₁ in
-      let (c, d, e₃) = numbered-has done e₂ in
-      ((a, c, d), b, e₃)
-
   -- a number of a fit station's set
   fit-set : Waiting s i → inSet s i ≡ true
   fit-set w = and-intro (le-leb (s .count) most (fit-has s (w .0) .few)) (lt-ltb i (s .count) (w .1))
@@ -152,14 +137,6 @@ module _ (s : Station) (i : ℕ) where
   numbered-is : (done : ℕ) → Waiting s i → station.numbered s i done ≡ station.ended s i done
   unfolding station.numbered
   numbered-is done w = rw (fit-set w, w .2)
-
-  resulted-is : (done : ℕ) → done < 2 → Waiting s i → station.resulted s i done ≡ station.numbered s i done
-  unfolding station.resulted
-  resulted-is done b w = let h = w .1 in rw (le-ltb 1 done (omega arith), ne-eqb (s .count) 0 (λ z. omega arith))
-
-  result-is : (done : ℕ) → done < 2 → Waiting s i → station.result s i done ≡ station.ended s i done
-  unfolding station.result
-  result-is done b w = rw (w .0) (resulted-is done b w ∙ numbered-is done w)
 
   -- the record that its rule makes
   abbrev pub following : ℕ
@@ -171,28 +148,58 @@ module _ (s : Station) (i : ℕ) where
   unfolding station.succeeded
   success-either P f g = either P (heldAllowed (codeAt (s .set) i) (bit (s .bits))) f g
 
-  pub success-has : said s (run.result i 1) ≡ 0 → Waiting s i × (heldAllowed (codeAt (s .set) i) (bit (s .bits)) ≡ true)
-  unfolding station.ended station.succeeded
-  success-has e = let (w, b, e₁) = result-has 1 e in (w, met (heldAllowed (codeAt (s .set) i) (bit (s .bits))) s NowNotAllowed _ (λ z. omega arith) e₁ .0)
-
-  pub success-is : Waiting s i → heldAllowed (codeAt (s .set) i) (bit (s .bits)) ≡ true → station.result s i 1 ≡ taken (answering s i following)
-  unfolding station.ended station.succeeded
-  success-is w t = result-is 1 (omega arith) w ∙ rw t
-
-  pub failure-has : said s (run.result i 0) ≡ 0 → Waiting s i
-  failure-has e = result-has 0 e .0
-
-  pub failure-is : Waiting s i → station.result s i 0 ≡ taken (answering s i (s .bits))
-  unfolding station.ended
-  failure-is w = result-is 0 (omega arith) w
-
-  -- no other result is taken
-  pub done-has : (done : ℕ) → said s (run.result i done) ≡ 0 → done < 2
-  done-has done e = result-has done e .1
-
   -- the record after a result
   pub answering-bits : (r : ℕ) → answering s i r .bits ≡ r
   answering-bits r = after-result (λ t. t .bits ≡ r) s i r (λ t. refl) (λ t. refl)
+
+module _ (s : Station) (r : Report) where
+  resulted-has : Zero (station.resulted s r) → (r .done < 2) × Zero (station.numbered s (r .number) (r .done))
+  unfolding station.resulted
+  resulted-has e =
+      let (a, e₁) = passed (ltb 1 (r .done)) s (BadField nowhere) _ (λ z. omega arith) e in
+      let (b, e₂) = passed (eqb (s .count) 0) s NoSet _ (λ z. omega arith) e₁ in
+      ((let l = ltb-false 1 (r .done) a in omega arith), e₂)
+
+  -- whatever is reported, the instruction waits
+  result-has : said s (run.reports r) ≡ 0 → Waiting s (r .number) × (r .done < 2) × Zero (station.ended s (r .number) (r .done))
+  unfolding station.result
+  result-has e =
+      let (a, e₁) = met (fit s) s Unfit (station.resulted s r) (λ z. omega arith) e in
+      let (b, e₂) = resulted-has e₁ in
+      let (c, d, e₃) = numbered-has s (r .number) (r .done) e₂ in
+      ((a, c, d), b, e₃)
+
+  resulted-is : r .done < 2 → Waiting s (r .number) → station.resulted s r ≡ station.numbered s (r .number) (r .done)
+  unfolding station.resulted
+  resulted-is b w = let h = w .1 in rw (le-ltb 1 (r .done) (omega arith), ne-eqb (s .count) 0 (λ z. omega arith))
+
+  result-is : r .done < 2 → Waiting s (r .number) → station.result s r ≡ station.ended s (r .number) (r .done)
+  unfolding station.result
+  result-is b w = rw (w .0) (resulted-is b w ∙ numbered-is s (r .number) (r .done) w)
+
+  -- no other result is taken
+  pub done-has : said s (run.reports r) ≡ 0 → r .done < 2
+  done-has e = result-has e .1
+
+module _ (s : Station) (i : ℕ) where
+  -- a result of this instruction
+  abbrev reported : ℕ → Report
+  reported done = record { number = i; done = done }
+
+  pub success-has : said s (run.result i 1) ≡ 0 → Waiting s i × (heldAllowed (codeAt (s .set) i) (bit (s .bits)) ≡ true)
+  unfolding station.ended station.succeeded
+  success-has e = let (w, b, e₁) = result-has s (reported 1) e in (w, met (heldAllowed (codeAt (s .set) i) (bit (s .bits))) s NowNotAllowed _ (λ z. omega arith) e₁ .0)
+
+  pub success-is : Waiting s i → heldAllowed (codeAt (s .set) i) (bit (s .bits)) ≡ true → call s (run.result i 1) ≡ taken (answering s i (following s i))
+  unfolding station.ended station.succeeded
+  success-is w t = result-is s (reported 1) (omega arith) w ∙ rw t
+
+  pub failure-has : said s (run.result i 0) ≡ 0 → Waiting s i
+  failure-has e = result-has s (reported 0) e .0
+
+  pub failure-is : Waiting s i → call s (run.result i 0) ≡ taken (answering s i (s .bits))
+  unfolding station.ended
+  failure-is w = result-is s (reported 0) (omega arith) w
 
 -- ---- a car event, by what its number says
 
@@ -248,7 +255,7 @@ image-has s r e =
     let (c, e₃) = met (sound r) s Unsound (taken (holding s r)) (λ z. omega arith) e₂ in
     (a, (let l = ltb-false 0 (s .count) b in omega arith), c)
 
-pub image-is : (s : Station) (r : ℕ) → (fit s ≡ true) × (s .count ≡ 0) × (sound r ≡ true) → station.takeImage s r ≡ taken (holding s r)
+pub image-is : (s : Station) (r : ℕ) → (fit s ≡ true) × (s .count ≡ 0) × (sound r ≡ true) → call s (run.image r) ≡ taken (holding s r)
 unfolding station.takeImage station.imaged
 image-is s r w = rw (w .0, le-ltb 0 (s .count) (let z = w .1 in omega arith), w .2)
 
@@ -262,12 +269,12 @@ pub ask-is : (s : Station) → fit s ≡ true → station.ask s ≡ taken s
 unfolding station.ask
 ask-is s f = rw f
 
--- ---- every call is refused since the station is unfit, or with a number that is none of 0, 14 and 16, or taken, or a success of an
+-- ---- every call is refused since the station is unfit, or with a number that is none of 0, 14, 16 and 17, or taken, or a success of an
 -- instruction that waits
 
--- a refusal other than 14 and 16
+-- a refusal other than 14, 16 and 17
 abbrev Other : Answer → Type 0
-Other a = (numberOf a ≡ 0 → ⊥) × (numberOf a ≡ 14 → ⊥) × (numberOf a ≡ 16 → ⊥)
+Other a = (numberOf a ≡ 0 → ⊥) × (numberOf a ≡ 14 → ⊥) × (numberOf a ≡ 16 → ⊥) × (numberOf a ≡ 17 → ⊥)
 
 module _ (P : Outcome → Type 0) (s : Station) (unfit : fit s ≡ false → P (refused s Unfit)) (no : (a : Answer) → Other a → P (refused s a)) (done : (t : Station) → P (taken t)) (told : (i : ℕ) → Waiting s i → P (station.succeeded s i)) where
   unless : (t : Bool) (a : Answer) {o : Outcome} → Other a → (t ≡ false → P o) → P (cond t (refused s a) o)
@@ -299,9 +306,9 @@ module _ (P : Outcome → Type 0) (s : Station) (unfit : fit s ≡ false → P (
       (λ a. unless (marked s i) AlreadyAnswered (omega arith)
       (λ m. either P (eqb d 0) (λ z. done (answering s i (s .bits))) (λ z. told i (f, in-set s i (not-false _ a) .1, m))))
 
-  resulting : (i d : ℕ) → fit s ≡ true → P (station.resulted s i d)
+  resulting : (r : Report) → fit s ≡ true → P (station.resulted s r)
   unfolding station.resulted
-  resulting i d f = unless (ltb 1 d) (BadField nowhere) (omega arith) (λ a. unless (eqb (s .count) 0) NoSet (omega arith) (λ b. numbering i d f))
+  resulting r f = unless (ltb 1 (r .done)) (BadField nowhere) (omega arith) (λ a. unless (eqb (s .count) 0) NoSet (omega arith) (λ b. numbering (r .number) (r .done) f))
 
   driving : (v : EventReading) → P (drivenAs s v)
   unfolding station.driven station.occurred
@@ -311,9 +318,9 @@ module _ (P : Outcome → Type 0) (s : Station) (unfit : fit s ≡ false → P (
   pub each-call : (c : Call) → P (call s c)
   unfolding station.request station.result station.takeImage station.imaged station.ask
   each-call (run.request n set) = fitting (λ f. requesting n set)
-  each-call (run.result i d) = fitting (λ f. resulting i d f)
+  each-call (run.reports r) = fitting (λ f. resulting r f)
   each-call (run.event e) = rw (event-as s e) (driving (readEvent e))
-  each-call (run.image r) = fitting (λ f. unless (ltb 0 (s .count)) SetOutstanding (omega arith) (λ a. either P (sound r) (λ b. done (holding s r)) (λ b. no Unsound (omega arith))))
+  each-call (run.pictures p) = fitting (λ f. unless (ltb 0 (s .count)) SetOutstanding (omega arith) (λ a. either P (sound (p .bits)) (λ b. done (holding s (p .bits))) (λ b. no Unsound (omega arith))))
   each-call run.ask = fitting (λ f. done s)
 
 -- a refused call leaves the station as it was
@@ -325,12 +332,17 @@ untouched s c = each-call (λ o. (Zero o → ⊥) → o .station ≡ s) s (λ e 
 pub unfit-is : (s : Station) → fit s ≡ false → (c : Call) → call s c ≡ refused s Unfit
 unfolding station.request station.result station.event station.takeImage station.ask
 unfit-is s e (run.request n set) = rw e
-unfit-is s e (run.result i done) = rw e
+unfit-is s e (run.reports r) = rw e
 unfit-is s e (run.event x) = rw e
-unfit-is s e (run.image r) = rw e
+unfit-is s e (run.pictures p) = rw e
 unfit-is s e run.ask = rw e
 
 -- a fit one never answers 16
 pub fit-says : (s : Station) → fit s ≡ true → (c : Call) → said s c ≡ 16 → ⊥
 fit-says s f = each-call (λ o. numberOf (o .answer) ≡ 16 → ⊥) s (λ e. clash f e) (λ a h. h .2) (λ t z. omega arith)
     (λ i w. success-either s i (λ o. numberOf (o .answer) ≡ 16 → ⊥) (λ t z. omega arith) (λ t z. omega arith))
+
+-- none is answered with 17, which is for lent room
+pub not-seventeen : (s : Station) (c : Call) → said s c ≡ 17 → ⊥
+not-seventeen s = each-call (λ o. numberOf (o .answer) ≡ 17 → ⊥) s (λ e z. omega arith) (λ a h. h .3) (λ t z. omega arith)
+    (λ i w. success-either s i (λ o. numberOf (o .answer) ≡ 17 → ⊥) (λ t z. omega arith) (λ t z. omega arith))

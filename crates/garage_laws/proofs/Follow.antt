@@ -17,10 +17,9 @@ use Rattle.sets.proofs.Orders as machine-orders
 use Rattle.garage.specs.declared.Station.{Station}
 use Rattle.garage.specs.Held.{codeAt, heldAllowed, liftIn}
 use Rattle.garage.specs.Station.{fit, marked, answering}
-use Rattle.garage.specs.Calls as station
 use Rattle.garage.specs.Calls.{taken}
 use Rattle.garage_laws.specs.Runs as run
-use Rattle.garage_laws.specs.Runs.{said, left, calls}
+use Rattle.garage_laws.specs.Runs.{call, said, left, calls}
 use Rattle.garage_laws.specs.Orders.{Fair, replies}
 use Rattle.garage_laws.specs.Demands.{Waiting}
 use Rattle.garage_laws.proofs.Instance.{rules, possibleAs}
@@ -33,7 +32,7 @@ use Rattle.garage_laws.proofs.Lists.{told, asCall, Unstuck}
 -- ---- a result that the machine takes
 
 result-is : (s : Station) (i : ℕ) (o : Outcome) → sticks o ≡ false → Waiting s i → (moves o ≡ true → heldAllowed (codeAt (s .set) i) (bit (s .bits)) ≡ true)
-    → station.result s i (told o) ≡ taken (answering s i (resulting s i o))
+    → call s (run.result i (told o)) ≡ taken (answering s i (resulting s i o))
 result-is s i failed u w ok = failure-is s i w
 result-is s i finished u w ok = success-is s i w (ok refl)
 result-is s i stuck u w ok = clash refl u

@@ -10,6 +10,7 @@ use Rattle.bits.specs.Bits.{digit}
 use Rattle.sets.proofs.Machine.{Outcome, failed, finished, stuck, sticks, Act, result, event}
 use Rattle.sets.proofs.Orders as machine-orders
 use Rattle.sets.proofs.Exists as exists
+use Rattle.garage.specs.declared.Report.{Report}
 use Rattle.garage_laws.specs.Runs as run
 use Rattle.garage_laws.specs.Runs.{Call, NoImages}
 use Rattle.garage_laws.specs.Orders.{resultsOf, eventsOf, AsChosen, Order}
@@ -93,11 +94,12 @@ module _ (succeeds : ℕ → Bool) where
   pub acts : (l : List Call) → AsChosen succeeds l → (a : List (Act ℕ)) × (l ≡ map asCall a)
   acts [] c = ([], refl)
   acts (run.request n set ∷ l) c = absurd c
-  acts (run.result j done ∷ l) c =
+  acts (run.reports r ∷ l) c =
       let (a, e) = acts l (c .1) in
+      let j = r .number in
       (result j (choice j) ∷ a, ap₂ (λ (d : ℕ) (m : List Call). run.result j d ∷ m) (c .0 ∙ sym (told-outcome (succeeds j))) e)
   acts (run.event x ∷ l) c = let (a, e) = acts l c in (event x ∷ a, ap (λ (m : List Call). run.event x ∷ m) e)
-  acts (run.image r ∷ l) c = absurd c
+  acts (run.pictures p ∷ l) c = absurd c
   acts (run.ask ∷ l) c = absurd c
 
 -- ---- the last
@@ -116,15 +118,15 @@ never z = absurd (omega arith)
 later : {l : List (Act ℕ)} (a : Act ℕ) → Last l → Last (a ∷ l)
 later a p = (a ∷ p .0, p .1, p .2, ap (λ (m : List (Act ℕ)). a ∷ m) (p .3))
 
-last-of : (l : List (Act ℕ)) (front : List Call) (i done : ℕ) → map asCall l ≡ front ++ (run.result i done ∷ []) → Last l
-last-of [] [] i done e = never (cc)
-last-of [] (c ∷ front) i done e = never (cc)
-last-of (result j o ∷ []) [] i done e = ([], j, o, refl)
-last-of (event x ∷ []) [] i done e = never (cc)
-last-of (a ∷ b ∷ l) [] i done e = never (cc)
-last-of (a ∷ l) (c ∷ front) i done e =
-    let t : map asCall l ≡ front ++ (run.result i done ∷ []) = cc in
-    later a (last-of l front i done t)
+last-of : (l : List (Act ℕ)) (front : List Call) (r : Report) → map asCall l ≡ front ++ (run.reports r ∷ []) → Last l
+last-of [] [] r e = never (cc)
+last-of [] (c ∷ front) r e = never (cc)
+last-of (result j o ∷ []) [] r e = ([], j, o, refl)
+last-of (event x ∷ []) [] r e = never (cc)
+last-of (a ∷ b ∷ l) [] r e = never (cc)
+last-of (a ∷ l) (c ∷ front) r e =
+    let t : map asCall l ≡ front ++ (run.reports r ∷ []) = cc in
+    later a (last-of l front r t)
 
 -- ---- orders
 
@@ -135,16 +137,16 @@ module _ {n : ℕ} {succeeds : ℕ → Bool} {events : List ℕ} {l : List (Act 
     only = λ i h. sym (same-results i l) ∙ O .only i h;
     chosen = heard succeeds l (O .chosen);
     events = sym (same-events l) ∙ O .those;
-    last = (let (front, i, done, e) = O .last in last-of l front i done e);
+    last = (let (front, r, e) = O .last in last-of l front r e);
   }
 
-  order-spoken : machine-orders.Order n (choice succeeds) events l → (front : List Call) (i done : ℕ) → map asCall l ≡ front ++ (run.result i done ∷ []) → Order n succeeds events (map asCall l)
-  order-spoken O front i done e = record {
+  order-spoken : machine-orders.Order n (choice succeeds) events l → (front : List Call) (r : Report) → map asCall l ≡ front ++ (run.reports r ∷ []) → Order n succeeds events (map asCall l)
+  order-spoken O front r e = record {
     once = λ i h. same-results i l ∙ O .once i h;
     only = λ i h. same-results i l ∙ O .only i h;
     chosen = spoken succeeds l (O .chosen);
     those = same-events l ∙ O .events;
-    last = (front, i, done, e);
+    last = (front, r, e);
   }
 
 pub orders-exist : OrdersExist
@@ -152,4 +154,4 @@ orders-exist n i h succeeds events =
     let (f, O) = exists.orders-exist ℕ n i h (choice succeeds) events in
     let e : map asCall (f ++ (result i (choice succeeds i) ∷ [])) ≡ map asCall f ++ (run.result i (digit (succeeds i)) ∷ []) =
     map-append f (result i (choice succeeds i) ∷ []) ∙ ap (λ (d : ℕ). map asCall f ++ (run.result i d ∷ [])) (told-outcome (succeeds i)) in
-    (map asCall f, subst (Order n succeeds events) e (order-spoken O (map asCall f) i (digit (succeeds i)) e))
+    (map asCall f, subst (Order n succeeds events) e (order-spoken O (map asCall f) (record { number = i; done = digit (succeeds i) }) e))

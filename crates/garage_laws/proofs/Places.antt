@@ -20,6 +20,8 @@ use Rattle.answers.specs.declared.Answer.the-variants.{Taken, TooFewBytes, BadL
 use Rattle.answers.specs.Answers.{numberOf, placeOf, nowhere}
 use Rattle.garage.specs.declared.Station.{Station}
 use Rattle.garage.specs.declared.Outcome.{Outcome}
+use Rattle.garage.specs.declared.Report.{Report}
+use Rattle.garage.specs.declared.Picture.{Picture}
 use Rattle.garage.specs.Held.{bad, overlapsEarlier, barred, liftIn}
 use Rattle.garage.specs.Station.{inSet, marked, fit}
 use Rattle.garage.specs.Calls as station
@@ -123,22 +125,22 @@ module _ (s : Station) where
   unfolding station.numbered
   numbered-flat i done = fork (not (inSet s i)) (flatly refl) (fork (marked s i) (flatly refl) (ended-flat i done))
 
-  resulted-flat : (i done : ℕ) → Flat (station.resulted s i done)
+  resulted-flat : (r : Report) → Flat (station.resulted s r)
   unfolding station.resulted
-  resulted-flat i done = fork (ltb 1 done) (flatly refl) (fork (eqb (s .count) 0) (flatly refl) (numbered-flat i done))
+  resulted-flat r = fork (ltb 1 (r .done)) (flatly refl) (fork (eqb (s .count) 0) (flatly refl) (numbered-flat (r .number) (r .done)))
 
-  result-flat : (i done : ℕ) → Flat (station.result s i done)
+  result-flat : (r : Report) → Flat (station.result s r)
   unfolding station.result
-  result-flat i done = fork (fit s) (resulted-flat i done) (flatly refl)
+  result-flat r = fork (fit s) (resulted-flat r) (flatly refl)
 
   driven-flat : (v : EventReading) → Flat (drivenAs s v)
   unfolding station.driven station.occurred
   driven-flat (Told e) = fork (fit s) (fork (liftIn (s .set) (s .count)) (flatly refl) (fork (possible e (bit (s .bits))) (flatly refl) (flatly refl))) (flatly refl)
   driven-flat Untold = fork (fit s) (flatly refl) (flatly refl)
 
-  image-flat : (r : ℕ) → Flat (station.takeImage s r)
+  image-flat : (p : Picture) → Flat (station.takeImage s p)
   unfolding station.takeImage station.imaged
-  image-flat r = fork (fit s) (fork (ltb 0 (s .count)) (flatly refl) (fork (sound r) (flatly refl) (flatly refl))) (flatly refl)
+  image-flat p = fork (fit s) (fork (ltb 0 (s .count)) (flatly refl) (fork (sound (p .bits)) (flatly refl) (flatly refl))) (flatly refl)
 
   ask-flat : Flat (station.ask s)
   unfolding station.ask
@@ -149,14 +151,14 @@ module _ (s : Station) where
 
 pub places-else : PlacesElse
 places-else s (run.request n set) other = answer-nowhere (call s (run.request n set) .answer) other
-places-else s (run.result i done) other = result-flat s i done .flat
+places-else s (run.reports r) other = result-flat s r .flat
 places-else s (run.event e) other = event-flat s e .flat
-places-else s (run.image r) other = image-flat s r .flat
+places-else s (run.pictures p) other = image-flat s p .flat
 places-else s run.ask other = ask-flat s .flat
 
 pub places-in-range : PlacesInRange
 places-in-range s (run.request n set) = request-right s n set .range
-places-in-range s (run.result i done) = inr (result-flat s i done .flat)
+places-in-range s (run.reports r) = inr (result-flat s r .flat)
 places-in-range s (run.event e) = inr (event-flat s e .flat)
-places-in-range s (run.image r) = inr (image-flat s r .flat)
+places-in-range s (run.pictures p) = inr (image-flat s p .flat)
 places-in-range s run.ask = inr (ask-flat s .flat)

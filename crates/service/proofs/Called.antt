@@ -75,8 +75,8 @@ pub called-kept : (w : What) (s : Station) (n : ℕ) (set : List ℕ) → set �
 unfolding request event result takeImage ask
 called-kept Request s n set e = kept-on-fit s set (kept-requested s set n set e)
 called-kept (Event way) s n set e = kept-on-fit s set (kept-evented s set way)
-called-kept (Result number done) s n set e = kept-on-fit s set (kept-resulted s set number done)
-called-kept (Image r) s n set e = kept-on-fit s set (kept-imaged s set r)
+called-kept (Result number done) s n set e = kept-on-fit s set (kept-resulted s set _)
+called-kept (Image r) s n set e = kept-on-fit s set (kept-imaged s set _)
 called-kept Ask s n set e = kept-on-fit s set (kept-refused s set Taken)
 called-kept (Answer number place) s n set e = kept-refused s set UnknownKind
 called-kept (Held r) s n set e = kept-refused s set UnknownKind

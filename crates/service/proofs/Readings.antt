@@ -34,7 +34,7 @@ pub ways : {A : Type 0} (P : A → Type 0) (t : Bool) {x y : A} → (t ≡ true 
 ways P true f g = f refl
 ways P false f g = g refl
 
-pub bad-told : (p : ℕ) → p < 8 → tellable (BadField p) ≡ true
+bad-told : (p : ℕ) → p < 8 → tellable (BadField p) ≡ true
 bad-told p h = rw (le-leb p 7 (omega arith))
 
 -- refused, with no set

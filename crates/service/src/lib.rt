@@ -17,6 +17,8 @@ ghost use Rattle.service.specs.Private.{makesCall};
 ghost use Rattle.service.specs.Runs.{Serves, run, enough, served, serving, finishing};
 use answers::Answer;
 use garage::Outcome;
+use garage::Picture;
+use garage::Report;
 use garage::Station;
 use garage::Turn;
 use wire::Frame;
@@ -78,8 +80,8 @@ fn turn(known: bool, what: What, s: Station, count: u8, set: [u8; 40]) -> Turn
     match what {
         What::Request => s.requested(count, set),
         What::Event { way } => s.evented(way),
-        What::Result { number, done } => s.resulted(number, done),
-        What::Image(r) => s.imaged(r),
+        What::Result { number, done } => s.resulted(Report { number, done }),
+        What::Image(r) => s.imaged(Picture { bits: r }),
         What::Ask => unmoved(s, Answer::Taken),
         What::Answer {
             number: _,

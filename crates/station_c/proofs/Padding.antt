@@ -16,6 +16,7 @@ use Rattle.answers.specs.declared.Answer.the-variants.{TooFewBytes, TooMany, Se
 use Rattle.garage.specs.declared.Station.{Station}
 use Rattle.garage.specs.declared.Outcome.{Outcome}
 use Rattle.garage.specs.Held.{codeAt, isGood, heldArea, heldAllowed, overlapsEarlier}
+use Rattle.garage.specs.Station.{opened}
 use Rattle.garage.specs.Calls.{refused, taken, onFit, unlessAny, accepted, requested, request}
 use Rattle.garage.proofs.Padding.{padded-code}
 use Rattle.wire.specs.Kinds.{setOf}
@@ -23,9 +24,9 @@ use Rattle.wire.proofs.Parts.{set-short}
 use Rattle.station_c.specs.Entries.{requestOf}
 
 module _ (s : Station) (n : ℕ) where
-  -- a request by its instructions and the bytes that are kept of them
-  form : (ℕ → Code) → List ℕ → Outcome
-  form code kept =
+  -- a request by its instructions and the station that they make
+  form : (ℕ → Code) → Station → Outcome
+  form code made =
       onFit s
       (cond (ltb 0 (s .count)) (refused s SetOutstanding)
       (cond (ltb 8 n) (refused s TooMany)
@@ -33,16 +34,16 @@ module _ (s : Station) (n : ℕ) where
       (unlessAny n (λ i. not (isGood (code i))) s BadField
       (unlessAny n (λ i. some i (λ j. share (heldArea (code i)) (heldArea (code j)))) s Overlap
       (unlessAny n (λ i. not (heldAllowed (code i) (bit (s .bits)))) s NotAllowed
-      (taken (record { bits = s .bits; count = n; answered = 0; set = kept ++ replicate (40 - 5 * n) 0 }))))))))
+      (taken made)))))))
 
-  as-form : (set : List ℕ) → request s n set ≡ form (codeAt set) (take (5 * n) set)
+  as-form : (set : List ℕ) → request s n set ≡ form (codeAt set) (opened s n set)
   unfolding request requested accepted form overlapsEarlier
   as-form set = refl
 
   padded : (l : List ℕ) (m : ℕ) → length l ≡ 5 * n → request s n (l ++ replicate m 0) ≡ request s n l
   padded l m e =
       let kept : take (5 * n) (l ++ replicate m 0) ≡ take (5 * n) l = take-at l (replicate m 0) (5 * n) e ∙ sym (take-all (5 * n) l (omega arith)) in
-      as-form (l ++ replicate m 0) ∙ ap₂ form (padded-code l m) kept ∙ sym (as-form l)
+      as-form (l ++ replicate m 0) ∙ ap₂ form (padded-code l m) (rw kept) ∙ sym (as-form l)
 
   module _ (set : List ℕ) where
     -- more than eight: no byte is looked at

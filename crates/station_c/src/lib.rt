@@ -12,6 +12,8 @@ use answers::Answer;
 use answers::NOWHERE;
 use floor::Total;
 use garage::Outcome;
+use garage::Picture;
+use garage::Report;
 use garage::Station;
 use rules::Instruction;
 use rules::Moved;
@@ -151,26 +153,26 @@ pub extern "C" fn station_event(room: &mut [u8], way: u8) -> u32
 // The result of an instruction, by its number from 0: 0 failed, 1 done.
 #[no_mangle]
 pub extern "C" fn station_result(room: &mut [u8], number: u8, done: u8) -> u32
-    ensures { λ r. ⌜ Leaves (entry (λ s. result s number done) (now (room .entry))) r (now (room .exit)) ⌝ }
+    ensures { λ r. ⌜ Leaves (entry (λ s. result s (record { number = number; done = done })) (now (room .entry))) r (now (room .exit)) ⌝ }
 {
     if room.len() < STATION {
         return say(Answer::NoRoom);
     }
     let s = load(room);
-    let o = s.result(number, done);
+    let o = s.result(Report { number, done });
     keep(o, room)
 }
 
 // An image, which becomes the record.
 #[no_mangle]
 pub extern "C" fn station_image(room: &mut [u8], image: u64) -> u32
-    ensures { λ r. ⌜ Leaves (entry (λ s. takeImage s image) (now (room .entry))) r (now (room .exit)) ⌝ }
+    ensures { λ r. ⌜ Leaves (entry (λ s. takeImage s (record { bits = image })) (now (room .entry))) r (now (room .exit)) ⌝ }
 {
     if room.len() < STATION {
         return say(Answer::NoRoom);
     }
     let s = load(room);
-    let o = s.image(image);
+    let o = s.image(Picture { bits: image });
     keep(o, room)
 }
 

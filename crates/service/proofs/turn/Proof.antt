@@ -68,7 +68,7 @@ returns-3 c = let a = c .before .before .before .before .before .before .args in
 
 returns-4 : tie.Need-returns-4
 unfolding result
-returns-4 c = let a = c .before .before .before .before .before .before .args in past-test (a .s) (resulted (a .s) _ _) (c .before .before .before .before .before .before .pre) (c .before .before .before .before .before .makes-call .ensures ∙ rw (c .before .before .what2 .given .1)) (c .before .before .before .before .if1 .left) (c .resulted .ensures) ∙ rw (c .before .before .what2 .given .1)
+returns-4 c = let a = c .before .before .before .before .before .before .args in past-test (a .s) (resulted (a .s) _) (c .before .before .before .before .before .before .pre) (c .before .before .before .before .before .makes-call .ensures ∙ rw (c .before .before .what2 .given .1)) (c .before .before .before .before .if1 .left) (c .resulted .ensures) ∙ rw (c .before .before .what2 .given .1)
 
 returns-5 : tie.Need-returns-5
 unfolding takeImage

@@ -25,7 +25,7 @@ after-requires c κs = search needs
 
 returns-2 : tie.Need-returns-2
 unfolding result
-returns-2 c = c .after .ensures ∙ rw (passed (c .before .before .before .before .fit .ensures) (c .before .before .before .if1 .left)) (rebuilt _ _ (c .before .before .resulted .ensures) (kept-resulted _ _ _ _))
+returns-2 c = c .after .ensures ∙ rw (passed (c .before .before .before .before .fit .ensures) (c .before .before .before .if1 .left)) (rebuilt _ _ (c .before .before .resulted .ensures) (kept-resulted _ _ _))
 
 pub result-spec : {M : Type 1} → statement M
 result-spec = tie.close (tie.spec fit-requires refused-requires returns resulted-requires after-requires returns-2)
