@@ -84,7 +84,7 @@ enum {
 };
 
 /* The bytes of stack that a call may take on x86-64, below the frame that makes it. No theorem says so: it is measured on many calls, and
- * added up over the archive's instructions for every path. That comes to about 950 for station_request, 900 for station_message, 600 for
+ * added up over the archive's instructions for every path. That comes to about 900 for station_message, 850 for station_request, 600 for
  * station_result, and less than 500 for each other; the C library's memcpy and the like are left out. */
 enum { STATION_STACK_MOST = 1024 };
 

@@ -1,10 +1,10 @@
 -- A request rests on the five bytes of its instructions alone: zeros past them change nothing. Assumes nothing.
-use mathlib.Core.Path.{_≡_, refl, sym, _∙_, ap₂}
-use mathlib.Core.Bool.{not, cond}
+use mathlib.Core.Path.{_≡_, refl, sym, _∙_, ap, ap₂}
+use mathlib.Core.Bool.{true, false, not, cond}
 use mathlib.Core.List.{List, _++_}
 use Prim.Native.Nat.{ℕ, _*_, _-_, _≤_, _<_}
 use native.Mathlib.Omega.{arith}
-use borrow.Author.Tests.{lt-ltb, le-ltb, le-leb, lt-leb}
+use borrow.Author.Tests.{ltb-true, ltb-false, lt-ltb, le-ltb, le-leb, lt-leb}
 use lib.Dec.{eqb, ltb}
 use lib.ListN.{length, take, replicate}
 use lib.Seq.{take-at, length-take-le, take-all}
@@ -21,7 +21,16 @@ use Rattle.garage.specs.Calls.{refused, taken, onFit, unlessAny, accepted, requ
 use Rattle.garage.proofs.Padding.{padded-code}
 use Rattle.wire.specs.Kinds.{setOf}
 use Rattle.wire.proofs.Parts.{set-short}
+use Rattle.bits.proofs.Cases.{split}
+use Rattle.station_c.specs.Private.{bytesAsked}
 use Rattle.station_c.specs.Entries.{requestOf}
+
+-- too many ask for none, eight and fewer for five each
+pub none-asked : (n : ℕ) → 8 < n → 0 ≡ bytesAsked n
+none-asked n h = rw (lt-ltb 8 n h)
+
+pub five-asked : (n : ℕ) → n ≤ 8 → 5 * n ≡ bytesAsked n
+five-asked n h = rw (le-ltb 8 n h)
 
 module _ (s : Station) (n : ℕ) where
   -- a request by its instructions and the station that they make
@@ -47,18 +56,29 @@ module _ (s : Station) (n : ℕ) where
 
   module _ (set : List ℕ) where
     -- more than eight: no byte is looked at
-    pub too-many : (a : List ℕ) → 8 < n → request s n a ≡ requestOf n set s
+    too-many : (a : List ℕ) → 8 < n → request s n a ≡ requestOf n set s
     unfolding request requested requestOf
     too-many a h = rw (lt-leb _ _ h, lt-ltb _ _ h)
 
     -- fewer bytes than the count says
-    pub too-few : n ≤ 8 → length set < 5 * n → _≡_ {A = Outcome} (record { station = s; answer = TooFewBytes }) (requestOf n set s)
+    too-few : n ≤ 8 → length set < 5 * n → _≡_ {A = Outcome} (record { station = s; answer = TooFewBytes }) (requestOf n set s)
     unfolding requestOf
     too-few h l = rw (le-leb _ _ h, lt-ltb _ _ l)
 
     -- the bytes of the instructions, with zeros past them
-    pub enough : {a : List ℕ} → n ≤ 8 → 5 * n ≤ length set → a ≡ setOf (take (5 * n) set) → request s n a ≡ requestOf n set s
+    enough : {a : List ℕ} → n ≤ 8 → 5 * n ≤ length set → a ≡ setOf (take (5 * n) set) → request s n a ≡ requestOf n set s
     unfolding requestOf
     enough h l e =
         let short : length (take (5 * n) set) ≤ 40 = rw (length-take-le (5 * n) set l) (omega arith) in
         rw (le-leb _ _ h, le-ltb _ _ l, e ∙ set-short (take (5 * n) set) short) (padded (take (5 * n) set) (40 - length (take (5 * n) set)) (length-take-le (5 * n) set l))
+
+    -- the same by how many bytes are asked for
+    pub asked-few : (k : ℕ) → k ≡ bytesAsked n → length set < k → _≡_ {A = Outcome} (record { station = s; answer = TooFewBytes }) (requestOf n set s)
+    asked-few k e l = split (ltb 8 n)
+        (λ t. let z : k ≡ 0 = e ∙ rw t in absurd (omega arith))
+        (λ t. let z : k ≡ 5 * n = e ∙ rw t in too-few (ltb-false 8 n t) (omega arith))
+
+    pub asked-enough : (k : ℕ) {a : List ℕ} → k ≡ bytesAsked n → k ≤ length set → a ≡ setOf (take k set) → request s n a ≡ requestOf n set s
+    asked-enough k {a} e l f = split (ltb 8 n)
+        (λ t. too-many a (ltb-true 8 n t))
+        (λ t. let z : k ≡ 5 * n = e ∙ rw t in enough (ltb-false 8 n t) (omega arith) (f ∙ ap (λ (m : ℕ). setOf (take m set)) z))

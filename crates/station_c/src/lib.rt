@@ -7,6 +7,7 @@ ghost use Rattle.floor.specs.Sound.{sound, total};
 ghost use Rattle.rules.specs.Verdicts.{movedOf};
 ghost use Rattle.garage.specs.Station.{startOf};
 ghost use Rattle.garage.specs.Calls.{taken, event, result, takeImage};
+ghost use Rattle.station_c.specs.Private.{bytesAsked};
 ghost use Rattle.station_c.specs.Entries.{stationSize, stationBytes, stationOf, returned, Leaves, writes, entry, requestOf, asking, returnedOf, Exchanges, exchange, moved, answerTo, judgement, recordIn, nexting, carsOr255};
 use answers::Answer;
 use answers::NOWHERE;
@@ -106,14 +107,21 @@ pub extern "C" fn station_start(room: &mut [u8]) -> u32
     keep(o, room)
 }
 
+// How many bytes a request asks for: of more than eight instructions none is looked at.
+fn bytes_asked(count: u8) -> usize
+    ensures { λ n. ⌜ n ≡ bytesAsked count ⌝ }
+{
+    if Station::MOST < count {
+        return 0;
+    }
+    5 * (count as usize)
+}
+
 // A request on a station, its set as a run of bytes.
 fn requested(s: Station, count: u8, set: &[u8]) -> Outcome
     ensures { λ o. ⌜ o ≡ requestOf count (now (set .entry)) s ⌝ }
 {
-    if Station::MOST < count {
-        return s.request(count, [0; 40]);
-    }
-    let size = 5 * (count as usize);
+    let size = bytes_asked(count);
     if set.len() < size {
         return Outcome {
             station: s,
