@@ -1,5 +1,6 @@
-/* Time and stack of each entry of station.h: a line for each with nanoseconds a call and bytes of stack (stack.h). With a name, only
- * that entry's calls are made and nothing is printed, so that their instructions can be counted; with any other word none are. */
+/* Time and stack of each entry of station.h, of a request of eight instructions, and of the next record by each kind of instruction: a
+ * line for each with nanoseconds a call and bytes of stack (stack.h). With a name, only those calls are made, and nothing is printed, so that their
+ * instructions can be counted; with any other word none are. */
 #define _POSIX_C_SOURCE 200809L
 #include "stack.h"
 #include "station.h"
@@ -12,11 +13,22 @@ enum { CALLS = 200000 };
 
 static uint8_t start[STATION_SIZE], outstanding[STATION_SIZE], room[STATION_SIZE], image[STATION_IMAGE_SIZE], answer[STATION_REPLY_MOST];
 static const uint8_t left_belt[STATION_CODE_SIZE] = {GARAGE_BELTS, 1, 2, GARAGE_LOWER, GARAGE_FULL};
+static const uint8_t shuttle[STATION_CODE_SIZE] = {GARAGE_SHUTTLES, GARAGE_LEFT, 2, GARAGE_LOWERED, GARAGE_HIGHER};
+static const uint8_t tilt[STATION_CODE_SIZE] = {GARAGE_TILT, GARAGE_LEFT, 3, GARAGE_TILTED, 0};
+static const uint8_t lift[STATION_CODE_SIZE] = {GARAGE_LIFT, GARAGE_BASEMENT, 0, 0, 0};
+/* all belts but the lift's, one by one, as far as there are lowered shuttles */
+static const uint8_t eight[STATION_MOST * STATION_CODE_SIZE] = {
+    GARAGE_BELTS, 1, 1,  GARAGE_LOWER, GARAGE_FULL, GARAGE_BELTS, 1, 2, GARAGE_LOWER, GARAGE_FULL,
+    GARAGE_BELTS, 1, 8,  GARAGE_LOWER, GARAGE_FULL, GARAGE_BELTS, 1, 16, GARAGE_LOWER, GARAGE_FULL,
+    GARAGE_BELTS, 2, 1,  GARAGE_LOWER, GARAGE_FULL, GARAGE_BELTS, 2, 2, GARAGE_LOWER, GARAGE_FULL,
+    GARAGE_BELTS, 2, 4,  GARAGE_LOWER, GARAGE_FULL, GARAGE_BELTS, 3, 2, GARAGE_LOWER, GARAGE_FULL,
+};
 static const uint8_t request[10] = {8, 0, STATION_KIND_REQUEST, 0, 1, GARAGE_BELTS, 1, 2, GARAGE_LOWER, GARAGE_FULL};
 
 #define CALL(name) static void call_##name(__attribute__((unused)) void *none)
 CALL(start) { station_start(room, STATION_SIZE); }
 CALL(request) { memcpy(room, start, STATION_SIZE); station_request(room, STATION_SIZE, 1, left_belt, sizeof left_belt); }
+CALL(eight) { memcpy(room, start, STATION_SIZE); station_request(room, STATION_SIZE, STATION_MOST, eight, sizeof eight); }
 CALL(event) { memcpy(room, start, STATION_SIZE); station_event(room, STATION_SIZE, STATION_CAR_IN); }
 CALL(result) { memcpy(room, outstanding, STATION_SIZE); station_result(room, STATION_SIZE, 0, STATION_DONE); }
 CALL(image) { memcpy(room, start, STATION_SIZE); station_image(room, STATION_SIZE, STATION_START_IMAGE); }
@@ -25,7 +37,11 @@ CALL(message) { memcpy(room, start, STATION_SIZE); station_message(room, STATION
 CALL(sound) { garage_sound(STATION_START_IMAGE); }
 CALL(cars) { garage_cars(STATION_START_IMAGE); }
 CALL(allowed) { garage_allowed(STATION_START_IMAGE, left_belt, sizeof left_belt); }
-CALL(next) { garage_next(STATION_START_IMAGE, left_belt, sizeof left_belt, image, sizeof image); }
+#define NEXT(name) CALL(next_##name) { garage_next(STATION_START_IMAGE, name, sizeof name, image, sizeof image); }
+NEXT(left_belt)
+NEXT(shuttle)
+NEXT(tilt)
+NEXT(lift)
 
 static const struct {
     const char *name;
@@ -33,7 +49,8 @@ static const struct {
 } entries[] = {
     {"station_start", call_start},     {"station_request", call_request}, {"station_event", call_event}, {"station_result", call_result},
     {"station_image", call_image},     {"station_ask", call_ask},         {"station_message", call_message}, {"garage_sound", call_sound},
-    {"garage_cars", call_cars},        {"garage_allowed", call_allowed},  {"garage_next", call_next},
+    {"garage_cars", call_cars},        {"garage_allowed", call_allowed},  {"request_of_eight", call_eight},
+    {"next_by_belt", call_next_left_belt}, {"next_by_shuttle", call_next_shuttle}, {"next_by_tilt", call_next_tilt}, {"next_by_lift", call_next_lift},
 };
 
 static double nanoseconds_of(void (*call)(void *)) {

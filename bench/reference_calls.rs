@@ -10,6 +10,11 @@ use std::time::Instant;
 
 const CALLS: u32 = 200_000;
 const LEFT_BELT: [u8; 5] = [1, 1, 2, 0, 1];
+const SHUTTLE: [u8; 5] = [2, 0, 2, 0, 1];
+const TILT: [u8; 5] = [3, 0, 3, 1, 0];
+const LIFT: [u8; 5] = [4, 2, 0, 0, 0];
+const EIGHT: [[u8; 5]; 8] =
+    [[1, 1, 1, 0, 1], [1, 1, 2, 0, 1], [1, 1, 8, 0, 1], [1, 1, 16, 0, 1], [1, 2, 1, 0, 1], [1, 2, 2, 0, 1], [1, 2, 4, 0, 1], [1, 3, 2, 0, 1]];
 const REQUEST: [u8; 10] = [8, 0, 1, 0, 1, 1, 1, 2, 0, 1];
 
 fn time(name: &str, mut call: impl FnMut()) {
@@ -29,7 +34,14 @@ fn lent(room: &[u8; 50], call: impl FnOnce(&mut Station) -> (u8, u8)) {
     black_box(room);
 }
 
+/// The record after an instruction that is allowed.
+fn next(name: &str, five: [u8; 5]) {
+    assert!(Instruction::read(five).is_some_and(|one| one.allowed(START)), "{name} is allowed");
+    time(name, || { black_box(Instruction::read(black_box(five)).filter(|one| one.allowed(black_box(START))).map(|one| one.next(black_box(START)))); });
+}
+
 fn main() {
+    assert_eq!(Station::start().request(8, &EIGHT.concat()), (0, 255), "the eight are taken");
     let start = Station::start().to_bytes();
     let mut station = Station::start();
     station.request(1, &LEFT_BELT);
@@ -47,5 +59,10 @@ fn main() {
     time("garage_sound", || { black_box(reference::sound(black_box(START))); });
     time("garage_cars", || { black_box(reference::cars(black_box(START))); });
     time("garage_allowed", || { black_box(Instruction::read(black_box(LEFT_BELT)).map(|belts| belts.allowed(black_box(START)))); });
-    time("garage_next", || { black_box(Instruction::read(black_box(LEFT_BELT)).filter(|belts| belts.allowed(START)).map(|belts| belts.next(black_box(START)))); });
+    let eight = EIGHT.concat();
+    time("request_of_eight", || lent(&start, |station| station.request(black_box(8), black_box(&eight))));
+    next("next_by_belt", LEFT_BELT);
+    next("next_by_shuttle", SHUTTLE);
+    next("next_by_tilt", TILT);
+    next("next_by_lift", LIFT);
 }

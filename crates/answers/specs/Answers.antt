@@ -1,6 +1,8 @@
 -- Document 01's table of numbers: the number and the place of each answer. Assumes nothing.
 use mathlib.Core.Path.{_≡_}
+use mathlib.Core.Bool.{Bool}
 use Prim.Native.Nat.{ℕ}
+use lib.Dec.{leb}
 use Rattle.answers.specs.declared.Answer.{Answer}
 use Rattle.answers.specs.declared.Answer.the-variants.{Taken, TooFewBytes, BadLength, UnknownKind, BadField, TooMany, SetOutstanding, EmptySet, Overlap, NotAllowed, EventImpossible, NoSet, NotInSet, AlreadyAnswered, NowNotAllowed, Unsound, Unfit, NoRoom}
 
@@ -28,6 +30,10 @@ numberOf NoRoom = 17
 -- a number of the table: some answer has it
 abbrev pub OfTable : ℕ → Type 0
 OfTable n = (a : Answer) × (n ≡ numberOf a)
+
+-- the same as a test: 0 to 17
+abbrev pub inTable : ℕ → Bool
+inTable n = leb n 17
 
 -- the place where an answer names no instruction
 abbrev pub nowhere : ℕ

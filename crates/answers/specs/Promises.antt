@@ -1,8 +1,10 @@
--- What is promised of the table: every answer is one of its rows. Proved in proofs/Promises.antt. Assumes nothing.
-use Prim.Native.Nat.{_≤_}
-use Rattle.answers.specs.declared.Answer.{Answer}
-use Rattle.answers.specs.Answers.{numberOf}
+-- What is promised of the table: the test of its numbers is right. Proved in proofs/Promises.antt. Assumes nothing.
+use mathlib.Core.Path.{_≡_}
+use mathlib.Core.Bool.{true}
+use mathlib.Core.Logic.{_↔_}
+use Prim.Native.Nat.{ℕ}
+use Rattle.answers.specs.Answers.{OfTable, inTable}
 
--- the number of an answer is one of the table's, 0 to 17
-abbrev pub InTable : Type 0
-InTable = (a : Answer) → numberOf a ≤ 17
+-- a number is in the table exactly if some answer has it
+abbrev pub TableExactly : Type 0
+TableExactly = (n : ℕ) → (inTable n ≡ true) ↔ OfTable n

@@ -1,6 +1,6 @@
 // What the station answers: a case for each number of document 01's table, with the place of an instruction where it has one.
 ghost use mathlib.Core.Path.{_≡_};
-ghost use Rattle.answers.specs.Answers.{numberOf, placeOf};
+ghost use Rattle.answers.specs.Answers.{numberOf, inTable, placeOf};
 
 pub enum Answer {
     // 0: taken
@@ -43,6 +43,13 @@ pub enum Answer {
 
 // The place that an answer gives where it names no instruction.
 pub const NOWHERE: u8 = 255;
+
+// Whether a number is one of the table's.
+pub fn in_table(n: u8) -> bool
+    ensures { λ b. ⌜ b ≡ inTable n ⌝ }
+{
+    n <= 17
+}
 
 impl Answer {
     // Its number in the table.

@@ -1,7 +1,3 @@
-mod Tables
-mod Walks
-mod Rows
-mod Renewal
 mod Spans
 mod Masks
 mod Conditions

@@ -1,4 +1,4 @@
--- The shape of a belt mask and the slots that it needs, by the numbers that the code computes: tests at every row and mask. Assumes nothing.
+-- The shape of a belt mask, the cells that it names and the slots that it needs, by the numbers that the code computes: tests at every row and mask. Assumes nothing.
 use mathlib.Core.Path.{_≡_, refl}
 use mathlib.Core.Bool.{Bool, cond, not, _&&_, Bool·beq}
 use mathlib.Core.List.{[], _∷_}
@@ -28,6 +28,24 @@ run-test = tt
 
 pub run-is : (row mask : ℕ) → T (beltsNamed row mask) → run mask ≡ not (isEmpty (cells row mask)) && adjacent (cells row mask)
 run-is row mask w = beq→eq (run mask) _ (each-row runRight run-test row mask w)
+
+-- the cells of the named belts, as the code has them
+abbrev spanned : ℕ → ℕ → ℕ
+spanned row m =
+    cond (eqb row 1) (m % 2 * 0x3 + m / 2 % 2 * 0x7FC + m / 4 % 2 * 0x1800 + m / 8 % 2 * 0x3E000 + m / 16 % 2 * 0xC0000)
+    (cond (eqb row 2) (m % 2 * 0x100000 + m / 2 % 2 * 0x1FE00000 + m / 4 % 2 * 0x20000000)
+    (m % 2 * 0x40000000 + m / 2 % 2 * 0x7F80000000 + m / 4 % 2 * 0x8000000000))
+
+-- their places are those of the rules
+abbrev spanRight : ℕ → ℕ → Bool
+spanRight row mask = same (places (spanned row mask)) (cells row mask)
+
+span-test : T (rows spanRight)
+unfolding rows every places
+span-test = tt
+
+pub span-is : (row mask : ℕ) → T (beltsNamed row mask) → places (spanned row mask) ≡ cells row mask
+span-is row mask w = same-eq _ _ (each-row spanRight span-test row mask w)
 
 -- the lowered slots of the named shuttle belts, as the code has them
 abbrev slots : ℕ → ℕ → ℕ

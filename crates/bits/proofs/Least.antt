@@ -2,8 +2,9 @@
 -- says where the test passes and at the end. Assumes nothing.
 use Prim.Native.Nat.{ℕ, zero, suc, _+_, _≤_, _<_}
 use native.Mathlib.Omega.{arith}
-use mathlib.Core.Path.{_≡_, refl, sym, ap}
-use mathlib.Core.Bool.{Bool, true, false, not}
+use mathlib.Core.Path.{_≡_, refl, sym, ap, _∙_}
+use mathlib.Core.Bool.{Bool, true, false, cond, not, _&&_, and-false}
+use mathlib.Core.Logic.{_⊎_, inl, inr, ⊎-elim}
 use lib.Dec.{eqb}
 use borrow.Author.Tests.{eqb-true, eqb-false, eq-eqb, ne-eqb, not-false}
 use Rattle.bits.specs.Search.{every, least, IsLeast}
@@ -77,3 +78,31 @@ here {p} {n} {i} v h e = sym (least-is n i p h (v .none) e)
 
 pub past : {p : ℕ → Bool} {n i : ℕ} → Passed p n i → n ≤ i → n ≡ least n p
 past {p} {n} {i} v h = sym (least-none n p (λ j l. v .none j (omega arith)))
+
+-- ---- the same in a loop that goes on to the end
+
+-- found is the least number below i that passes, or n where none does
+pub record Sought (p : ℕ → Bool) (n i found : ℕ) : Type 0 where
+  pub within : i ≤ n
+  pub so-far : ((found ≡ n) × ((j : ℕ) → j < i → p j ≡ false)) ⊎ ((found < i) × (p found ≡ true) × ((j : ℕ) → j < found → p j ≡ false))
+
+pub sought-start : (p : ℕ → Bool) (n : ℕ) → Sought p n 0 n
+sought-start p n = record { within = omega arith; so-far = inl (refl, λ j h. absurd (omega arith)) }
+
+pub sought-turn : {p : ℕ → Bool} {n i found : ℕ} {b : Bool} → Sought p n i found → i < n → b ≡ p i → Sought p n (i + 1) (cond (b && eqb found n) i found)
+sought-turn {p} {n} {i} {found} {b} v h e = record {
+  within = omega arith;
+  so-far = ⊎-elim
+      (λ (a : (found ≡ n) × ((j : ℕ) → j < i → p j ≡ false)). split b
+      (λ t. rw (t, eq-eqb found n (a .0)) (inr ((omega arith), sym e ∙ t, a .1)))
+      (λ t. rw t (inl (a .0, turn (record { within = v .within; none = a .1 }) h (sym e ∙ t) .none))))
+      (λ (a : (found < i) × (p found ≡ true) × ((j : ℕ) → j < found → p j ≡ false)).
+      rw (ne-eqb found n (λ z. omega (arith, a .0)), and-false b) (inr ((omega (arith, a .0)), a .1, a .2)))
+      (v .so-far);
+}
+
+pub sought-end : {p : ℕ → Bool} {n i found : ℕ} → Sought p n i found → n ≤ i → found ≡ least n p
+sought-end {p} {n} {i} {found} v h = ⊎-elim
+    (λ (a : (found ≡ n) × ((j : ℕ) → j < i → p j ≡ false)). a .0 ∙ sym (least-none n p (λ j l. a .1 j (omega arith))))
+    (λ (a : (found < i) × (p found ≡ true) × ((j : ℕ) → j < found → p j ≡ false)). let w = v .within in sym (least-is n found p (omega (arith, a .0)) (a .2) (a .1)))
+    (v .so-far)

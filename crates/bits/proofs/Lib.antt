@@ -10,3 +10,4 @@ pub mod Least
 pub mod Sharing
 pub mod Lists
 pub mod Fills
+pub mod Laying

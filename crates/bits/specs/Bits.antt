@@ -1,6 +1,6 @@
 -- A record is carried by one number of 64 binary digits. Here is a record as its bits, the number that carries given bits,
 -- and how many of some bits are 1. Assumes nothing.
-use mathlib.Core.Bool.{Bool, true, false, _&&_}
+use mathlib.Core.Bool.{Bool, true, false, cond, _&&_}
 use mathlib.Core.List.{List, [], _∷_}
 use Prim.Native.Nat.{ℕ, zero, suc, _+_, _*_, _/_, _%_, _^_}
 use lib.Dec.{eqb}
@@ -36,3 +36,7 @@ count (k ∷ ks) f = digit (f k) + count ks f
 abbrev pub allSet : List ℕ → Bits → Bool
 allSet [] f = true
 allSet (k ∷ ks) f = f k && allSet ks f
+
+-- the record r with the bits of one mask made anew: 1 where the other mask has a 1
+abbrev pub laid : ℕ → ℕ → ℕ → Bits
+laid r touched new k = cond (bit touched k) (bit new k) (bit r k)

@@ -2,7 +2,7 @@
 ghost use mathlib.Core.Path.{_≡_};
 ghost use Prim.Native.Nat.{_%_};
 ghost use lib.Dec.{eqb};
-ghost use Rattle.bits.specs.Bits.{bit, count, allSet};
+ghost use Rattle.bits.specs.Bits.{bit, image, count, allSet, laid};
 ghost use Rattle.bits.specs.Places.{places};
 
 // Bit k of the number; from 64 on there is none that is 1.
@@ -41,4 +41,11 @@ pub fn even(r: u64, mask: u64) -> bool
     ensures { λ b. ⌜ b ≡ eqb (count (places mask) (bit r) % 2) 0 ⌝ }
 {
     count(r, mask) % 2 == 0
+}
+
+// The number with the touched bits made anew: 1 where `new` has a 1.
+pub fn laid(r: u64, touched: u64, new: u64) -> u64
+    ensures { λ x. ⌜ x ≡ image (laid r touched new) ⌝ }
+{
+    (r & !touched) | (new & touched)
 }

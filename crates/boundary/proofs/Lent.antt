@@ -14,7 +14,7 @@ use Rattle.rules.specs.Codes.{most}
 use Rattle.answers.specs.declared.Answer.{Answer}
 use Rattle.answers.specs.declared.Answer.the-variants.{NoRoom}
 use Rattle.answers.specs.Answers.{numberOf}
-use Rattle.answers.proofs.Promises.{in-table}
+use Rattle.answers.proofs.Promises.{number-byte}
 use Rattle.garage.specs.declared.Station.{Station}
 use Rattle.garage.specs.declared.Outcome.{Outcome}
 use Rattle.garage.specs.Station.{startOf, fit}
@@ -29,7 +29,8 @@ use Rattle.service.specs.declared.Reply.{Reply}
 use Rattle.service.specs.Service.{respond, answerBytes}
 use Rattle.service.specs.Statements.{Answers}
 use Rattle.service.proofs.Replies.{answer-bytes-length}
-use Rattle.service.proofs.Ranges.{ways, always-answered, refused-keeps}
+use Rattle.service.proofs.Readings.{ways}
+use Rattle.service.proofs.Ranges.{always-answered, refused-keeps}
 use Rattle.station_c.specs.Entries.{stationBytes, stationOf, returned, Entry, writes, entry, requestOf, asking, returnedOf, exchange}
 use Rattle.station_c.specs.Promises.{Typed}
 use Rattle.station_c.proofs.Promises.{station-fits, station-reads-back, returned-reads-back}
@@ -141,7 +142,7 @@ kept s bytes n = go (respond s bytes .answer) refl (always-answered s bytes)
     go : (w : What) → respond s bytes .answer ≡ w → Answers w → respond s bytes .station ≡ s
     go (What.Answer number place) e a =
         let (b, f) = a .0 in
-        let l = in-table b in
+        let l = number-byte b in
         refused-keeps s bytes number place e (λ z. n (ap (λ (w : What). returnedOf w % 256) e ∙ omega arith))
     go (Held r) e a = absurd (n (ap (λ (w : What). returnedOf w % 256) e))
     go Request e a = absurd a

@@ -28,7 +28,7 @@ use Rattle.wire_laws.proofs.Numbers.{bytes-take}
 use Rattle.wire_laws.proofs.Back.{wrote, reads-back}
 use Rattle.wire_laws.proofs.Asked.{asked-alike}
 use Rattle.service.specs.Service.{called, replyOf, respond}
-use Rattle.service.proofs.Ranges.{ways}
+use Rattle.service.proofs.Readings.{ways}
 use Rattle.boundary.specs.Calls.{Heard, makes, refuses, heardAs, heard, reply}
 use Rattle.boundary.specs.Statements.{MessageIsCall, WrittenIsHeard}
 
@@ -79,9 +79,9 @@ below (suc n) i s b = omega (arith, pow-suc 256 n, below n (suc i) s b, b i)
 -- a call as code makes it: up to eight instructions have their bytes, an image is a number of 64 bits
 abbrev pub AsMade : Call → Type 0
 AsMade (run.request n set) = n ≤ most → 5 * n ≤ length set
-AsMade (run.result i done) = Unit {0}
+AsMade (run.reports r) = Unit {0}
 AsMade (run.event e) = Unit {0}
-AsMade (run.image r) = r < 2 ^ 64
+AsMade (run.pictures p) = p .bits < 2 ^ 64
 AsMade run.ask = Unit {0}
 
 -- what a message makes: such a call, or a refusal that the reader can give

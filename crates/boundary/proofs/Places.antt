@@ -1,26 +1,29 @@
 -- The place that an entry returns is one of eight, or none. Assumes nothing.
 use mathlib.Core.Path.{_≡_, refl}
-use mathlib.Core.Logic.{_⊎_, inr}
+use mathlib.Core.Logic.{_⊎_, inl, inr}
 use mathlib.Core.Bool.{_&&_, _||_}
 use mathlib.Core.List.{List}
-use Prim.Native.Nat.{ℕ, _+_, _*_, _/_, _≤_}
+use Prim.Native.Nat.{ℕ, _+_, _*_, _/_, _≤_, _<_}
 use native.Mathlib.Omega.{arith}
 use lib.Dec.{leb, ltb}
-use lib.ListN.{length, take, replicate}
+use lib.ListN.{length, take}
 use Rattle.bits.proofs.Cases.{split}
 use Rattle.rules.specs.Codes.{most}
 use Rattle.answers.specs.declared.Answer.{Answer}
 use Rattle.answers.specs.Answers.{placeOf}
-use Rattle.answers.proofs.Promises.{in-table}
+use Rattle.answers.proofs.Promises.{number-byte}
 use Rattle.garage.specs.declared.Station.{Station}
 use Rattle.garage.specs.declared.Outcome.{Outcome}
 use Rattle.garage.specs.Station.{startOf}
 use Rattle.garage.specs.Calls as station
+use Rattle.garage_laws.specs.Runs as run
+use Rattle.garage_laws.specs.Runs.{Call, placed}
+use Rattle.garage_laws.proofs.Demands.{places-in-range}
 use Rattle.wire.specs.declared.What.{What}
 use Rattle.wire.specs.declared.What.the-variants.{Request, Event, Result, Image, Ask, Held}
 use Rattle.service.specs.Service.{respond, answerBytes}
 use Rattle.service.specs.Statements.{Answers}
-use Rattle.service.proofs.Ranges.{called-placed, always-answered}
+use Rattle.service.proofs.Ranges.{always-answered}
 use Rattle.station_c.specs.Entries.{stationOf, returned, writes, entry, requestOf, asking, returnedOf, exchange}
 use Rattle.station_c.proofs.Promises.{returned-reads-back}
 use Rattle.boundary.specs.Uses.{start, request, event, result, image, ask, message}
@@ -29,6 +32,13 @@ use Rattle.boundary.specs.Statements.{EntryPlacesInRange}
 -- one of eight, or none
 abbrev Placed : ℕ → Type 0
 Placed p = (p ≤ 7) ⊎ (p ≡ 255)
+
+at-most : (p : ℕ) → (p < most) ⊎ (p ≡ 255) → Placed p
+at-most p (inl h) = inl (omega arith)
+at-most p (inr e) = inr e
+
+call-placed : (s : Station) (c : Call) → Placed (placed s c)
+call-placed s c = at-most (placed s c) (places-in-range s c)
 
 returned-placed : (a : Answer) → Placed (placeOf a) → Placed (returned a / 256)
 returned-placed a h = rw (returned-reads-back a .1) h
@@ -40,12 +50,12 @@ entry-placed c room h = split (ltb (length room) 50) (λ t. rw t (inr refl)) (λ
 request-placed : (n : ℕ) (set : List ℕ) (s : Station) → Placed (placeOf (requestOf n set s .answer))
 unfolding requestOf
 request-placed n set s =
-    split (leb n most && ltb (length set) (5 * n)) (λ t. rw t (inr refl)) (λ t. rw t (called-placed Request s n (take (5 * n) set)))
+    split (leb n most && ltb (length set) (5 * n)) (λ t. rw t (inr refl)) (λ t. rw t (call-placed s (run.request n (take (5 * n) set))))
 
 reply-placed : (w : What) → Answers w → Placed (returnedOf w / 256)
 reply-placed (What.Answer number place) a =
     let (b, e) = a .0 in
-    let h = in-table b in
+    let h = number-byte b in
     let p : (number + 256 * place) / 256 ≡ place = omega arith in
     rw p (a .1)
 reply-placed (Held r) a = inr refl
@@ -59,13 +69,13 @@ pub entry-places-in-range : EntryPlacesInRange
 unfolding asking writes exchange
 entry-places-in-range room start = entry-placed (λ s. station.taken startOf) room (inr refl)
 entry-places-in-range room (request n set) = entry-placed (requestOf n set) room (request-placed n set (stationOf room))
-entry-places-in-range room (event e) = entry-placed (λ s. station.event s e) room (called-placed (Event e) (stationOf room) 0 (replicate 40 0))
-entry-places-in-range room (result i d) = entry-placed (λ s. station.result s i d) room (called-placed (Result i d) (stationOf room) 0 (replicate 40 0))
-entry-places-in-range room (image r) = entry-placed (λ s. station.takeImage s r) room (called-placed (Image r) (stationOf room) 0 (replicate 40 0))
+entry-places-in-range room (event e) = entry-placed (λ s. station.event s e) room (call-placed (stationOf room) (run.event e))
+entry-places-in-range room (result i d) = entry-placed (λ s. station.result s (record { number = i; done = d })) room (call-placed (stationOf room) (run.result i d))
+entry-places-in-range room (image r) = entry-placed (λ s. station.takeImage s (record { bits = r })) room (call-placed (stationOf room) (run.image r))
 entry-places-in-range room (ask out) =
     let s = stationOf room in
     split (ltb (length room) 50 || ltb (length out) 8) (λ t. rw t (inr refl))
-    (λ t. rw t (returned-placed (station.ask s .answer) (called-placed Ask s 0 (replicate 40 0))))
+    (λ t. rw t (returned-placed (station.ask s .answer) (call-placed s run.ask)))
 entry-places-in-range room (message m out) =
     let w = respond (stationOf room) m .answer in
     split (ltb (length room) 50 || ltb (length out) (length (answerBytes w))) (λ t. rw t (inr refl)) (λ t. rw t (reply-placed w (always-answered (stationOf room) m)))

@@ -42,24 +42,24 @@ calls-more s (d ∷ l) c = calls-more (left s d) l c
 no-images-more : (l : List Call) (c : Call) → NoImages l → NoImages (c ∷ []) → NoImages (l ++ (c ∷ []))
 no-images-more [] c p q = q
 no-images-more (run.request n set ∷ l) c p q = no-images-more l c p q
-no-images-more (run.result i done ∷ l) c p q = no-images-more l c p q
+no-images-more (run.reports r ∷ l) c p q = no-images-more l c p q
 no-images-more (run.event e ∷ l) c p q = no-images-more l c p q
-no-images-more (run.image r ∷ l) c p q = absurd p
+no-images-more (run.pictures x ∷ l) c p q = absurd p
 no-images-more (run.ask ∷ l) c p q = no-images-more l c p q
 
 -- a call as code makes it has such an image, and several are one and the rest
 pub one-sized : (c : Call) → AsMade c → Sized (c ∷ [])
 one-sized (run.request n set) m = tt
-one-sized (run.result i done) m = tt
+one-sized (run.reports r) m = tt
 one-sized (run.event e) m = tt
-one-sized (run.image r) m = (m, tt)
+one-sized (run.pictures p) m = (m, tt)
 one-sized run.ask m = tt
 
 sized-parts : (c : Call) (l : List Call) → Sized (c ∷ l) → Sized (c ∷ []) × Sized l
 sized-parts (run.request n set) l m = (tt, m)
-sized-parts (run.result i done) l m = (tt, m)
+sized-parts (run.reports r) l m = (tt, m)
 sized-parts (run.event e) l m = (tt, m)
-sized-parts (run.image r) l m = ((m .0, tt), m .1)
+sized-parts (run.pictures p) l m = ((m .0, tt), m .1)
 sized-parts run.ask l m = (tt, m)
 
 module _ (s : Station) (R : Reached s) where
@@ -74,11 +74,11 @@ module _ (s : Station) (R : Reached s) where
 
   pub reached-call : (c : Call) → Sized (c ∷ []) → Reached (left s c)
   reached-call (run.request n set) m = by-plain (run.request n set) tt
-  reached-call (run.result i done) m = by-plain (run.result i done) tt
+  reached-call (run.reports r) m = by-plain (run.reports r) tt
   reached-call (run.event e) m = by-plain (run.event e) tt
-  reached-call (run.image r) m = split (eqb (said s (run.image r)) 0)
-      (λ t. record { origin = left s (run.image r); begins = byImage s r (m .0) (eqb-true _ 0 t); since = []; noImages = tt; here = refl })
-      (λ t. subst Reached (sym (untouched s (run.image r) (eqb-false _ 0 t))) R)
+  reached-call (run.pictures p) m = split (eqb (said s (run.pictures p)) 0)
+      (λ t. record { origin = left s (run.pictures p); begins = byImage s (p .bits) (m .0) (eqb-true _ 0 t); since = []; noImages = tt; here = refl })
+      (λ t. subst Reached (sym (untouched s (run.pictures p) (eqb-false _ 0 t))) R)
   reached-call run.ask m = by-plain run.ask tt
 
   pub reached-reply : (h : Heard) → Fine h → Reached (reply s h .station)
@@ -113,9 +113,9 @@ start-fit l = fit-calls l startOf ∙ fit-start
 pub returned-reply : (s : Station) (c : Call) → returned (call s c .answer) ≡ returnedOf (replyTo s c)
 unfolding station.ask
 returned-reply s (run.request n set) = refl
-returned-reply s (run.result i done) = refl
+returned-reply s (run.reports r) = refl
 returned-reply s (run.event e) = refl
-returned-reply s (run.image r) = refl
+returned-reply s (run.pictures p) = refl
 returned-reply s run.ask = split (fit s) (λ t. rw t) (λ t. rw t)
 
 -- a refusal that the reader can give
@@ -148,11 +148,11 @@ module _ (s : Station) (T : Typed s) where
 
   pub typed-call : (c : Call) → AsMade c → Typed (left s c)
   typed-call (run.request n set) m = by-step (run.request n set) tt m
-  typed-call (run.result i done) m = by-step (run.result i done) tt m
+  typed-call (run.reports r) m = by-step (run.reports r) tt m
   typed-call (run.event e) m = by-step (run.event e) tt m
-  typed-call (run.image r) m = split (eqb (said s (run.image r)) 0)
-      (λ t. let w = image-has s r (eqb-true _ 0 t) in subst Typed (sym (ap (λ (o : Outcome). o .station) (image-is s r w))) (record { image = m; places = T .places }))
-      (λ t. subst Typed (sym (untouched s (run.image r) (eqb-false _ 0 t))) T)
+  typed-call (run.pictures p) m = split (eqb (said s (run.pictures p)) 0)
+      (λ t. let w = image-has s (p .bits) (eqb-true _ 0 t) in subst Typed (sym (ap (λ (o : Outcome). o .station) (image-is s (p .bits) w))) (record { image = m; places = T .places }))
+      (λ t. subst Typed (sym (untouched s (run.pictures p) (eqb-false _ 0 t))) T)
   typed-call run.ask m = by-step run.ask tt m
 
   pub typed-reply : (h : Heard) → Fine h → Typed (reply s h .station)

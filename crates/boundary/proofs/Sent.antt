@@ -37,9 +37,9 @@ bytes-drop n s b i = rw (getD-drop n s i 0) (b _)
 sized-more : (h : Heard) (l : List Heard) → Fine h → Sized (callsIn l) → Sized (callsIn (h ∷ l))
 sized-more (refuses a) l f m = m
 sized-more (makes (run.request n set)) l f m = m
-sized-more (makes (run.result i done)) l f m = m
+sized-more (makes (run.reports r)) l f m = m
 sized-more (makes (run.event e)) l f m = m
-sized-more (makes (run.image r)) l f m = (f, m)
+sized-more (makes (run.pictures p)) l f m = (f, m)
 sized-more (makes run.ask) l f m = m
 
 sized-go : (f : Frame) (k : ℕ) (input : List ℕ) → Bytes input → ((rest : List ℕ) → Bytes rest → Sized (callsIn (heardFor k rest)))

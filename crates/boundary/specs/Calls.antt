@@ -45,9 +45,9 @@ heard bytes =
 -- whether a call asks for the record
 abbrev pub asks : Call → Bool
 asks (run.request n set) = false
-asks (run.result i done) = false
+asks (run.reports r) = false
 asks (run.event e) = false
-asks (run.image r) = false
+asks (run.pictures p) = false
 asks run.ask = true
 
 -- a call's answer as a message: the record after an ask that is taken
@@ -99,7 +99,7 @@ fedStation s held (p ∷ ps) =
 abbrev pub Sized : List Call → Type 0
 Sized [] = Unit {0}
 Sized (run.request n set ∷ l) = Sized l
-Sized (run.result i done ∷ l) = Sized l
+Sized (run.reports r ∷ l) = Sized l
 Sized (run.event e ∷ l) = Sized l
-Sized (run.image r ∷ l) = (r < 2 ^ 64) × Sized l
+Sized (run.pictures p ∷ l) = (p .bits < 2 ^ 64) × Sized l
 Sized (run.ask ∷ l) = Sized l

@@ -32,8 +32,8 @@ abbrev pub used : List ℕ → Use → Entry
 used room start = entry (λ s. station.taken startOf) room
 used room (request n set) = entry (requestOf n set) room
 used room (event e) = entry (λ s. station.event s e) room
-used room (result i done) = entry (λ s. station.result s i done) room
-used room (image r) = entry (λ s. station.takeImage s r) room
+used room (result i done) = entry (λ s. station.result s (record { number = i; done = done })) room
+used room (image r) = entry (λ s. station.takeImage s (record { bits = r })) room
 used room (ask out) = record { says = asking room out .says; leaves = room }
 used room (message m out) = record { says = exchange room m out .says; leaves = exchange room m out .station }
 

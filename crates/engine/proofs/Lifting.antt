@@ -5,7 +5,7 @@ use mathlib.Core.List.{[], _∷_}
 use Prim.Native.Nat.{ℕ, _+_, _*_, _%_, _^_, _<_}
 use native.Mathlib.Omega.{arith}
 use lib.Dec.{T, eqb, leb→le}
-use Rattle.bits.specs.Bits.{Bits, bit, image, count, allSet}
+use Rattle.bits.specs.Bits.{Bits, bit, image, count, allSet, laid}
 use Rattle.bits.specs.Places.{places}
 use Rattle.bits.specs.Search.{every}
 use Rattle.bits.proofs.Cases.{and-l, and-r, T→true}
@@ -16,7 +16,7 @@ use Rattle.rules.specs.declared.Instruction.the-variants.{Lift, Rotate}
 use Rattle.rules.specs.declared.Event.the-variants.{CarIn, CarOut}
 use Rattle.rules.specs.Rules.{wellFormed, conditions, allowed, next}
 use Rattle.rules.specs.Events.{possible, after}
-use Rattle.engine.specs.Private.{laid, liftBits}
+use Rattle.engine.specs.Private.{liftBits}
 use Rattle.bits.proofs.Lists.{same, same-eq, bit-list}
 use Rattle.engine.proofs.Settings.{laid-right}
 use Rattle.engine.proofs.Nexts.{liftTouched, liftCar, lift-right, event-right}

@@ -6,14 +6,13 @@ use mathlib.Core.List.{List, [], _∷_, map}
 use Prim.Native.Nat.{ℕ}
 use lib.Dec.{T, eqb}
 use borrow.Author.Tests.{eqb-true}
-use Rattle.bits.specs.Bits.{Bits, bit, image}
+use Rattle.bits.specs.Bits.{Bits, bit, image, laid}
 use Rattle.bits.specs.Places.{elem}
 use Rattle.bits.proofs.Cases.{split, clash, and-l, and-r, under, T→true, true→T, beq→eq, off}
 use Rattle.bits.proofs.Digits.{image-ext}
 use Rattle.bits.proofs.Fills.{fill, allFills, at-fill, fill-agree}
 use Rattle.floor.specs.Tests.{Test, allHold, Change, changed}
 use Rattle.floor.proofs.Reading.{inside, inside-at, allReadIn, changeIn, all-agree, changed-agree, changed-outside}
-use Rattle.engine.specs.Private.{laid}
 
 -- two records have the same bits at these places
 abbrev pub alike : List ℕ → Bits → Bits → Bool

@@ -8,7 +8,7 @@ use mir.Val.{boolByte}
 use native.Mathlib.Omega.{arith}
 use lib.Dec.{T, eqb, leb, ltb, leb→le}
 use borrow.Author.Tests.{ltb-true, eqb-true, eqb-false, eq-eqb, ne-eqb}
-use Rattle.bits.specs.Bits.{Bits, bit, image, digit, count, allSet}
+use Rattle.bits.specs.Bits.{Bits, bit, image, digit, count, allSet, laid}
 use Rattle.bits.specs.Places.{elem, isEmpty, adjacent, places}
 use Rattle.bits.specs.Search.{every}
 use Rattle.bits.proofs.Cases.{and-l, and-r, beq→eq, T→true}
@@ -20,7 +20,7 @@ use Rattle.floor.specs.Tests.{holds, allHold, when, even}
 use Rattle.rules.specs.declared.Instruction.the-variants.{Shuttles}
 use Rattle.rules.specs.Rules.{wellFormed, conditions, allowed, next}
 use Rattle.rules.specs.Named.{rowsOf, ahead}
-use Rattle.engine.specs.Private.{laid, slotsOf, cellsOf, onto, carsOf}
+use Rattle.engine.specs.Private.{slotsOf, cellsOf, onto, carsOf}
 use Rattle.bits.proofs.Lists.{same, same-eq, bit-list, or-list}
 use Rattle.engine.proofs.Settings.{laid-right}
 use Rattle.engine.proofs.Nexts.{withCells, rowsTouched, shuttlesTouched, carsTaken, shuttlesNew, shuttles-right}

@@ -7,7 +7,7 @@ use native.Mathlib.Omega.{arith}
 use lib.Bits.{bitOr}
 use lib.Dec.{T, eqb, leb, ltb, leb→le}
 use borrow.Author.Tests.{eq-eqb, ne-eqb, ltb-true, le-leb}
-use Rattle.bits.specs.Bits.{Bits, bit, image, count, allSet}
+use Rattle.bits.specs.Bits.{Bits, bit, image, count, allSet, laid}
 use Rattle.bits.specs.Places.{join, places}
 use Rattle.bits.specs.Search.{every}
 use Rattle.bits.proofs.Cases.{and-l, and-r, under, T→true}
@@ -17,7 +17,7 @@ use Rattle.floor.specs.Tests.{allHold}
 use Rattle.rules.specs.declared.Instruction.the-variants.{Tilt}
 use Rattle.rules.specs.Named.{rowsOf}
 use Rattle.rules.specs.Rules.{wellFormed, conditions, allowed, next}
-use Rattle.engine.specs.Private.{laid, slotsOf, cellsOf}
+use Rattle.engine.specs.Private.{slotsOf, cellsOf}
 use Rattle.bits.proofs.Lists.{same, same-eq, bit-list, or-list}
 use Rattle.engine.proofs.Settings.{laid-right}
 use Rattle.engine.proofs.Nexts.{tilt-right}

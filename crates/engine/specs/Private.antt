@@ -1,4 +1,4 @@
--- What the contracts of private functions cite; no public one rests on it. On the way from a record to the next one: the record with some bits made anew, rows of a side as a
+-- What the contracts of private functions cite; no public one rests on it. On the way from a record to the next one: rows of a side as a
 -- mask, and the bits of the lift. Assumes nothing.
 use mathlib.Core.Bool.{Bool, cond}
 use mathlib.Core.List.{List, [], _∷_, _++_, map}
@@ -11,10 +11,6 @@ use Rattle.rules.specs.Named.{higher, rowsOf}
 use Rattle.rules.specs.declared.Verdict.{Verdict}
 use Rattle.rules.specs.declared.Moved.{Moved}
 use Rattle.rules.specs.declared.Moved.the-variants.{Record, NotAllowed, IllFormed}
-
--- the record r with the bits of one mask made anew: 1 where the other mask has a 1
-abbrev pub laid : ℕ → ℕ → ℕ → Bits
-laid r touched new k = cond (bit touched k) (bit new k) (bit r k)
 
 -- the slots of the rows that a mask names, and the cells at their positions
 abbrev pub slotsOf : ℕ → ℕ → ℕ → List ℕ

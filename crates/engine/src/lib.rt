@@ -21,7 +21,6 @@ use floor::masks::RAISED_CAR;
 use lifts::lift_moved;
 use lifts::rotate_moved;
 use masks::height_is;
-use masks::laid;
 use shuttles::shuttles_moved;
 use tilts::tilt_moved;
 
@@ -122,8 +121,8 @@ fn after(e: Event, r: u64) -> u64
     ensures { λ x. ⌜ x ≡ image (after e (bit r)) ⌝ }
 {
     match e {
-        Event::CarIn => laid(r, RAISED_CAR, RAISED_CAR),
-        Event::CarOut => laid(r, RAISED_CAR, 0),
+        Event::CarIn => bits::laid(r, RAISED_CAR, RAISED_CAR),
+        Event::CarOut => bits::laid(r, RAISED_CAR, 0),
     }
 }
 

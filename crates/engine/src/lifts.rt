@@ -9,7 +9,6 @@ ghost use Rattle.rules.specs.Rules.{wellFormed, allowed, next};
 ghost use Rattle.rules.specs.Verdicts.{movedOf};
 ghost use Rattle.engine.specs.Private.{liftBits};
 use super::masks::height_is;
-use super::masks::laid;
 use floor::masks::HEIGHT;
 use floor::masks::HEIGHT_AT;
 use floor::masks::LEFT_OF_LIFT;
@@ -52,16 +51,16 @@ fn lift_next(r: u64, height: u8) -> u64
     ensures { λ x. ⌜ x ≡ image (next (Instruction.Lift height) (bit r)) ⌝ }
 {
     if height == 2 {
-        return laid(r, LIFT_AND_CELLS, lift_bits(height, bits::bit(r, RAISED)));
+        return bits::laid(r, LIFT_AND_CELLS, lift_bits(height, bits::bit(r, RAISED)));
     }
     if height_is(r, 2) {
-        return laid(
+        return bits::laid(
             r,
             LIFT_AND_CELLS,
             lift_bits(height, bits::all(r, LIFT_CELLS)),
         );
     }
-    laid(r, HEIGHT, lift_bits(height, false))
+    bits::laid(r, HEIGHT, lift_bits(height, false))
 }
 
 // The record after moving the lift, where that is allowed.

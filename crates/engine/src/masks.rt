@@ -1,10 +1,10 @@
-// Masks of a record's bits: making some bits anew, the slots and cells of a side, the height of the lift.
+// Masks of a record's bits: the slots and cells of a side, the height of the lift.
 ghost use mathlib.Core.Path.{_≡_};
 ghost use Prim.Native.Nat.{_<_};
-ghost use Rattle.bits.specs.Bits.{bit, image};
+ghost use Rattle.bits.specs.Bits.{bit};
 ghost use Rattle.bits.specs.Places.{places};
 ghost use Rattle.floor.specs.Tests.{holds, heightIs};
-ghost use Rattle.engine.specs.Private.{laid, slotsOf, cellsOf};
+ghost use Rattle.engine.specs.Private.{slotsOf, cellsOf};
 use floor::masks::FIRST_SLOT;
 use floor::masks::HEIGHT_AT;
 use floor::masks::LEFT_CELLS_1;
@@ -13,13 +13,6 @@ use floor::masks::LEFT_CELLS_3;
 use floor::masks::RIGHT_CELLS_1;
 use floor::masks::RIGHT_CELLS_2;
 use floor::masks::RIGHT_CELLS_3;
-
-// The record with the touched bits made anew: 1 where `new` has a 1.
-pub fn laid(r: u64, touched: u64, new: u64) -> u64
-    ensures { λ x. ⌜ x ≡ image (laid r touched new) ⌝ }
-{
-    (r & !touched) | (new & touched)
-}
 
 // The slots of some rows of a side.
 pub fn slots(side: u8, orientation: u8, rows: u64) -> u64

@@ -10,7 +10,6 @@ ghost use Rattle.rules.specs.Rules.{wellFormed, allowed, next};
 ghost use Rattle.rules.specs.Verdicts.{movedOf};
 ghost use Rattle.engine.specs.Private.{onto, carsOf};
 use super::masks::cells;
-use super::masks::laid;
 use super::masks::slots;
 use rules::Moved;
 
@@ -77,13 +76,13 @@ fn shuttles_next(r: u64, side: u8, mask: u8, orientation: u8, toward: u8) -> u64
     let new = slots(side, orientation, to);
     if orientation == 0 {
         let taken = onto(cars(r, side) & rows, toward);
-        return laid(
+        return bits::laid(
             r,
             touched | cells(side, rows | to),
             new | cells(side, taken),
         );
     }
-    laid(r, touched, new)
+    bits::laid(r, touched, new)
 }
 
 // The record after moving shuttles, where that is allowed.

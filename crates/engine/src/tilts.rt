@@ -9,7 +9,6 @@ ghost use Rattle.rules.specs.Named.{rowsOf};
 ghost use Rattle.rules.specs.Rules.{wellFormed, allowed, next};
 ghost use Rattle.rules.specs.Verdicts.{movedOf};
 use super::masks::cells;
-use super::masks::laid;
 use super::masks::slots;
 use rules::Moved;
 
@@ -40,7 +39,7 @@ fn tilt_next(r: u64, side: u8, row: u8, orientation: u8) -> u64
 {
     let here = only(row);
     let touched = slots(side, 0, here) | slots(side, 1, here);
-    laid(r, touched, slots(side, 1 - orientation, here))
+    bits::laid(r, touched, slots(side, 1 - orientation, here))
 }
 
 // The record after a tilt, where it is allowed.

@@ -9,9 +9,10 @@ use Rattle.rules.specs.Events.{possible, after}
 use Rattle.rules.specs.Codes.{codeOf, readCode}
 use Rattle.garage.specs.Held.{codeAt, isGood, heldArea, heldAllowed, heldNext, overlapsEarlier, liftIn}
 use Rattle.garage.specs.Station.{fit, answering}
-use Rattle.garage.specs.Calls.{request, event, result, takeImage}
+use Rattle.garage.specs.Calls.{accepted, requested, request, occurred, driven, evented, event, succeeded, ended, numbered, resulted, result, imaged, takeImage}
 
 pub right : Right
 unfolding allRight stepsRight cars paired sound total packed some every least codeOf readCode allowed next possible after
-    codeAt isGood heldArea heldAllowed heldNext overlapsEarlier liftIn fit answering request event result takeImage
+    codeAt isGood heldArea heldAllowed heldNext overlapsEarlier liftIn fit answering
+    accepted requested request occurred driven evented event succeeded ended numbered resulted result imaged takeImage
 right = tt

@@ -4,6 +4,8 @@
 use answers::NOWHERE;
 use floor::Total;
 use garage::Outcome;
+use garage::Picture;
+use garage::Report;
 use garage::Station;
 use rules::Instruction;
 
@@ -94,10 +96,15 @@ fn asked(s: Station, name: &[u8], i: Instruction) -> Station {
     told(name, s.request(1, set_of(i)))
 }
 
+// The result of an instruction of the set.
+fn ended(s: Station, name: &[u8], number: u8, done: u8) -> Station {
+    told(name, s.result(Report { number, done }))
+}
+
 // One instruction is asked for and done, and the record shown.
 fn moved(s: Station, name: &[u8], i: Instruction) -> Station {
     let t = asked(s, name, i);
-    let u = told(b"done", t.result(0, 1));
+    let u = ended(t, b"done", 0, 1);
     show(u.bits);
     u
 }
@@ -105,7 +112,7 @@ fn moved(s: Station, name: &[u8], i: Instruction) -> Station {
 // A start with this image.
 fn placed(r: u64) -> Station {
     show(r);
-    told(b"image", Station::start().image(r))
+    told(b"image", Station::start().image(Picture { bits: r }))
 }
 
 // ---- the examples
@@ -212,8 +219,8 @@ fn p10(name: &[u8], done: u8) {
     text(b"P10");
     let set = pair_of(lowers(0), lowers(1));
     let s = told(b"both lowered", Station::start().request(2, set));
-    let t = told(b"done", s.result(0, 1));
-    let u = told(name, t.result(1, done));
+    let t = ended(s, b"done", 0, 1);
+    let u = ended(t, name, 1, done);
     show(u.bits);
     text(b"\n");
 }

@@ -5,6 +5,6 @@ pub mod Tally
 pub mod Standing
 pub mod Few
 pub mod Belts
-pub mod Scanning
+pub mod Parity
 pub mod Judging
 pub mod Promises

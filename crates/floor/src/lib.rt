@@ -67,20 +67,18 @@ pub fn belt_of(cell: u64) -> Belt
     }
 }
 
-// Row 1 splits into cars: from the left, half says that the cell before k is the lower half of one.
+// Row 1 splits into cars: where the number of occupied cells below one is odd, that one is occupied. Bit k of the last p says whether
+// an odd number of the cells up to k is: each line doubles how many it looks at.
 fn row_paired(r: u64) -> bool
     ensures { λ b. ⌜ b ≡ paired 20 0 false (bit r) ⌝ }
 {
-    let mut ok = true;
-    let mut half = false;
-    let mut k: u64 = 0;
-    while k < 20 {
-        let b = bits::bit(r, k);
-        ok = ok & (!half | b);
-        half = b & !half;
-        k += 1;
-    }
-    ok & !half
+    let x = r % 0x10_0000;
+    let p = x ^ (x << 1);
+    let p = p ^ (p << 2);
+    let p = p ^ (p << 4);
+    let p = p ^ (p << 8);
+    let p = p ^ (p << 16);
+    ((p << 1) & !x) % 0x20_0000 == 0
 }
 
 // The cells of a shuttle are free, or it is there.

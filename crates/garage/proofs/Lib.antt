@@ -3,3 +3,4 @@ pub mod Padding
 pub mod Loops
 pub mod Marks
 pub mod Moves
+pub mod Turns

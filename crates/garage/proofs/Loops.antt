@@ -2,24 +2,55 @@
 use Prim.Native.Nat.{ℕ, suc, _+_, _*_, _-_, _≤_, _<_}
 use native.Mathlib.Omega.{arith}
 use native.Mathlib.Numerals.{add-one}
-use mathlib.Core.Path.{_≡_, refl, sym, _∙_}
-use mathlib.Core.Bool.{Bool, true, false, not, _||_}
+use mathlib.Core.Path.{_≡_, refl, sym, ap, ap₂, _∙_}
+use mathlib.Core.Bool.{Bool, true, not, _&&_, _||_}
 use mathlib.Core.List.{List, [], _∷_, _++_, append-nil}
+use lib.Bits.{bitAnd, bitOr, or-self, or-add-and, and-le-l, and-le-r}
 use lib.Dec.{eqb, ltb}
 use lib.ListN.{length, getD, take, set, replicate, List·getD-eq-default}
 use lib.Seq.{take-all, take-suc, length-take-le, set-at, append-snoc}
-use borrow.Author.Tests.{lt-ltb, le-ltb, eq-eqb, ne-eqb, eqb-true, eqb-false}
-use Rattle.bits.specs.Search.{every}
-use Rattle.bits.proofs.Cases.{split}
+use borrow.Author.Tests.{lt-ltb, le-ltb, ltb-true, ltb-false, eq-eqb, eqb-true}
+use Rattle.bits.specs.Bits.{bit}
+use Rattle.bits.specs.Search.{every, least}
+use Rattle.bits.proofs.Cases.{split, alike, both, and-intro}
 use Rattle.bits.proofs.Search.{every-is}
-use Rattle.bits.proofs.Least.{every-not}
+use Rattle.bits.proofs.Least.{Sought, sought-start, sought-turn, sought-end}
 use Rattle.rules.specs.declared.Code.{Code}
-use Rattle.garage.specs.Held.{codeAt}
+use Rattle.garage.specs.Held.{codeAt, isGood, heldAllowed, bad, overlapsEarlier, barred}
+use Rattle.garage.specs.Private.{heldMask, areas, firstOf}
+use Rattle.garage.proofs.Areas.{areas-start, areas-turn, overlapping}
 use Rattle.garage.proofs.Padding.{five-at}
 
 -- what code found of the instruction that it read
 pub judged : (f : Code → Bool) {x y : Code} {b v : Bool} → x ≡ y → b ≡ f x → not b ≡ v → not (f y) ≡ v
 judged f e d t = rw (← e, ← d, t)
+
+-- ---- three searches in one
+
+-- the areas of the instructions below i, and of these the least that is bad, that overlaps an earlier one, that is not allowed
+pub record Searched (set : List ℕ) (n r seen worst overlap closed i : ℕ) : Type 0 where
+  pub gathered : seen ≡ areas set i
+  pub worse : Sought (bad set) n i worst
+  pub over : Sought (overlapsEarlier set) n i overlap
+  pub shut : Sought (barred set r) n i closed
+
+pub search-starts : (set : List ℕ) (n r : ℕ) → Searched set n r 0 n n n 0
+search-starts set n r = record { gathered = areas-start set; worse = sought-start _ n; over = sought-start _ n; shut = sought-start _ n }
+
+pub searches : {set : List ℕ} {n r seen worst overlap closed i m p q u : ℕ} {x : Code} {good ok : Bool} → Searched set n r seen worst overlap closed i → i < n
+    → x ≡ codeAt set i → good ≡ isGood x → m ≡ heldMask x → ok ≡ heldAllowed x (bit r)
+    → p ≡ firstOf worst n (not good) i → q ≡ firstOf overlap n (not (eqb (bitAnd m seen) 0)) i → u ≡ firstOf closed n (not ok) i
+    → Searched set n r (bitOr seen m) p q u (i + 1)
+searches {set} {n} {r} {seen} {worst} {overlap} {closed} {i} {m} {p} {q} {u} v h e g a o d₁ d₂ d₃ = record {
+  gathered = areas-turn set i (v .gathered) e a;
+  worse = rw d₁ (sought-turn (v .worse) h (ap not (g ∙ ap isGood e)));
+  over = rw d₂ (sought-turn (v .over) h (sym (overlapping set i (v .gathered) e a)));
+  shut = rw d₃ (sought-turn (v .shut) h (ap not (o ∙ ap (λ (y : Code). heldAllowed y (bit r)) e)));
+}
+
+pub search-ends : {set : List ℕ} {n r seen worst overlap closed i : ℕ} → Searched set n r seen worst overlap closed i → n ≤ i
+    → (worst ≡ least n (bad set)) × (overlap ≡ least n (overlapsEarlier set)) × (closed ≡ least n (barred set r))
+search-ends v h = (sought-end (v .worse) h, sought-end (v .over) h, sought-end (v .shut) h)
 
 -- ---- the places past the first n instructions
 
@@ -27,30 +58,41 @@ judged f e d t = rw (← e, ← d, t)
 abbrev zeroAt : List ℕ → ℕ → ℕ → Bool
 zeroAt set n k = ltb k (5 * n) || eqb (getD set k 0) 0
 
--- each place below k is used or zero
-pub record Zero (set : List ℕ) (n k : ℕ) : Type 0 where
+-- each place below k is used or zero exactly if all that was seen is zero
+pub record Zero (set : List ℕ) (n k seen : ℕ) : Type 0 where
   pub past : 5 * n ≤ k
-  pub all : (j : ℕ) → j < k → zeroAt set n j ≡ true
+  pub over : 40 < k → k ≡ 5 * n
+  pub all : every k (zeroAt set n) ≡ eqb seen 0
 
-pub zero-start : (set : List ℕ) (n : ℕ) → Zero set n (5 * n)
-zero-start set n = record { past = omega arith; all = λ j l. rw (lt-ltb j (5 * n) l) }
+used-all : (set : List ℕ) (n m : ℕ) → m ≤ 5 * n → every m (zeroAt set n) ≡ true
+used-all set n m h = every-is m (zeroAt set n) (λ j l. rw (lt-ltb j (5 * n) (omega arith)))
 
-pub zero-turn : {set : List ℕ} {n k : ℕ} → Zero set n k → getD set k 0 ≡ 0 → Zero set n (k + 1)
-zero-turn {set} {n} {k} v e = record {
+pub zero-start : (set : List ℕ) (n : ℕ) → Zero set n (5 * n) 0
+zero-start set n = record { past = omega arith; over = λ l. refl; all = used-all set n (5 * n) (omega arith) }
+
+-- two numbers are zero if all their bits together are
+or-none : (a b : ℕ) → eqb b 0 && eqb a 0 ≡ eqb (bitOr a b) 0
+or-none a b = alike (eqb b 0 && eqb a 0) (eqb (bitOr a b) 0)
+    (λ e. let (p, q) = both (eqb b 0) (eqb a 0) e in eq-eqb _ 0 (ap₂ bitOr (eqb-true a 0 q) (eqb-true b 0 p) ∙ or-self 0))
+    (λ e. let z = eqb-true (bitOr a b) 0 e in
+    and-intro (eq-eqb b 0 (omega (arith, z, or-add-and a b, and-le-l a b))) (eq-eqb a 0 (omega (arith, z, or-add-and a b, and-le-r a b))))
+
+pub zero-turn : {set : List ℕ} {n k seen : ℕ} → Zero set n k seen → k < 40 → Zero set n (k + 1) (bitOr seen (getD set k 0))
+unfolding every
+zero-turn {set} {n} {k} {seen} v h = record {
   past = let w = v .past in omega arith;
-  all = λ j l. split (eqb j k)
-      (λ t. rw (eqb-true j k t, le-ltb k (5 * n) (v .past), eq-eqb _ _ e))
-      (λ t. v .all j (less j l t));
+  over = λ l. absurd (omega arith);
+  all = rw (add-one k, le-ltb k (5 * n) (v .past), v .all) (or-none seen (getD set k 0));
 }
-  where
-    less : (j : ℕ) → j < k + 1 → eqb j k ≡ false → j < k
-    less j l t = let ne = eqb-false j k t in omega arith
 
-pub zero-not : {set : List ℕ} {n k : ℕ} → Zero set n k → k < 40 → (getD set k 0 ≡ 0 → ⊥) → false ≡ every 40 (zeroAt set n)
-zero-not {set} {n} {k} v h e = sym (every-not 40 (zeroAt set n) k h (rw (le-ltb k (5 * n) (v .past), ne-eqb _ _ e)))
-
-pub zero-all : {set : List ℕ} {n k : ℕ} → Zero set n k → 40 ≤ k → true ≡ every 40 (zeroAt set n)
-zero-all {set} {n} {k} v h = sym (every-is 40 (zeroAt set n) (λ j l. v .all j (omega arith)))
+-- a set of more than eight instructions has no place left
+pub zero-all : {set : List ℕ} {n k seen : ℕ} → Zero set n k seen → 40 ≤ k → eqb seen 0 ≡ every 40 (zeroAt set n)
+zero-all {set} {n} {k} v h = split (ltb 40 k)
+    (λ t. let l = ltb-true 40 k t in
+    let e = v .over l in
+    sym (v .all) ∙ used-all set n k (omega arith) ∙ sym (used-all set n 40 (omega arith)))
+    (λ t. let l = ltb-false 40 k t in
+    let e : k ≡ 40 = omega arith in sym (v .all) ∙ ap (λ (j : ℕ). every j (zeroAt set n)) e)
 
 -- ---- a copy of the first bytes
 

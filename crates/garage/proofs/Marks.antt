@@ -8,10 +8,10 @@ use lib.Dec.{eqb, ltb, leb}
 use lib.Pow.{pow-lt, pow-pos, pow-mono}
 use lib.Bits.{bitAnd, bitOr, and-le-r}
 use lib.ListN.{getD}
-use borrow.Author.Tests.{eq-eqb, ne-eqb, eqb-true, ltb-false, leb-true, le-leb, lt-leb}
+use borrow.Author.Tests.{eq-eqb, ne-eqb, eqb-true, ltb-true, ltb-false, leb-true, le-leb, lt-leb}
 use Rattle.bits.specs.Bits.{bit}
 use Rattle.bits.specs.Search.{some, every, least}
-use Rattle.bits.proofs.Cases.{split, clash, both, alike, passed}
+use Rattle.bits.proofs.Cases.{split, clash, both, alike}
 use Rattle.bits.proofs.Search.{every-at, every-is}
 use Rattle.bits.proofs.Digits.{bit-ext, bit-past, bit-ones}
 use Rattle.bits.proofs.Operations.{bit-and, bit-low}
@@ -19,7 +19,7 @@ use Rattle.bits.proofs.Least.{every-least}
 use Rattle.floor.specs.Sound.{sound}
 use Rattle.garage.specs.declared.Station.{Station}
 use Rattle.garage.specs.Held.{bad}
-use Rattle.garage.specs.Station.{closed, used, fit, answering}
+use Rattle.garage.specs.Station.{closed, inSet, used, fit, noting, answering}
 
 -- n marks are a byte
 pub pow-small : (n : ℕ) → n ≤ 8 → (0 < 2 ^ n) × (2 ^ n ≤ 256)
@@ -74,6 +74,10 @@ some-not (suc n) p = rw (some-not n p) (de-morgan (p n) (every n p))
 
 -- ---- instruction i answered
 
+-- a number of the set is small
+pub in-set : (s : Station) (i : ℕ) → inSet s i ≡ true → (s .count ≤ 8) × (i < s .count)
+in-set s i e = let (a, b) = both (leb (s .count) 8) (ltb i (s .count)) e in (leb-true _ _ a, ltb-true _ _ b)
+
 -- all marks stand: the set is closed
 pub last-answer : (s : Station) (i r : ℕ) {mark all : ℕ} → mark ≡ 2 ^ i → all ≡ 2 ^ s .count - 1 → bitAnd (bitOr (s .answered) mark) all ≡ all
     → closed r ≡ answering s i r
@@ -83,7 +87,7 @@ last-answer s i r m a e = rw (all-marked (s .count) (bitOr (s .answered) (2 ^ i)
 -- one is missing
 pub one-answer : (s : Station) (i r : ℕ) {mark all : ℕ} → mark ≡ 2 ^ i → all ≡ 2 ^ s .count - 1
     → (bitAnd (bitOr (s .answered) mark) all ≡ all → ⊥)
-    → _≡_ {A = Station} (record { bits = r; count = s .count; answered = bitOr (s .answered) mark; set = s .set }) (answering s i r)
+    → noting s (bitOr (s .answered) mark) r ≡ answering s i r
 unfolding answering
 one-answer s i r m a e = rw (all-marked (s .count) (bitOr (s .answered) (2 ^ i)), ← m, ← a, ne-eqb _ _ e)
 
@@ -123,8 +127,3 @@ fit-is s {fine} {rest} {worst} {all} h l e₁ e₂ e₃ e₄ =
 pub unfit-is : (s : Station) → 8 < s .count → false ≡ fit s
 unfolding fit
 unfit-is s h = rw (lt-leb _ _ h) (sym (and-false (sound (s .bits))))
-
--- a fit station holds at most eight
-pub fit-most : (s : Station) {b : Bool} → b ≡ fit s → not b ≡ false → s .count ≤ 8
-unfolding fit
-fit-most s e t = leb-true _ _ (both (leb (s .count) 8) _ (both (sound (s .bits)) _ (passed e t) .1) .0)

@@ -26,17 +26,12 @@ use Rattle.rules.proofs.CodeLaws.{one-form}
 use Rattle.answers.specs.declared.Answer.the-variants.{BadField, EventImpossible, NowNotAllowed}
 use Rattle.answers.specs.Answers.{nowhere}
 use Rattle.garage.specs.declared.Station.{Station}
-use Rattle.garage.specs.Held.{codeAt, heldArea, heldAllowed, heldNext, liftIn}
-use Rattle.garage.specs.Station.{fit, holding, answering}
-use Rattle.garage.specs.Calls.{refused, taken, driven, succeeded, event}
-use Rattle.garage.specs.Private.{heldMask}
+use Rattle.garage.specs.Held.{codeAt, isGood, heldArea, heldAllowed, heldNext}
+use Rattle.garage.specs.Station.{holding, answering}
+use Rattle.garage.specs.Calls.{refused, taken, occurred, driven, evented, succeeded}
+use Rattle.garage.specs.Private.{heldMask, maskIn, isAllowed}
 
 -- ---- areas and verdicts
-
--- the mask that an answer gives, or none
-abbrev pub maskIn : Area → ℕ
-maskIn (Area.Mask m) = m
-maskIn Area.IllFormed = 0
 
 -- bad bytes have an empty area
 pub held-area : (x : Code) {a : Area} → a ≡ codeMask x → maskIn a ≡ heldMask x
@@ -46,12 +41,6 @@ held-area x e = ap maskIn e ∙ read (readCode x) refl
     read : (g : Reading) → readCode x ≡ g → maskIn (onCode maskOf Area.IllFormed g) ≡ image (λ k. elem k (onCode areaOf [] g))
     read (Good i) d = rw (one-form x i d .1)
     read Bad d = refl
-
--- whether a verdict allows
-abbrev pub isAllowed : Verdict → Bool
-isAllowed Verdict.Allowed = true
-isAllowed Verdict.NotAllowed = false
-isAllowed Verdict.IllFormed = false
 
 -- what is ill formed is never allowed
 ill-formed : (i : Instruction) (f : Bits) → wellFormed i ≡ false → allowed i f ≡ false
@@ -68,6 +57,25 @@ held-verdict x r e = ap isAllowed e ∙ read (readCode x)
         (λ w. split (allowed i (bit r)) (λ a. rw (w, a)) (λ a. rw (w, a)))
         (λ w. rw (w, ill-formed i (bit r) w))
     read Bad = refl
+
+-- ---- one reading
+
+module _ (x : Code) (r : ℕ) where
+  -- what the instruction that the bytes say has
+  pub one-reading : (i : Instruction) {a : Area} {v : Verdict} {m : ℕ} {b : Bool} → readCode x ≡ Good i
+      → a ≡ maskOf i → m ≡ maskIn a → v ≡ verdictOf i r → b ≡ isAllowed v
+      → (true ≡ isGood x) × (m ≡ heldMask x) × (b ≡ heldAllowed x (bit r))
+  unfolding isGood codeMask codeVerdict
+  one-reading i e p q u w = (
+    rw e,
+    q ∙ held-area x (p ∙ rw e),
+    w ∙ held-verdict x r (u ∙ rw e),
+  )
+
+  -- bad bytes
+  pub no-reading : readCode x ≡ Bad → (false ≡ isGood x) × (0 ≡ heldMask x) × (false ≡ heldAllowed x (bit r))
+  unfolding isGood codeMask codeVerdict
+  no-reading e = (rw e, held-area x {a = Area.IllFormed} (rw e), held-verdict x r {v = Verdict.IllFormed} (rw e))
 
 -- ---- moves
 
@@ -93,13 +101,14 @@ held-moved made unmade x r = read (readCode x)
 -- success of instruction i
 pub success : (s : Station) (i : ℕ) {x : Code} {m : Moved} → x ≡ codeAt (s .set) i → m ≡ codeMoved x (s .bits)
     → onMoved (λ r. taken (answering s i r)) (refused s NowNotAllowed) m ≡ succeeded s i
+unfolding succeeded
 success s i d e = rw (e, d) (held-moved (λ r. taken (answering s i r)) (refused s NowNotAllowed) (codeAt (s .set) i) (s .bits))
 
--- a car event beside no set that holds the lift
-pub moved-event : (s : Station) (e : Event) {m : Moved} → liftIn (s .set) (s .count) ≡ false → m ≡ drivenOf e (s .bits)
-    → onMoved (λ r. taken (holding s r)) (refused s EventImpossible) m ≡ driven s e
-unfolding drivenOf
-moved-event s e l d = rw (l, d) (split (possible e (bit (s .bits))) (λ t. rw t) (λ t. rw t))
+-- a car event
+pub moved-event : (s : Station) (e : Event) {m : Moved} → m ≡ drivenOf e (s .bits)
+    → onMoved (λ r. taken (holding s r)) (refused s EventImpossible) m ≡ occurred s e
+unfolding drivenOf occurred
+moved-event s e d = rw d (split (possible e (bit (s .bits))) (λ t. rw t) (λ t. rw t))
 
 -- ---- an event's byte
 
@@ -108,9 +117,8 @@ abbrev pub onEvent : {A : Type 0} → (Event → A) → A → EventReading → A
 onEvent known bad (EventReading.Good e) = known e
 onEvent known bad EventReading.Bad = bad
 
--- an event on a fit station
-pub event-read : (s : Station) (b : ℕ) {g : EventReading} → fit s ≡ true → g ≡ readEvent b
-    → onEvent (driven s) (refused s (BadField nowhere)) g ≡ event s b
-unfolding event readEvent
-event-read s b f d =
-    rw (f, d) (split (eqb b 1) (λ t. rw t) (λ t. split (eqb b 2) (λ u. rw (t, u)) (λ u. rw (t, u))))
+-- an event
+pub event-read : (s : Station) (b : ℕ) {g : EventReading} → g ≡ readEvent b → onEvent (driven s) (refused s (BadField nowhere)) g ≡ evented s b
+unfolding evented readEvent
+event-read s b d =
+    rw d (split (eqb b 1) (λ t. rw t) (λ t. split (eqb b 2) (λ u. rw (t, u)) (λ u. rw (t, u))))

@@ -1,8 +1,9 @@
--- The five calls, each one chain of tests in document 01's order of refusals. Assumes nothing.
-use mathlib.Core.Bool.{Bool, cond}
+-- The five calls, each a chain of tests in document 01's order of refusals, in parts, the last of them first. What stands past the test
+-- of fitness is said of unfit stations too. Assumes nothing.
+use mathlib.Core.Bool.{Bool, not, cond}
 use mathlib.Core.List.{List}
 use Prim.Native.Nat.{ℕ}
-use lib.Dec.{eqb, leb, ltb}
+use lib.Dec.{eqb, ltb}
 use Rattle.bits.specs.Bits.{bit, image}
 use Rattle.bits.specs.Search.{least}
 use Rattle.floor.specs.Sound.{sound}
@@ -15,8 +16,10 @@ use Rattle.answers.specs.declared.Answer.the-variants.{Taken, BadField, TooMany
 use Rattle.answers.specs.Answers.{nowhere}
 use Rattle.garage.specs.declared.Station.{Station}
 use Rattle.garage.specs.declared.Outcome.{Outcome}
+use Rattle.garage.specs.declared.Report.{Report}
+use Rattle.garage.specs.declared.Picture.{Picture}
 use Rattle.garage.specs.Held.{codeAt, heldAllowed, heldNext, bad, overlapsEarlier, barred, liftIn}
-use Rattle.garage.specs.Station.{marked, fit, holding, opened, answering}
+use Rattle.garage.specs.Station.{inSet, marked, fit, holding, opened, answering}
 
 -- the station as it was, and why; the next station, taken
 abbrev pub refused : Station → Answer → Outcome
@@ -33,50 +36,74 @@ onFit s o = cond (fit s) o (refused s Unfit)
 abbrev pub unlessAny : ℕ → (ℕ → Bool) → Station → (ℕ → Answer) → Outcome → Outcome
 unlessAny n fault s a o = cond (ltb (least n fault) n) (refused s (a (least n fault))) o
 
--- a request of n instructions, five bytes each
-unfoldable pub request : Station → ℕ → List ℕ → Outcome
-request s n set =
-    onFit s
-    (cond (ltb 0 (s .count)) (refused s SetOutstanding)
+-- the end of a request: no two of its n instructions overlap and each is allowed on the present record, and the set is outstanding
+unfoldable pub accepted : Station → ℕ → List ℕ → Outcome
+accepted s n set = unlessAny n (overlapsEarlier set) s Overlap (unlessAny n (barred set (s .bits)) s NotAllowed (taken (opened s n set)))
+
+-- a request past the test of fitness: no set is outstanding, and 1 to 8 instructions, five bytes each, are well formed
+unfoldable pub requested : Station → ℕ → List ℕ → Outcome
+requested s n set =
+    cond (ltb 0 (s .count)) (refused s SetOutstanding)
     (cond (ltb most n) (refused s TooMany)
     (cond (eqb n 0) (refused s EmptySet)
     (unlessAny n (bad set) s BadField
-    (unlessAny n (overlapsEarlier set) s Overlap
-    (unlessAny n (barred set (s .bits)) s NotAllowed
-    (taken (opened s n set))))))))
+    (accepted s n set))))
 
--- a car event: its record, or why not
-abbrev pub driven : Station → Event → Outcome
-driven s e =
-    cond (liftIn (s .set) (s .count)) (refused s SetOutstanding)
-    (cond (possible e (bit (s .bits))) (taken (holding s (image (after e (bit (s .bits)))))) (refused s EventImpossible))
+-- a request
+unfoldable pub request : Station → ℕ → List ℕ → Outcome
+request s n set = onFit s (requested s n set)
 
--- 1 a car in, 2 a car out
+-- the end of a car event: it is possible on the present record, which becomes the one after it
+unfoldable pub occurred : Station → Event → Outcome
+occurred s e = cond (possible e (bit (s .bits))) (taken (holding s (image (after e (bit (s .bits)))))) (refused s EventImpossible)
+
+-- a car event that is known: no set is outstanding with the lift in any of its areas
+unfoldable pub driven : Station → Event → Outcome
+driven s e = cond (liftIn (s .set) (s .count)) (refused s SetOutstanding) (occurred s e)
+
+-- a car event past the test of fitness, by its number: 1 a car in, 2 a car out
+unfoldable pub evented : Station → ℕ → Outcome
+evented s e = cond (eqb e 1) (driven s CarIn) (cond (eqb e 2) (driven s CarOut) (refused s (BadField nowhere)))
+
+-- a car event
 unfoldable pub event : Station → ℕ → Outcome
-event s e = onFit s (cond (eqb e 1) (driven s CarIn) (cond (eqb e 2) (driven s CarOut) (refused s (BadField nowhere))))
+event s e = onFit s (evented s e)
 
 -- instruction i is done: its rule is applied to the record at that moment
-abbrev pub succeeded : Station → ℕ → Outcome
+unfoldable pub succeeded : Station → ℕ → Outcome
 succeeded s i =
     let x = codeAt (s .set) i in
     cond (heldAllowed x (bit (s .bits))) (taken (answering s i (image (heldNext x (bit (s .bits)))))) (refused s NowNotAllowed)
 
--- the result of instruction i: 0 failed, which changes nothing but the mark, or 1 done
-unfoldable pub result : Station → ℕ → ℕ → Outcome
-result s i done =
-    onFit s
-    (cond (ltb 1 done) (refused s (BadField nowhere))
-    (cond (eqb (s .count) 0) (refused s NoSet)
-    (cond (leb (s .count) i) (refused s NotInSet)
-    (cond (marked s i) (refused s AlreadyAnswered)
-    (cond (eqb done 0) (taken (answering s i (s .bits))) (succeeded s i))))))
+-- the end of a result: instruction i failed, which changes nothing but the mark, or is done
+unfoldable pub ended : Station → ℕ → ℕ → Outcome
+ended s i done = cond (eqb done 0) (taken (answering s i (s .bits))) (succeeded s i)
 
--- an image, which becomes the record
-unfoldable pub takeImage : Station → ℕ → Outcome
-takeImage s r =
-    onFit s
-    (cond (ltb 0 (s .count)) (refused s SetOutstanding)
-    (cond (sound r) (taken (holding s r)) (refused s Unsound)))
+-- a result by its instruction's number: it is in the set, and not answered yet
+unfoldable pub numbered : Station → ℕ → ℕ → Outcome
+numbered s i done =
+    cond (not (inSet s i)) (refused s NotInSet)
+    (cond (marked s i) (refused s AlreadyAnswered)
+    (ended s i done))
+
+-- a result past the test of fitness: 0 failed or 1 done, and a set is outstanding
+unfoldable pub resulted : Station → Report → Outcome
+resulted s r =
+    cond (ltb 1 (r .done)) (refused s (BadField nowhere))
+    (cond (eqb (s .count) 0) (refused s NoSet)
+    (numbered s (r .number) (r .done)))
+
+-- a result
+unfoldable pub result : Station → Report → Outcome
+result s r = onFit s (resulted s r)
+
+-- an image past the test of fitness: no set is outstanding, and it is sound; it becomes the record
+unfoldable pub imaged : Station → Picture → Outcome
+imaged s p = cond (ltb 0 (s .count)) (refused s SetOutstanding) (cond (sound (p .bits)) (taken (holding s (p .bits))) (refused s Unsound))
+
+-- an image
+unfoldable pub takeImage : Station → Picture → Outcome
+takeImage s p = onFit s (imaged s p)
 
 -- the record is asked for
 unfoldable pub ask : Station → Outcome

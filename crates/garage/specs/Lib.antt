@@ -1,4 +1,5 @@
 pub mod Held
 pub mod Station
 pub mod Calls
+pub mod Turns
 pub mod Private

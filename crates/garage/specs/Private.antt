@@ -1,10 +1,14 @@
 -- What the contracts of private functions cite; no public one rests on it. Assumes nothing.
+use mathlib.Core.Bool.{Bool, true, false, cond, _&&_}
 use mathlib.Core.List.{List}
 use Prim.Native.Nat.{ℕ, zero, suc}
 use lib.Bits.{bitOr}
+use lib.Dec.{eqb}
 use Rattle.bits.specs.Bits.{image}
 use Rattle.bits.specs.Places.{elem}
 use Rattle.rules.specs.declared.Code.{Code}
+use Rattle.rules.specs.declared.Area.{Area}
+use Rattle.rules.specs.declared.Verdict.{Verdict}
 use Rattle.garage.specs.Held.{codeAt, heldArea}
 
 -- the area of an instruction as a mask
@@ -15,3 +19,17 @@ heldMask x = image (λ k. elem k (heldArea x))
 unfoldable pub areas : List ℕ → ℕ → ℕ
 areas set zero = 0
 areas set (suc n) = bitOr (areas set n) (heldMask (codeAt set n))
+
+-- the mask that an answer gives, or none; whether a verdict allows
+abbrev pub maskIn : Area → ℕ
+maskIn (Area.Mask m) = m
+maskIn Area.IllFormed = 0
+
+abbrev pub isAllowed : Verdict → Bool
+isAllowed Verdict.Allowed = true
+isAllowed Verdict.NotAllowed = false
+isAllowed Verdict.IllFormed = false
+
+-- a search that found something, or n: it is i where it found nothing before and i is at fault
+abbrev pub firstOf : ℕ → ℕ → Bool → ℕ → ℕ
+firstOf found n here i = cond (here && eqb found n) i found

@@ -21,6 +21,10 @@ closed r = record { bits = r; count = 0; answered = 0; set = replicate 40 0 }
 abbrev pub startOf : Station
 startOf = closed 0x00091B0000000000
 
+-- i is the number of an instruction of the set, which has at most eight
+abbrev pub inSet : Station → ℕ → Bool
+inSet s i = leb (s .count) most && ltb i (s .count)
+
 -- instruction i is answered
 abbrev pub marked : Station → ℕ → Bool
 marked s i = bit (s .answered) i
@@ -39,9 +43,13 @@ fit s =
     && (every 40 (λ k. used s k || eqb (getD (s .set) k 0) 0)
     && (eqb (s .count) 0 || some (s .count) (λ i. not (marked s i)))))))
 
+-- the same set with these marks, the record now r
+abbrev pub noting : Station → ℕ → ℕ → Station
+noting s marks r = record { bits = r; count = s .count; answered = marks; set = s .set }
+
 -- the same station with another record
 abbrev pub holding : Station → ℕ → Station
-holding s r = record { bits = r; count = s .count; answered = s .answered; set = s .set }
+holding s r = noting s (s .answered) r
 
 -- a set of n instructions is outstanding, none answered; the record stays
 abbrev pub opened : Station → ℕ → List ℕ → Station
@@ -51,5 +59,4 @@ opened s n set = record { bits = s .bits; count = n; answered = 0; set = take (5
 unfoldable pub answering : Station → ℕ → ℕ → Station
 answering s i r =
     let marks = bitOr (s .answered) (2 ^ i) in
-    cond (every (s .count) (bit marks)) (closed r)
-    (record { bits = r; count = s .count; answered = marks; set = s .set })
+    cond (every (s .count) (bit marks)) (closed r) (noting s marks r)

@@ -2,7 +2,7 @@
 ghost use mathlib.Core.Path.{_≡_};
 ghost use Rattle.bits.specs.Bits.{bit};
 ghost use Rattle.garage.specs.Held.{isGood, heldAllowed};
-ghost use Rattle.garage.specs.Private.{heldMask};
+ghost use Rattle.garage.specs.Private.{heldMask, maskIn, isAllowed};
 use rules::Area;
 use rules::Code;
 use rules::Reading;
@@ -18,23 +18,54 @@ pub fn good(x: Code) -> bool
     }
 }
 
-// Its area as a mask.
-pub fn area(x: Code) -> u64
-    ensures { λ m. ⌜ m ≡ heldMask x ⌝ }
+// The mask that an answer gives, or none.
+fn mask_in(a: Area) -> u64
+    ensures { λ m. ⌜ m ≡ maskIn a ⌝ }
 {
-    match areas::code_area(x) {
+    match a {
         Area::Mask(m) => m,
         Area::IllFormed => 0,
     }
 }
 
-// Whether the record allows it.
-pub fn allowed(x: Code, r: u64) -> bool
-    ensures { λ b. ⌜ b ≡ heldAllowed x (bit r) ⌝ }
+// Whether a verdict allows.
+fn allows(v: Verdict) -> bool
+    ensures { λ b. ⌜ b ≡ isAllowed v ⌝ }
 {
-    match engine::code_verdict(x, r) {
+    match v {
         Verdict::Allowed => true,
         Verdict::NotAllowed => false,
         Verdict::IllFormed => false,
+    }
+}
+
+// Its area as a mask.
+pub fn area(x: Code) -> u64
+    ensures { λ m. ⌜ m ≡ heldMask x ⌝ }
+{
+    mask_in(areas::code_area(x))
+}
+
+// What one reading of the bytes tells: whether they say an instruction, its area, and whether the record allows it.
+pub struct Judged {
+    pub good: bool,
+    pub area: u64,
+    pub allowed: bool,
+}
+
+pub fn judge(x: Code, r: u64) -> Judged
+    ensures { λ j. ⌜ (j .good ≡ isGood x) × (j .area ≡ heldMask x) × (j .allowed ≡ heldAllowed x (bit r)) ⌝ }
+{
+    match rules::read(x) {
+        Reading::Good(i) => Judged {
+            good: true,
+            area: mask_in(areas::area(i)),
+            allowed: allows(engine::verdict(i, r)),
+        },
+        Reading::Bad => Judged {
+            good: false,
+            area: 0,
+            allowed: false,
+        },
     }
 }

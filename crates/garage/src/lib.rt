@@ -1,8 +1,12 @@
 // The station and its five calls. A station goes in by value and comes back with an answer; a refused call hands it back as it was.
 ghost use mathlib.Core.Path.{_≡_};
 ghost use Prim.Native.Nat.{_-_, _^_, _≤_, _<_};
-ghost use Rattle.garage.specs.Station.{startOf, fit, answering};
-ghost use Rattle.garage.specs.Calls.{refused, taken, driven, succeeded, request, event, result, takeImage, ask};
+ghost use Rattle.bits.specs.Search.{least};
+ghost use Rattle.garage.specs.Held.{overlapsEarlier, barred};
+ghost use Rattle.garage.specs.Station.{startOf, inSet, fit, holding, answering};
+ghost use Rattle.garage.specs.Calls.{refused, taken, accepted, requested, request, occurred, driven, evented, event, succeeded, ended, numbered, resulted, result, imaged, takeImage, ask};
+ghost use Rattle.garage.specs.Turns.{turnOf, afterTurn};
+use crate::sets::Faults;
 use answers::Answer;
 use answers::NOWHERE;
 use rules::Event;
@@ -21,10 +25,29 @@ pub struct Station {
     pub set: [u8; 40],
 }
 
+// What a result says: the instruction's number from 0, and 0 failed or 1 done.
+pub struct Report {
+    pub number: u8,
+    pub done: u8,
+}
+
+// What an image says: the record.
+pub struct Picture {
+    pub bits: u64,
+}
+
 // What a call hands back.
 pub struct Outcome {
     pub station: Station,
     pub answer: Answer,
+}
+
+// What a call answers, and what it leaves of the station but its set: some numbers, so that nothing is copied on the way.
+pub struct Turn {
+    pub answer: Answer,
+    pub bits: u64,
+    pub count: u8,
+    pub answered: u8,
 }
 
 // The marks of n instructions when all are answered.
@@ -86,158 +109,255 @@ impl Station {
             & ((n == 0) | (marks & all != all))
     }
 
+    // The station as it was, and the answer.
+    fn unmoved(self, answer: Answer) -> Turn
+        ensures { λ t. ⌜ t ≡ turnOf (refused self answer) ⌝ }
+    {
+        Turn {
+            answer,
+            bits: self.bits,
+            count: self.count,
+            answered: self.answered,
+        }
+    }
+
+    // The record now r.
+    fn holding(self, r: u64) -> Turn
+        ensures { λ t. ⌜ t ≡ turnOf (taken (holding self r)) ⌝ }
+    {
+        Turn {
+            answer: Answer::Taken,
+            bits: r,
+            count: self.count,
+            answered: self.answered,
+        }
+    }
+
     // Instruction i answered, the record now r.
-    fn answering(self, i: u8, r: u64) -> Station
+    fn answering(self, i: u8, r: u64) -> Turn
         requires { ⌜ (self .count ≤ 8) × (i < self .count) ⌝ }
-        ensures { λ s. ⌜ s ≡ answering self i r ⌝ }
+        ensures { λ t. ⌜ t ≡ turnOf (taken (answering self i r)) ⌝ }
     {
         let marks = self.answered | (1u8 << i);
         let all = all_marks(self.count);
         if marks & all == all {
-            return Station {
+            return Turn {
+                answer: Answer::Taken,
                 bits: r,
                 count: 0,
                 answered: 0,
-                set: [0; 40],
             };
         }
-        let set = self.set;
-        Station {
+        Turn {
+            answer: Answer::Taken,
             bits: r,
             count: self.count,
             answered: marks,
-            set,
         }
     }
 
-    // A request of `count` instructions, five bytes each; bytes past them are not looked at.
+    // The outcome of a turn. Where instructions came, fresh is the new set; with the last result the set is gone; else it stays.
+    pub fn after(self, t: Turn, fresh: [u8; 40]) -> Outcome
+        ensures { λ o. ⌜ o ≡ afterTurn self t fresh ⌝ }
+    {
+        let held = self.set;
+        let set = sets::kept(held, self.count, t.count, fresh);
+        let station = Station {
+            bits: t.bits,
+            count: t.count,
+            answered: t.answered,
+            set,
+        };
+        let answer = t.answer;
+        Outcome { station, answer }
+    }
+
+    // The end of a request, by what a search of its set has found: no overlap, each instruction allowed. The set is named for the contract.
+    fn accepted(self, count: u8, set: [u8; 40], found: Faults) -> Turn
+        requires { ⌜ (found .overlap ≡ least count (overlapsEarlier set)) × (found .barred ≡ least count (barred set (self .bits))) ⌝ }
+        ensures { λ t. ⌜ t ≡ turnOf (accepted self count set) ⌝ }
+    {
+        if found.overlap < count {
+            return self.unmoved(Answer::Overlap(found.overlap));
+        }
+        if found.barred < count {
+            return self.unmoved(Answer::NotAllowed(found.barred));
+        }
+        Turn {
+            answer: Answer::Taken,
+            bits: self.bits,
+            count,
+            answered: 0,
+        }
+    }
+
+    // A request of `count` instructions, five bytes each, past the test of fitness; bytes past them are not looked at.
+    pub fn requested(self, count: u8, set: [u8; 40]) -> Turn
+        ensures { λ t. ⌜ t ≡ turnOf (requested self count set) ⌝ }
+    {
+        if 0 < self.count {
+            return self.unmoved(Answer::SetOutstanding);
+        }
+        if Station::MOST < count {
+            return self.unmoved(Answer::TooMany);
+        }
+        if count == 0 {
+            return self.unmoved(Answer::EmptySet);
+        }
+        let found = sets::search(set, count, self.bits);
+        if found.bad < count {
+            return self.unmoved(Answer::BadField(found.bad));
+        }
+        self.accepted(count, set, found)
+    }
+
+    // A request.
     pub fn request(self, count: u8, set: [u8; 40]) -> Outcome
         ensures { λ o. ⌜ o ≡ request self count set ⌝ }
     {
         if !self.fit() {
             return refused(self, Answer::Unfit);
         }
-        if 0 < self.count {
-            return refused(self, Answer::SetOutstanding);
-        }
-        if Station::MOST < count {
-            return refused(self, Answer::TooMany);
-        }
-        if count == 0 {
-            return refused(self, Answer::EmptySet);
-        }
-        let bad = sets::least_bad(set, count);
-        if bad < count {
-            return refused(self, Answer::BadField(bad));
-        }
-        let second = sets::least_overlap(set, count);
-        if second < count {
-            return refused(self, Answer::Overlap(second));
-        }
-        let barred = sets::least_barred(set, count, self.bits);
-        if barred < count {
-            return refused(self, Answer::NotAllowed(barred));
-        }
-        let kept = sets::only(set, count);
-        taken(Station {
-            bits: self.bits,
-            count,
-            answered: 0,
-            set: kept,
-        })
+        let t = self.requested(count, set);
+        self.after(t, sets::only(set, count))
     }
 
-    // A car event on a fit station.
-    fn driven(self, e: Event) -> Outcome
-        ensures { λ o. ⌜ o ≡ driven self e ⌝ }
+    // The end of a car event: the record after it, if it is possible.
+    fn occurred(self, e: Event) -> Turn
+        ensures { λ t. ⌜ t ≡ turnOf (occurred self e) ⌝ }
+    {
+        match engine::driven(e, self.bits) {
+            Moved::Record(r) => self.holding(r),
+            Moved::NotAllowed => self.unmoved(Answer::EventImpossible),
+            Moved::IllFormed => self.unmoved(Answer::EventImpossible),
+        }
+    }
+
+    // A car event that is known, beside the set that is outstanding.
+    fn driven(self, e: Event) -> Turn
+        ensures { λ t. ⌜ t ≡ turnOf (driven self e) ⌝ }
     {
         let set = self.set;
         if sets::lift_in(set, self.count) {
-            return refused(self, Answer::SetOutstanding);
+            return self.unmoved(Answer::SetOutstanding);
         }
-        match engine::driven(e, self.bits) {
-            Moved::Record(r) => taken(Station {
-                bits: r,
-                count: self.count,
-                answered: self.answered,
-                set,
-            }),
-            Moved::NotAllowed => refused(self, Answer::EventImpossible),
-            Moved::IllFormed => refused(self, Answer::EventImpossible),
+        self.occurred(e)
+    }
+
+    // A car event past the test of fitness, by its number: 1 in, 2 out.
+    pub fn evented(self, e: u8) -> Turn
+        ensures { λ t. ⌜ t ≡ turnOf (evented self e) ⌝ }
+    {
+        match rules::event_of(e) {
+            EventReading::Good(known) => self.driven(known),
+            EventReading::Bad => self.unmoved(Answer::BadField(NOWHERE)),
         }
     }
 
-    // A car event: 1 in, 2 out.
+    // A car event.
     pub fn event(self, e: u8) -> Outcome
         ensures { λ o. ⌜ o ≡ event self e ⌝ }
     {
         if !self.fit() {
             return refused(self, Answer::Unfit);
         }
-        match rules::event_of(e) {
-            EventReading::Good(known) => self.driven(known),
-            EventReading::Bad => refused(self, Answer::BadField(NOWHERE)),
-        }
+        let t = self.evented(e);
+        let held = self.set;
+        self.after(t, held)
     }
 
     // Success of instruction i, which has no result yet.
-    fn succeeded(self, i: u8) -> Outcome
+    fn succeeded(self, i: u8) -> Turn
         requires { ⌜ (self .count ≤ 8) × (i < self .count) ⌝ }
-        ensures { λ o. ⌜ o ≡ succeeded self i ⌝ }
+        ensures { λ t. ⌜ t ≡ turnOf (succeeded self i) ⌝ }
     {
         let set = self.set;
-        match engine::code_moved(sets::code_at(set, i), self.bits) {
-            Moved::Record(r) => taken(self.answering(i, r)),
-            Moved::NotAllowed => refused(self, Answer::NowNotAllowed),
-            Moved::IllFormed => refused(self, Answer::NowNotAllowed),
+        match engine::code_moved(sets::code_at(&set, i), self.bits) {
+            Moved::Record(r) => self.answering(i, r),
+            Moved::NotAllowed => self.unmoved(Answer::NowNotAllowed),
+            Moved::IllFormed => self.unmoved(Answer::NowNotAllowed),
         }
     }
 
-    // The result of an instruction, by its number from 0: 0 failed, 1 done.
-    pub fn result(self, number: u8, done: u8) -> Outcome
-        ensures { λ o. ⌜ o ≡ result self number done ⌝ }
+    // The end of a result: 0 failed, else done.
+    fn ended(self, i: u8, done: u8) -> Turn
+        requires { ⌜ (self .count ≤ 8) × (i < self .count) ⌝ }
+        ensures { λ t. ⌜ t ≡ turnOf (ended self i done) ⌝ }
     {
-        if !self.fit() {
-            return refused(self, Answer::Unfit);
+        if done == 0 {
+            return self.answering(i, self.bits);
         }
-        if 1 < done {
-            return refused(self, Answer::BadField(NOWHERE));
+        self.succeeded(i)
+    }
+
+    // Whether the set has an instruction of this number.
+    fn in_set(self, i: u8) -> bool
+        ensures { λ b. ⌜ b ≡ inSet self i ⌝ }
+    {
+        (self.count <= Station::MOST) & (i < self.count)
+    }
+
+    // A result by its instruction's number.
+    fn numbered(self, i: u8, done: u8) -> Turn
+        ensures { λ t. ⌜ t ≡ turnOf (numbered self i done) ⌝ }
+    {
+        if !self.in_set(i) {
+            return self.unmoved(Answer::NotInSet);
+        }
+        if (self.answered >> i) % 2 == 1 {
+            return self.unmoved(Answer::AlreadyAnswered);
+        }
+        self.ended(i, done)
+    }
+
+    // A result past the test of fitness.
+    pub fn resulted(self, report: Report) -> Turn
+        ensures { λ t. ⌜ t ≡ turnOf (resulted self report) ⌝ }
+    {
+        if 1 < report.done {
+            return self.unmoved(Answer::BadField(NOWHERE));
         }
         if self.count == 0 {
-            return refused(self, Answer::NoSet);
+            return self.unmoved(Answer::NoSet);
         }
-        if self.count <= number {
-            return refused(self, Answer::NotInSet);
-        }
-        if (self.answered >> number) % 2 == 1 {
-            return refused(self, Answer::AlreadyAnswered);
-        }
-        if done == 0 {
-            return taken(self.answering(number, self.bits));
-        }
-        self.succeeded(number)
+        self.numbered(report.number, report.done)
     }
 
-    // An image, which becomes the record.
-    pub fn image(self, r: u64) -> Outcome
-        ensures { λ o. ⌜ o ≡ takeImage self r ⌝ }
+    // A result.
+    pub fn result(self, report: Report) -> Outcome
+        ensures { λ o. ⌜ o ≡ result self report ⌝ }
     {
         if !self.fit() {
             return refused(self, Answer::Unfit);
         }
+        let t = self.resulted(report);
+        let held = self.set;
+        self.after(t, held)
+    }
+
+    // An image, which becomes the record, past the test of fitness.
+    pub fn imaged(self, picture: Picture) -> Turn
+        ensures { λ t. ⌜ t ≡ turnOf (imaged self picture) ⌝ }
+    {
         if 0 < self.count {
-            return refused(self, Answer::SetOutstanding);
+            return self.unmoved(Answer::SetOutstanding);
         }
-        if !floor::sound(r) {
-            return refused(self, Answer::Unsound);
+        if !floor::sound(picture.bits) {
+            return self.unmoved(Answer::Unsound);
         }
-        let set = self.set;
-        taken(Station {
-            bits: r,
-            count: self.count,
-            answered: self.answered,
-            set,
-        })
+        self.holding(picture.bits)
+    }
+
+    // An image.
+    pub fn image(self, picture: Picture) -> Outcome
+        ensures { λ o. ⌜ o ≡ takeImage self picture ⌝ }
+    {
+        if !self.fit() {
+            return refused(self, Answer::Unfit);
+        }
+        let t = self.imaged(picture);
+        let held = self.set;
+        self.after(t, held)
     }
 
     // The record is asked for.

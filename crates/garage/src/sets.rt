@@ -4,17 +4,19 @@ ghost use mathlib.Core.Bool.{_||_};
 ghost use mathlib.Core.List.{_++_};
 ghost use Prim.Native.Nat.{_*_, _-_};
 ghost use lib.Dec.{eqb, ltb};
-ghost use lib.ListN.{getD, take, replicate};
+ghost use lib.ListN.{length, getD, take, replicate};
 ghost use Rattle.bits.specs.Search.{every, least};
 ghost use Rattle.garage.specs.Held.{codeAt, bad, overlapsEarlier, barred, liftIn};
-ghost use Rattle.garage.specs.Private.{areas};
+ghost use Rattle.garage.specs.Turns.{keptSet};
+ghost use Rattle.garage.specs.Private.{areas, firstOf};
 use crate::held;
 use floor::masks::LIFT;
 use rules::Code;
 
 // Instruction i of a set; past the eighth there are only zeros.
-pub fn code_at(set: [u8; 40], i: u8) -> Code
-    ensures { λ x. ⌜ x ≡ codeAt set i ⌝ }
+pub fn code_at(set: &[u8; 40], i: u8) -> Code
+    requires { ⌜ length (now set) ≡ 40 ⌝ }
+    ensures { λ x. ⌜ x ≡ codeAt (now (set .entry)) i ⌝ }
 {
     if 8 <= i {
         return Code {
@@ -41,7 +43,7 @@ pub fn least_bad(set: [u8; 40], n: u8) -> u8
 {
     let mut i = 0;
     while i < n {
-        let x = code_at(set, i);
+        let x = code_at(&set, i);
         if !held::good(x) {
             return i;
         }
@@ -50,37 +52,45 @@ pub fn least_bad(set: [u8; 40], n: u8) -> u8
     n
 }
 
-// The least instruction of the first n that overlaps an earlier one, or n.
-pub fn least_overlap(set: [u8; 40], n: u8) -> u8
-    ensures { λ p. ⌜ p ≡ least n (overlapsEarlier set) ⌝ }
+// What a search upward has found, with i at fault or not: the least one, or n.
+fn first(found: u8, n: u8, here: bool, i: u8) -> u8
+    ensures { λ p. ⌜ p ≡ firstOf found n here i ⌝ }
 {
-    let mut seen: u64 = 0;
-    let mut i = 0;
-    while i < n {
-        let x = code_at(set, i);
-        let m = held::area(x);
-        if m & seen != 0 {
-            return i;
-        }
-        seen = seen | m;
-        i += 1;
+    if here & (found == n) {
+        return i;
     }
-    n
+    found
 }
 
-// The least instruction of the first n that is not allowed on the record r, or n.
-pub fn least_barred(set: [u8; 40], n: u8, r: u64) -> u8
-    ensures { λ p. ⌜ p ≡ least n (barred set r) ⌝ }
+// Of the first n instructions the least that is bad, the least that overlaps an earlier one and the least that is not allowed on the
+// record r, or n: each is read once.
+pub struct Faults {
+    pub bad: u8,
+    pub overlap: u8,
+    pub barred: u8,
+}
+
+pub fn search(set: [u8; 40], n: u8, r: u64) -> Faults
+    ensures { λ f. ⌜ (f .bad ≡ least n (bad set)) × (f .overlap ≡ least n (overlapsEarlier set)) × (f .barred ≡ least n (barred set r)) ⌝ }
 {
+    let mut seen: u64 = 0;
+    let mut bad = n;
+    let mut overlap = n;
+    let mut barred = n;
     let mut i = 0;
     while i < n {
-        let x = code_at(set, i);
-        if !held::allowed(x, r) {
-            return i;
-        }
+        let x = held::judge(code_at(&set, i), r);
+        bad = first(bad, n, !x.good, i);
+        overlap = first(overlap, n, x.area & seen != 0, i);
+        barred = first(barred, n, !x.allowed, i);
+        seen = seen | x.area;
         i += 1;
     }
-    n
+    Faults {
+        bad,
+        overlap,
+        barred,
+    }
 }
 
 // All areas of the first n instructions.
@@ -90,7 +100,7 @@ fn areas(set: [u8; 40], n: u8) -> u64
     let mut seen: u64 = 0;
     let mut i = 0;
     while i < n {
-        let x = code_at(set, i);
+        let x = code_at(&set, i);
         let m = held::area(x);
         seen = seen | m;
         i += 1;
@@ -109,14 +119,13 @@ pub fn lift_in(set: [u8; 40], n: u8) -> bool
 pub fn rest_zero(set: [u8; 40], n: u8) -> bool
     ensures { λ b. ⌜ b ≡ every 40 (λ k. ltb k (5 * n) || eqb (getD set k 0) 0) ⌝ }
 {
+    let mut seen: u8 = 0;
     let mut k = 5 * (n as usize);
     while k < 40 {
-        if set[k] != 0 {
-            return false;
-        }
+        seen = seen | set[k];
         k += 1;
     }
-    true
+    seen == 0
 }
 
 // The bytes of the first n instructions, the unused places zero.
@@ -134,4 +143,17 @@ pub fn only(set: [u8; 40], n: u8) -> [u8; 40]
         k += 1;
     }
     kept
+}
+
+// The set after a call that found `before` instructions and left `after`.
+pub fn kept(held: [u8; 40], before: u8, after: u8, fresh: [u8; 40]) -> [u8; 40]
+    ensures { λ set. ⌜ set ≡ keptSet held before after fresh ⌝ }
+{
+    if before < after {
+        return fresh;
+    }
+    if after < before {
+        return [0; 40];
+    }
+    held
 }

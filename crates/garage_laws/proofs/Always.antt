@@ -49,13 +49,13 @@ begins-has s (byImage before r h e) =
 -- every call keeps a station fit, an image too
 fit-kept : (s : Station) (c : Call) → fit s ≡ true → fit (left s c) ≡ true
 fit-kept s (run.request n set) f = fit-step s _ _ (steps s (run.request n set) tt) f
-fit-kept s (run.result i done) f = fit-step s _ _ (steps s (run.result i done) tt) f
+fit-kept s (run.reports r) f = fit-step s _ _ (steps s (run.reports r) tt) f
 fit-kept s (run.event e) f = fit-step s _ _ (steps s (run.event e) tt) f
 fit-kept s run.ask f = fit-step s _ _ (steps s run.ask tt) f
-fit-kept s (run.image r) f = split (eqb (said s (run.image r)) 0)
-    (λ t. let w = image-has s r (eqb-true _ 0 t) in
-    rw (ap (λ o. o .station) (image-is s r w)) (fit-holding s r f (w .2)))
-    (λ t. rw (untouched s (run.image r) (eqb-false _ 0 t)) f)
+fit-kept s (run.pictures p) f = split (eqb (said s (run.pictures p)) 0)
+    (λ t. let w = image-has s (p .bits) (eqb-true _ 0 t) in
+    rw (ap (λ o. o .station) (image-is s (p .bits) w)) (fit-holding s (p .bits) f (w .2)))
+    (λ t. rw (untouched s (run.pictures p) (eqb-false _ 0 t)) f)
 
 fit-always : (l : List Call) (s : Station) → fit s ≡ true → fit (calls s l) ≡ true
 fit-always [] s f = f
@@ -99,9 +99,9 @@ carsOf s = cars (bit (s .bits))
 -- a call that is refused drives no car
 drove-none : (way : ℕ) (s : Station) (c : Call) → (said s c ≡ 0 → ⊥) → drove way s c ≡ 0
 drove-none way s (run.request n set) r = refl
-drove-none way s (run.result i done) r = refl
+drove-none way s (run.reports x) r = refl
 drove-none way s (run.event e) r = ap (λ (b : Bool). cond {A = ℕ} b 1 0) (ap (λ (b : Bool). eqb e way && b) (ne-eqb (said s (run.event e)) 0 r) ∙ and-false (eqb e way))
-drove-none way s (run.image x) r = refl
+drove-none way s (run.pictures p) r = refl
 drove-none way s run.ask r = refl
 
 -- an event that is taken drives one, in or out

@@ -38,9 +38,9 @@ amid-unmoved s l m a = (turns-same a, end-same a)
 
 fair-parts : (s : Station) (c : Call) (l : List Call) → Fair s (c ∷ l) → Fair s (c ∷ []) × Fair (left s c) l
 fair-parts s (run.request n set) l f = (tt, f)
-fair-parts s (run.result i done) l f = ((f .0, f .1, tt), f .2)
+fair-parts s (run.reports r) l f = ((f .0, f .1, tt), f .2)
 fair-parts s (run.event e) l f = (tt, f)
-fair-parts s (run.image r) l f = (tt, f)
+fair-parts s (run.pictures p) l f = (tt, f)
 fair-parts s run.ask l f = (tt, f)
 
 fair-amid : {s : Station} {l m : List Call} (a : Amid s l m) → Fair s l → FairAmid a
@@ -51,9 +51,9 @@ fair-amid (refused {s} {l} c r a) f = fair-amid a (subst (λ (t : Station). Fair
 
 replies-parts : (s : Station) (c : Call) (l : List Call) → replies s (c ∷ []) ++ replies (left s c) l ≡ replies s (c ∷ l)
 replies-parts s (run.request n set) l = refl
-replies-parts s (run.result i done) l = refl
+replies-parts s (run.reports r) l = refl
 replies-parts s (run.event e) l = refl
-replies-parts s (run.image r) l = refl
+replies-parts s (run.pictures p) l = refl
 replies-parts s run.ask l = refl
 
 replies-amid : {s : Station} {l m : List Call} (a : Amid s l m) → repliesAmid a ≡ replies s l
@@ -86,9 +86,9 @@ amid-exists s (c ∷ l) = asked (refused (run.event 0) (no-such-event _) (kept c
 
 put-in : (s : Station) (c : Call) → takes s c ≡ false → {l m : List Call} → Amid (left s c) l m → Amid s l (c ∷ m)
 put-in s (run.request n set) t a = refused _ (eqb-false _ 0 t) a
-put-in s (run.result i done) t a = refused _ (eqb-false _ 0 t) a
+put-in s (run.reports r) t a = refused _ (eqb-false _ 0 t) a
 put-in s (run.event e) t a = refused _ (eqb-false _ 0 t) a
-put-in s (run.image r) t a = refused _ (eqb-false _ 0 t) a
+put-in s (run.pictures p) t a = refused _ (eqb-false _ 0 t) a
 put-in s run.ask t a = asked a
 
 pub amid-covers : AmidCovers

@@ -11,11 +11,10 @@ use Rattle.bits.proofs.Digits.{bit-ext}
 use Rattle.rules.specs.declared.Code.{Code}
 use Rattle.sets.proofs.Rules.{blind}
 use Rattle.sets.proofs.Machine as machine
-use Rattle.sets.proofs.Machine.{Act}
+use Rattle.sets.proofs.Machine.{Act, nowhere}
 use Rattle.sets.proofs.Orders as machine-orders
 use Rattle.sets.proofs.AnyOrder as machine-order
 use Rattle.garage.specs.declared.Station.{Station}
-use Rattle.garage.specs.Held.{liftIn}
 use Rattle.garage.specs.Station.{fit, closed, holding, opened, answering}
 use Rattle.garage_laws.specs.Runs.{Call, calls}
 use Rattle.garage_laws.specs.Orders.{Order, Alike}
@@ -26,7 +25,7 @@ use Rattle.garage_laws.proofs.Calls.{request-has, request-is}
 use Rattle.garage_laws.proofs.Steps.{Step, refuses, opens, fails, succeeds, drives, tells, along, reached}
 use Rattle.garage_laws.proofs.Always.{begins-has, Small, small-step}
 use Rattle.garage_laws.proofs.Link.{view, kept, request-accepted, request-view}
-use Rattle.garage_laws.proofs.Lists.{asCall, no-images, choice, acts, Last, order-heard}
+use Rattle.garage_laws.proofs.Lists.{asCall, no-images, choice, acts, Unstuck, unstuck, order-heard}
 use Rattle.garage_laws.proofs.Follow.{follows}
 
 -- ---- a station with no instruction has nothing else either
@@ -48,7 +47,7 @@ tidy-step s t c tells d = d
 -- ---- what the machine says of two lists, the station says
 
 module _ (s : Station) (f : fit s ≡ true) (small : Small s) (tidy : Tidy s) where
-  module _ (l : List (Act ℕ)) (e : machine.run rules (view s) l ≡ machine.idle rules (machine.run rules (view s) l .bits))
+  module _ (l : List (Act ℕ)) (e : machine.run rules (view s) l ≡ machine.idle rules (machine.run rules (view s) l .bits) (machine.run rules (view s) l .away))
       (v : view (calls s (map asCall l)) ≡ machine.run rules (view s) l) where
     -- where the calls end
     abbrev end : Station
@@ -63,18 +62,16 @@ module _ (s : Station) (f : fit s ≡ true) (small : Small s) (tidy : Tidy s) wh
     end-small : Small end
     end-small = along Small small-step (map asCall l) (no-images l) s small
 
-  alike : (l m : List (Act ℕ)) → Last l → Last m → machine-orders.eventsOf l ≡ machine-orders.eventsOf m
-      → machine-orders.Alike rules (view s) l m → Alike s (map asCall l) (map asCall m)
-  alike l m p q e A =
-      let b = liftIn (s .set) (s .count) in
-      let L = follows b l p s f (λ h. refl) (A .fair .0) in
-      let M = follows b m q s f (λ h. refl) (A .fair .1) in
+  alike : (l m : List (Act ℕ)) → Unstuck l → Unstuck m → machine-orders.Alike rules (view s) l m → Alike s (map asCall l) (map asCall m)
+  alike l m p q A =
+      let L = follows l p s f (A .fair .0) in
+      let M = follows m q s f (A .fair .1) in
       let same : end l (A .closed .0) (L .shows) .bits ≡ end m (A .closed .1) (M .shows) .bits =
       bit-ext 64 _ _ (end-small l (A .closed .0) (L .shows)) (end-small m (A .closed .1) (M .shows)) (λ k h.
       ap (λ (a : machine.Station ℕ Code). bit (a .bits) k) (L .shows) ∙ A .bits k h ∙ sym (ap (λ (a : machine.Station ℕ Code). bit (a .bits) k) (M .shows))) in
       record {
         fair = (L .fair, M .fair);
-        answered = L .replied ∙ rw (e, A .replies) (sym (M .replied));
+        answered = L .replied ∙ A .replies ∙ sym (M .replied);
         closed = (end-none l (A .closed .0) (L .shows), end-none m (A .closed .1) (M .shows));
         same = end-closed l (A .closed .0) (L .shows) ∙ ap closed same ∙ sym (end-closed m (A .closed .1) (M .shows));
       }
@@ -89,7 +86,7 @@ any-order s R n set e chosen events l m P Q =
     let O = order-heard (subst (Order n chosen events) p P) in
     let U = order-heard (subst (Order n chosen events) q Q) in
     let small : Small s = reached Small small-step (λ t b. begins-has t b .2) s R in
-    let T = machine-order.any-order rules blind blind framed (kept s n set A) (s .bits) (fit-has s (A .fits) .sound) (request-accepted s n set A) (choice chosen) events a b O U in
+    let T = machine-order.any-order rules blind blind framed (kept s n set A) (s .bits) nowhere (fit-has s (A .fits) .sound) (request-accepted s n set A) (choice chosen) events a b O U in
     let W : machine-orders.Alike rules (view (opened s n set)) a b = rw (request-view s n set A) T in
     subst₃ Alike (ap (λ o. o .station) (sym (request-is s n set A))) (sym p) (sym q)
-    (alike (opened s n set) (fit-opened s n set A) small (inl (A .some)) a b (O .last) (U .last) (O .events ∙ sym (U .events)) W)
+    (alike (opened s n set) (fit-opened s n set A) small (inl (A .some)) a b (unstuck chosen a (O .chosen)) (unstuck chosen b (U .chosen)) W)

@@ -1,15 +1,15 @@
 -- Each call taken apart: when it is taken, and what it then leaves. A call is one chain of refusals; what is taken has passed each of
 -- them, and what is refused leaves the station. Assumes nothing.
 use mathlib.Core.Path.{_≡_, refl, ap, _∙_}
-use mathlib.Core.Bool.{Bool, true, false, cond}
+use mathlib.Core.Bool.{Bool, true, false, not, cond}
 use mathlib.Core.List.{List}
 use Prim.Native.Nat.{ℕ, _<_}
 use native.Mathlib.Omega.{arith}
-use lib.Dec.{eqb, leb, ltb}
-use borrow.Author.Tests.{ltb-false, le-ltb, leb-false, lt-leb, eqb-false, ne-eqb, not-false}
+use lib.Dec.{eqb, ltb}
+use borrow.Author.Tests.{ltb-false, lt-ltb, le-ltb, le-leb, eqb-false, ne-eqb, not-false}
 use Rattle.bits.specs.Bits.{bit, image}
 use Rattle.bits.specs.Search.{least}
-use Rattle.bits.proofs.Cases.{split, clash}
+use Rattle.bits.proofs.Cases.{split, clash, and-intro}
 use Rattle.bits.proofs.Search.{none-at, none-is}
 use Rattle.bits.proofs.Least.{least-none, least-below}
 use Rattle.floor.specs.Sound.{sound}
@@ -22,21 +22,28 @@ use Rattle.answers.specs.declared.Answer.the-variants.{BadField, TooMany, SetOu
 use Rattle.answers.specs.Answers.{numberOf, nowhere}
 use Rattle.garage.specs.declared.Station.{Station}
 use Rattle.garage.specs.declared.Outcome.{Outcome}
+use Rattle.garage.specs.declared.Report.{Report}
 use Rattle.garage.specs.Held.{codeAt, heldAllowed, heldNext, bad, overlapsEarlier, barred, liftIn}
-use Rattle.garage.specs.Station.{marked, fit, holding, opened, answering}
+use Rattle.garage.specs.Station.{inSet, marked, fit, holding, opened, answering}
 use Rattle.garage.specs.Calls as station
-use Rattle.garage.specs.Calls.{refused, taken, onFit, driven, succeeded}
+use Rattle.garage.specs.Calls.{refused, taken, onFit}
+use Rattle.garage.proofs.Marks.{in-set}
 use Rattle.garage_laws.specs.Runs as run
 use Rattle.garage_laws.specs.Runs.{Call, call, said, left}
 use Rattle.garage_laws.specs.Demands.{Acceptable, Waiting}
-use Rattle.garage_laws.proofs.Instance.{onEvent, possibleAs, afterAs}
-use Rattle.garage_laws.proofs.Fits.{after-result}
+use Rattle.garage_laws.proofs.Instance.{onEvent, possibleAs, afterAs, heldAs, replyAs}
+use Rattle.garage_laws.proofs.Fits.{fit-has, after-result}
 
 -- an outcome that is answered 0
 abbrev Zero : Outcome → Type 0
 Zero o = numberOf (o .answer) ≡ 0
 
 -- ---- past a test
+
+-- what a test leads to
+pub either : (P : Outcome → Type 0) (t : Bool) {o p : Outcome} → (t ≡ true → P o) → (t ≡ false → P p) → P (cond t o p)
+either P true f g = f refl
+either P false f g = g refl
 
 -- whose refusal is no answer 0
 passed : (t : Bool) (s : Station) (a : Answer) (o : Outcome) → (numberOf a ≡ 0 → ⊥) → Zero (cond t (refused s a) o) → (t ≡ false) × Zero o
@@ -55,102 +62,154 @@ faultless n fault e i h = let l = ltb-false (least n fault) n e in least-below n
 no-fault : (n : ℕ) (fault : ℕ → Bool) → ((i : ℕ) → i < n → fault i ≡ false) → ltb (least n fault) n ≡ false
 no-fault n fault none = let e = least-none n fault none in le-ltb (least n fault) n (omega arith)
 
--- ---- a request
+-- ---- a request, part by part
 
-pub request-has : (s : Station) (n : ℕ) (set : List ℕ) → said s (run.request n set) ≡ 0 → Acceptable s n set
-unfolding station.request overlapsEarlier
-request-has s n set e =
-    let (a, e₁) = met (fit s) s Unfit _ (λ z. omega arith) e in
-    let (b, e₂) = passed (ltb 0 (s .count)) s SetOutstanding _ (λ z. omega arith) e₁ in
-    let (c, e₃) = passed (ltb most n) s TooMany _ (λ z. omega arith) e₂ in
-    let (d, e₄) = passed (eqb n 0) s EmptySet _ (λ z. omega arith) e₃ in
-    let (f, e₅) = passed (ltb (least n (bad set)) n) s (BadField (least n (bad set))) _ (λ z. omega arith) e₄ in
-    let (g, e₆) = passed (ltb (least n (overlapsEarlier set)) n) s (Overlap (least n (overlapsEarlier set))) _ (λ z. omega arith) e₅ in
-    let (h, e₇) = passed (ltb (least n (barred set (s .bits))) n) s (NotAllowed (least n (barred set (s .bits)))) _ (λ z. omega arith) e₆ in
-    record {
-      fits = a;
-      idle = (let l = ltb-false 0 (s .count) b in omega arith);
-      some = (let l = eqb-false n 0 d in omega arith);
-      few = ltb-false most n c;
-      good = λ i l. not-false _ (faultless n (bad set) f i l);
-      apart = λ i j l m. none-at i _ (faultless n (overlapsEarlier set) g i l) j (omega arith);
-      allowed = λ i l. not-false _ (faultless n (barred set (s .bits)) h i l);
-    }
+module _ (s : Station) (n : ℕ) (set : List ℕ) where
+  accepted-has : Zero (station.accepted s n set)
+      → (ltb (least n (overlapsEarlier set)) n ≡ false) × (ltb (least n (barred set (s .bits))) n ≡ false)
+  unfolding station.accepted
+  accepted-has e =
+      let (a, e₁) = passed (ltb (least n (overlapsEarlier set)) n) s (Overlap (least n (overlapsEarlier set))) _ (λ z. omega arith) e in
+      let (b, e₂) = passed (ltb (least n (barred set (s .bits))) n) s (NotAllowed (least n (barred set (s .bits)))) _ (λ z. omega arith) e₁ in
+      (a, b)
 
-pub request-is : (s : Station) (n : ℕ) (set : List ℕ) → Acceptable s n set → station.request s n set ≡ taken (opened s n set)
-unfolding station.request overlapsEarlier
-request-is s n set A = rw (
-  A .fits,
-  le-ltb 0 (s .count) (let z = A .idle in omega arith),
-  le-ltb most n (A .few),
-  ne-eqb n 0 (λ z. (let l = A .some in omega arith)),
-  no-fault n (bad set) (λ i h. rw (A .good i h)),
-  no-fault n (overlapsEarlier set) (λ i h. none-is i _ (λ j l. A .apart i j h l)),
-  no-fault n (barred set (s .bits)) (λ i h. rw (A .allowed i h)),
-)
+  requested-has : Zero (station.requested s n set)
+      → (ltb 0 (s .count) ≡ false) × (ltb most n ≡ false) × (eqb n 0 ≡ false) × (ltb (least n (bad set)) n ≡ false) × Zero (station.accepted s n set)
+  unfolding station.requested
+  requested-has e =
+      let (a, e₁) = passed (ltb 0 (s .count)) s SetOutstanding _ (λ z. omega arith) e in
+      let (b, e₂) = passed (ltb most n) s TooMany _ (λ z. omega arith) e₁ in
+      let (c, e₃) = passed (eqb n 0) s EmptySet _ (λ z. omega arith) e₂ in
+      let (d, e₄) = passed (ltb (least n (bad set)) n) s (BadField (least n (bad set))) _ (λ z. omega arith) e₃ in
+      (a, b, c, d, e₄)
 
--- ---- a result
+  pub request-has : said s (run.request n set) ≡ 0 → Acceptable s n set
+  unfolding station.request overlapsEarlier
+  request-has e =
+      let (a, e₁) = met (fit s) s Unfit (station.requested s n set) (λ z. omega arith) e in
+      let (b, c, d, f, e₂) = requested-has e₁ in
+      let (g, h) = accepted-has e₂ in
+      record {
+        fits = a;
+        idle = (let l = ltb-false 0 (s .count) b in omega arith);
+        some = (let l = eqb-false n 0 d in omega arith);
+        few = ltb-false most n c;
+        good = λ i l. not-false _ (faultless n (bad set) f i l);
+        apart = λ i j l m. none-at i _ (faultless n (overlapsEarlier set) g i l) j (omega arith);
+        allowed = λ i l. not-false _ (faultless n (barred set (s .bits)) h i l);
+      }
 
--- whatever is reported, the instruction waits
-waiting-has : (s : Station) (i done : ℕ) (o : Outcome) →
-    Zero (onFit s (cond (ltb 1 done) (refused s (BadField nowhere)) (cond (eqb (s .count) 0) (refused s NoSet) (cond (leb (s .count) i) (refused s NotInSet) (cond (marked s i) (refused s AlreadyAnswered) o)))))
-    → Waiting s i × Zero o
-waiting-has s i done o e =
-    let (a, e₁) = met (fit s) s Unfit _ (λ z. omega arith) e in
-    let (b, e₂) = passed (ltb 1 done) s (BadField nowhere) _ (λ z. omega arith) e₁ in
-    let (c, e₃) = passed (eqb (s .count) 0) s NoSet _ (λ z. omega arith) e₂ in
-    let (d, e₄) = passed (leb (s .count) i) s NotInSet _ (λ z. omega arith) e₃ in
-    let (f, e₅) = passed (marked s i) s AlreadyAnswered o (λ z. omega arith) e₄ in
-    ((a, leb-false (s .count) i d, f), e₅)
+  module _ (A : Acceptable s n set) where
+    accepted-is : station.accepted s n set ≡ taken (opened s n set)
+    unfolding station.accepted overlapsEarlier
+    accepted-is = rw (
+      no-fault n (overlapsEarlier set) (λ i h. none-is i _ (λ j l. A .apart i j h l)),
+      no-fault n (barred set (s .bits)) (λ i h. rw (A .allowed i h)),
+    )
+
+    requested-is : station.requested s n set ≡ station.accepted s n set
+    unfolding station.requested
+    requested-is = rw (
+      le-ltb 0 (s .count) (let z = A .idle in omega arith),
+      le-ltb most n (A .few),
+      ne-eqb n 0 (λ z. (let l = A .some in omega arith)),
+      no-fault n (bad set) (λ i h. rw (A .good i h)),
+    )
+
+    pub request-is : station.request s n set ≡ taken (opened s n set)
+    unfolding station.request
+    request-is = rw (A .fits) (requested-is ∙ accepted-is)
+
+-- ---- a result, part by part
 
 module _ (s : Station) (i : ℕ) where
+  numbered-has : (done : ℕ) → Zero (station.numbered s i done) → (i < s .count) × (marked s i ≡ false) × Zero (station.ended s i done)
+  unfolding station.numbered
+  numbered-has done e =
+      let (a, e₁) = passed (not (inSet s i)) s NotInSet _ (λ z. omega arith) e in
+      let (b, e₂) = passed (marked s i) s AlreadyAnswered _ (λ z. omega arith) e₁ in
+      (in-set s i (not-false _ a) .1, b, e₂)
+
+  -- a number of a fit station's set
+  fit-set : Waiting s i → inSet s i ≡ true
+  fit-set w = and-intro (le-leb (s .count) most (fit-has s (w .0) .few)) (lt-ltb i (s .count) (w .1))
+
+  numbered-is : (done : ℕ) → Waiting s i → station.numbered s i done ≡ station.ended s i done
+  unfolding station.numbered
+  numbered-is done w = rw (fit-set w, w .2)
+
   -- the record that its rule makes
   abbrev pub following : ℕ
   following = image (heldNext (codeAt (s .set) i) (bit (s .bits)))
 
-  pub success-has : said s (run.result i 1) ≡ 0 → Waiting s i × (heldAllowed (codeAt (s .set) i) (bit (s .bits)) ≡ true)
-  unfolding station.result
-  success-has e =
-      let (w, e₁) = waiting-has s i 1 (succeeded s i) e in
-      (w, met (heldAllowed (codeAt (s .set) i) (bit (s .bits))) s NowNotAllowed _ (λ z. omega arith) e₁ .0)
-
-  pub success-is : Waiting s i → heldAllowed (codeAt (s .set) i) (bit (s .bits)) ≡ true → station.result s i 1 ≡ taken (answering s i following)
-  unfolding station.result
-  success-is w t = let h = w .1 in rw (w .0, ne-eqb (s .count) 0 (λ z. omega arith), lt-leb (s .count) i h, w .2, t)
-
-  pub failure-has : said s (run.result i 0) ≡ 0 → Waiting s i
-  unfolding station.result
-  failure-has e = waiting-has s i 0 (taken (answering s i (s .bits))) e .0
-
-  pub failure-is : Waiting s i → station.result s i 0 ≡ taken (answering s i (s .bits))
-  unfolding station.result
-  failure-is w = let h = w .1 in rw (w .0, ne-eqb (s .count) 0 (λ z. omega arith), lt-leb (s .count) i h, w .2)
-
-  -- no other result is taken
-  pub done-has : (done : ℕ) → said s (run.result i done) ≡ 0 → done < 2
-  unfolding station.result
-  done-has done e =
-      let (a, e₁) = met (fit s) s Unfit _ (λ z. omega arith) e in
-      let (b, e₂) = passed (ltb 1 done) s (BadField nowhere) _ (λ z. omega arith) e₁ in
-      let l = ltb-false 1 done b in omega arith
+  -- what a success leads to
+  pub success-either : (P : Outcome → Type 0) → (heldAllowed (codeAt (s .set) i) (bit (s .bits)) ≡ true → P (taken (answering s i following)))
+      → (heldAllowed (codeAt (s .set) i) (bit (s .bits)) ≡ false → P (refused s NowNotAllowed)) → P (station.succeeded s i)
+  unfolding station.succeeded
+  success-either P f g = either P (heldAllowed (codeAt (s .set) i) (bit (s .bits))) f g
 
   -- the record after a result
   pub answering-bits : (r : ℕ) → answering s i r .bits ≡ r
   answering-bits r = after-result (λ t. t .bits ≡ r) s i r (λ t. refl) (λ t. refl)
 
--- ---- a car event, by what its number says
+module _ (s : Station) (r : Report) where
+  resulted-has : Zero (station.resulted s r) → (r .done < 2) × Zero (station.numbered s (r .number) (r .done))
+  unfolding station.resulted
+  resulted-has e =
+      let (a, e₁) = passed (ltb 1 (r .done)) s (BadField nowhere) _ (λ z. omega arith) e in
+      let (b, e₂) = passed (eqb (s .count) 0) s NoSet _ (λ z. omega arith) e₁ in
+      ((let l = ltb-false 1 (r .done) a in omega arith), e₂)
 
--- the number that a fit station answers
-abbrev pub numberAs : EventReading → Bool → Bool → ℕ
-numberAs v blocked ok = onEvent (λ e. cond blocked 6 (cond ok 0 10)) 4 v
+  -- whatever is reported, the instruction waits
+  result-has : said s (run.reports r) ≡ 0 → Waiting s (r .number) × (r .done < 2) × Zero (station.ended s (r .number) (r .done))
+  unfolding station.result
+  result-has e =
+      let (a, e₁) = met (fit s) s Unfit (station.resulted s r) (λ z. omega arith) e in
+      let (b, e₂) = resulted-has e₁ in
+      let (c, d, e₃) = numbered-has s (r .number) (r .done) e₂ in
+      ((a, c, d), b, e₃)
+
+  resulted-is : r .done < 2 → Waiting s (r .number) → station.resulted s r ≡ station.numbered s (r .number) (r .done)
+  unfolding station.resulted
+  resulted-is b w = let h = w .1 in rw (le-ltb 1 (r .done) (omega arith), ne-eqb (s .count) 0 (λ z. omega arith))
+
+  result-is : r .done < 2 → Waiting s (r .number) → station.result s r ≡ station.ended s (r .number) (r .done)
+  unfolding station.result
+  result-is b w = rw (w .0) (resulted-is b w ∙ numbered-is s (r .number) (r .done) w)
+
+  -- no other result is taken
+  pub done-has : said s (run.reports r) ≡ 0 → r .done < 2
+  done-has e = result-has e .1
+
+module _ (s : Station) (i : ℕ) where
+  -- a result of this instruction
+  abbrev reported : ℕ → Report
+  reported done = record { number = i; done = done }
+
+  pub success-has : said s (run.result i 1) ≡ 0 → Waiting s i × (heldAllowed (codeAt (s .set) i) (bit (s .bits)) ≡ true)
+  unfolding station.ended station.succeeded
+  success-has e = let (w, b, e₁) = result-has s (reported 1) e in (w, met (heldAllowed (codeAt (s .set) i) (bit (s .bits))) s NowNotAllowed _ (λ z. omega arith) e₁ .0)
+
+  pub success-is : Waiting s i → heldAllowed (codeAt (s .set) i) (bit (s .bits)) ≡ true → call s (run.result i 1) ≡ taken (answering s i (following s i))
+  unfolding station.ended station.succeeded
+  success-is w t = result-is s (reported 1) (omega arith) w ∙ rw t
+
+  pub failure-has : said s (run.result i 0) ≡ 0 → Waiting s i
+  failure-has e = result-has s (reported 0) e .0
+
+  pub failure-is : Waiting s i → call s (run.result i 0) ≡ taken (answering s i (s .bits))
+  unfolding station.ended
+  failure-is w = result-is s (reported 0) (omega arith) w
+
+-- ---- a car event, by what its number says
 
 module _ (s : Station) where
   -- what the station makes of it
   abbrev pub drivenAs : EventReading → Outcome
-  drivenAs v = onFit s (onEvent (driven s) (refused s (BadField nowhere)) v)
+  drivenAs v = onFit s (onEvent (station.driven s) (refused s (BadField nowhere)) v)
 
   pub event-as : (e : ℕ) → station.event s e ≡ drivenAs (readEvent e)
-  unfolding station.event readEvent
+  unfolding station.event station.evented readEvent
   event-as e = split (eqb e 1) (λ t. rw t) (λ t. split (eqb e 2) (λ u. rw (t, u)) (λ u. rw (t, u)))
 
   -- what a car event must have
@@ -158,20 +217,23 @@ module _ (s : Station) where
   Drivable v = (fit s ≡ true) × (liftIn (s .set) (s .count) ≡ false) × (possibleAs v (s .bits) ≡ true)
 
   driven-has : (v : EventReading) → Zero (drivenAs v) → Drivable v
+  unfolding station.driven station.occurred
   driven-has (Told e) z =
-      let (a, z₁) = met (fit s) s Unfit (driven s e) (λ z. omega arith) z in
+      let (a, z₁) = met (fit s) s Unfit (station.driven s e) (λ z. omega arith) z in
       let (b, z₂) = passed (liftIn (s .set) (s .count)) s SetOutstanding _ (λ z. omega arith) z₁ in
       let (c, z₃) = met (possible e (bit (s .bits))) s EventImpossible (taken (holding s (image (after e (bit (s .bits)))))) (λ z. omega arith) z₂ in
       (a, b, c)
   driven-has Untold z = let (a, z₁) = met (fit s) s Unfit (refused s (BadField nowhere)) (λ z. omega arith) z in absurd (omega arith)
 
   driven-is : (v : EventReading) → Drivable v → drivenAs v ≡ taken (holding s (afterAs v (s .bits)))
+  unfolding station.driven station.occurred
   driven-is (Told e) d = rw (d .0, d .1, d .2)
   driven-is Untold d = clash (d .2) refl
 
-  driven-number : (v : EventReading) → fit s ≡ true → numberOf (drivenAs v .answer) ≡ numberAs v (liftIn (s .set) (s .count)) (possibleAs v (s .bits))
+  driven-number : (v : EventReading) → fit s ≡ true → numberOf (drivenAs v .answer) ≡ cond (liftIn (s .set) (s .count)) (heldAs v) (replyAs v (s .bits))
+  unfolding station.driven station.occurred
   driven-number (Told e) f = rw f (split (liftIn (s .set) (s .count)) (λ t. rw t) (λ t. rw t (split (possible e (bit (s .bits))) (λ u. rw u) (λ u. rw u))))
-  driven-number Untold f = rw f
+  driven-number Untold f = rw f (split (liftIn (s .set) (s .count)) (λ t. rw t) (λ t. rw t))
 
   module _ (e : ℕ) where
     pub event-has : said s (run.event e) ≡ 0 → Drivable (readEvent e)
@@ -180,21 +242,21 @@ module _ (s : Station) where
     pub event-is : Drivable (readEvent e) → station.event s e ≡ taken (holding s (afterAs (readEvent e) (s .bits)))
     event-is d = event-as e ∙ driven-is (readEvent e) d
 
-    pub event-number : fit s ≡ true → said s (run.event e) ≡ numberAs (readEvent e) (liftIn (s .set) (s .count)) (possibleAs (readEvent e) (s .bits))
+    pub event-number : fit s ≡ true → said s (run.event e) ≡ cond (liftIn (s .set) (s .count)) (heldAs (readEvent e)) (replyAs (readEvent e) (s .bits))
     event-number f = ap (λ (o : Outcome). numberOf (o .answer)) (event-as e) ∙ driven-number (readEvent e) f
 
 -- ---- an image
 
 pub image-has : (s : Station) (r : ℕ) → said s (run.image r) ≡ 0 → (fit s ≡ true) × (s .count ≡ 0) × (sound r ≡ true)
-unfolding station.takeImage
+unfolding station.takeImage station.imaged
 image-has s r e =
     let (a, e₁) = met (fit s) s Unfit _ (λ z. omega arith) e in
     let (b, e₂) = passed (ltb 0 (s .count)) s SetOutstanding _ (λ z. omega arith) e₁ in
     let (c, e₃) = met (sound r) s Unsound (taken (holding s r)) (λ z. omega arith) e₂ in
     (a, (let l = ltb-false 0 (s .count) b in omega arith), c)
 
-pub image-is : (s : Station) (r : ℕ) → (fit s ≡ true) × (s .count ≡ 0) × (sound r ≡ true) → station.takeImage s r ≡ taken (holding s r)
-unfolding station.takeImage
+pub image-is : (s : Station) (r : ℕ) → (fit s ≡ true) × (s .count ≡ 0) × (sound r ≡ true) → call s (run.image r) ≡ taken (holding s r)
+unfolding station.takeImage station.imaged
 image-is s r w = rw (w .0, le-ltb 0 (s .count) (let z = w .1 in omega arith), w .2)
 
 -- ---- an ask
@@ -207,68 +269,80 @@ pub ask-is : (s : Station) → fit s ≡ true → station.ask s ≡ taken s
 unfolding station.ask
 ask-is s f = rw f
 
--- ---- every call is refused since the station is unfit, or with a number that is none of 0, 14 and 16, or taken, or a success of an
+-- ---- every call is refused since the station is unfit, or with a number that is none of 0, 14, 16 and 17, or taken, or a success of an
 -- instruction that waits
 
--- a refusal other than 14 and 16
+-- a refusal other than 14, 16 and 17
 abbrev Other : Answer → Type 0
-Other a = (numberOf a ≡ 0 → ⊥) × (numberOf a ≡ 14 → ⊥) × (numberOf a ≡ 16 → ⊥)
+Other a = (numberOf a ≡ 0 → ⊥) × (numberOf a ≡ 14 → ⊥) × (numberOf a ≡ 16 → ⊥) × (numberOf a ≡ 17 → ⊥)
 
--- what a test leads to
-pub either : (P : Outcome → Type 0) (t : Bool) {o p : Outcome} → (t ≡ true → P o) → (t ≡ false → P p) → P (cond t o p)
-either P true f g = f refl
-either P false f g = g refl
-
-module _ (P : Outcome → Type 0) (s : Station) (unfit : fit s ≡ false → P (refused s Unfit)) (no : (a : Answer) → Other a → P (refused s a)) (done : (t : Station) → P (taken t)) (told : (i : ℕ) → Waiting s i → P (succeeded s i)) where
+module _ (P : Outcome → Type 0) (s : Station) (unfit : fit s ≡ false → P (refused s Unfit)) (no : (a : Answer) → Other a → P (refused s a)) (done : (t : Station) → P (taken t)) (told : (i : ℕ) → Waiting s i → P (station.succeeded s i)) where
   unless : (t : Bool) (a : Answer) {o : Outcome} → Other a → (t ≡ false → P o) → P (cond t (refused s a) o)
   unless t a other f = either P t (λ e. no a other) f
 
   fitting : {o : Outcome} → (fit s ≡ true → P o) → P (onFit s o)
   fitting f = either P (fit s) f unfit
 
+  accepting : (n : ℕ) (set : List ℕ) → P (station.accepted s n set)
+  unfolding station.accepted
+  accepting n set =
+      unless (ltb (least n (overlapsEarlier set)) n) (Overlap (least n (overlapsEarlier set))) (omega arith)
+      (λ a. unless (ltb (least n (barred set (s .bits))) n) (NotAllowed (least n (barred set (s .bits)))) (omega arith)
+      (λ b. done (opened s n set)))
+
+  requesting : (n : ℕ) (set : List ℕ) → P (station.requested s n set)
+  unfolding station.requested
+  requesting n set =
+      unless (ltb 0 (s .count)) SetOutstanding (omega arith)
+      (λ a. unless (ltb most n) TooMany (omega arith)
+      (λ b. unless (eqb n 0) EmptySet (omega arith)
+      (λ c. unless (ltb (least n (bad set)) n) (BadField (least n (bad set))) (omega arith)
+      (λ d. accepting n set))))
+
+  numbering : (i d : ℕ) → fit s ≡ true → P (station.numbered s i d)
+  unfolding station.numbered station.ended
+  numbering i d f =
+      unless (not (inSet s i)) NotInSet (omega arith)
+      (λ a. unless (marked s i) AlreadyAnswered (omega arith)
+      (λ m. either P (eqb d 0) (λ z. done (answering s i (s .bits))) (λ z. told i (f, in-set s i (not-false _ a) .1, m))))
+
+  resulting : (r : Report) → fit s ≡ true → P (station.resulted s r)
+  unfolding station.resulted
+  resulting r f = unless (ltb 1 (r .done)) (BadField nowhere) (omega arith) (λ a. unless (eqb (s .count) 0) NoSet (omega arith) (λ b. numbering (r .number) (r .done) f))
+
   driving : (v : EventReading) → P (drivenAs s v)
+  unfolding station.driven station.occurred
   driving (Told e) = fitting (λ f. unless (liftIn (s .set) (s .count)) SetOutstanding (omega arith) (λ a. either P (possible e (bit (s .bits))) (λ b. done _) (λ b. no EventImpossible (omega arith))))
   driving Untold = fitting (λ f. no (BadField nowhere) (omega arith))
 
   pub each-call : (c : Call) → P (call s c)
-  unfolding station.request station.result station.takeImage station.ask
-  each-call (run.request n set) =
-      fitting (λ f. unless (ltb 0 (s .count)) SetOutstanding (omega arith)
-      (λ a. unless (ltb most n) TooMany (omega arith)
-      (λ b. unless (eqb n 0) EmptySet (omega arith)
-      (λ c. unless (ltb (least n (bad set)) n) (BadField (least n (bad set))) (omega arith)
-      (λ d. unless (ltb (least n (overlapsEarlier set)) n) (Overlap (least n (overlapsEarlier set))) (omega arith)
-      (λ g. unless (ltb (least n (barred set (s .bits))) n) (NotAllowed (least n (barred set (s .bits)))) (omega arith)
-      (λ h. done (opened s n set))))))))
-  each-call (run.result i d) =
-      fitting (λ f. unless (ltb 1 d) (BadField nowhere) (omega arith)
-      (λ a. unless (eqb (s .count) 0) NoSet (omega arith)
-      (λ b. unless (leb (s .count) i) NotInSet (omega arith)
-      (λ c. unless (marked s i) AlreadyAnswered (omega arith)
-      (λ m. either P (eqb d 0) (λ z. done (answering s i (s .bits))) (λ z. told i (f, leb-false (s .count) i c, m)))))))
+  unfolding station.request station.result station.takeImage station.imaged station.ask
+  each-call (run.request n set) = fitting (λ f. requesting n set)
+  each-call (run.reports r) = fitting (λ f. resulting r f)
   each-call (run.event e) = rw (event-as s e) (driving (readEvent e))
-  each-call (run.image r) = fitting (λ f. unless (ltb 0 (s .count)) SetOutstanding (omega arith) (λ a. either P (sound r) (λ b. done (holding s r)) (λ b. no Unsound (omega arith))))
+  each-call (run.pictures p) = fitting (λ f. unless (ltb 0 (s .count)) SetOutstanding (omega arith) (λ a. either P (sound (p .bits)) (λ b. done (holding s (p .bits))) (λ b. no Unsound (omega arith))))
   each-call run.ask = fitting (λ f. done s)
 
 -- a refused call leaves the station as it was
 pub untouched : (s : Station) (c : Call) → (said s c ≡ 0 → ⊥) → left s c ≡ s
-untouched s c = each-call (λ o. (Zero o → ⊥) → o .station ≡ s) s (λ e n. refl) (λ a h n. refl) (λ t n. absurd (n refl)) (λ i w. success i) c
-  where
-    success : (i : ℕ) → (Zero (succeeded s i) → ⊥) → succeeded s i .station ≡ s
-    success i = split (heldAllowed (codeAt (s .set) i) (bit (s .bits))) (λ t. rw t (λ n. absurd (n refl))) (λ t. rw t (λ n. refl))
+untouched s c = each-call (λ o. (Zero o → ⊥) → o .station ≡ s) s (λ e n. refl) (λ a h n. refl) (λ t n. absurd (n refl))
+    (λ i w. success-either s i (λ o. (Zero o → ⊥) → o .station ≡ s) (λ t n. absurd (n refl)) (λ t n. refl)) c
 
 -- on a station that is not fit
 pub unfit-is : (s : Station) → fit s ≡ false → (c : Call) → call s c ≡ refused s Unfit
 unfolding station.request station.result station.event station.takeImage station.ask
 unfit-is s e (run.request n set) = rw e
-unfit-is s e (run.result i done) = rw e
+unfit-is s e (run.reports r) = rw e
 unfit-is s e (run.event x) = rw e
-unfit-is s e (run.image r) = rw e
+unfit-is s e (run.pictures p) = rw e
 unfit-is s e run.ask = rw e
 
 -- a fit one never answers 16
 pub fit-says : (s : Station) → fit s ≡ true → (c : Call) → said s c ≡ 16 → ⊥
-fit-says s f = each-call (λ o. numberOf (o .answer) ≡ 16 → ⊥) s (λ e. clash f e) (λ a h. h .2) (λ t z. omega arith) (λ i w. success i)
-  where
-    success : (i : ℕ) → numberOf (succeeded s i .answer) ≡ 16 → ⊥
-    success i = split (heldAllowed (codeAt (s .set) i) (bit (s .bits))) (λ t. rw t (λ z. omega arith)) (λ t. rw t (λ z. omega arith))
+fit-says s f = each-call (λ o. numberOf (o .answer) ≡ 16 → ⊥) s (λ e. clash f e) (λ a h. h .2) (λ t z. omega arith)
+    (λ i w. success-either s i (λ o. numberOf (o .answer) ≡ 16 → ⊥) (λ t z. omega arith) (λ t z. omega arith))
+
+-- none is answered with 17, which is for lent room
+pub not-seventeen : (s : Station) (c : Call) → said s c ≡ 17 → ⊥
+not-seventeen s = each-call (λ o. numberOf (o .answer) ≡ 17 → ⊥) s (λ e z. omega arith) (λ a h. h .3) (λ t z. omega arith)
+    (λ i w. success-either s i (λ o. numberOf (o .answer) ≡ 17 → ⊥) (λ t z. omega arith) (λ t z. omega arith))

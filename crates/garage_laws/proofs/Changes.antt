@@ -23,7 +23,7 @@ use Rattle.garage_laws.proofs.Steps.{Step, refuses, opens, fails, succe
 pub result-taken : ResultTaken
 result-taken s i zero e = inl refl
 result-taken s i (suc zero) e = inr refl
-result-taken s i (suc (suc done)) e = absurd (omega (arith, done-has s i (suc (suc done)) e))
+result-taken s i (suc (suc done)) e = absurd (omega (arith, done-has s (record { number = i; done = suc (suc done) }) e))
 
 pub event-taken : EventTaken
 event-taken s e z = go (readEvent e) refl (event-has s e z .2)
@@ -48,9 +48,9 @@ kept-step s t c tells = inl refl
 
 pub only-success-changes : OnlySuccessChanges
 only-success-changes s (run.request n set) = kept-step s _ _ (steps s (run.request n set) tt)
-only-success-changes s (run.result i done) = kept-step s _ _ (steps s (run.result i done) tt)
+only-success-changes s (run.reports r) = kept-step s _ _ (steps s (run.reports r) tt)
 only-success-changes s (run.event e) = kept-step s _ _ (steps s (run.event e) tt)
 only-success-changes s run.ask = kept-step s _ _ (steps s run.ask tt)
-only-success-changes s (run.image r) = split (eqb (said s (run.image r)) 0)
+only-success-changes s (run.pictures p) = split (eqb (said s (run.pictures p)) 0)
     (λ t. inr (eqb-true _ 0 t, tt))
-    (λ t. inl (ap (λ (u : Station). u .bits) (untouched s (run.image r) (eqb-false _ 0 t))))
+    (λ t. inl (ap (λ (u : Station). u .bits) (untouched s (run.pictures p) (eqb-false _ 0 t))))

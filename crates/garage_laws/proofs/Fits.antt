@@ -17,7 +17,7 @@ use Rattle.floor.specs.Sound.{paired, sound}
 use Rattle.rules.specs.Codes.{most}
 use Rattle.garage.specs.declared.Station.{Station}
 use Rattle.garage.specs.Held.{bad}
-use Rattle.garage.specs.Station.{fit, marked, used, closed, startOf, holding, opened, answering}
+use Rattle.garage.specs.Station.{fit, marked, used, closed, startOf, noting, holding, opened, answering}
 use Rattle.sets.proofs.Marks.{marks}
 use Rattle.garage_laws.specs.Demands.{Acceptable}
 use Rattle.garage.proofs.Padding.{kept-code, zero-past}
@@ -86,7 +86,7 @@ abbrev pub marksWith : Station → ℕ → ℕ
 marksWith s i = bitOr (s .answered) (2 ^ i)
 
 abbrev pub noted : Station → ℕ → ℕ → Station
-noted s i r = record { bits = r; count = s .count; answered = marksWith s i; set = s .set }
+noted s i r = noting s (marksWith s i) r
 
 -- what holds of it, and of a station with no set, holds after a result
 pub after-result : (P : Station → Type 0) (s : Station) (i r : ℕ)

@@ -1,7 +1,7 @@
 -- The garage's rules as rules of the crate `sets`: records are numbers, instructions five bytes, car events their numbers.
 -- Each instruction and each event reads and writes only its area and keeps records sound, so the rules are framed. Assumes nothing.
-use mathlib.Core.Path.{_≡_, refl, _∙_, sym}
-use mathlib.Core.Bool.{Bool, true, false}
+use mathlib.Core.Path.{_≡_, refl, ap, _∙_, sym}
+use mathlib.Core.Bool.{Bool, true, false, cond}
 use mathlib.Core.List.{[]}
 use Prim.Native.Nat.{ℕ}
 use Rattle.bits.specs.Bits.{bit, image}
@@ -26,7 +26,7 @@ use Rattle.rules.specs.Verdicts.{onCode}
 use Rattle.rules.proofs.Frame.{area-small}
 use Rattle.rules.proofs.CodeLaws.{one-form}
 use Rattle.rules_laws.proofs.Laws.{same-verdict, same-bits, kept-outside, events-local, image-sound, image-cars, event-image-sound}
-use Rattle.sets.proofs.Rules.{Rules, Local, LocalRules, Framed, blind}
+use Rattle.sets.proofs.Rules.{Rules, Agree, Local, LocalRules, Framed, blind}
 use Rattle.sets.proofs.Frames.{local-framed}
 use Rattle.garage.specs.Held.{heldArea, heldAllowed, heldNext}
 
@@ -41,6 +41,13 @@ possibleAs v r = onEvent (λ e. possible e (bit r)) false v
 
 abbrev pub afterAs : EventReading → ℕ → ℕ
 afterAs v r = onEvent (λ e. image (after e (bit r))) r v
+
+-- the number that a fit station answers: while an outstanding set has the lift in an area, and else
+abbrev pub heldAs : EventReading → ℕ
+heldAs v = onEvent (λ e. 6) 4 v
+
+abbrev pub replyAs : EventReading → ℕ → ℕ
+replyAs v r = onEvent (λ e. cond (possible e (bit r)) 0 10) 4 v
 
 -- five zeros
 abbrev pub blank : Code
@@ -59,6 +66,8 @@ rules = record {
   lift = λ k. elem k lift;
   possible = λ e r. possibleAs (readEvent e) r;
   after = λ e r. afterAs (readEvent e) r;
+  held = λ e. heldAs (readEvent e);
+  reply = λ e lost r. replyAs (readEvent e) r;
 }
 
 -- the places of the lift are bits of the record
@@ -92,9 +101,13 @@ event-local (Told e) = record {
 }
 event-local Untold = record { reads = λ f g e. refl; writes = λ f g e t. clash t refl; keeps = λ f t. clash t refl }
 
+reply-local : (v : EventReading) (f g : ℕ) → Agree 64 bit (λ k. elem k lift) f g → replyAs v f ≡ replyAs v g
+reply-local (Told e) f g a = ap (λ (b : Bool). cond {A = ℕ} b 0 10) (event-local (Told e) .reads f g a)
+reply-local Untold f g a = refl
+
 local : LocalRules rules
 unfolding heldArea heldAllowed heldNext
-local = record { instruction = λ x. read-local (readCode x) (well x); event = λ e. event-local (readEvent e) }
+local = record { instruction = λ x. read-local (readCode x) (well x); event = λ e. event-local (readEvent e); reply = λ e lost. reply-local (readEvent e) }
 
 -- ---- and keeps records sound
 

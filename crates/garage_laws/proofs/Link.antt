@@ -1,37 +1,41 @@
 -- The station shows the machine of the crate `sets`: what a station holds is a machine's station (`view`), and each call that is taken is
 -- the machine's. So a station that is reached is in good order, and never answers 14. Assumes nothing.
-use mathlib.Core.Path.{_≡_, sym, ap, subst, fun-ext, _∙_}
-use mathlib.Core.Bool.{Bool, true, cond, and-false}
+use mathlib.Core.Path.{_≡_, refl, sym, ap, subst, fun-ext, _∙_}
+use mathlib.Core.Bool.{Bool, true, false, not, cond, _&&_}
 use mathlib.Core.List.{List, _++_}
 use Prim.Native.Nat.{ℕ, _+_, _*_, _-_, _<_}
 use native.Mathlib.Omega.{arith}
 use lib.ListN.{take, replicate}
-use borrow.Author.Tests.{lt-ltb}
+use lib.Dec.{eqb}
+use borrow.Author.Tests.{lt-ltb, eqb-true}
 use Rattle.bits.specs.Bits.{bit}
 use Rattle.bits.specs.Search.{some}
+use Rattle.bits.proofs.Cases.{split, clash}
 use Rattle.bits.proofs.Search.{some-same}
 use Rattle.floor.specs.Floor.{lift}
 use Rattle.floor.specs.Sound.{sound}
 use Rattle.rules.specs.declared.Code.{Code}
+use Rattle.rules.specs.Codes.{readEvent}
 use Rattle.bits.proofs.Sharing.{share-some}
 use Rattle.garage.proofs.Areas.{held-small}
 use Rattle.answers.specs.Answers.{numberOf}
 use Rattle.sets.proofs.Machine as machine
-use Rattle.sets.proofs.Machine.{Batch, Outcome, failed, finished, moves, result, event, request, act, mark, outstanding, blocks, accepted, released, idle, takes, does}
+use Rattle.sets.proofs.Machine.{Batch, Outcome, failed, finished, stuck, moves, sticks, result, event, request, act, nowhere, mark, outstanding, blocks, blocked, accepted, released, empty, idle, takes, does}
 use Rattle.sets.proofs.Rules.{blind}
 use Rattle.sets.proofs.GoodOrder.{Good}
-use Rattle.sets.proofs.Facts.{is-accepted}
+use Rattle.sets.proofs.Jams.{jam}
+use Rattle.sets.proofs.Facts.{is-accepted, meets-nowhere}
 use Rattle.sets.proofs.Marks.{marks, unmarked}
 use Rattle.sets.proofs.KeptGood.{call-good}
 use Rattle.garage.specs.declared.Station.{Station}
 use Rattle.garage.specs.Held.{codeAt, heldArea, liftIn}
-use Rattle.garage.specs.Station.{closed, opened, answering}
+use Rattle.garage.specs.Station.{fit, closed, opened, answering}
 use Rattle.garage_laws.specs.Runs.{Call, Begins}
 use Rattle.garage_laws.specs.Demands.{Acceptable, Waiting, NeverFourteen}
-use Rattle.garage_laws.proofs.Instance.{rules, framed, blank}
+use Rattle.garage_laws.proofs.Instance.{rules, framed, blank, possibleAs}
 use Rattle.garage.proofs.Padding.{five-at, zeros-at, kept-code}
 use Rattle.garage_laws.proofs.Fits.{fit-has, some-every, marksWith, after-result}
-use Rattle.garage_laws.proofs.Calls.{following, each-call}
+use Rattle.garage_laws.proofs.Calls.{following, success-either, each-call}
 use Rattle.garage_laws.proofs.Always.{begins-has}
 use Rattle.garage_laws.proofs.Steps.{Step, refuses, opens, fails, succeeds, drives, tells, reached}
 
@@ -41,9 +45,9 @@ use Rattle.garage_laws.proofs.Steps.{Step, refuses, opens, fails, succe
 abbrev pub batchOf : ℕ → List ℕ → Batch Code
 batchOf n set = record { size = n; at = codeAt set }
 
--- a station as the machine's
+-- a station as the machine's: nothing is set apart
 abbrev pub view : Station → machine.Station ℕ Code
-view s = record { bits = s .bits; set = batchOf (s .count) (s .set); answered = bit (s .answered) }
+view s = record { bits = s .bits; set = batchOf (s .count) (s .set); answered = bit (s .answered); away = nowhere }
 
 -- ---- areas that share a place meet
 
@@ -61,13 +65,13 @@ module _ (s : Station) (n : ℕ) (set : List ℕ) (A : Acceptable s n set) where
   same : (i : ℕ) → i < n → codeAt (take (5 * n) set ++ replicate (40 - 5 * n) 0) i ≡ codeAt set i
   same = kept-code n (40 - 5 * n) set
 
-  pub request-accepted : accepted rules kept (s .bits) ≡ true
-  request-accepted = is-accepted rules kept (s .bits) (A .some) (A .few)
+  pub request-accepted : accepted rules kept (s .bits) nowhere ≡ true
+  request-accepted = is-accepted rules kept (s .bits) nowhere (A .some) (A .few) (λ j h. meets-nowhere rules (rules .area (kept .at j)))
       (λ i h j l. rw (same i h, same j (omega arith)) (sym (share-some (heldArea (codeAt set i)) (heldArea (codeAt set j)) (held-small (codeAt set i))) ∙ A .apart i j h l))
       (λ i h. rw (same i h) (A .allowed i h))
 
-  pub request-view : view (opened s n set) ≡ machine.opened kept (s .bits)
-  request-view = ap (λ (g : ℕ → Bool). record { bits = s .bits; set = kept; answered = g }) unmarked
+  pub request-view : view (opened s n set) ≡ machine.opened kept (s .bits) nowhere
+  request-view = ap (λ (g : ℕ → Bool). record { bits = s .bits; set = kept; answered = g; away = nowhere }) unmarked
 
 -- ---- a result
 
@@ -75,13 +79,13 @@ module _ (s : Station) (n : ℕ) (set : List ℕ) (A : Acceptable s n set) where
 no-code : (m : ℕ) → codeAt (replicate m 0) ≡ (λ j. blank)
 no-code m = fun-ext (λ i. rw (five-at (replicate m 0) i, zeros-at m (5 * i), zeros-at m (5 * i + 1), zeros-at m (5 * i + 2), zeros-at m (5 * i + 3), zeros-at m (5 * i + 4)))
 
-closed-view : (r : ℕ) → view (closed r) ≡ idle rules r
-closed-view r = λ i. record { bits = r; set = record { size = 0; at = no-code 40 i }; answered = unmarked i }
+closed-view : (r : ℕ) → view (closed r) ≡ idle rules r nowhere
+closed-view r = λ i. record { bits = r; set = record { size = 0; at = no-code 40 i }; answered = unmarked i; away = nowhere }
 
 module _ (s : Station) (i r : ℕ) where
   -- the station with the record r, and these marks
   abbrev with-marks : (ℕ → Bool) → machine.Station ℕ Code
-  with-marks g = record { bits = r; set = batchOf (s .count) (s .set); answered = g }
+  with-marks g = record { bits = r; set = batchOf (s .count) (s .set); answered = g; away = nowhere }
 
   answering-view : view (answering s i r) ≡ released rules (with-marks (mark i (bit (s .answered))))
   answering-view = after-result (λ t. view t ≡ released rules (with-marks (bit (marksWith s i)))) s i r
@@ -96,33 +100,60 @@ resulting s i o = cond (moves o) (following s i) (s .bits)
 result-taken : (s : Station) (i : ℕ) (o : Outcome) → Waiting s i → machine.taken rules (view s) (result i o) ≡ true
 result-taken s i o w = rw (lt-ltb i (s .count) (w .1), w .2)
 
-pub result-view : (s : Station) (i : ℕ) (o : Outcome) → Waiting s i → view (answering s i (resulting s i o)) ≡ machine.step rules (view s) (result i o)
-result-view s i o w = rw (result-taken s i o w) (answering-view s i (resulting s i o))
+-- no result says that an instruction is stuck
+pub result-view : (s : Station) (i : ℕ) (o : Outcome) → sticks o ≡ false → Waiting s i → view (answering s i (resulting s i o)) ≡ machine.step rules (view s) (result i o)
+result-view s i failed u w = rw (result-taken s i failed w) (answering-view s i (s .bits))
+result-view s i finished u w = rw (result-taken s i finished w) (answering-view s i (following s i))
+result-view s i stuck u w = clash refl u
 
--- ---- in good order
+-- ---- a car event
 
-module _ (s : Station) (G : Good rules (view s)) where
+-- where a fit station answers 6
+pub blocked-lift : (s : Station) → fit s ≡ true → blocked rules (view s) ≡ liftIn (s .set) (s .count)
+unfolding some liftIn
+blocked-lift s f = split (eqb (s .count) 0)
+    (λ t. rw (eqb-true (s .count) 0 t))
+    (λ t. let o : outstanding (view s) ≡ true = rw t at (fit-has s f .owed) in rw o (blocks-lift (s .count) (s .set)))
+
+-- a fit station takes what the machine takes
+pub drivable : (s : Station) → fit s ≡ true → (e : ℕ) → machine.taken rules (view s) (event e) ≡ not (liftIn (s .set) (s .count)) && possibleAs (readEvent e) (s .bits)
+drivable s f e = rw (blocked-lift s f, meets-nowhere rules (rules .lift))
+
+-- ---- in good order, with nothing stuck
+
+abbrev Sane : Station → Type 0
+Sane s = Good rules (empty rules) (view s)
+
+module _ (s : Station) (G : Sane s) where
   -- what the machine takes leaves it so
-  takes-good : (c : machine.Call ℕ Code ℕ) → takes rules (view s) c ≡ true → Good rules (does rules (view s) c)
-  takes-good c t = subst (λ (b : Bool). Good rules (cond b (does rules (view s) c) (view s))) t (call-good rules blind blind framed (view s) G c)
+  takes-good : (c : machine.Call ℕ Code ℕ) → takes rules (view s) c ≡ true → Good rules (jam rules (view s) c (empty rules)) (does rules (view s) c)
+  takes-good c t = subst (λ (b : Bool). Good rules (cond b (jam rules (view s) c (empty rules)) (empty rules)) (cond b (does rules (view s) c) (view s))) t (call-good rules blind blind framed (view s) G c)
 
-  good-step : (t : Station) (c : Call) → Step s c t → Good rules (view t)
+  good-step : (t : Station) (c : Call) → Step s c t → Sane t
   unfolding some
   good-step t c (refuses n) = G
   good-step t c (opens {n} {set} A) = rw (request-view s n set A) (takes-good (request (kept s n set A)) (rw (A .idle) (request-accepted s n set A)))
   good-step t c (fails {i} w) = rw (answering-view s i (s .bits)) (takes-good (act (result i failed)) (result-taken s i failed w))
   good-step t c (succeeds {i} w a) = rw (answering-view s i (following s i)) (takes-good (act (result i finished)) (result-taken s i finished w))
-  good-step t c (drives {e} d) = takes-good (act (event e)) (rw (blocks-lift (s .count) (s .set), d .1, and-false (outstanding (view s)), d .2))
+  good-step t c (drives {e} d) = takes-good (act (event e)) (drivable s (d .0) e ∙ rw (d .1, d .2))
   good-step t c tells = G
 
 -- ---- a station that is reached
 
-begins-good : (s : Station) → Begins s → Good rules (view s)
+begins-good : (s : Station) → Begins s → Sane s
 begins-good s b =
     let (f, n, h) = begins-has s b in
-    record { sound = fit-has s f .sound; apart = λ i j h. absurd (omega arith); allowed = λ j h. absurd (omega arith) }
+    record {
+      sound = fit-has s f .sound;
+      apart = λ i j h. absurd (omega arith);
+      allowed = λ j w. absurd (let h = w .0 in omega arith);
+      jammed = record { apart = λ i j h. absurd (omega arith); allowed = λ j h. absurd (omega arith) };
+      inside = λ i h. absurd (omega arith);
+      free = λ j w i h. absurd (omega arith);
+    }
 
 pub never-fourteen : NeverFourteen
 never-fourteen s R =
-    let G = reached (λ t. Good rules (view t)) (λ t u c p g. good-step t g u c p) begins-good s R in
-    each-call (λ o. numberOf (o .answer) ≡ 14 → ⊥) s (λ e z. omega arith) (λ a h. h .1) (λ t z. omega arith) (λ i w. rw (G .allowed i (w .1) (w .2)) (λ z. omega arith))
+    let G = reached Sane (λ t u c p g. good-step t g u c p) begins-good s R in
+    each-call (λ o. numberOf (o .answer) ≡ 14 → ⊥) s (λ e z. omega arith) (λ a h. h .1) (λ t z. omega arith)
+    (λ i w. success-either s i (λ o. numberOf (o .answer) ≡ 14 → ⊥) (λ t z. omega arith) (λ t. clash (G .allowed i (w .1, w .2)) t))

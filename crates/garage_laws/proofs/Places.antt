@@ -1,11 +1,11 @@
 -- The places: a request's answer names the least instruction at fault, every other answer none. Assumes nothing.
 use mathlib.Core.Path.{_≡_, refl}
 use mathlib.Core.Logic.{_⊎_, inl, inr}
-use mathlib.Core.Bool.{Bool, true, cond}
+use mathlib.Core.Bool.{Bool, true, not, cond}
 use mathlib.Core.List.{List}
 use Prim.Native.Nat.{ℕ, _≤_, _<_}
 use native.Mathlib.Omega.{arith}
-use lib.Dec.{eqb, leb, ltb}
+use lib.Dec.{eqb, ltb}
 use borrow.Author.Tests.{ltb-true, ltb-false}
 use Rattle.bits.specs.Bits.{bit}
 use Rattle.bits.specs.Search.{least, IsLeast}
@@ -20,13 +20,15 @@ use Rattle.answers.specs.declared.Answer.the-variants.{Taken, TooFewBytes, BadL
 use Rattle.answers.specs.Answers.{numberOf, placeOf, nowhere}
 use Rattle.garage.specs.declared.Station.{Station}
 use Rattle.garage.specs.declared.Outcome.{Outcome}
-use Rattle.garage.specs.Held.{codeAt, heldAllowed, bad, overlapsEarlier, barred, liftIn}
-use Rattle.garage.specs.Station.{marked, fit}
+use Rattle.garage.specs.declared.Report.{Report}
+use Rattle.garage.specs.declared.Picture.{Picture}
+use Rattle.garage.specs.Held.{bad, overlapsEarlier, barred, liftIn}
+use Rattle.garage.specs.Station.{inSet, marked, fit}
 use Rattle.garage.specs.Calls as station
 use Rattle.garage_laws.specs.Runs as run
 use Rattle.garage_laws.specs.Runs.{call}
 use Rattle.garage_laws.specs.Demands.{PlacesRight, PlacesElse, PlacesInRange}
-use Rattle.garage_laws.proofs.Calls.{either, event-as, drivenAs}
+use Rattle.garage_laws.proofs.Calls.{either, success-either, event-as, drivenAs}
 
 -- the number and the place of an outcome
 abbrev number : Outcome → ℕ
@@ -55,22 +57,29 @@ module _ (s : Station) (n : ℕ) (set : List ℕ) where
   small : (fault : ℕ → Bool) → n ≤ most → ltb (least n fault) n ≡ true → least n fault < most
   small fault h t = let l = ltb-true (least n fault) n t in omega arith
 
-  request-right : Right (station.request s n set)
-  unfolding station.request
-  request-right =
-      either Right (fit s) (λ f.
+  accepted-right : n ≤ most → Right (station.accepted s n set)
+  unfolding station.accepted
+  accepted-right few =
+      either Right (ltb (least n (overlapsEarlier set)) n)
+      (λ t. record { four = λ z. absurd (omega arith); eight = λ z. least-fault n _ t; nine = λ z. absurd (omega arith); range = inl (small _ few t) }) (λ a.
+      either Right (ltb (least n (barred set (s .bits))) n)
+      (λ t. record { four = λ z. absurd (omega arith); eight = λ z. absurd (omega arith); nine = λ z. least-fault n _ t; range = inl (small _ few t) })
+      (λ b. plain _ (omega arith) refl))
+
+  requested-right : Right (station.requested s n set)
+  unfolding station.requested
+  requested-right =
       either Right (ltb 0 (s .count)) (λ t. plain _ (omega arith) refl) (λ a.
       either Right (ltb most n) (λ t. plain _ (omega arith) refl) (λ b.
       either Right (eqb n 0) (λ t. plain _ (omega arith) refl) (λ c.
       let few = ltb-false most n b in
       either Right (ltb (least n (bad set)) n)
-      (λ t. record { four = λ z. least-fault n _ t; eight = λ z. absurd (omega arith); nine = λ z. absurd (omega arith); range = inl (small _ few t) }) (λ d.
-      either Right (ltb (least n (overlapsEarlier set)) n)
-      (λ t. record { four = λ z. absurd (omega arith); eight = λ z. least-fault n _ t; nine = λ z. absurd (omega arith); range = inl (small _ few t) }) (λ g.
-      either Right (ltb (least n (barred set (s .bits))) n)
-      (λ t. record { four = λ z. absurd (omega arith); eight = λ z. absurd (omega arith); nine = λ z. least-fault n _ t; range = inl (small _ few t) })
-      (λ h. plain _ (omega arith) refl)))))))
-      (λ f. plain _ (omega arith) refl)
+      (λ t. record { four = λ z. least-fault n _ t; eight = λ z. absurd (omega arith); nine = λ z. absurd (omega arith); range = inl (small _ few t) })
+      (λ d. accepted-right few))))
+
+  request-right : Right (station.request s n set)
+  unfolding station.request
+  request-right = either Right (fit s) (λ f. requested-right) (λ f. plain _ (omega arith) refl)
 
 pub places-right : PlacesRight
 places-right s n set = let R = request-right s n set in (R .four, R .eight, R .nine)
@@ -108,19 +117,30 @@ flatly : {o : Outcome} → place o ≡ nowhere → Flat o
 flatly e = record { flat = e }
 
 module _ (s : Station) where
-  result-flat : (i done : ℕ) → Flat (station.result s i done)
+  ended-flat : (i done : ℕ) → Flat (station.ended s i done)
+  unfolding station.ended
+  ended-flat i done = fork (eqb done 0) (flatly refl) (success-either s i Flat (λ t. flatly refl) (λ t. flatly refl))
+
+  numbered-flat : (i done : ℕ) → Flat (station.numbered s i done)
+  unfolding station.numbered
+  numbered-flat i done = fork (not (inSet s i)) (flatly refl) (fork (marked s i) (flatly refl) (ended-flat i done))
+
+  resulted-flat : (r : Report) → Flat (station.resulted s r)
+  unfolding station.resulted
+  resulted-flat r = fork (ltb 1 (r .done)) (flatly refl) (fork (eqb (s .count) 0) (flatly refl) (numbered-flat (r .number) (r .done)))
+
+  result-flat : (r : Report) → Flat (station.result s r)
   unfolding station.result
-  result-flat i done =
-      fork (fit s) (fork (ltb 1 done) (flatly refl) (fork (eqb (s .count) 0) (flatly refl) (fork (leb (s .count) i) (flatly refl) (fork (marked s i) (flatly refl)
-      (fork (eqb done 0) (flatly refl) (fork (heldAllowed (codeAt (s .set) i) (bit (s .bits))) (flatly refl) (flatly refl))))))) (flatly refl)
+  result-flat r = fork (fit s) (resulted-flat r) (flatly refl)
 
   driven-flat : (v : EventReading) → Flat (drivenAs s v)
+  unfolding station.driven station.occurred
   driven-flat (Told e) = fork (fit s) (fork (liftIn (s .set) (s .count)) (flatly refl) (fork (possible e (bit (s .bits))) (flatly refl) (flatly refl))) (flatly refl)
   driven-flat Untold = fork (fit s) (flatly refl) (flatly refl)
 
-  image-flat : (r : ℕ) → Flat (station.takeImage s r)
-  unfolding station.takeImage
-  image-flat r = fork (fit s) (fork (ltb 0 (s .count)) (flatly refl) (fork (sound r) (flatly refl) (flatly refl))) (flatly refl)
+  image-flat : (p : Picture) → Flat (station.takeImage s p)
+  unfolding station.takeImage station.imaged
+  image-flat p = fork (fit s) (fork (ltb 0 (s .count)) (flatly refl) (fork (sound (p .bits)) (flatly refl) (flatly refl))) (flatly refl)
 
   ask-flat : Flat (station.ask s)
   unfolding station.ask
@@ -131,14 +151,14 @@ module _ (s : Station) where
 
 pub places-else : PlacesElse
 places-else s (run.request n set) other = answer-nowhere (call s (run.request n set) .answer) other
-places-else s (run.result i done) other = result-flat s i done .flat
+places-else s (run.reports r) other = result-flat s r .flat
 places-else s (run.event e) other = event-flat s e .flat
-places-else s (run.image r) other = image-flat s r .flat
+places-else s (run.pictures p) other = image-flat s p .flat
 places-else s run.ask other = ask-flat s .flat
 
 pub places-in-range : PlacesInRange
 places-in-range s (run.request n set) = request-right s n set .range
-places-in-range s (run.result i done) = inr (result-flat s i done .flat)
+places-in-range s (run.reports r) = inr (result-flat s r .flat)
 places-in-range s (run.event e) = inr (event-flat s e .flat)
-places-in-range s (run.image r) = inr (image-flat s r .flat)
+places-in-range s (run.pictures p) = inr (image-flat s p .flat)
 places-in-range s run.ask = inr (ask-flat s .flat)

@@ -55,7 +55,7 @@ module _ (s : Station) where
   result-step : (i done : ℕ) → said s (run.result i done) ≡ 0 → Step s (run.result i done) (left s (run.result i done))
   result-step i zero e = let w = failure-has s i e in leads (ap station-of (failure-is s i w)) (fails w)
   result-step i (suc zero) e = let (w, t) = success-has s i e in leads (ap station-of (success-is s i w t)) (succeeds w t)
-  result-step i (suc (suc done)) e = absurd (omega (arith, done-has s i (suc (suc done)) e))
+  result-step i (suc (suc done)) e = absurd (omega (arith, done-has s (record { number = i; done = suc (suc done) }) e))
 
   pub asked : left s run.ask ≡ s
   unfolding station.ask
@@ -67,9 +67,9 @@ module _ (s : Station) where
 
   pub steps : (c : Call) → Plain c → Step s c (left s c)
   steps (run.request n set) p = by-answer _ (λ e. let A = request-has s n set e in leads (ap station-of (request-is s n set A)) (opens A))
-  steps (run.result i done) p = by-answer _ (result-step i done)
+  steps (run.reports r) p = by-answer _ (result-step (r .number) (r .done))
   steps (run.event e) p = by-answer _ (λ z. let d = event-has s e z in leads (ap station-of (event-is s e d)) (drives d))
-  steps (run.image r) p = absurd p
+  steps (run.pictures x) p = absurd p
   steps run.ask p = leads asked tells
 
 -- ---- what each step keeps, all keep
@@ -77,9 +77,9 @@ module _ (s : Station) where
 -- a list of such calls is one, and a list of the rest
 pub parts : (c : Call) (l : List Call) → NoImages (c ∷ l) → Plain c × NoImages l
 parts (run.request n set) l p = (tt, p)
-parts (run.result i done) l p = (tt, p)
+parts (run.reports r) l p = (tt, p)
 parts (run.event e) l p = (tt, p)
-parts (run.image r) l p = absurd p
+parts (run.pictures x) l p = absurd p
 parts run.ask l p = (tt, p)
 
 pub along : (Q : Station → Type 0) → ((s t : Station) (c : Call) → Step s c t → Q s → Q t) → (l : List Call) → NoImages l → (s : Station) → Q s → Q (calls s l)

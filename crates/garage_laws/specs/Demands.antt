@@ -99,9 +99,9 @@ EventTaken = (s : Station) (e : ℕ) → said s (run.event e) ≡ 0 → (e ≡ 1
 -- the calls that may change the record: a success, an event, an image
 abbrev pub Changes : Call → Type 0
 Changes (run.request n set) = ⊥
-Changes (run.result i done) = done ≡ 1
+Changes (run.reports r) = r .done ≡ 1
 Changes (run.event e) = Unit {0}
-Changes (run.image r) = Unit {0}
+Changes (run.pictures p) = Unit {0}
 Changes run.ask = ⊥
 
 -- whatever the call, the record stays, or the call is one of these and was taken
@@ -119,9 +119,9 @@ PlacesRight =
 -- the answers that name an instruction: 4, 8 and 9 to a request
 abbrev pub Names : Call → ℕ → Type 0
 Names (run.request n set) k = (k ≡ 4) ⊎ ((k ≡ 8) ⊎ (k ≡ 9))
-Names (run.result i done) k = ⊥
+Names (run.reports r) k = ⊥
 Names (run.event e) k = ⊥
-Names (run.image r) k = ⊥
+Names (run.pictures p) k = ⊥
 Names run.ask k = ⊥
 
 -- with every other answer the place is 255

@@ -7,34 +7,35 @@ use Prim.Native.Nat.{ℕ, _+_, _≤_, _<_}
 use lib.Dec.{eqb}
 use Rattle.bits.specs.Bits.{bit, digit}
 use Rattle.garage.specs.declared.Station.{Station}
+use Rattle.garage.specs.declared.Report.{Report}
 use Rattle.garage.specs.Held.{codeAt, heldAllowed}
-use Rattle.garage_laws.specs.Runs.{Call, request, result, event, image, ask, said, left, calls}
+use Rattle.garage_laws.specs.Runs.{Call, request, reports, event, pictures, ask, said, left, calls}
 
 -- how many results of instruction i a list has
 abbrev pub resultsOf : ℕ → List Call → ℕ
 resultsOf i [] = 0
 resultsOf i (request n set ∷ l) = resultsOf i l
-resultsOf i (result j done ∷ l) = cond (eqb j i) 1 0 + resultsOf i l
+resultsOf i (reports r ∷ l) = cond (eqb (r .number) i) 1 0 + resultsOf i l
 resultsOf i (event e ∷ l) = resultsOf i l
-resultsOf i (image r ∷ l) = resultsOf i l
+resultsOf i (pictures p ∷ l) = resultsOf i l
 resultsOf i (ask ∷ l) = resultsOf i l
 
 -- its car events, in their order
 abbrev pub eventsOf : List Call → List ℕ
 eventsOf [] = []
 eventsOf (request n set ∷ l) = eventsOf l
-eventsOf (result j done ∷ l) = eventsOf l
+eventsOf (reports r ∷ l) = eventsOf l
 eventsOf (event e ∷ l) = e ∷ eventsOf l
-eventsOf (image r ∷ l) = eventsOf l
+eventsOf (pictures p ∷ l) = eventsOf l
 eventsOf (ask ∷ l) = eventsOf l
 
 -- it has only results and car events, and each result is as chosen: 1 for an instruction that succeeds, 0 for one that fails
 abbrev pub AsChosen : (ℕ → Bool) → List Call → Type 0
 AsChosen succeeds [] = Unit {0}
 AsChosen succeeds (request n set ∷ l) = ⊥
-AsChosen succeeds (result j done ∷ l) = (done ≡ digit (succeeds j)) × AsChosen succeeds l
+AsChosen succeeds (reports r ∷ l) = (r .done ≡ digit (succeeds (r .number))) × AsChosen succeeds l
 AsChosen succeeds (event e ∷ l) = AsChosen succeeds l
-AsChosen succeeds (image r ∷ l) = ⊥
+AsChosen succeeds (pictures p ∷ l) = ⊥
 AsChosen succeeds (ask ∷ l) = ⊥
 
 -- an order of the results of n instructions with these car events: one result for each as chosen, no other, the events in this order, a result last
@@ -43,27 +44,27 @@ pub record Order (n : ℕ) (succeeds : ℕ → Bool) (events : List ℕ) (l : Li
   pub only : (i : ℕ) → n ≤ i → resultsOf i l ≡ 0
   pub chosen : AsChosen succeeds l
   pub those : eventsOf l ≡ events
-  pub last : (front : List Call) × (i : ℕ) × (done : ℕ) × (l ≡ front ++ (result i done ∷ []))
+  pub last : (front : List Call) × (r : Report) × (l ≡ front ++ (reports r ∷ []))
 
 -- each result is taken, and each success was allowed on the record at its turn
 abbrev pub Fair : Station → List Call → Type 0
 Fair s [] = Unit {0}
 Fair s (request n set ∷ l) = Fair (left s (request n set)) l
-Fair s (result i done ∷ l) =
-    (said s (result i done) ≡ 0)
-    × (done ≡ 1 → heldAllowed (codeAt (s .set) i) (bit (s .bits)) ≡ true)
-    × Fair (left s (result i done)) l
+Fair s (reports r ∷ l) =
+    (said s (reports r) ≡ 0)
+    × (r .done ≡ 1 → heldAllowed (codeAt (s .set) (r .number)) (bit (s .bits)) ≡ true)
+    × Fair (left s (reports r)) l
 Fair s (event e ∷ l) = Fair (left s (event e)) l
-Fair s (image r ∷ l) = Fair (left s (image r)) l
+Fair s (pictures p ∷ l) = Fair (left s (pictures p)) l
 Fair s (ask ∷ l) = Fair (left s ask) l
 
 -- the numbers that the car events are answered with, in their order
 abbrev pub replies : Station → List Call → List ℕ
 replies s [] = []
 replies s (request n set ∷ l) = replies (left s (request n set)) l
-replies s (result i done ∷ l) = replies (left s (result i done)) l
+replies s (reports r ∷ l) = replies (left s (reports r)) l
 replies s (event e ∷ l) = said s (event e) ∷ replies (left s (event e)) l
-replies s (image r ∷ l) = replies (left s (image r)) l
+replies s (pictures p ∷ l) = replies (left s (pictures p)) l
 replies s (ask ∷ l) = replies (left s ask) l
 
 -- two lists come to the same: both fair, each event answered alike, the set closed, and the stations at the end equal, their records with them
@@ -88,9 +89,9 @@ interrupted (c ∷ l) = ask ∷ event 0 ∷ c ∷ interrupted l
 -- a call is taken and no ask
 abbrev pub takes : Station → Call → Bool
 takes s (request n set) = eqb (said s (request n set)) 0
-takes s (result i done) = eqb (said s (result i done)) 0
+takes s (reports r) = eqb (said s (reports r)) 0
 takes s (event e) = eqb (said s (event e)) 0
-takes s (image r) = eqb (said s (image r)) 0
+takes s (pictures p) = eqb (said s (pictures p)) 0
 takes s ask = false
 
 -- the calls of a list that are taken, asks apart

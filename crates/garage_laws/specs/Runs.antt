@@ -8,23 +8,32 @@ use lib.Dec.{eqb}
 use Rattle.answers.specs.Answers.{numberOf, placeOf}
 use Rattle.garage.specs.declared.Station.{Station}
 use Rattle.garage.specs.declared.Outcome.{Outcome}
+use Rattle.garage.specs.declared.Report.{Report}
+use Rattle.garage.specs.declared.Picture.{Picture}
 use Rattle.garage.specs.Station.{startOf}
 use Rattle.garage.specs.Calls as station
 
 -- a request of so many instructions by their bytes; the result of an instruction; a car event; an image; the record asked for
 pub data Call : Type 0 where
   request : ℕ → List ℕ → Call
-  result : ℕ → ℕ → Call
+  reports : Report → Call
   event : ℕ → Call
-  image : ℕ → Call
+  pictures : Picture → Call
   ask : Call
+
+-- a result by its numbers, an image by its record
+abbrev pub result : ℕ → ℕ → Call
+result i done = reports (record { number = i; done = done })
+
+abbrev pub image : ℕ → Call
+image r = pictures (record { bits = r })
 
 -- what a call hands back: the functions that the contracts of the code cite
 abbrev pub call : Station → Call → Outcome
 call s (request n set) = station.request s n set
-call s (result i done) = station.result s i done
+call s (reports r) = station.result s r
 call s (event e) = station.event s e
-call s (image r) = station.takeImage s r
+call s (pictures p) = station.takeImage s p
 call s ask = station.ask s
 
 -- the number that it is answered with, and the station that it leaves
@@ -52,9 +61,9 @@ pub data Begins : Station → Type 0 where
 abbrev pub NoImages : List Call → Type 0
 NoImages [] = Unit {0}
 NoImages (request n set ∷ l) = NoImages l
-NoImages (result i done ∷ l) = NoImages l
+NoImages (reports r ∷ l) = NoImages l
 NoImages (event e ∷ l) = NoImages l
-NoImages (image r ∷ l) = ⊥
+NoImages (pictures p ∷ l) = ⊥
 NoImages (ask ∷ l) = NoImages l
 
 -- a station reached from there by such calls
@@ -68,9 +77,9 @@ pub record Reached (s : Station) : Type 0 where
 -- 1 for a car event of this number that is taken
 abbrev pub drove : ℕ → Station → Call → ℕ
 drove way s (request n set) = 0
-drove way s (result i done) = 0
+drove way s (reports r) = 0
 drove way s (event e) = cond (eqb e way && eqb (said s (event e)) 0) 1 0
-drove way s (image r) = 0
+drove way s (pictures p) = 0
 drove way s ask = 0
 
 -- how many cars were driven in (way 1) or out (way 2)

@@ -1,6 +1,8 @@
 // One set of eight instructions on a floor with ten cars. Its results come in several orders, with two car events among them, and the
 // last record is the same each time. The order is proved not to matter (garage_laws); here it is seen in the code.
 use garage::Outcome;
+use garage::Picture;
+use garage::Report;
 use garage::Station;
 
 // The start's shuttles and lift. Row 1 has cars in cells 2-3, 6-7, 14-15 and 18-19, row 2 in 20, 22, 25 and 29, row 3 in 31 and 36.
@@ -83,7 +85,7 @@ fn after(o: Outcome, before: bool) -> Course {
 
 // The set is outstanding.
 fn opened() -> Course {
-    let placed = after(Station::start().image(FLOOR), true);
+    let placed = after(Station::start().image(Picture { bits: FLOOR }), true);
     let station = placed.station;
     after(station.request(Station::MOST, SET), placed.taken)
 }
@@ -96,7 +98,11 @@ fn acted(r: Course, act: u8) -> Course {
         b'-' => after(s.event(2), r.taken),
         b'0'..=b'7' => {
             let i = act - b'0';
-            after(s.result(i, reported(i)), r.taken)
+            let report = Report {
+                number: i,
+                done: reported(i),
+            };
+            after(s.result(report), r.taken)
         }
         _ => Course {
             station: s,

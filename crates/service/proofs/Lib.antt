@@ -1,4 +1,6 @@
 pub mod Replies
+pub mod Readings
+pub mod Called
 pub mod Ranges
 pub mod Running
 mod Turns

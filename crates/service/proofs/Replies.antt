@@ -22,6 +22,7 @@ use Rattle.wire.specs.declared.Written.{Written}
 use Rattle.wire.specs.Writes.{Writing, Leaves, kept, put, writing}
 use Rattle.wire.proofs.Room.{ranged}
 use Rattle.service.specs.Service.{answerMessage, replyMessage, answerBytes}
+use Rattle.service.specs.Private.{makesCall}
 use Rattle.service.specs.Runs.{enough, finishing}
 
 -- a message that isn't an ask is told its answer
@@ -33,6 +34,16 @@ not-asked (Image r) o h = refl
 not-asked Ask o h = absurd (miss (0 ∷ 1 ∷ 2 ∷ 3 ∷ 5 ∷ 6 ∷ []) 4 tt h)
 not-asked (What.Answer number place) o h = refl
 not-asked (Held r) o h = refl
+
+-- what is neither of kind 128 nor of 129 makes a call
+pub makes-call : (w : What) → OneOf (0 ∷ 1 ∷ 2 ∷ 3 ∷ 4 ∷ []) (tagOf what.the-type w) → true ≡ makesCall w
+makes-call Request h = refl
+makes-call (Event way) h = refl
+makes-call (Result number done) h = refl
+makes-call (Image r) h = refl
+makes-call Ask h = refl
+makes-call (What.Answer number place) h = absurd (miss (0 ∷ 1 ∷ 2 ∷ 3 ∷ 4 ∷ []) 5 tt h)
+makes-call (Held r) h = absurd (miss (0 ∷ 1 ∷ 2 ∷ 3 ∷ 4 ∷ []) 6 tt h)
 
 -- ---- writing
 

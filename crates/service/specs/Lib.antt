@@ -1,3 +1,4 @@
 pub mod Service
 pub mod Runs
 pub mod Statements
+pub mod Private

@@ -25,8 +25,8 @@ use Rattle.service.specs.declared.Reply.{Reply}
 abbrev pub called : What → Station → ℕ → List ℕ → Outcome
 called Request s count set = request s count set
 called (Event way) s count set = event s way
-called (Result number done) s count set = result s number done
-called (Image r) s count set = takeImage s r
+called (Result number done) s count set = result s (record { number = number; done = done })
+called (Image r) s count set = takeImage s (record { bits = r })
 called Ask s count set = ask s
 called (What.Answer number place) s count set = refused s UnknownKind
 called (Held r) s count set = refused s UnknownKind

@@ -2,18 +2,25 @@
 ghost use mathlib.Core.Path.{_≡_};
 ghost use mathlib.Core.Bool.{true, cond};
 ghost use mathlib.Core.List.{_++_};
-ghost use Prim.Native.Nat.{_≤_};
+ghost use Prim.Native.Nat.{_*_, _-_, _≤_};
 ghost use lib.Dec.{eqb, leb};
-ghost use lib.ListN.{length, drop};
+ghost use lib.ListN.{length, take, drop, replicate};
 ghost use Rattle.answers.specs.Answers.{numberOf};
+ghost use Rattle.garage.specs.Station.{fit};
+ghost use Rattle.garage.specs.Calls.{refused};
+ghost use Rattle.garage.specs.Turns.{turnOf};
 ghost use Rattle.wire.specs.declared.What.the-variants.{Held};
 ghost use Rattle.wire.specs.Kinds.{inRange};
 ghost use Rattle.wire.specs.Writes.{Leaves};
 ghost use Rattle.service.specs.Service.{called, answerMessage, replyOf, respond, answerBytes};
+ghost use Rattle.service.specs.Private.{makesCall};
 ghost use Rattle.service.specs.Runs.{Serves, run, enough, served, serving, finishing};
 use answers::Answer;
 use garage::Outcome;
+use garage::Picture;
+use garage::Report;
 use garage::Station;
+use garage::Turn;
 use wire::Frame;
 use wire::What;
 use wire::Written;
@@ -36,28 +43,61 @@ pub struct Served {
 
 // ---- one message
 
-// The call that a message makes.
-fn call(what: What, s: Station, count: u8, set: [u8; 40]) -> Outcome
-    ensures { λ o. ⌜ o ≡ called what s count set ⌝ }
+// Whether a message makes a call: kinds 128 and 129 make none.
+fn makes_call(what: What) -> bool
+    ensures { λ b. ⌜ b ≡ makesCall what ⌝ }
 {
     match what {
-        What::Request => s.request(count, set),
-        What::Event { way } => s.event(way),
-        What::Result { number, done } => s.result(number, done),
-        What::Image(r) => s.image(r),
-        What::Ask => s.ask(),
         What::Answer {
             number: _,
             place: _,
-        } => Outcome {
-            station: s,
-            answer: Answer::UnknownKind,
-        },
-        What::Held(_) => Outcome {
-            station: s,
-            answer: Answer::UnknownKind,
-        },
+        } => false,
+        What::Held(_) => false,
+        _ => true,
     }
+}
+
+// The station as it was, and the answer.
+fn unmoved(s: Station, answer: Answer) -> Turn
+    ensures { λ t. ⌜ t ≡ turnOf (refused s answer) ⌝ }
+{
+    Turn {
+        answer,
+        bits: s.bits,
+        count: s.count,
+        answered: s.answered,
+    }
+}
+
+// The turn of the call that a message makes on a station of which it is known whether it is fit.
+fn turn(known: bool, what: What, s: Station, count: u8, set: [u8; 40]) -> Turn
+    requires { ⌜ known ≡ fit s ⌝ }
+    ensures { λ t. ⌜ t ≡ turnOf (called what s count set) ⌝ }
+{
+    if makes_call(what) & !known {
+        return unmoved(s, Answer::Unfit);
+    }
+    match what {
+        What::Request => s.requested(count, set),
+        What::Event { way } => s.evented(way),
+        What::Result { number, done } => s.resulted(Report { number, done }),
+        What::Image(r) => s.imaged(Picture { bits: r }),
+        What::Ask => unmoved(s, Answer::Taken),
+        What::Answer {
+            number: _,
+            place: _,
+        } => unmoved(s, Answer::UnknownKind),
+        What::Held(_) => unmoved(s, Answer::UnknownKind),
+    }
+}
+
+// The call itself. A message's set comes with its unused places zero: it is the new set as it is.
+fn call(known: bool, what: What, s: Station, count: u8, set: [u8; 40]) -> Outcome
+    requires { ⌜ (known ≡ fit s) × (set ≡ take (5 * count) set ++ replicate (40 - 5 * count) 0) ⌝ }
+    ensures { λ o. ⌜ o ≡ called what s count set ⌝ }
+{
+    let t = turn(known, what, s, count, set);
+    s.after(t, set)
 }
 
 // An answer as a message.
@@ -98,8 +138,9 @@ fn in_reply(what: What, o: Outcome) -> Reply
     }
 }
 
-// The reply to the first message of m.
-pub fn respond(s: Station, m: &[u8]) -> Reply
+// The reply to the first message of m, on a station of which it is known whether it is fit.
+fn respond_known(known: bool, s: Station, m: &[u8]) -> Reply
+    requires { ⌜ known ≡ fit s ⌝ }
     ensures { λ r. ⌜ r ≡ respond s (now (m .entry)) ⌝ }
 {
     let r = wire::read_asked(m);
@@ -111,7 +152,14 @@ pub fn respond(s: Station, m: &[u8]) -> Reply
     let message = r.message;
     let what = message.what;
     let set = message.set;
-    in_reply(what, call(what, s, message.count, set))
+    in_reply(what, call(known, what, s, message.count, set))
+}
+
+// The reply to the first message of m.
+pub fn respond(s: Station, m: &[u8]) -> Reply
+    ensures { λ r. ⌜ r ≡ respond s (now (m .entry)) ⌝ }
+{
+    respond_known(s.fit(), s, m)
 }
 
 // ---- a run of messages
@@ -125,11 +173,12 @@ fn say(what: What, out: &mut [u8]) -> usize
     w.size
 }
 
-// Answers every whole message of input, one after another, in room that is long enough.
+// Answers every whole message of input, one after another, in room that is long enough. Fitness is tested once: every call keeps it.
 fn answer_all(s: Station, input: &[u8], out: &mut [u8]) -> Served
     requires { ⌜ enough (length (now input)) ≤ length (now out) ⌝ }
     ensures { λ r. ⌜ Serves (served (run s (now (input .entry))) (now (out .entry))) r (now (out .exit)) ⌝ }
 {
+    let known = s.fit();
     let mut s = s;
     let mut at: usize = 0;
     let mut made: usize = 0;
@@ -158,7 +207,7 @@ fn answer_all(s: Station, input: &[u8], out: &mut [u8]) -> Served
                 };
             }
             Frame::Whole(n) => {
-                let r = respond(s, rest);
+                let r = respond_known(known, s, rest);
                 let answer = r.answer;
                 made += say(answer, &mut out[made..]);
                 s = r.station;

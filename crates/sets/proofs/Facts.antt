@@ -1,17 +1,17 @@
 -- What the station's tests say: a mark, an instruction with no result, areas that do not meet, a set that keeps no event
--- out, an accepted set. Assumes nothing.
+-- out, an accepted set, a lift of which nothing is set apart. Assumes nothing.
 use Prim.Native.Nat.{ℕ, _<_, _≤_}
 use native.Mathlib.Omega.{arith}
 use mathlib.Core.Path.{_≡_, refl}
 use mathlib.Core.Logic.{_⊎_, inl, inr}
-use mathlib.Core.Bool.{Bool, true, false, not, _&&_, or-true}
+use mathlib.Core.Bool.{Bool, true, false, not, _&&_, or-true, and-false}
 use lib.Dec.{ltb, leb, eqb}
 use borrow.Author.Tests.{le-leb, ltb-true, ltb-false, not-true, eqb-true, eq-eqb}
 use Rattle.sets.proofs.Rules.{Rules, Clear}
-use Rattle.sets.proofs.Machine.{Batch, Station, most, mark, outstanding, meets, apart, accepted, blocks}
-use Rattle.sets.proofs.GoodOrder.{Apart}
+use Rattle.sets.proofs.Machine.{Batch, Station, most, mark, nowhere, outstanding, meets, apart, free, accepted, blocks}
+use Rattle.sets.proofs.GoodOrder.{Apart, Ready}
 use Rattle.bits.proofs.Cases.{split, clash, off, both}
-use Rattle.bits.proofs.Search.{every-at, every-is, none-at, some-at}
+use Rattle.bits.proofs.Search.{every-at, every-is, none-at, none-is, some-at}
 
 -- ---- a mark
 
@@ -45,11 +45,11 @@ module _ {W C I E : Type 0} (R : Rules W C I E) where
   pub blocks-clear : (b : Batch I) → blocks R b ≡ false → (j : ℕ) → j < b .size → Clear (R .width) (R .area (b .at j)) (R .lift)
   blocks-clear b e j h = meets-clear (R .area (b .at j)) (R .lift) (none-at (b .size) _ e j h)
 
-  -- ---- an accepted set: no two instructions overlap and each is allowed
+  -- ---- an accepted set: no instruction touches what is set apart, no two overlap and each is allowed
 
-  pub record Ready (b : Batch I) (f : W) : Type 0 where
-    pub apart : Apart R b
-    pub allowed : (j : ℕ) → j < b .size → R .allowed (b .at j) f ≡ true
+  pub record Accepted (b : Batch I) (f : W) (away : ℕ → Bool) : Type 0 where
+    pub free : (j : ℕ) → j < b .size → Clear (R .width) (R .area (b .at j)) away
+    pub ready : Ready R b f
 
   pub apart-is : (b : Batch I) → apart R b ≡ true → Apart R b
   apart-is b e i j hi hj ne = split (ltb j i)
@@ -62,18 +62,28 @@ module _ {W C I E : Type 0} (R : Rules W C I E) where
       up : i ≤ j → i < j
       up h = omega arith
 
-  pub accepted-ready : (b : Batch I) (f : W) → accepted R b f ≡ true → Ready b f
-  accepted-ready b f e =
+  pub accepted-has : (b : Batch I) (f : W) (away : ℕ → Bool) → accepted R b f away ≡ true → Accepted b f away
+  accepted-has b f away e =
       let (some, e₁) = both (leb 1 (b .size)) _ e in
       let (few, e₂) = both (leb (b .size) most) _ e₁ in
-      let (alone, all) = both (apart R b) _ e₂ in
-      record { apart = apart-is b alone; allowed = every-at (b .size) _ all }
+      let (clear, e₃) = both (free R b away) _ e₂ in
+      let (alone, all) = both (apart R b) _ e₃ in
+      record {
+        free = λ j h. meets-clear (R .area (b .at j)) away (not-true _ (every-at (b .size) _ clear j h));
+        ready = record { apart = apart-is b alone; allowed = every-at (b .size) _ all };
+      }
 
   -- the other way: what makes a set accepted
-  pub is-accepted : (b : Batch I) (f : W) → 0 < b .size → b .size ≤ most
+  pub is-accepted : (b : Batch I) (f : W) (away : ℕ → Bool) → 0 < b .size → b .size ≤ most
+      → ((j : ℕ) → j < b .size → meets R (R .area (b .at j)) away ≡ false)
       → ((i : ℕ) → i < b .size → (j : ℕ) → j < i → meets R (R .area (b .at i)) (R .area (b .at j)) ≡ false)
       → ((j : ℕ) → j < b .size → R .allowed (b .at j) f ≡ true)
-      → accepted R b f ≡ true
-  is-accepted b f some few alone all =
+      → accepted R b f away ≡ true
+  is-accepted b f away some few clear alone all =
+      let c : free R b away ≡ true = every-is (b .size) _ (λ j h. rw (clear j h)) in
       let e : apart R b ≡ true = every-is (b .size) _ (λ i hi. every-is i _ (λ j hj. rw (alone i hi j hj))) in
-      rw (le-leb 1 (b .size) some, le-leb (b .size) most few, e) (every-is (b .size) _ all)
+      rw (le-leb 1 (b .size) some, le-leb (b .size) most few, c, e) (every-is (b .size) _ all)
+
+  -- nothing meets nothing
+  pub meets-nowhere : (a : ℕ → Bool) → meets R a nowhere ≡ false
+  meets-nowhere a = none-is (R .width) _ (λ k h. and-false (a k))

@@ -20,4 +20,5 @@ local-framed R L S = record {
   view-after = λ i e c f p t. refl;
   glance-next = λ e j c f p t. refl;
   glance-after = λ e x f g p q a u v t. refl;
+  reply = λ e lost f g p q a u. L .reply e lost f g a;
 }

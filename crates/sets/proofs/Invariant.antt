@@ -6,23 +6,25 @@
 use Prim.Native.Nat.{ℕ, _<_}
 use mathlib.Core.Path.{_≡_, refl, sym, _∙_}
 use mathlib.Core.Logic.{⊎-elim}
-use mathlib.Core.Bool.{Bool, true, false, not, _&&_}
+use mathlib.Core.Bool.{Bool, true, false, not, cond, _&&_}
 use lib.Dec.{eqb}
 use borrow.Author.Tests.{eqb-false}
 use Rattle.sets.proofs.Rules.{Rules, Agree, Same, Within, Framed}
-use Rattle.sets.proofs.Machine.{Batch, Outcome, moves, mark, blocks}
+use Rattle.sets.proofs.Machine.{Batch, Outcome, moves, mark, blocks, lost}
 use Rattle.sets.proofs.Orders.{eventAlone, AtEnd}
 use Rattle.bits.proofs.Cases.{split, clash, off, both, neither}
 use Rattle.bits.proofs.Search.{found}
-use Rattle.sets.proofs.Facts.{mark-here, mark-kept, mark-cases, blocks-clear, Ready}
+use Rattle.sets.proofs.Facts.{mark-here, mark-kept, mark-cases, blocks-clear}
+use Rattle.sets.proofs.GoodOrder.{Ready}
 
--- an accepted set: the rules' frame, the set, the record at acceptance, and what will be reported of each instruction
+-- an accepted set: the rules' frame, the set, the record and what was set apart at acceptance, and what will be reported of each instruction
 pub record Scene {W C O P I E : Type 0} (R : Rules W C I E) (view : I → W → O) (glance : E → W → P) : Type 0 where
   pub frame : Framed R view glance
   pub set : Batch I
   pub start : W
   pub sound : R .sound start ≡ true
   pub ready : Ready R set start
+  pub away : ℕ → Bool
   pub choice : ℕ → Outcome
 
 module _ {W C O P I E : Type 0} {R : Rules W C I E} {view : I → W → O} {glance : E → W → P} (S : Scene R view glance) where
@@ -99,14 +101,25 @@ module _ {W C O P I E : Type 0} {R : Rules W C I E} {view : I → W → O} {glan
 
   -- ---- an event
 
-  -- whether it is taken while the set is outstanding
-  abbrev pub answer : W → E → Bool
-  answer f e = not (blocks R (S .set)) && R .possible e f
+  -- whether it is taken while the set is outstanding, the record then, and the number that it is answered with
+  abbrev pub passes : W → E → Bool
+  passes f e = not (blocks R (S .set)) && (not (lost R (S .away)) && R .possible e f)
 
-  pub moved : {g f : W} {ans : ℕ → Bool} → Inv g f ans → (e : E) → (answer f e ≡ answer g e) × Inv (eventAlone R (S .set) g e) (eventAlone R (S .set) f e) ans
+  abbrev pub alone : W → E → W
+  alone = eventAlone R (S .set) (S .away)
+
+  abbrev pub answer : W → E → ℕ
+  answer f e = cond (blocks R (S .set)) (R .held e) (R .reply e (lost R (S .away)) f)
+
+  pub moved : {g f : W} {ans : ℕ → Bool} → Inv g f ans → (e : E) → (answer f e ≡ answer g e) × Inv (alone g e) (alone f e) ans
   moved {g} {f} {ans} v e = split (blocks R (S .set))
       (λ t. rw t (refl, v))
-      (λ t. rw t (alike t, rw (alike t) (split (R .possible e g) (λ p. rw p (passed t (alike t ∙ p) p)) (λ p. rw p v))))
+      (λ t. rw t (
+        S .frame .reply e _ f g (v .sound) (v .sound-alone) (agree t) (v .glances t e),
+        split (lost R (S .away))
+            (λ u. rw u v)
+            (λ u. rw (u, alike t) (split (R .possible e g) (λ p. rw p (passed t (alike t ∙ p) p)) (λ p. rw p v))),
+      ))
     where
       own : Within (R .width) (R .look) (R .sound) (glance e) (R .lift) (R .possible e) (R .after e)
       own = S .frame .event e

@@ -29,6 +29,10 @@ pub record Rules (W C I E : Type 0) : Type 0 where
   pub possible : E → W → Bool
   -- the record after an event
   pub after : E → W → W
+  -- the number that an event is answered with while an outstanding set has the lift in any of its areas
+  pub held : E → ℕ
+  -- and else: by whether a part of the lift is set apart, and the record
+  pub reply : E → Bool → W → ℕ
 
 -- two areas share nothing
 abbrev pub Clear : ℕ → (ℕ → Bool) → (ℕ → Bool) → Type 0
@@ -78,6 +82,9 @@ pub record Framed {W C O P I E : Type 0} (R : Rules W C I E) (view : I → W →
   pub glance-after : (e x : E) (f g : W) → R .sound f ≡ true → R .sound g ≡ true → Agree (R .width) (R .look) (R .lift) f g
       → glance e f ≡ glance e g → glance x f ≡ glance x g → R .possible x f ≡ true
       → glance e (R .after x f) ≡ glance e (R .after x g)
+  -- what an event is answered reads the lift and the glance
+  pub reply : (e : E) (lost : Bool) (f g : W) → R .sound f ≡ true → R .sound g ≡ true → Agree (R .width) (R .look) (R .lift) f g
+      → glance e f ≡ glance e g → R .reply e lost f ≡ R .reply e lost g
 
 -- nothing is seen from outside an area
 abbrev pub blind : {W I : Type 0} → I → W → Unit {0}
@@ -87,6 +94,8 @@ blind i f = tt
 pub record LocalRules {W C I E : Type 0} (R : Rules W C I E) : Type 0 where
   pub instruction : (i : I) → Local (R .width) (R .look) (R .area i) (R .allowed i) (R .next i)
   pub event : (e : E) → Local (R .width) (R .look) (R .lift) (R .possible e) (R .after e)
+  -- and so does what an event is answered
+  pub reply : (e : E) (lost : Bool) (f g : W) → Agree (R .width) (R .look) (R .lift) f g → R .reply e lost f ≡ R .reply e lost g
 
 -- each allowed instruction and each possible event makes a sound record of a sound record
 pub record SoundRules {W C I E : Type 0} (R : Rules W C I E) : Type 0 where

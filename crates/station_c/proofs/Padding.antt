@@ -1,10 +1,10 @@
 -- A request rests on the five bytes of its instructions alone: zeros past them change nothing. Assumes nothing.
-use mathlib.Core.Path.{_≡_, refl, sym, _∙_, ap₂}
-use mathlib.Core.Bool.{not, cond}
+use mathlib.Core.Path.{_≡_, refl, sym, _∙_, ap, ap₂}
+use mathlib.Core.Bool.{true, false, not, cond}
 use mathlib.Core.List.{List, _++_}
 use Prim.Native.Nat.{ℕ, _*_, _-_, _≤_, _<_}
 use native.Mathlib.Omega.{arith}
-use borrow.Author.Tests.{lt-ltb, le-ltb, le-leb, lt-leb}
+use borrow.Author.Tests.{ltb-true, ltb-false, lt-ltb, le-ltb, le-leb, lt-leb}
 use lib.Dec.{eqb, ltb}
 use lib.ListN.{length, take, replicate}
 use lib.Seq.{take-at, length-take-le, take-all}
@@ -16,16 +16,26 @@ use Rattle.answers.specs.declared.Answer.the-variants.{TooFewBytes, TooMany, Se
 use Rattle.garage.specs.declared.Station.{Station}
 use Rattle.garage.specs.declared.Outcome.{Outcome}
 use Rattle.garage.specs.Held.{codeAt, isGood, heldArea, heldAllowed, overlapsEarlier}
-use Rattle.garage.specs.Calls.{refused, taken, onFit, unlessAny, request}
+use Rattle.garage.specs.Station.{opened}
+use Rattle.garage.specs.Calls.{refused, taken, onFit, unlessAny, accepted, requested, request}
 use Rattle.garage.proofs.Padding.{padded-code}
 use Rattle.wire.specs.Kinds.{setOf}
 use Rattle.wire.proofs.Parts.{set-short}
+use Rattle.bits.proofs.Cases.{split}
+use Rattle.station_c.specs.Private.{bytesAsked}
 use Rattle.station_c.specs.Entries.{requestOf}
 
+-- too many ask for none, eight and fewer for five each
+pub none-asked : (n : ℕ) → 8 < n → 0 ≡ bytesAsked n
+none-asked n h = rw (lt-ltb 8 n h)
+
+pub five-asked : (n : ℕ) → n ≤ 8 → 5 * n ≡ bytesAsked n
+five-asked n h = rw (le-ltb 8 n h)
+
 module _ (s : Station) (n : ℕ) where
-  -- a request by its instructions and the bytes that are kept of them
-  form : (ℕ → Code) → List ℕ → Outcome
-  form code kept =
+  -- a request by its instructions and the station that they make
+  form : (ℕ → Code) → Station → Outcome
+  form code made =
       onFit s
       (cond (ltb 0 (s .count)) (refused s SetOutstanding)
       (cond (ltb 8 n) (refused s TooMany)
@@ -33,31 +43,42 @@ module _ (s : Station) (n : ℕ) where
       (unlessAny n (λ i. not (isGood (code i))) s BadField
       (unlessAny n (λ i. some i (λ j. share (heldArea (code i)) (heldArea (code j)))) s Overlap
       (unlessAny n (λ i. not (heldAllowed (code i) (bit (s .bits)))) s NotAllowed
-      (taken (record { bits = s .bits; count = n; answered = 0; set = kept ++ replicate (40 - 5 * n) 0 }))))))))
+      (taken made)))))))
 
-  as-form : (set : List ℕ) → request s n set ≡ form (codeAt set) (take (5 * n) set)
-  unfolding request form overlapsEarlier
+  as-form : (set : List ℕ) → request s n set ≡ form (codeAt set) (opened s n set)
+  unfolding request requested accepted form overlapsEarlier
   as-form set = refl
 
   padded : (l : List ℕ) (m : ℕ) → length l ≡ 5 * n → request s n (l ++ replicate m 0) ≡ request s n l
   padded l m e =
       let kept : take (5 * n) (l ++ replicate m 0) ≡ take (5 * n) l = take-at l (replicate m 0) (5 * n) e ∙ sym (take-all (5 * n) l (omega arith)) in
-      as-form (l ++ replicate m 0) ∙ ap₂ form (padded-code l m) kept ∙ sym (as-form l)
+      as-form (l ++ replicate m 0) ∙ ap₂ form (padded-code l m) (rw kept) ∙ sym (as-form l)
 
   module _ (set : List ℕ) where
     -- more than eight: no byte is looked at
-    pub too-many : (a : List ℕ) → 8 < n → request s n a ≡ requestOf n set s
-    unfolding request requestOf
+    too-many : (a : List ℕ) → 8 < n → request s n a ≡ requestOf n set s
+    unfolding request requested requestOf
     too-many a h = rw (lt-leb _ _ h, lt-ltb _ _ h)
 
     -- fewer bytes than the count says
-    pub too-few : n ≤ 8 → length set < 5 * n → _≡_ {A = Outcome} (record { station = s; answer = TooFewBytes }) (requestOf n set s)
+    too-few : n ≤ 8 → length set < 5 * n → _≡_ {A = Outcome} (record { station = s; answer = TooFewBytes }) (requestOf n set s)
     unfolding requestOf
     too-few h l = rw (le-leb _ _ h, lt-ltb _ _ l)
 
     -- the bytes of the instructions, with zeros past them
-    pub enough : {a : List ℕ} → n ≤ 8 → 5 * n ≤ length set → a ≡ setOf (take (5 * n) set) → request s n a ≡ requestOf n set s
+    enough : {a : List ℕ} → n ≤ 8 → 5 * n ≤ length set → a ≡ setOf (take (5 * n) set) → request s n a ≡ requestOf n set s
     unfolding requestOf
     enough h l e =
         let short : length (take (5 * n) set) ≤ 40 = rw (length-take-le (5 * n) set l) (omega arith) in
         rw (le-leb _ _ h, le-ltb _ _ l, e ∙ set-short (take (5 * n) set) short) (padded (take (5 * n) set) (40 - length (take (5 * n) set)) (length-take-le (5 * n) set l))
+
+    -- the same by how many bytes are asked for
+    pub asked-few : (k : ℕ) → k ≡ bytesAsked n → length set < k → _≡_ {A = Outcome} (record { station = s; answer = TooFewBytes }) (requestOf n set s)
+    asked-few k e l = split (ltb 8 n)
+        (λ t. let z : k ≡ 0 = e ∙ rw t in absurd (omega arith))
+        (λ t. let z : k ≡ 5 * n = e ∙ rw t in too-few (ltb-false 8 n t) (omega arith))
+
+    pub asked-enough : (k : ℕ) {a : List ℕ} → k ≡ bytesAsked n → k ≤ length set → a ≡ setOf (take k set) → request s n a ≡ requestOf n set s
+    asked-enough k {a} e l f = split (ltb 8 n)
+        (λ t. too-many a (ltb-true 8 n t))
+        (λ t. let z : k ≡ 5 * n = e ∙ rw t in enough (ltb-false 8 n t) (omega arith) (f ∙ ap (λ (m : ℕ). setOf (take m set)) z))

@@ -12,7 +12,7 @@ use Rattle.bits.proofs.Cases.{split}
 use Rattle.answers.specs.declared.Answer.{Answer}
 use Rattle.answers.specs.declared.Answer.the-variants.{Taken, NoRoom}
 use Rattle.answers.specs.Answers.{numberOf, OfTable}
-use Rattle.answers.proofs.Promises.{in-table}
+use Rattle.answers.proofs.Promises.{number-byte}
 use Rattle.garage.specs.Calls.{ask}
 use Rattle.wire.specs.declared.What.{What}
 use Rattle.wire.specs.declared.What.the-variants.{Request, Event, Result, Image, Ask, Held}
@@ -41,7 +41,7 @@ station-one-form room b h =
     ∙ sym (take-add 8 42 room ∙ ap (λ (l : List ℕ). take 8 room ++ take 42 l) two)
 
 pub returned-reads-back : ReturnedReadsBack
-returned-reads-back a = let h = in-table a in (omega arith, omega arith)
+returned-reads-back a = let h = number-byte a in (omega arith, omega arith)
 
 -- ---- refused, nothing is written
 
@@ -75,7 +75,7 @@ of-table a = (a, returned-reads-back a .0)
 reply-of-table : (w : What) → Answers w → OfTable (returnedOf w % 256)
 reply-of-table (What.Answer number place) t =
     let (a, e) = t .0 in
-    let h = in-table a in
+    let h = number-byte a in
     (a, omega arith)
 reply-of-table (Held r) t = of-table Taken
 reply-of-table Request t = absurd t
@@ -102,7 +102,7 @@ numbers-in-table = (
 not-seventeen : (w : What) → Answers w → ((place : ℕ) → w ≡ What.Answer 17 place → ⊥) → returnedOf w % 256 ≡ 17 → ⊥
 not-seventeen (What.Answer number place) t n e =
     let (a, f) = t .0 in
-    let h = in-table a in
+    let h = number-byte a in
     let z : number ≡ 17 = omega arith in
     n place (ap (λ (k : ℕ). What.Answer k place) z)
 not-seventeen (Held r) t n e = omega arith

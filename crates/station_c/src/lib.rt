@@ -7,11 +7,14 @@ ghost use Rattle.floor.specs.Sound.{sound, total};
 ghost use Rattle.rules.specs.Verdicts.{movedOf};
 ghost use Rattle.garage.specs.Station.{startOf};
 ghost use Rattle.garage.specs.Calls.{taken, event, result, takeImage};
+ghost use Rattle.station_c.specs.Private.{bytesAsked};
 ghost use Rattle.station_c.specs.Entries.{stationSize, stationBytes, stationOf, returned, Leaves, writes, entry, requestOf, asking, returnedOf, Exchanges, exchange, moved, answerTo, judgement, recordIn, nexting, carsOr255};
 use answers::Answer;
 use answers::NOWHERE;
 use floor::Total;
 use garage::Outcome;
+use garage::Picture;
+use garage::Report;
 use garage::Station;
 use rules::Instruction;
 use rules::Moved;
@@ -104,14 +107,21 @@ pub extern "C" fn station_start(room: &mut [u8]) -> u32
     keep(o, room)
 }
 
+// How many bytes a request asks for: of more than eight instructions none is looked at.
+fn bytes_asked(count: u8) -> usize
+    ensures { λ n. ⌜ n ≡ bytesAsked count ⌝ }
+{
+    if Station::MOST < count {
+        return 0;
+    }
+    5 * (count as usize)
+}
+
 // A request on a station, its set as a run of bytes.
 fn requested(s: Station, count: u8, set: &[u8]) -> Outcome
     ensures { λ o. ⌜ o ≡ requestOf count (now (set .entry)) s ⌝ }
 {
-    if Station::MOST < count {
-        return s.request(count, [0; 40]);
-    }
-    let size = 5 * (count as usize);
+    let size = bytes_asked(count);
     if set.len() < size {
         return Outcome {
             station: s,
@@ -151,26 +161,26 @@ pub extern "C" fn station_event(room: &mut [u8], way: u8) -> u32
 // The result of an instruction, by its number from 0: 0 failed, 1 done.
 #[no_mangle]
 pub extern "C" fn station_result(room: &mut [u8], number: u8, done: u8) -> u32
-    ensures { λ r. ⌜ Leaves (entry (λ s. result s number done) (now (room .entry))) r (now (room .exit)) ⌝ }
+    ensures { λ r. ⌜ Leaves (entry (λ s. result s (record { number = number; done = done })) (now (room .entry))) r (now (room .exit)) ⌝ }
 {
     if room.len() < STATION {
         return say(Answer::NoRoom);
     }
     let s = load(room);
-    let o = s.result(number, done);
+    let o = s.result(Report { number, done });
     keep(o, room)
 }
 
 // An image, which becomes the record.
 #[no_mangle]
 pub extern "C" fn station_image(room: &mut [u8], image: u64) -> u32
-    ensures { λ r. ⌜ Leaves (entry (λ s. takeImage s image) (now (room .entry))) r (now (room .exit)) ⌝ }
+    ensures { λ r. ⌜ Leaves (entry (λ s. takeImage s (record { bits = image })) (now (room .entry))) r (now (room .exit)) ⌝ }
 {
     if room.len() < STATION {
         return say(Answer::NoRoom);
     }
     let s = load(room);
-    let o = s.image(image);
+    let o = s.image(Picture { bits: image });
     keep(o, room)
 }
 

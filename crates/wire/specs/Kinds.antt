@@ -5,8 +5,7 @@ use mathlib.Core.List.{List, [], _∷_, _++_}
 use Prim.Native.Nat.{ℕ, zero, suc, _+_, _*_, _-_, _/_, _%_}
 use lib.Dec.{leb, eqb}
 use lib.ListN.{length, getD, take, replicate}
-use Rattle.answers.specs.declared.Answer.the-variants.{NoRoom}
-use Rattle.answers.specs.Answers.{numberOf, nowhere}
+use Rattle.answers.specs.Answers.{inTable, nowhere}
 use Rattle.wire.specs.declared.What.{What}
 use Rattle.wire.specs.declared.What.the-variants.{Request, Event, Result, Image, Ask, Answer, Held}
 use Rattle.wire.specs.declared.Message.{Message}
@@ -94,7 +93,7 @@ inRange (Event way) = leb 1 way && leb way 2
 inRange (Result number done) = leb done 1
 inRange (Image x) = true
 inRange Ask = true
-inRange (Answer number place) = leb number (numberOf NoRoom) && (leb place 7 || eqb place nowhere)
+inRange (Answer number place) = inTable number && (leb place 7 || eqb place nowhere)
 inRange (Held x) = true
 
 -- a run of bytes as the forty places of a set: zeros where it ends before, and what goes past them is not looked at

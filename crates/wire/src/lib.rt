@@ -202,7 +202,7 @@ fn in_range(what: What) -> bool
         What::Result { number: _, done } => done <= 1,
         What::Image(_) => true,
         What::Ask => true,
-        What::Answer { number, place } => (number <= 17)
+        What::Answer { number, place } => answers::in_table(number)
             & ((place <= 7) | (place == answers::NOWHERE)),
         What::Held(_) => true,
     }

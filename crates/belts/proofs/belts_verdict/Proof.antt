@@ -11,19 +11,14 @@ well-formed-requires c κs = search needs
 returns : tie.Need-returns
 returns c = ill-formed _ _ (failed (c .before .well-formed .ensures) (c .if1 .taken)) .0
 
-row-copy-requires : tie.Need-row-copy-requires
-row-copy-requires c κs = search needs
-
 allowed-requires : tie.Need-allowed-requires
-allowed-requires c κs = (true→T (passed (c .before .before .before .well-formed .ensures) (c .before .before .if1 .left)), c .before .row-copy .ensures)
+allowed-requires c κs = true→T (passed (c .before .well-formed .ensures) (c .if1 .left))
 
 returns-2 : tie.Need-returns-2
-returns-2 c = not-allowed _ _ (passed (c .before .before .before .before .before .well-formed .ensures) (c .before .before .before .before .if1 .left)) (failed (c .before .allowed .ensures) (c .if2 .taken)) .0
+returns-2 c = not-allowed _ _ (passed (c .before .before .before .well-formed .ensures) (c .before .before .if1 .left)) (failed (c .before .allowed .ensures) (c .if2 .taken)) .0
 
 returns-3 : tie.Need-returns-3
-returns-3 c = is-allowed _ _ (passed (c .before .before .before .before .before .well-formed .ensures) (c .before .before .before .before .if1 .left)) (passed (c .before .allowed .ensures) (c .if2 .left))
+returns-3 c = is-allowed _ _ (passed (c .before .before .before .well-formed .ensures) (c .before .before .if1 .left)) (passed (c .before .allowed .ensures) (c .if2 .left))
 
 pub belts-verdict-spec : {M : Type 1} → statement M
-belts-verdict-spec =
-    tie.close
-    (tie.spec well-formed-requires returns row-copy-requires allowed-requires returns-2 returns-3)
+belts-verdict-spec = tie.close (tie.spec well-formed-requires returns allowed-requires returns-2 returns-3)

@@ -20,6 +20,9 @@ enum-told-3 c = search needs
 enum-known-what-3 : tie.Need-enum-known-what-3
 enum-known-what-3 c = search needs
 
+in-table-requires : tie.Need-in-table-requires
+in-table-requires c κs = search needs
+
 enum-told-4 : tie.Need-enum-told-4
 enum-told-4 c = search needs
 
@@ -39,7 +42,7 @@ returns-5 : tie.Need-returns-5
 returns-5 c = search needs
 
 returns-6 : tie.Need-returns-6
-returns-6 c = rw (c .before .what3 .given .1)
+returns-6 c = rw (c .in-table .ensures, c .before .before .what3 .given .1)
 
 returns-7 : tie.Need-returns-7
 returns-7 c = search needs
@@ -54,6 +57,7 @@ in-range-spec =
     enum-told-2
     enum-told-3
     enum-known-what-3
+    in-table-requires
     enum-told-4
     returns
     returns-2

@@ -1,7 +1,7 @@
 -- `garage::Station::succeeded` meets its contract: by what the instruction does to the record at that moment. Assumes nothing.
 use mathlib.Core.Path.{sym, ap, _∙_}
 use borrow.Author.Needs.{needs}
-use Rattle.garage.specs.Calls.{taken}
+use Rattle.garage.specs.Turns.{turnOf}
 use Rattle.garage.proofs.Moves.{success}
 use Rattle.garage.proofs.Station.succeeded.Statement.{statement}
 use Rattle.garage.proofs.Station.succeeded.Tie as tie
@@ -18,29 +18,26 @@ enum-known-r c = search needs
 answering-requires : tie.Need-answering-requires
 answering-requires c κs = search needs
 
-taken-requires : tie.Need-taken-requires
-taken-requires c κs = search needs
-
 enum-told : tie.Need-enum-told
 enum-told c = search needs
 
-refused-requires : tie.Need-refused-requires
-refused-requires c κs = search needs
+unmoved-requires : tie.Need-unmoved-requires
+unmoved-requires c κs = search needs
 
 enum-told-2 : tie.Need-enum-told-2
 enum-told-2 c = search needs
 
-refused-requires-2 : tie.Need-refused-requires-2
-refused-requires-2 c κs = search needs
+unmoved-requires-2 : tie.Need-unmoved-requires-2
+unmoved-requires-2 c κs = search needs
 
 returns : tie.Need-returns
-returns c = c .taken .ensures ∙ ap taken (c .before .answering .ensures) ∙ success _ _ (c .before .before .before .before .before .before .code-at .ensures) (sym (c .before .before .before .r .given .1) ∙ c .before .before .before .before .before .code-moved .ensures)
+returns c = c .answering .ensures ∙ ap turnOf (success _ _ (c .before .before .before .before .before .code-at .ensures) (sym (c .before .before .r .given .1) ∙ c .before .before .before .before .code-moved .ensures))
 
 returns-2 : tie.Need-returns-2
-returns-2 c = c .refused .ensures ∙ success _ _ (c .before .before .before .before .code-at .ensures) (sym (c .before .enum-told .given .1) ∙ c .before .before .before .code-moved .ensures)
+returns-2 c = c .unmoved .ensures ∙ ap turnOf (success _ _ (c .before .before .before .before .code-at .ensures) (sym (c .before .enum-told .given .1) ∙ c .before .before .before .code-moved .ensures))
 
 returns-3 : tie.Need-returns-3
-returns-3 c = c .refused2 .ensures ∙ success _ _ (c .before .before .before .before .code-at .ensures) (sym (c .before .enum-told2 .given .1) ∙ c .before .before .before .code-moved .ensures)
+returns-3 c = c .unmoved2 .ensures ∙ ap turnOf (success _ _ (c .before .before .before .before .code-at .ensures) (sym (c .before .enum-told2 .given .1) ∙ c .before .before .before .code-moved .ensures))
 
 pub succeeded-spec : {M : Type 1} → statement M
 succeeded-spec =
@@ -50,11 +47,10 @@ succeeded-spec =
     code-moved-requires
     enum-known-r
     answering-requires
-    taken-requires
     enum-told
-    refused-requires
+    unmoved-requires
     enum-told-2
-    refused-requires-2
+    unmoved-requires-2
     returns
     returns-2
     returns-3)

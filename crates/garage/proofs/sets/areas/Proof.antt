@@ -9,10 +9,10 @@ use Rattle.garage.proofs.sets.areas.Statement.{statement}
 use Rattle.garage.proofs.sets.areas.Tie as tie
 
 abbrev Inv-loop : tie.InvT-loop
-Inv-loop set n seen₀ i₀ seen i = (seen ≡ areas set i) × (i ≤ n)
+Inv-loop n set seen₀ i₀ seen i = (seen ≡ areas set i) × (i ≤ n)
 
 abbrev μ-loop : tie.MeasureT-loop
-μ-loop set n seen₀ i₀ seen i = n - i
+μ-loop n set seen₀ i₀ seen i = n - i
 
 loop-holds : tie.Need-loop-holds Inv-loop μ-loop
 loop-holds c = (areas-start _, omega arith)
@@ -30,7 +30,7 @@ loop-less : tie.Need-loop-less Inv-loop μ-loop
 loop-less c = search needs
 
 loop-again : tie.Need-loop-again Inv-loop μ-loop
-loop-again c = (areas-turn _ (c .before .before .before .loop .i) (c .before .before .before .loop .inv .0) (c .before .code-at .ensures) (c .area .ensures), omega arith)
+loop-again c = (areas-turn _ (c .before .before .before .before .loop .i) (c .before .before .before .before .loop .inv .0) (c .before .code-at .ensures) (c .area .ensures), omega arith)
 
 returns : tie.Need-returns Inv-loop μ-loop
 returns c = c .before .loop .inv .0 ∙ ap (areas _) (omega arith)

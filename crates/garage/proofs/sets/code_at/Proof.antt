@@ -7,37 +7,37 @@ use Rattle.garage.proofs.sets.code_at.Statement.{statement}
 use Rattle.garage.proofs.sets.code_at.Tie as tie
 
 returns : tie.Need-returns
-returns c = past-eighth _ _ (c .before .good .0 .1 .0 .1) (c .if1 .taken)
+returns c = past-eighth _ _ (c .before .pre) (c .if1 .taken)
 
 mul-at : tie.Need-mul-at
 mul-at c = search needs
 
-array-read-t9 : tie.Need-array-read-t9
-array-read-t9 c = search needs
+element-copy-out-t8 : tie.Need-element-copy-out-t8
+element-copy-out-t8 c = search needs
 
-add-t6 : tie.Need-add-t6
-add-t6 c = search needs
+add-t5 : tie.Need-add-t5
+add-t5 c = search needs
 
-array-read-t12 : tie.Need-array-read-t12
-array-read-t12 c = search needs
+element-copy-out-t11 : tie.Need-element-copy-out-t11
+element-copy-out-t11 c = search needs
 
-add-t13 : tie.Need-add-t13
-add-t13 c = search needs
+add-t12 : tie.Need-add-t12
+add-t12 c = search needs
 
-array-read-t16 : tie.Need-array-read-t16
-array-read-t16 c = search needs
+element-copy-out-t15 : tie.Need-element-copy-out-t15
+element-copy-out-t15 c = search needs
 
-add-t17 : tie.Need-add-t17
-add-t17 c = search needs
+add-t16 : tie.Need-add-t16
+add-t16 c = search needs
 
-array-read-t20 : tie.Need-array-read-t20
-array-read-t20 c = search needs
+element-copy-out-t19 : tie.Need-element-copy-out-t19
+element-copy-out-t19 c = search needs
 
-add-t21 : tie.Need-add-t21
-add-t21 c = search needs
+add-t20 : tie.Need-add-t20
+add-t20 c = search needs
 
-array-read-t24 : tie.Need-array-read-t24
-array-read-t24 c = search needs
+element-copy-out-t23 : tie.Need-element-copy-out-t23
+element-copy-out-t23 c = search needs
 
 returns-2 : tie.Need-returns-2
 returns-2 c = sym (five-at _ _)
@@ -48,13 +48,13 @@ code-at-spec =
     (tie.spec
     returns
     mul-at
-    array-read-t9
-    add-t6
-    array-read-t12
-    add-t13
-    array-read-t16
-    add-t17
-    array-read-t20
-    add-t21
-    array-read-t24
+    element-copy-out-t8
+    add-t5
+    element-copy-out-t11
+    add-t12
+    element-copy-out-t15
+    add-t16
+    element-copy-out-t19
+    add-t20
+    element-copy-out-t23
     returns-2)

@@ -9,10 +9,10 @@ use Rattle.garage.proofs.sets.least_bad.Statement.{statement}
 use Rattle.garage.proofs.sets.least_bad.Tie as tie
 
 abbrev Inv-loop : tie.InvT-loop
-Inv-loop set n i₀ i = Passed (bad set) n i
+Inv-loop n set i₀ i = Passed (bad set) n i
 
 abbrev μ-loop : tie.MeasureT-loop
-μ-loop set n i₀ i = n - i
+μ-loop n set i₀ i = n - i
 
 loop-holds : tie.Need-loop-holds Inv-loop μ-loop
 loop-holds c = start _ _
@@ -24,7 +24,7 @@ good-requires : tie.Need-good-requires Inv-loop μ-loop
 good-requires c κs = search needs
 
 returns : tie.Need-returns Inv-loop μ-loop
-returns c = here (c .before .before .before .before .loop .inv) (omega arith) (judged isGood (c .before .before .code-at .ensures) (c .before .good2 .ensures) (c .if1 .taken))
+returns c = here (c .before .before .before .before .before .loop .inv) (omega arith) (judged isGood (c .before .before .code-at .ensures) (c .before .good2 .ensures) (c .if1 .taken))
 
 add-i : tie.Need-add-i Inv-loop μ-loop
 add-i c = search needs
@@ -33,7 +33,7 @@ loop-less : tie.Need-loop-less Inv-loop μ-loop
 loop-less c = search needs
 
 loop-again : tie.Need-loop-again Inv-loop μ-loop
-loop-again c = turn (c .before .before .before .before .loop .inv) (omega arith) (judged isGood (c .before .before .code-at .ensures) (c .before .good2 .ensures) (c .if1 .left))
+loop-again c = turn (c .before .before .before .before .before .loop .inv) (omega arith) (judged isGood (c .before .before .code-at .ensures) (c .before .good2 .ensures) (c .if1 .left))
 
 returns-2 : tie.Need-returns-2 Inv-loop μ-loop
 returns-2 c = past (c .before .loop .inv) (omega arith)

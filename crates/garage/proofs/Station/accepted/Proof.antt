@@ -1,0 +1,29 @@
+-- `garage::Station::accepted` meets its contract: a chain of refusals in the order of the definition, by what the search found. Assumes nothing.
+use mathlib.Core.Path.{_∙_}
+use borrow.Author.Tests.{lt-ltb, le-ltb}
+use borrow.Author.Needs.{needs}
+use Rattle.garage.specs.Calls.{accepted}
+use Rattle.garage.proofs.Station.accepted.Statement.{statement}
+use Rattle.garage.proofs.Station.accepted.Tie as tie
+
+unmoved-requires : tie.Need-unmoved-requires
+unmoved-requires c κs = search needs
+
+returns : tie.Need-returns
+unfolding accepted
+returns c = c .unmoved .ensures ∙ rw (← c .before .before .before .pre .0, lt-ltb _ _ (c .before .if1 .taken))
+
+unmoved-requires-2 : tie.Need-unmoved-requires-2
+unmoved-requires-2 c κs = search needs
+
+returns-2 : tie.Need-returns-2
+unfolding accepted
+returns-2 c = c .unmoved2 .ensures ∙ rw (← c .before .before .before .before .before .pre .0, le-ltb _ _ (c .before .before .before .if1 .left), ← c .before .before .before .before .before .pre .1, lt-ltb _ _ (c .before .if2 .taken))
+
+returns-3 : tie.Need-returns-3
+unfolding accepted
+returns-3 c = rw (← c .before .before .before .before .pre .0, le-ltb _ _ (c .before .before .if1 .left), ← c .before .before .before .before .pre .1, le-ltb _ _ (c .if2 .left))
+
+pub accepted-spec : {M : Type 1} → statement M
+accepted-spec =
+    tie.close (tie.spec unmoved-requires returns unmoved-requires-2 returns-2 returns-3)

@@ -1,0 +1,44 @@
+-- `garage::Station::imaged` meets its contract: a chain of refusals in the order of the definition. Assumes nothing.
+use mathlib.Core.Path.{_∙_}
+use borrow.Author.Tests.{lt-ltb, le-ltb}
+use borrow.Author.Needs.{needs}
+use Rattle.garage.specs.Calls.{imaged}
+use Rattle.bits.proofs.Cases.{failed, passed}
+use Rattle.garage.proofs.Station.imaged.Statement.{statement}
+use Rattle.garage.proofs.Station.imaged.Tie as tie
+
+unmoved-requires : tie.Need-unmoved-requires
+unmoved-requires c κs = search needs
+
+returns : tie.Need-returns
+unfolding imaged
+returns c = c .unmoved .ensures ∙ rw (lt-ltb _ _ (c .before .if1 .taken))
+
+sound-requires : tie.Need-sound-requires
+sound-requires c κs = search needs
+
+unmoved-requires-2 : tie.Need-unmoved-requires-2
+unmoved-requires-2 c κs = search needs
+
+returns-2 : tie.Need-returns-2
+unfolding imaged
+returns-2 c = c .unmoved2 .ensures ∙ simp (le-ltb _ _ (c .before .before .before .if1 .left), failed (c .before .before .sound .ensures) (c .before .if2 .taken))
+
+holding-requires : tie.Need-holding-requires
+holding-requires c κs = search needs
+
+returns-3 : tie.Need-returns-3
+unfolding imaged
+returns-3 c = c .holding .ensures ∙ rw (le-ltb _ _ (c .before .before .before .if1 .left), passed (c .before .before .sound .ensures) (c .before .if2 .left))
+
+pub imaged-spec : {M : Type 1} → statement M
+imaged-spec =
+    tie.close
+    (tie.spec
+    unmoved-requires
+    returns
+    sound-requires
+    unmoved-requires-2
+    returns-2
+    holding-requires
+    returns-3)

@@ -1,0 +1,52 @@
+-- `garage::Station::occurred` meets its contract: by what the event does to the record. Assumes nothing.
+use mathlib.Core.Path.{sym, ap, _∙_}
+use borrow.Author.Needs.{needs}
+use Rattle.garage.specs.Turns.{turnOf}
+use Rattle.garage.proofs.Moves.{moved-event}
+use Rattle.garage.proofs.Station.occurred.Statement.{statement}
+use Rattle.garage.proofs.Station.occurred.Tie as tie
+
+driven-requires : tie.Need-driven-requires
+driven-requires c κs = search needs
+
+enum-known-r : tie.Need-enum-known-r
+enum-known-r c = search needs
+
+holding-requires : tie.Need-holding-requires
+holding-requires c κs = search needs
+
+enum-told : tie.Need-enum-told
+enum-told c = search needs
+
+unmoved-requires : tie.Need-unmoved-requires
+unmoved-requires c κs = search needs
+
+enum-told-2 : tie.Need-enum-told-2
+enum-told-2 c = search needs
+
+unmoved-requires-2 : tie.Need-unmoved-requires-2
+unmoved-requires-2 c κs = search needs
+
+returns : tie.Need-returns
+returns c = c .holding .ensures ∙ ap turnOf (moved-event _ _ (sym (c .before .before .r .given .1) ∙ c .before .before .before .before .driven .ensures))
+
+returns-2 : tie.Need-returns-2
+returns-2 c = c .unmoved .ensures ∙ ap turnOf (moved-event _ _ (sym (c .before .enum-told .given .1) ∙ c .before .before .before .driven .ensures))
+
+returns-3 : tie.Need-returns-3
+returns-3 c = c .unmoved2 .ensures ∙ ap turnOf (moved-event _ _ (sym (c .before .enum-told2 .given .1) ∙ c .before .before .before .driven .ensures))
+
+pub occurred-spec : {M : Type 1} → statement M
+occurred-spec =
+    tie.close
+    (tie.spec
+    driven-requires
+    enum-known-r
+    holding-requires
+    enum-told
+    unmoved-requires
+    enum-told-2
+    unmoved-requires-2
+    returns
+    returns-2
+    returns-3)

@@ -1,0 +1,121 @@
+-- A call's turn and the set that it leaves are its outcome: call by call, what becomes of the set. Assumes nothing.
+use mathlib.Core.Path.{_≡_, refl, sym, ap, _∙_}
+use mathlib.Core.Bool.{Bool, true, false, not, cond}
+use mathlib.Core.List.{List, _++_}
+use Prim.Native.Nat.{ℕ, _*_, _-_, _^_, _<_}
+use native.Mathlib.Omega.{arith}
+use lib.Bits.{bitOr}
+use lib.Dec.{eqb, ltb}
+use lib.ListN.{take, replicate}
+use borrow.Author.Tests.{lt-ltb, le-ltb, ltb-false, eqb-false, not-false}
+use Rattle.bits.specs.Bits.{bit}
+use Rattle.bits.specs.Search.{every, least}
+use Rattle.bits.proofs.Cases.{split}
+use Rattle.floor.specs.Sound.{sound}
+use Rattle.rules.specs.declared.Event.{Event}
+use Rattle.rules.specs.declared.Event.the-variants.{CarIn, CarOut}
+use Rattle.rules.specs.Events.{possible}
+use Rattle.rules.specs.Codes.{most}
+use Rattle.answers.specs.declared.Answer.{Answer}
+use Rattle.garage.specs.declared.Station.{Station}
+use Rattle.garage.specs.declared.Outcome.{Outcome}
+use Rattle.garage.specs.declared.Report.{Report}
+use Rattle.garage.specs.declared.Picture.{Picture}
+use Rattle.garage.specs.declared.Turn.{Turn}
+use Rattle.garage.specs.Held.{codeAt, heldAllowed, bad, overlapsEarlier, barred, liftIn}
+use Rattle.garage.specs.Station.{inSet, marked, holding, answering}
+use Rattle.garage.specs.Calls.{refused, taken, accepted, requested, occurred, driven, evented, succeeded, ended, numbered, resulted, imaged}
+use Rattle.garage.specs.Turns.{turnOf, keptSet, afterTurn}
+use Rattle.garage.proofs.Marks.{in-set}
+
+module _ (s : Station) (fresh : List ℕ) where
+  -- the set of an outcome is the one that is kept
+  pub record Kept (o : Outcome) : Type 0 where
+    pub kept : o .station .set ≡ keptSet (s .set) (s .count) (o .station .count) fresh
+
+  -- so the outcome is that of its turn
+  pub rebuilt : {o : Outcome} {t : Turn} → t ≡ turnOf o → Kept o → afterTurn s t fresh ≡ o
+  rebuilt e k = ap (λ (t : Turn). afterTurn s t fresh) e ∙ rw (← k .kept)
+
+  held : s .set ≡ keptSet (s .set) (s .count) (s .count) fresh
+  unfolding keptSet
+  held = rw (le-ltb (s .count) (s .count) (omega arith))
+
+  pub kept-refused : (a : Answer) → Kept (refused s a)
+  kept-refused a = record { kept = held }
+
+  kept-holding : (r : ℕ) → Kept (taken (holding s r))
+  kept-holding r = record { kept = held }
+
+  either : (t : Bool) {o p : Outcome} → (t ≡ true → Kept o) → (t ≡ false → Kept p) → Kept (cond t o p)
+  either true f g = f refl
+  either false f g = g refl
+
+  unless : (t : Bool) (a : Answer) {o : Outcome} → (t ≡ false → Kept o) → Kept (cond t (refused s a) o)
+  unless t a f = either t (λ e. kept-refused a) f
+
+  -- ---- a request
+
+  kept-accepted : (n : ℕ) (set : List ℕ) → fresh ≡ take (5 * n) set ++ replicate (40 - 5 * n) 0 → s .count < n → Kept (accepted s n set)
+  unfolding accepted keptSet
+  kept-accepted n set e h =
+      unless (ltb (least n (overlapsEarlier set)) n) _
+      (λ a. unless (ltb (least n (barred set (s .bits))) n) _
+      (λ b. record { kept = rw (lt-ltb (s .count) n h) (sym e) }))
+
+  pub kept-requested : (n : ℕ) (set : List ℕ) → fresh ≡ take (5 * n) set ++ replicate (40 - 5 * n) 0 → Kept (requested s n set)
+  unfolding requested
+  kept-requested n set e =
+      unless (ltb 0 (s .count)) _
+      (λ a. let h = ltb-false 0 (s .count) a in
+      unless (ltb most n) _
+      (λ b. unless (eqb n 0) _
+      (λ c. let ne : n ≡ 0 → ⊥ = eqb-false n 0 c in
+      unless (ltb (least n (bad set)) n) _
+      (λ d. kept-accepted n set e (omega arith)))))
+
+  -- ---- a car event
+
+  kept-occurred : (e : Event) → Kept (occurred s e)
+  unfolding occurred
+  kept-occurred e = either (possible e (bit (s .bits))) (λ a. kept-holding _) (λ a. kept-refused _)
+
+  kept-driven : (e : Event) → Kept (driven s e)
+  unfolding driven
+  kept-driven e = unless (liftIn (s .set) (s .count)) _ (λ a. kept-occurred e)
+
+  pub kept-evented : (e : ℕ) → Kept (evented s e)
+  unfolding evented
+  kept-evented e = either (eqb e 1) (λ a. kept-driven CarIn) (λ a. either (eqb e 2) (λ b. kept-driven CarOut) (λ b. kept-refused _))
+
+  -- ---- a result
+
+  kept-answering : (i r : ℕ) → i < s .count → Kept (taken (answering s i r))
+  unfolding answering keptSet
+  kept-answering i r h = record {
+    kept = split (every (s .count) (bit (bitOr (s .answered) (2 ^ i))))
+        (λ e. rw (e, le-ltb (s .count) 0 (omega arith), lt-ltb 0 (s .count) (omega arith)))
+        (λ e. rw (e, le-ltb (s .count) (s .count) (omega arith)));
+  }
+
+  kept-succeeded : (i : ℕ) → i < s .count → Kept (succeeded s i)
+  unfolding succeeded
+  kept-succeeded i h = either (heldAllowed (codeAt (s .set) i) (bit (s .bits))) (λ a. kept-answering i _ h) (λ a. kept-refused _)
+
+  kept-ended : (i done : ℕ) → i < s .count → Kept (ended s i done)
+  unfolding ended
+  kept-ended i done h = either (eqb done 0) (λ a. kept-answering i (s .bits) h) (λ a. kept-succeeded i h)
+
+  kept-numbered : (i done : ℕ) → Kept (numbered s i done)
+  unfolding numbered
+  kept-numbered i done = unless (not (inSet s i)) _ (λ a. unless (marked s i) _ (λ b. kept-ended i done (in-set s i (not-false _ a) .1)))
+
+  pub kept-resulted : (r : Report) → Kept (resulted s r)
+  unfolding resulted
+  kept-resulted r = unless (ltb 1 (r .done)) _ (λ a. unless (eqb (s .count) 0) _ (λ b. kept-numbered (r .number) (r .done)))
+
+  -- ---- an image
+
+  pub kept-imaged : (p : Picture) → Kept (imaged s p)
+  unfolding imaged
+  kept-imaged p = unless (ltb 0 (s .count)) _ (λ a. either (sound (p .bits)) (λ b. kept-holding (p .bits)) (λ b. kept-refused _))

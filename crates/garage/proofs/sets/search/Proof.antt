@@ -1,0 +1,60 @@
+-- `garage::sets::search` meets its contract: three searches in one, with the areas passed gathered in one mask. Assumes nothing.
+use Prim.Native.Nat.{_-_}
+use borrow.Author.Needs.{needs}
+use Rattle.garage.proofs.Loops.{Searched, search-starts, searches, search-ends}
+use Rattle.garage.proofs.sets.search.Statement.{statement}
+use Rattle.garage.proofs.sets.search.Tie as tie
+
+abbrev Inv-loop : tie.InvT-loop
+Inv-loop n r set seen₀ bad₀ overlap₀ barred₀ i₀ seen bad overlap barred i = Searched set n r seen bad overlap barred i
+
+abbrev μ-loop : tie.MeasureT-loop
+μ-loop n r set seen₀ bad₀ overlap₀ barred₀ i₀ seen bad overlap barred i = n - i
+
+loop-holds : tie.Need-loop-holds Inv-loop μ-loop
+loop-holds c = search-starts _ _ _
+
+code-at-requires : tie.Need-code-at-requires Inv-loop μ-loop
+code-at-requires c κs = search needs
+
+judge-requires : tie.Need-judge-requires Inv-loop μ-loop
+judge-requires c κs = search needs
+
+first-requires : tie.Need-first-requires Inv-loop μ-loop
+first-requires c κs = search needs
+
+first-requires-2 : tie.Need-first-requires-2 Inv-loop μ-loop
+first-requires-2 c κs = search needs
+
+first-requires-3 : tie.Need-first-requires-3 Inv-loop μ-loop
+first-requires-3 c κs = search needs
+
+add-i : tie.Need-add-i Inv-loop μ-loop
+add-i c = search needs
+
+loop-less : tie.Need-loop-less Inv-loop μ-loop
+loop-less c = search needs
+
+loop-again : tie.Need-loop-again Inv-loop μ-loop
+loop-again c = let j = c .before .before .before .before .before .before .before .judge .ensures in
+    searches (c .before .before .before .before .before .before .before .before .before .before .before .loop .inv) (c .before .before .before .before .before .before .before .before .before .before .loop-test .taken) (c .before .before .before .before .before .before .before .before .code-at .ensures) (j .0) (j .1) (j .2) (c .before .before .before .before .before .first .ensures) (c .before .before .before .first2 .ensures) (c .before .first3 .ensures)
+
+returns : tie.Need-returns Inv-loop μ-loop
+returns c = search-ends (c .before .loop .inv) (c .loop-test .left)
+
+pub search-spec : {M : Type 1} → statement M
+search-spec =
+    tie.close
+    (tie.spec
+    Inv-loop
+    μ-loop
+    loop-holds
+    code-at-requires
+    judge-requires
+    first-requires
+    first-requires-2
+    first-requires-3
+    add-i
+    loop-less
+    loop-again
+    returns)

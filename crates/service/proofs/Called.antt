@@ -1,0 +1,82 @@
+-- The call that a message makes: what every call has, it has; it keeps a station fit, or unfit; and what it is where that is known.
+-- Assumes nothing.
+use mathlib.Core.Path.{_≡_, refl, sym, ap, _∙_}
+use mathlib.Core.Bool.{Bool, true, false, not, _&&_}
+use mathlib.Core.List.{List, _++_}
+use Prim.Native.Nat.{ℕ, _*_, _-_}
+use lib.Dec.{eqb}
+use lib.ListN.{take, replicate}
+use borrow.Author.Tests.{not-true, not-false}
+use Rattle.bits.proofs.Cases.{split, clash, both}
+use Rattle.answers.specs.declared.Answer.the-variants.{Taken, Unfit, UnknownKind}
+use Rattle.answers.specs.Answers.{numberOf}
+use Rattle.garage.specs.declared.Station.{Station}
+use Rattle.garage.specs.declared.Outcome.{Outcome}
+use Rattle.garage.specs.declared.Turn.{Turn}
+use Rattle.garage.specs.Station.{fit}
+use Rattle.garage.specs.Calls.{refused, onFit, request, event, result, takeImage, ask}
+use Rattle.garage.specs.Turns.{turnOf}
+use Rattle.garage.proofs.Turns.{Kept, kept-refused, kept-requested, kept-evented, kept-resulted, kept-imaged}
+use Rattle.garage_laws.specs.Runs as run
+use Rattle.garage_laws.specs.Runs.{Call}
+use Rattle.garage_laws.proofs.Calls.{unfit-is}
+use Rattle.garage_laws.proofs.Demands.{fit-stays}
+use Rattle.wire.specs.declared.What.{What}
+use Rattle.wire.specs.declared.What.the-variants.{Request, Event, Result, Image, Ask, Answer, Held}
+use Rattle.wire.specs.Reads.{readAsked}
+use Rattle.service.specs.Service.{called, respond}
+use Rattle.service.specs.Private.{makesCall}
+
+-- it is one of the station's, or the refusal of kinds 128 and 129
+pub each-called : (P : Outcome → Type 0) (s : Station) → ((c : Call) → P (run.call s c)) → (w : What) (n : ℕ) (set : List ℕ)
+    → (makesCall w ≡ false → P (refused s UnknownKind)) → P (called w s n set)
+each-called P s f Request n set g = f (run.request n set)
+each-called P s f (Event way) n set g = f (run.event way)
+each-called P s f (Result number done) n set g = f (run.result number done)
+each-called P s f (Image r) n set g = f (run.image r)
+each-called P s f Ask n set g = f run.ask
+each-called P s f (Answer number place) n set g = g refl
+each-called P s f (Held r) n set g = g refl
+
+-- ---- fitness stays
+
+pub respond-fit : (s : Station) (bytes : List ℕ) → fit (respond s bytes .station) ≡ fit s
+unfolding respond
+respond-fit s bytes =
+    let r = readAsked bytes in
+    let m = r .message in
+    split (eqb (numberOf (r .answer)) 0)
+    (λ t. rw t (each-called (λ o. fit (o .station) ≡ fit s) s (fit-stays s) (m .what) (m .count) (m .set) (λ _. refl)))
+    (λ t. rw t)
+
+-- ---- by what is known of fitness
+
+-- on a station that isn't fit a message that makes a call is refused
+pub unfit-called : (w : What) (s : Station) (n : ℕ) (set : List ℕ) {a known : Bool} → known ≡ fit s → a ≡ makesCall w → a && not known ≡ true
+    → refused s Unfit ≡ called w s n set
+unfit-called w s n set {a} {known} e q t =
+    let (p, o) = both a (not known) t in
+    each-called (λ o. refused s Unfit ≡ o) s (λ c. sym (unfit-is s (sym e ∙ not-true known o) c)) w n set (λ g. clash (sym q ∙ p) g)
+
+-- past that test such a message finds it fit, and its turn is the call's
+pub past-test : (s : Station) (o : Outcome) {t : Turn} {a known : Bool} → known ≡ fit s → a ≡ true → a && not known ≡ false → t ≡ turnOf o
+    → t ≡ turnOf (onFit s o)
+past-test s o {t} {a} {known} e q n g =
+    let f : fit s ≡ true = sym e ∙ not-false known (sym (ap (λ (x : Bool). x && not known) q) ∙ n) in
+    rw f g
+
+-- ---- the set that it leaves
+
+kept-on-fit : (s : Station) (set : List ℕ) {o : Outcome} → Kept s set o → Kept s set (onFit s o)
+kept-on-fit s set k = split (fit s) (λ t. rw t k) (λ t. rw t (kept-refused s set Unfit))
+
+-- one that comes with its unused places zero is the new one as it is
+pub called-kept : (w : What) (s : Station) (n : ℕ) (set : List ℕ) → set ≡ take (5 * n) set ++ replicate (40 - 5 * n) 0 → Kept s set (called w s n set)
+unfolding request event result takeImage ask
+called-kept Request s n set e = kept-on-fit s set (kept-requested s set n set e)
+called-kept (Event way) s n set e = kept-on-fit s set (kept-evented s set way)
+called-kept (Result number done) s n set e = kept-on-fit s set (kept-resulted s set _)
+called-kept (Image r) s n set e = kept-on-fit s set (kept-imaged s set _)
+called-kept Ask s n set e = kept-on-fit s set (kept-refused s set Taken)
+called-kept (Answer number place) s n set e = kept-refused s set UnknownKind
+called-kept (Held r) s n set e = kept-refused s set UnknownKind

@@ -1,0 +1,14 @@
+-- What the contracts of private functions cite; no public one rests on it. Assumes nothing.
+use mathlib.Core.Bool.{Bool, true, false}
+use Rattle.wire.specs.declared.What.{What}
+use Rattle.wire.specs.declared.What.the-variants.{Request, Event, Result, Image, Ask, Answer, Held}
+
+-- a message makes a call: kinds 128 and 129 make none
+abbrev pub makesCall : What → Bool
+makesCall Request = true
+makesCall (Event way) = true
+makesCall (Result number done) = true
+makesCall (Image r) = true
+makesCall Ask = true
+makesCall (Answer number place) = false
+makesCall (Held r) = false
