@@ -185,7 +185,7 @@ AmidCovers = (s : Station) (l : List Call) → Amid s (takenOf s l) l
 abbrev pub NeverFourteen : Type 0
 NeverFourteen = (s : Station) → Reached s → (c : Call) → said s c ≡ 14 → ⊥
 
--- a call leaves a fit station fit, and one that isn't as it was
+-- a call leaves a fit station fit, and one that isn't unfit
 abbrev pub FitStays : Type 0
 FitStays = (s : Station) (c : Call) → fit (left s c) ≡ fit s
 
