@@ -4,19 +4,30 @@ use mathlib.Core.Path.{_≡_, sym, ap, _∙_}
 use mathlib.Core.Bool.{true, false}
 use Prim.Native.Nat.{ℕ}
 use Rattle.bits.specs.Bits.{bit, image}
-use Rattle.bits.proofs.Cases.{and-intro}
+use Rattle.bits.proofs.Cases.{both, and-intro}
+use Rattle.floor.specs.Tests.{allHold}
 use Rattle.answers.specs.declared.Reason.{Reason}
 use Rattle.rules.specs.declared.Instruction.{Instruction}
 use Rattle.rules.specs.declared.Verdict.{Verdict}
 use Rattle.rules.specs.declared.Moved.{Moved}
-use Rattle.rules.specs.Rules.{wellFormed, clauses, allowed, next}
-use Rattle.rules.specs.Verdicts.{judged, verdictOf, isAllowed, movedOf}
-use Rattle.rules.proofs.Reasons.{judged-allows}
+use Rattle.rules.specs.Rules.{wellFormed, clauses, conditions, allowed, next}
+use Rattle.rules.specs.Verdicts.{judged, verdictOf, isAllowed, movedBy, movedOf}
+use Rattle.rules.proofs.Reasons.{judged-allows, allowed-exactly}
 
 module _ (i : Instruction) (r : ℕ) where
   pub ill-formed : wellFormed i ≡ false → (Verdict.IllFormed ≡ verdictOf i r) × (Moved.IllFormed ≡ movedOf i r)
   unfolding verdictOf movedOf
   ill-formed w = (rw w, rw w)
+
+  -- the next record is answered, or what the verdict says
+  pub moved-by : {v : Verdict} → v ≡ verdictOf i r → movedBy v (image (next i (bit r))) ≡ movedOf i r
+  unfolding movedOf
+  moved-by e = ap (λ (v : Verdict). movedBy v (image (next i (bit r)))) e
+
+  -- where it is answered, the instruction is well formed and allowed
+  pub moves : Verdict.Allowed ≡ verdictOf i r → (wellFormed i ≡ true) × (allowed i (bit r) ≡ true)
+  unfolding allowed
+  moves e = let a = allowed-exactly i r .0 (sym e) in (both (wellFormed i) (allHold (conditions i) (bit r)) a .0, a)
 
   module _ (w : wellFormed i ≡ true) where
     -- what its conditions say is the verdict
