@@ -25,6 +25,15 @@ const SAME_HEIGHT: u8 = 26;
 const NOT_AT_ROTATION: u8 = 27;
 const CELLS_TAKEN: u8 = 28; // those of a tilt or a rotation
 
+/// What each opcode is refused for where a sound record doesn't allow it: all pairs of opcode and number that there are.
+pub const REASONS: [(u8, u8); 18] = [
+    (1, HALF_MOVE), (1, NOTHING_NAMED), (1, GAP), (1, NOT_AVAILABLE), (1, NO_WAY), (1, ODD),
+    (2, NOTHING_NAMED), (2, GAP), (2, NOT_AVAILABLE), (2, ODD), (2, NO_WAY),
+    (3, NOT_AVAILABLE), (3, CELLS_TAKEN), (3, NO_WAY),
+    (4, SAME_HEIGHT), (4, ODD),
+    (5, NOT_AT_ROTATION), (5, CELLS_TAKEN),
+];
+
 /// A condition: where it fails, its number is told.
 fn holds(condition: bool, number: u8) -> Result<(), u8> { condition.then_some(()).ok_or(number) }
 

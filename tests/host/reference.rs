@@ -15,7 +15,7 @@ mod instructions;
 mod messages;
 
 use floor::{LEFT_BELT, LIFT_CELLS, OTHER_ROWS, RIGHT_BELT, ROW_1};
-pub use instructions::Instruction;
+pub use instructions::{Instruction, REASONS};
 use instructions::{named, read_set};
 pub use messages::{read_call, read_message, serve, stream, write_message, Message, Refused};
 
