@@ -110,8 +110,8 @@ fn next(image: u64, five: &[u8], output: &mut [u8]) -> Answer {
     })
 }
 
-/// Where a call that gave an answer says why an instruction isn't allowed: its opcode, which the call was given, and the number. Of
-/// the questions on a record that is so for a sound one.
+/// Where a call's answer says why an instruction isn't allowed on a sound record: its opcode and the number. A station that answers so
+/// is fit; of the questions on any image, those on a sound one count.
 pub fn reason_told(command: &Command, answer: u32) -> Option<(u8, u8)> {
     let (number, place) = (answer as u8, (answer >> 8) as usize);
     let at = match command.entry {

@@ -117,11 +117,11 @@ impl Instruction {
         }
     }
 
-    /// Whether the instruction is allowed on this record.
+    /// Whether the instruction is allowed on this record. (Ill-formed: never.)
     pub fn allowed(&self, image: u64) -> bool { self.judge(image).is_ok() }
 
-    /// Nothing said against the instruction on this record, or the number of the first condition that fails: each instruction's are
-    /// held in the paper's order. (Ill-formed: a bad field's number.)
+    /// Whether the instruction is allowed on this record, or else the number of the first of its conditions that fails, in the
+    /// paper's order. (Ill-formed: that of a bad field.)
     pub fn judge(&self, image: u64) -> Result<(), u8> {
         match *self {
             _ if !self.well_formed() => Err(BAD_FIELD),
