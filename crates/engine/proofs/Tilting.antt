@@ -6,7 +6,7 @@ use Prim.Native.Nat.{ℕ, _-_, _*_, _%_, _^_, _≤_, _<_}
 use native.Mathlib.Omega.{arith}
 use lib.Bits.{bitOr}
 use lib.Dec.{T, eqb, leb, ltb, leb→le}
-use borrow.Author.Tests.{eq-eqb, ne-eqb, ltb-true, le-leb}
+use borrow.Author.Tests.{ltb-true, le-leb}
 use Rattle.bits.specs.Bits.{Bits, bit, image, count, allSet, laid}
 use Rattle.bits.specs.Places.{join, places}
 use Rattle.bits.specs.Search.{every}
