@@ -1,11 +1,11 @@
 -- The promise of specs/Promises.antt: each answer's number passes the test, and each number that passes it is one's. Assumes nothing.
 use mathlib.Core.Path.{_≡_, refl, sym, ap, _∙_}
-use mathlib.Core.Bool.{true, _&&_, _||_}
+use mathlib.Core.Bool.{true, cond, _&&_, _||_}
 use mathlib.Core.Logic.{_↔_, _⊎_, inl, inr}
 use Prim.Native.Nat.{ℕ, _≤_, _<_}
 use native.Mathlib.Nat.{eq-or-lt-of-le}
 use native.Mathlib.Omega.{arith}
-use lib.Dec.{leb}
+use lib.Dec.{eqb, leb}
 use borrow.Author.Tests.{leb-true}
 use Rattle.bits.proofs.Cases.{both, one-of}
 use Rattle.answers.specs.declared.Reason.{Reason}
@@ -14,6 +14,39 @@ use Rattle.answers.specs.declared.Answer.{Answer}
 use Rattle.answers.specs.declared.Answer.the-variants.{Taken, TooFewBytes, BadLength, UnknownKind, BadField, TooMany, SetOutstanding, EmptySet, Overlap, NotAllowed, EventImpossible, NoSet, NotInSet, AlreadyAnswered, NowNotAllowed, Unsound, Unfit, NoRoom}
 use Rattle.answers.specs.Answers.{reasonNumber, numberOf, OfTable, inTable}
 use Rattle.answers.specs.Promises.{TableExactly}
+
+-- a reason's number is 20 or more
+pub reason-from : (why : Reason) → 20 ≤ reasonNumber why
+reason-from NothingNamed = omega arith
+reason-from Gap = omega arith
+reason-from NotAvailable = omega arith
+reason-from NotFree = omega arith
+reason-from OddCount = omega arith
+reason-from HalfMove = omega arith
+reason-from SameHeight = omega arith
+reason-from NotAtRotation = omega arith
+reason-from CellsNotFree = omega arith
+
+-- it is no other's
+numbered : ℕ → Reason
+numbered n =
+    cond (eqb n 20) NothingNamed (cond (eqb n 21) Gap (cond (eqb n 22) NotAvailable (cond (eqb n 23) NotFree
+    (cond (eqb n 24) OddCount (cond (eqb n 25) HalfMove (cond (eqb n 26) SameHeight (cond (eqb n 27) NotAtRotation CellsNotFree)))))))
+
+reads-back : (why : Reason) → numbered (reasonNumber why) ≡ why
+unfolding numbered
+reads-back NothingNamed = refl
+reads-back Gap = refl
+reads-back NotAvailable = refl
+reads-back NotFree = refl
+reads-back OddCount = refl
+reads-back HalfMove = refl
+reads-back SameHeight = refl
+reads-back NotAtRotation = refl
+reads-back CellsNotFree = refl
+
+pub reason-same : (v w : Reason) → reasonNumber v ≡ reasonNumber w → v ≡ w
+reason-same v w e = sym (reads-back v) ∙ ap numbered e ∙ reads-back w
 
 reason-in : (why : Reason) → inTable (reasonNumber why) ≡ true
 reason-in NothingNamed = refl

@@ -77,6 +77,14 @@ module _ (f : Bits) where
   pub first-judged : (cs : List Clause) (why : Reason) → FirstFails cs f why → judged cs f ≡ NotAllowed why
   first-judged cs why x = ap (λ (l : List Clause). judged l f) (x .stands) ∙ judged-at (x .before) (x .condition) why (x .after) (x .hold) (x .fails)
 
+-- conditions that don't all hold are refused for some reason
+judged-some : (cs : List Clause) (f : Bits) → isAllowed (judged cs f) ≡ false → (why : Reason) × (judged cs f ≡ NotAllowed why)
+judged-some [] f e = clash refl e
+judged-some ((t else why) ∷ cs) f e =
+    split (holds t f)
+    (λ a. let p = passing f t why cs a in let (w, q) = judged-some cs f (ap isAllowed (sym p) ∙ e) in (w, p ∙ q))
+    (λ a. (why, judged-at f [] t why cs refl a))
+
 -- ---- an instruction
 
 module _ (i : Instruction) (r : ℕ) where
@@ -100,6 +108,13 @@ module _ (i : Instruction) (r : ℕ) where
 
       reasoned : IllFormed ≡ NotAllowed why → ⊥
       reasoned e = true≢false (sym (ap isReason e))
+
+-- a well-formed instruction that isn't allowed is refused for some reason
+pub refused-why : (i : Instruction) (r : ℕ) → wellFormed i ≡ true → allowed i (bit r) ≡ false → (why : Reason) × (verdictOf i r ≡ NotAllowed why)
+refused-why i r w a =
+    let p = well-judged i r w in
+    let (why, q) = judged-some (clauses i) (bit r) (ap isAllowed (sym p) ∙ allows-is i r ∙ a) in
+    (why, p ∙ q)
 
 pub allowed-exactly : AllowedExactly
 allowed-exactly i r = (λ e. sym (allows-is i r) ∙ ap isAllowed e, λ a. allowed-only (verdictOf i r) (allows-is i r ∙ a))
