@@ -103,19 +103,18 @@ module _ (s : Station) (n : ℕ) (set : List ℕ) where
   -- past each test but the last it is orderly
   pub orderly-of : fit s ≡ true → ltb 0 (s .count) ≡ false → ltb most n ≡ false → eqb n 0 ≡ false
       → ltb (least n (bad set)) n ≡ false → ltb (least n (overlapsEarlier set)) n ≡ false → Orderly s n set
-  unfolding overlapsEarlier
   orderly-of a b c d f g =
       record {
         fits = a;
         idle = (let l = ltb-false 0 (s .count) b in omega arith);
         some = (let l = eqb-false n 0 d in omega arith);
         few = ltb-false most n c;
-        good = λ i l. not-false _ (faultless n (bad set) f i l);
-        apart = λ i j l m. none-at i _ (faultless n (overlapsEarlier set) g i l) j (omega arith);
+        good = faultless n (bad set) f;
+        apart = faultless n (overlapsEarlier set) g;
       }
 
   pub request-has : said s (run.request n set) ≡ 0 → Acceptable s n set
-  unfolding station.request
+  unfolding station.request overlapsEarlier
   request-has e =
       let (a, e₁) = met (fit s) s Unfit (station.requested s n set) (λ z. omega arith) e in
       let (b, c, d, f, e₂) = requested-has e₁ in
@@ -126,35 +125,39 @@ module _ (s : Station) (n : ℕ) (set : List ℕ) where
         idle = O .idle;
         some = O .some;
         few = O .few;
-        good = O .good;
-        apart = O .apart;
+        good = λ i l. not-false _ (O .good i l);
+        apart = λ i j l m. none-at i _ (O .apart i l) j (omega arith);
         allowed = λ i l. not-false _ (faultless n (barred set (s .bits)) h i l);
       }
 
   -- an orderly one comes to its last test
   module _ (O : Orderly s n set) where
-    no-overlap : ltb (least n (overlapsEarlier set)) n ≡ false
-    unfolding overlapsEarlier
-    no-overlap = no-fault n (overlapsEarlier set) (λ i h. none-is i _ (λ j l. O .apart i j h l))
-
     requested-is : station.requested s n set ≡ station.accepted s n set
     unfolding station.requested
     requested-is = rw (
       le-ltb 0 (s .count) (let z = O .idle in omega arith),
       le-ltb most n (O .few),
       ne-eqb n 0 (λ z. (let l = O .some in omega arith)),
-      no-fault n (bad set) (λ i h. rw (O .good i h)),
+      no-fault n (bad set) (O .good),
     )
 
     pub orderly-is : station.request s n set ≡ station.unlessAny n (barred set (s .bits)) s (whyNot set (s .bits)) (taken (opened s n set))
     unfolding station.request station.accepted
-    orderly-is = rw (O .fits) (requested-is ∙ rw no-overlap)
+    orderly-is = rw (O .fits) (requested-is ∙ rw (no-fault n (overlapsEarlier set) (O .apart)))
 
   pub request-is : Acceptable s n set → station.request s n set ≡ taken (opened s n set)
+  unfolding overlapsEarlier
   request-is A = orderly-is orderly ∙ rw (no-fault n (barred set (s .bits)) (λ i h. rw (A .allowed i h)))
     where
       orderly : Orderly s n set
-      orderly = record { fits = A .fits; idle = A .idle; some = A .some; few = A .few; good = A .good; apart = A .apart }
+      orderly = record {
+        fits = A .fits;
+        idle = A .idle;
+        some = A .some;
+        few = A .few;
+        good = λ i h. rw (A .good i h);
+        apart = λ i h. none-is i _ (λ j l. A .apart i j h l);
+      }
 
 -- ---- a result, part by part
 

@@ -6,7 +6,7 @@ use mathlib.Core.List.{List}
 use Prim.Native.Nat.{ℕ, _≤_}
 use native.Mathlib.Omega.{arith}
 use lib.Dec.{eqb, ltb}
-use borrow.Author.Tests.{lt-ltb}
+use borrow.Author.Tests.{lt-ltb, not-false}
 use Rattle.bits.specs.Bits.{bit}
 use Rattle.bits.specs.Search.{least, IsLeast}
 use Rattle.bits.proofs.Least.{least-is}
@@ -50,7 +50,7 @@ module _ (s : Station) (n : ℕ) (set : List ℕ) (why : Reason) (p : ℕ) where
   judged : (O : Orderly s n set) → ltb (least n (barred set (s .bits))) n ≡ true → Told (station.refused s (whyNot set (s .bits) (least n (barred set (s .bits)))))
   judged O t =
       let L = least-fault n (barred set (s .bits)) t in
-      let R = good-refused set (s .bits) _ (L .passes) (O .good _ (L .within)) in
+      let R = good-refused set (s .bits) _ (L .passes) (not-false _ (O .good _ (L .within))) in
       record {
         then = λ e q.
             let at : least n (barred set (s .bits)) ≡ p = sym (ap placeOf (R .told)) ∙ q in

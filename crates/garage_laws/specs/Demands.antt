@@ -60,8 +60,8 @@ pub record Orderly (s : Station) (n : ℕ) (set : List ℕ) : Type 0 where
   pub idle : s .count ≡ 0
   pub some : 1 ≤ n
   pub few : n ≤ most
-  pub good : (i : ℕ) → i < n → isGood (codeAt set i) ≡ true
-  pub apart : (i j : ℕ) → i < n → j < i → share (heldArea (codeAt set i)) (heldArea (codeAt set j)) ≡ false
+  pub good : (i : ℕ) → i < n → bad set i ≡ false
+  pub apart : (i : ℕ) → i < n → overlapsEarlier set i ≡ false
 
 -- of the conditions of the instruction at p the first that fails has this reason
 abbrev pub ReasonAt : List ℕ → ℕ → Bits → Reason → Type 0
