@@ -15,10 +15,10 @@ pub mod writing;
 pub enum What {
     Request,
     Event { way: u8 },
-    Result { number: u8, done: u8 },
+    Result { issue: u16, number: u8, done: u8 },
     Image(u64),
     Ask,
-    Answer { number: u8, place: u8 },
+    Answer { number: u8, place: u8, issue: u16 },
     Held(u64),
 }
 
@@ -199,10 +199,10 @@ fn in_range(what: What) -> bool
     match what {
         What::Request => true,
         What::Event { way } => (1 <= way) & (way <= 2),
-        What::Result { number: _, done } => done <= 1,
+        What::Result { issue: _, number: _, done } => done <= 1,
         What::Image(_) => true,
         What::Ask => true,
-        What::Answer { number, place } => answers::in_table(number)
+        What::Answer { number, place, issue: _ } => answers::in_table(number)
             & ((place <= 7) | (place == answers::NOWHERE)),
         What::Held(_) => true,
     }
