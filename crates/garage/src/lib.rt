@@ -3,8 +3,8 @@ ghost use mathlib.Core.Path.{_≡_};
 ghost use Prim.Native.Nat.{_-_, _^_, _≤_, _<_};
 ghost use Rattle.bits.specs.Search.{least};
 ghost use Rattle.garage.specs.Held.{overlapsEarlier, barred};
-ghost use Rattle.garage.specs.Station.{startOf, inSet, fit, holding, answering};
-ghost use Rattle.garage.specs.Calls.{refused, taken, accepted, requested, request, occurred, driven, evented, event, succeeded, ended, numbered, resulted, result, imaged, takeImage, ask};
+ghost use Rattle.garage.specs.Station.{startOf, inSet, behind, fit, holding, answering};
+ghost use Rattle.garage.specs.Calls.{refused, taken, accepted, requested, request, occurred, driven, evented, event, succeeded, ended, numbered, timely, resulted, result, imaged, takeImage, ask};
 ghost use Rattle.garage.specs.Turns.{turnOf, afterTurn};
 use crate::sets::Faults;
 use answers::Answer;
@@ -13,21 +13,25 @@ use rules::Driven;
 use rules::Event;
 use rules::EventReading;
 use rules::Moved;
+use std::num::wrapping_add_u16;
+use std::num::wrapping_sub_u16;
 
 mod held;
 mod sets;
 
-// The station: its record, how many instructions the outstanding set has, a mark for each that is answered, and the instructions as the
-// request's own five bytes each, unused places zero.
+// The station: its record, how many instructions the outstanding set has, a mark for each that is answered, the instructions as the
+// request's own five bytes each, unused places zero, and the issue that the next set will have.
 pub struct Station {
     pub bits: u64,
     pub count: u8,
     pub answered: u8,
     pub set: [u8; 40],
+    pub next: u16,
 }
 
-// What a result says: the instruction's number from 0, and 0 failed or 1 done.
+// What a result says: the issue of its set, the instruction's number from 0, and 0 failed or 1 done.
 pub struct Report {
+    pub issue: u16,
     pub number: u8,
     pub done: u8,
 }
@@ -49,6 +53,7 @@ pub struct Turn {
     pub bits: u64,
     pub count: u8,
     pub answered: u8,
+    pub next: u16,
 }
 
 // The marks of n instructions when all are answered.
@@ -89,6 +94,7 @@ impl Station {
             count: 0,
             answered: 0,
             set: [0; 40],
+            next: 0,
         }
     }
 
@@ -119,6 +125,7 @@ impl Station {
             bits: self.bits,
             count: self.count,
             answered: self.answered,
+            next: self.next,
         }
     }
 
@@ -131,6 +138,7 @@ impl Station {
             bits: r,
             count: self.count,
             answered: self.answered,
+            next: self.next,
         }
     }
 
@@ -147,6 +155,7 @@ impl Station {
                 bits: r,
                 count: 0,
                 answered: 0,
+                next: self.next,
             };
         }
         Turn {
@@ -154,6 +163,7 @@ impl Station {
             bits: r,
             count: self.count,
             answered: marks,
+            next: self.next,
         }
     }
 
@@ -168,6 +178,7 @@ impl Station {
             count: t.count,
             answered: t.answered,
             set,
+            next: t.next,
         };
         let answer = t.answer;
         Outcome { station, answer }
@@ -186,10 +197,11 @@ impl Station {
             return self.unmoved(verdict.answer(found.barred));
         }
         Turn {
-            answer: Answer::Taken,
+            answer: Answer::Opened(self.next),
             bits: self.bits,
             count,
             answered: 0,
+            next: wrapping_add_u16(self.next, 1),
         }
     }
 
@@ -311,6 +323,24 @@ impl Station {
         self.ended(i, done)
     }
 
+    // How far an issue is behind the present set's, counted round the end.
+    fn behind(self, issue: u16) -> u16
+        ensures { λ n. ⌜ n ≡ behind self issue ⌝ }
+    {
+        wrapping_sub_u16(wrapping_sub_u16(self.next, 1), issue)
+    }
+
+    // A result by the issue of its set.
+    fn timely(self, report: Report) -> Turn
+        ensures { λ t. ⌜ t ≡ turnOf (timely self report) ⌝ }
+    {
+        match self.behind(report.issue) {
+            0 => self.numbered(report.number, report.done),
+            1..=32767 => self.unmoved(Answer::Late),
+            _ => self.unmoved(Answer::NotIssued),
+        }
+    }
+
     // A result past the test of fitness.
     pub fn resulted(self, report: Report) -> Turn
         ensures { λ t. ⌜ t ≡ turnOf (resulted self report) ⌝ }
@@ -321,7 +351,7 @@ impl Station {
         if self.count == 0 {
             return self.unmoved(Answer::NoSet);
         }
-        self.numbered(report.number, report.done)
+        self.timely(report)
     }
 
     // A result.
