@@ -36,13 +36,16 @@ onFit s o = cond (fit s) o (refused s Unfit)
 abbrev pub unlessAny : ℕ → (ℕ → Bool) → Station → (ℕ → Answer) → Outcome → Outcome
 unlessAny n fault s a o = cond (ltb (least n fault) n) (refused s (a (least n fault))) o
 
--- the end of a request: no two of its n instructions overlap and each is allowed on the present record; the set is outstanding, and the
--- answer carries its issue
+-- the set is outstanding, and the answer carries its issue
+abbrev pub opening : Station → ℕ → List ℕ → Outcome
+opening s n set = record { station = opened s n set; answer = Opened (s .next) }
+
+-- the end of a request: no two of its n instructions overlap and each is allowed on the present record
 unfoldable pub accepted : Station → ℕ → List ℕ → Outcome
 accepted s n set =
     unlessAny n (overlapsEarlier set) s Overlap
     (unlessAny n (barred set (s .bits)) s (whyNot set (s .bits))
-    (record { station = opened s n set; answer = Opened (s .next) }))
+    (opening s n set))
 
 -- a request past the test of fitness: no set is outstanding, and 1 to 8 instructions, five bytes each, are well formed
 unfoldable pub requested : Station → ℕ → List ℕ → Outcome

@@ -79,8 +79,8 @@ module _ (s : Station) (n : ℕ) (set : List ℕ) (A : Acceptable s n set) where
 no-code : (m : ℕ) → codeAt (replicate m 0) ≡ (λ j. blank)
 no-code m = fun-ext (λ i. rw (five-at (replicate m 0) i, zeros-at m (5 * i), zeros-at m (5 * i + 1), zeros-at m (5 * i + 2), zeros-at m (5 * i + 3), zeros-at m (5 * i + 4)))
 
-closed-view : (r : ℕ) → view (closed r) ≡ idle rules r nowhere
-closed-view r = λ i. record { bits = r; set = record { size = 0; at = no-code 40 i }; answered = unmarked i; away = nowhere }
+closed-view : (r next : ℕ) → view (closed r next) ≡ idle rules r nowhere
+closed-view r next = λ i. record { bits = r; set = record { size = 0; at = no-code 40 i }; answered = unmarked i; away = nowhere }
 
 module _ (s : Station) (i r : ℕ) where
   -- the station with the record r, and these marks
@@ -89,7 +89,7 @@ module _ (s : Station) (i r : ℕ) where
 
   answering-view : view (answering s i r) ≡ released rules (with-marks (mark i (bit (s .answered))))
   answering-view = after-result (λ t. view t ≡ released rules (with-marks (bit (marksWith s i)))) s i r
-      (λ t. rw (some-every (s .count) (bit (marksWith s i)), t) (closed-view r))
+      (λ t. rw (some-every (s .count) (bit (marksWith s i)), t) (closed-view r (s .next)))
       (λ t. rw (some-every (s .count) (bit (marksWith s i)), t))
       ∙ ap (λ (g : ℕ → Bool). released rules (with-marks g)) (marks (s .answered) i)
 
