@@ -119,8 +119,8 @@ fn low(x: u64) -> u8
 fn issue_bytes(issue: u16) -> [u8; 2]
     ensures { λ r. ⌜ r ≡ littleEndian 2 issue ⌝ }
 {
-    let x = issue as u64;
-    [low(x), low(x / 256)]
+    let wide = issue as u64;
+    [low(wide), low(wide / 256)]
 }
 
 // The eight bytes that say a number, the lowest first.

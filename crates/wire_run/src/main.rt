@@ -45,7 +45,10 @@ fn odd_inputs() {
     odd(b"04 00 03 00 07 01", &[4, 0, 3, 0, 7, 1]);
     odd(b"06 00 03 00 FF FF 07 01", &[6, 0, 3, 0, 0xFF, 0xFF, 7, 1]);
     odd(b"04 00 80 00 00 FF", &[4, 0, 0x80, 0, 0, 0xFF]);
-    odd(b"06 00 80 00 00 FF FF FF", &[6, 0, 0x80, 0, 0, 0xFF, 0xFF, 0xFF]);
+    odd(
+        b"06 00 80 00 00 FF FF FF",
+        &[6, 0, 0x80, 0, 0, 0xFF, 0xFF, 0xFF],
+    );
 }
 
 // A message of this kind and length, to the station or to the library.
