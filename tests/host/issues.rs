@@ -46,7 +46,7 @@ fn input(sets: usize) -> Vec<u8> {
         if numbers.one_in(4) { bytes.extend(between(&mut numbers)); }
         bytes.extend(astray(&mut numbers, present));
         bytes.extend(result(present, 1 - first, numbers.below(2) as u8));
-        if numbers.one_in(8) { bytes.extend(result(present, first, 1)); }
+        if numbers.one_in(4) { bytes.extend(astray(&mut numbers, present)); }
         if numbers.one_in(4) { bytes.extend(between(&mut numbers)); }
     }
     bytes
