@@ -92,8 +92,8 @@ enum {
     STATION_SAME_HEIGHT = 26,       /* the lift is at that height */
     STATION_NOT_AT_ROTATION = 27,   /* the lift isn't at rotation height */
     STATION_CELLS_NOT_FREE = 28,    /* cells that must be free for the tilt or the rotation aren't */
-    STATION_LATE = 29,              /* a result of a set before the outstanding one */
-    STATION_NOT_ISSUED = 30         /* a result of a set that was not issued */
+    STATION_LATE = 29,              /* a result of a set 1 to 32767 before the outstanding one */
+    STATION_NOT_ISSUED = 30         /* a result of a set that is neither that nor the outstanding one */
 };
 
 /* The place where an answer names no instruction. */
