@@ -138,7 +138,7 @@ places-step s t c (opens {n} {set} A) m h =
     let l = A .few in
     length-append (take (5 * n) set) (replicate (40 - 5 * n) 0) ∙ rw (k, length-replicate {A = ℕ} (40 - 5 * n) 0) (omega arith)
 places-step s t c (fails {i} w) m h = after-result (λ (x : Station). length (x .set) ≡ 40) s i (s .bits) (λ _. refl) (λ _. h)
-places-step s t c (succeeds {i} w a) m h = after-result (λ (x : Station). length (x .set) ≡ 40) s i (following s i) (λ _. refl) (λ _. h)
+places-step s t c (succeeds {i} p w a) m h = after-result (λ (x : Station). length (x .set) ≡ 40) s i (following s i) (λ _. refl) (λ _. h)
 places-step s t c (drives d) m h = h
 places-step s t c tells m h = h
 

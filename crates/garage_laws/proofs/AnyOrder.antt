@@ -41,7 +41,7 @@ tidy-step : (s t : Station) (c : Call) → Step s c t → Tidy s → Tidy t
 tidy-step s t c (refuses n) d = d
 tidy-step s t c (opens A) d = inl (A .some)
 tidy-step s t c (fails {i} w) d = tidy-answering s i _ (w .1)
-tidy-step s t c (succeeds {i} w a) d = tidy-answering s i _ (w .1)
+tidy-step s t c (succeeds {i} p w a) d = tidy-answering s i _ (w .1)
 tidy-step s t c (drives x) d = ⊎-elim inl (λ e. inr (ap (λ (u : Station). holding u (t .bits)) e)) d
 tidy-step s t c tells d = d
 

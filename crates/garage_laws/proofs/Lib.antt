@@ -5,6 +5,7 @@ pub mod Calls
 pub mod Places
 pub mod Refusals
 pub mod Steps
+pub mod Issues
 pub mod Changes
 pub mod Always
 pub mod Link

@@ -134,7 +134,7 @@ module _ (s : Station) (G : Sane s) where
   good-step t c (refuses n) = G
   good-step t c (opens {n} {set} A) = rw (request-view s n set A) (takes-good (request (kept s n set A)) (rw (A .idle) (request-accepted s n set A)))
   good-step t c (fails {i} w) = rw (answering-view s i (s .bits)) (takes-good (act (result i failed)) (result-taken s i failed w))
-  good-step t c (succeeds {i} w a) = rw (answering-view s i (following s i)) (takes-good (act (result i finished)) (result-taken s i finished w))
+  good-step t c (succeeds {i} p w a) = rw (answering-view s i (following s i)) (takes-good (act (result i finished)) (result-taken s i finished w))
   good-step t c (drives {e} d) = takes-good (act (event e)) (drivable s (d .0) e ∙ rw (d .1, d .2))
   good-step t c tells = G
 
@@ -155,5 +155,5 @@ begins-good s b =
 pub never-fourteen : NeverFourteen
 never-fourteen s R =
     let G = reached Sane (λ t u c p g. good-step t g u c p) begins-good s R in
-    each-call (λ o. numberOf (o .answer) ≡ 14 → ⊥) s (λ e z. omega arith) (λ a h. h .1) (λ t z. omega arith)
+    each-call (λ o. numberOf (o .answer) ≡ 14 → ⊥) s (λ e z. omega arith) (λ a h. h .1) (λ t z. omega arith) (λ n set z. omega arith)
     (λ i w. success-either s i (λ o. numberOf (o .answer) ≡ 14 → ⊥) (λ t z. omega arith) (λ t. clash (G .allowed i (w .1, w .2)) t))

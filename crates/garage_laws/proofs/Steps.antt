@@ -14,7 +14,7 @@ use Rattle.answers.specs.declared.Answer.the-variants.{Unfit}
 use Rattle.garage.specs.declared.Station.{Station}
 use Rattle.garage.specs.declared.Outcome.{Outcome}
 use Rattle.garage.specs.Held.{codeAt, heldAllowed}
-use Rattle.garage.specs.Station.{fit, holding, opened, answering}
+use Rattle.garage.specs.Station.{present, fit, holding, opened, answering}
 use Rattle.garage.specs.Calls as station
 use Rattle.garage.specs.Calls.{refused, taken}
 use Rattle.garage_laws.specs.Runs as run
@@ -28,7 +28,7 @@ pub data Step (s : Station) : Call → Station → Type 0 where
   refuses : {c : Call} → (said s c ≡ 0 → ⊥) → Step s c s
   opens : {n : ℕ} {set : List ℕ} → Acceptable s n set → Step s (run.request n set) (opened s n set)
   fails : {i k : ℕ} → Waiting s i → Step s (run.result k i 0) (answering s i (s .bits))
-  succeeds : {i k : ℕ} → Waiting s i → heldAllowed (codeAt (s .set) i) (bit (s .bits)) ≡ true → Step s (run.result k i 1) (answering s i (following s i))
+  succeeds : {i k : ℕ} → k ≡ present s → Waiting s i → heldAllowed (codeAt (s .set) i) (bit (s .bits)) ≡ true → Step s (run.result k i 1) (answering s i (following s i))
   drives : {e : ℕ} → Drivable s (readEvent e) → Step s (run.event e) (holding s (afterAs (readEvent e) (s .bits)))
   tells : Step s run.ask s
 
@@ -54,7 +54,7 @@ module _ (s : Station) where
 
   result-step : (k i done : ℕ) → said s (run.result k i done) ≡ 0 → Step s (run.result k i done) (left s (run.result k i done))
   result-step k i zero e = let (p, w) = failure-has s k i e in leads (ap station-of (failure-is s k i p w)) (fails w)
-  result-step k i (suc zero) e = let (p, w, t) = success-has s k i e in leads (ap station-of (success-is s k i p w t)) (succeeds w t)
+  result-step k i (suc zero) e = let (p, w, t) = success-has s k i e in leads (ap station-of (success-is s k i p w t)) (succeeds p w t)
   result-step k i (suc (suc done)) e = absurd (omega (arith, done-has s (record { issue = k; number = i; done = suc (suc done) }) e))
 
   pub asked : left s run.ask ≡ s
