@@ -1,6 +1,7 @@
 // Document 01's floor examples and its lines that are only run, by calls of the code. A line has the name of an example, then the calls
 // with the numbers that they are answered with, and the records between them. What it must write, the file stdout, was written by hand
 // from the paper. P1 to P12 are proved of the definitions in the crate examples.
+use std::num::wrapping_sub_u16;
 use answers::NOWHERE;
 use floor::Total;
 use garage::Outcome;
@@ -96,9 +97,17 @@ fn asked(s: Station, name: &[u8], i: Instruction) -> Station {
     told(name, s.request(1, set_of(i)))
 }
 
-// The result of an instruction of the set.
+// The result of an instruction of the present set.
 fn ended(s: Station, name: &[u8], number: u8, done: u8) -> Station {
-    told(name, s.result(Report { number, done }))
+    let issue = wrapping_sub_u16(s.next, 1);
+    told(
+        name,
+        s.result(Report {
+            issue,
+            number,
+            done,
+        }),
+    )
 }
 
 // One instruction is asked for and done, and the record shown.

@@ -22,7 +22,7 @@ use Rattle.garage_laws.specs.Runs as run
 use Rattle.garage_laws.specs.Runs.{Call, call, said, left, carried, opens, calls, setsOpened}
 use Rattle.garage_laws.specs.Demands.{Heard, LateExactly, IssuesInTurn, FirstIsZero, BehindCounts}
 use Rattle.garage_laws.proofs.Fits.{after-result}
-use Rattle.garage_laws.proofs.Calls.{either, untouched, request-has, request-is, success-has, success-is, success-either, failure-has, failure-is, done-has, event-has, event-is, image-has, image-is, ask-has, ask-is}
+use Rattle.garage_laws.proofs.Calls.{either, untouched, following, request-has, request-is, success-has, success-is, success-either, failure-has, failure-is, done-has, event-has, event-is, image-has, image-is, ask-has, ask-is}
 
 -- ---- what a call carries and leaves
 
@@ -67,8 +67,8 @@ module _ (s : Station) where
   answered-next i r = after-result (λ t. t .next ≡ s .next) s i r (λ t. refl) (λ t. refl)
 
   result-keeps : (k i done : ℕ) → said s (run.result k i done) ≡ 0 → Keeps (run.result k i done)
-  result-keeps k i zero e = let (p, w) = failure-has s k i e in by-taken _ (failure-is s k i p w) (answered-next i _)
-  result-keeps k i (suc zero) e = let (p, w, t) = success-has s k i e in by-taken _ (success-is s k i p w t) (answered-next i _)
+  result-keeps k i zero e = let (p, w) = failure-has s k i e in by-taken (run.result k i 0) (failure-is s k i p w) (answered-next i (s .bits))
+  result-keeps k i (suc zero) e = let (p, w, t) = success-has s k i e in by-taken (run.result k i 1) (success-is s k i p w t) (answered-next i (following s i))
   result-keeps k i (suc (suc done)) e = absurd (omega (arith, done-has s (record { issue = k; number = i; done = suc (suc done) }) e))
 
   request-turns : (n : ℕ) (set : List ℕ) → let c = run.request n set in
@@ -81,10 +81,10 @@ module _ (s : Station) where
 
 pub issues-in-turn : IssuesInTurn
 issues-in-turn s (run.request n set) = request-turns s n set
-issues-in-turn s (run.reports r) = by-said s _ (result-keeps s (r .issue) (r .number) (r .done))
-issues-in-turn s (run.event e) = by-said s _ (λ z. by-taken s _ (event-is s e (event-has s e z)) refl)
-issues-in-turn s (run.pictures p) = by-said s _ (λ z. by-taken s _ (image-is s (p .bits) (image-has s (p .bits) z)) refl)
-issues-in-turn s run.ask = by-said s _ (λ z. by-taken s _ (ask-is s (ask-has s z)) refl)
+issues-in-turn s (run.reports r) = by-said s (run.reports r) (result-keeps s (r .issue) (r .number) (r .done))
+issues-in-turn s (run.event e) = by-said s (run.event e) (λ z. by-taken s (run.event e) (event-is s e (event-has s e z)) refl)
+issues-in-turn s (run.pictures p) = by-said s (run.pictures p) (λ z. by-taken s (run.pictures p) (image-is s (p .bits) (image-has s (p .bits) z)) refl)
+issues-in-turn s run.ask = by-said s run.ask (λ z. by-taken s run.ask (ask-is s (ask-has s z)) refl)
 
 -- ---- after several calls
 
@@ -101,7 +101,8 @@ first-is-zero l e n set z =
     let first : s .next ≡ 0 = none-opened l startOf e in
     let (a, b) = issues-in-turn s (run.request n set) in
     let taken : opens s (run.request n set) ≡ true = eq-eqb _ 0 z in
-    (a ∙ rw taken first, ap (λ (k : ℕ). (k + 65535) % 65536) (b ∙ rw (taken, first)))
+    let second : left s (run.request n set) .next ≡ 1 = b ∙ rw (taken, first) in
+    (a ∙ rw taken first, ap (λ (k : ℕ). (k + 65535) % 65536) second)
 
 -- the present issue moves on with each set
 present-moves : (l : List Call) (s : Station) → present (calls s l) ≡ (present s + setsOpened s l) % 65536

@@ -1,5 +1,6 @@
 // One set of eight instructions on a floor with ten cars. Its results come in several orders, with two car events among them, and the
 // last record is the same each time. The order is proved not to matter (garage_laws); here it is seen in the code.
+use std::num::wrapping_sub_u16;
 use garage::Outcome;
 use garage::Picture;
 use garage::Report;
@@ -99,6 +100,7 @@ fn acted(r: Course, act: u8) -> Course {
         b'0'..=b'7' => {
             let i = act - b'0';
             let report = Report {
+                issue: wrapping_sub_u16(s.next, 1),
                 number: i,
                 done: reported(i),
             };
