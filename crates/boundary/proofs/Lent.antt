@@ -140,14 +140,14 @@ kept : (s : Station) (bytes : List ℕ) → (returnedOf (respond s bytes .answer
 kept s bytes n = go (respond s bytes .answer) refl (always-answered s bytes)
   where
     go : (w : What) → respond s bytes .answer ≡ w → Answers w → respond s bytes .station ≡ s
-    go (What.Answer number place) e a =
+    go (What.Answer number place issue) e a =
         let (b, f) = a .0 in
         let l = number-byte b in
         refused-keeps s bytes number place e (λ z. n (ap (λ (w : What). returnedOf w % 256) e ∙ omega arith))
     go (Held r) e a = absurd (n (ap (λ (w : What). returnedOf w % 256) e))
     go Request e a = absurd a
     go (Event way) e a = absurd a
-    go (Result number done) e a = absurd a
+    go (Result issue number done) e a = absurd a
     go (Image r) e a = absurd a
     go Ask e a = absurd a
 

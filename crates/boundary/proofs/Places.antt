@@ -53,7 +53,7 @@ request-placed n set s =
     split (leb n most && ltb (length set) (5 * n)) (λ t. rw t (inr refl)) (λ t. rw t (call-placed s (run.request n (take (5 * n) set))))
 
 reply-placed : (w : What) → Answers w → Placed (returnedOf w / 256)
-reply-placed (What.Answer number place) a =
+reply-placed (What.Answer number place issue) a =
     let (b, e) = a .0 in
     let h = number-byte b in
     let p : (number + 256 * place) / 256 ≡ place = omega arith in
@@ -61,7 +61,7 @@ reply-placed (What.Answer number place) a =
 reply-placed (Held r) a = inr refl
 reply-placed Request a = absurd a
 reply-placed (Event way) a = absurd a
-reply-placed (Result number done) a = absurd a
+reply-placed (Result issue number done) a = absurd a
 reply-placed (Image r) a = absurd a
 reply-placed Ask a = absurd a
 

@@ -52,7 +52,7 @@ pub enum Frame {
 // ---- bytes and numbers
 
 // Two bytes as a number, the lower first.
-fn word(low: u8, high: u8) -> u16
+pub fn word(low: u8, high: u8) -> u16
     ensures { λ r. ⌜ r ≡ fromLittleEndian 2 0 (low ∷ high ∷ []) ⌝ }
 {
     low as u16 + 256 * (high as u16)
