@@ -121,7 +121,7 @@ unfolding readWhole
 whole-fine m b =
     ways Received-fine (eqb (kindAt m) 1) (λ _. request-fine m)
     (λ _. ways Received-fine (eqb (kindAt m) 2) (λ _. sized-fine m 5 (Event (getD m 4 0)) tt)
-    (λ _. ways Received-fine (eqb (kindAt m) 3) (λ _. sized-fine m 6 (Result (getD m 4 0) (getD m 5 0)) tt)
+    (λ _. ways Received-fine (eqb (kindAt m) 3) (λ _. sized-fine m 8 (Result (fromLittleEndian 2 4 m) (getD m 6 0) (getD m 7 0)) tt)
     (λ _. ways Received-fine (eqb (kindAt m) 4) (λ _. sized-fine m 12 (Image (fromLittleEndian 8 4 m)) (below 8 4 m b))
     (λ _. ways Received-fine (eqb (kindAt m) 5) (λ _. sized-fine m 4 Ask tt) (λ _. record { made = tt; low = omega arith })))))
 

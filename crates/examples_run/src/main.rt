@@ -1,7 +1,6 @@
 // Document 01's floor examples and its lines that are only run, by calls of the code. A line has the name of an example, then the calls
 // with the numbers that they are answered with, and the records between them. What it must write, the file stdout, was written by hand
 // from the paper. P1 to P12 are proved of the definitions in the crate examples.
-use std::num::wrapping_sub_u16;
 use answers::NOWHERE;
 use floor::Total;
 use garage::Outcome;
@@ -9,6 +8,7 @@ use garage::Picture;
 use garage::Report;
 use garage::Station;
 use rules::Instruction;
+use std::num::wrapping_sub_u16;
 
 mod run_only;
 

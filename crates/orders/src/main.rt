@@ -1,10 +1,10 @@
 // One set of eight instructions on a floor with ten cars. Its results come in several orders, with two car events among them, and the
 // last record is the same each time. The order is proved not to matter (garage_laws); here it is seen in the code.
-use std::num::wrapping_sub_u16;
 use garage::Outcome;
 use garage::Picture;
 use garage::Report;
 use garage::Station;
+use std::num::wrapping_sub_u16;
 
 // The start's shuttles and lift. Row 1 has cars in cells 2-3, 6-7, 14-15 and 18-19, row 2 in 20, 22, 25 and 29, row 3 in 31 and 36.
 const FLOOR: u64 = 0x9_1B10_A25C_C0CC;

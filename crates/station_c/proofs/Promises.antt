@@ -37,7 +37,7 @@ next-back s past t =
     let tail = littleEndian 2 (s .next) ++ past in
     let low = getD-at (s .set) (s .next % 256) (s .next / 256 % 256 ∷ past) 0 40 (t .places) in
     let high : getD (s .set ++ tail) 41 0 ≡ s .next / 256 % 256 =
-          sym (ap (λ (n : ℕ). getD (s .set ++ tail) (n + 1) 0) (t .places)) ∙ getD-append-add (s .set) tail 1 0 in
+    sym (ap (λ (n : ℕ). getD (s .set ++ tail) (n + 1) 0) (t .places)) ∙ getD-append-add (s .set) tail 1 0 in
     let h = t .issue in
     omega arith
 
@@ -63,7 +63,7 @@ unfolding stationBytes stationOf
 station-one-form room b h =
     let two : drop 8 room ≡ getD room 8 0 ∷ getD room 9 0 ∷ drop 10 room = drop-cons room 8 0 (omega arith) ∙ ap (_∷_ (getD room 8 0)) (drop-cons room 9 0 (omega arith)) in
     let set : take 42 (drop 10 room) ≡ take 40 (drop 10 room) ++ littleEndian 2 (fromLittleEndian 2 50 room) =
-          take-add 40 2 (drop 10 room) ∙ ap (λ (l : List ℕ). take 40 (drop 10 room) ++ l) (next-form room b h) in
+    take-add 40 2 (drop 10 room) ∙ ap (λ (l : List ℕ). take 40 (drop 10 room) ++ l) (next-form room b h) in
     ap (λ (l : List ℕ). l ++ (getD room 8 0 ∷ getD room 9 0 ∷ (take 40 (drop 10 room) ++ littleEndian 2 (fromLittleEndian 2 50 room)))) (sym (image-one-form room b (omega arith)))
     ∙ sym (take-add 8 44 room ∙ ap (λ (l : List ℕ). take 8 room ++ take 44 l) two ∙ ap (λ (l : List ℕ). take 8 room ++ (getD room 8 0 ∷ getD room 9 0 ∷ l)) set)
 
