@@ -127,7 +127,7 @@ fn told(krate: &str, how: &str, edit: &str) -> String { format!("{how} ([{edit}]
 
 /// An error that says no more than that a proof's text no longer fits the code, or that another proof is missing.
 fn misfit(error: &str) -> bool {
-    ["was not admitted", "no occurrence of", "no part of the goal", "that can be named from here", "has no field", "expected type `tie.Need-", "is not in scope", "met a bound of its own"]
+    ["was not admitted", "no occurrence of", "no part of the goal", "that can be named from here", "has no field", "expected type `tie.Need-", "is not in scope", "a bound of its own"]
         .iter()
         .any(|words| error.contains(words))
 }
