@@ -38,7 +38,8 @@ fn files(folder: &Path, ending: &str) -> Vec<PathBuf> {
 
 fn name_of(path: &Path) -> String { path.file_stem().unwrap_or_default().to_string_lossy().into_owned() }
 
-/// The functions of a library crate; public ones are those of lib.rt and of its public modules.
+/// The functions of a library crate; public ones are those of lib.rt and of its public modules, and a type's wherever they stand. A type's
+/// functions are named by the type, without the module.
 fn functions(krate: &Path) -> Vec<Function> {
     let root = krate.join("src/lib.rt");
     let Ok(lib) = fs::read_to_string(&root) else { return Vec::new() };
@@ -65,7 +66,8 @@ fn functions(krate: &Path) -> Vec<Function> {
                 header.push_str(line.trim());
             }
             let name = rest.split('(').next().unwrap_or_default();
-            found.push(Function { path: format!("{inside}{of}{name}"), public: public && open, header });
+            let within = if of.is_empty() { &inside } else { &of };
+            found.push(Function { path: format!("{within}{name}"), public: public && (open || !of.is_empty()), header });
         }
     }
     found
