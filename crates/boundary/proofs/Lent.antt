@@ -21,7 +21,7 @@ use Rattle.garage.specs.Station.{startOf, fit}
 use Rattle.garage.specs.Calls as station
 use Rattle.garage_laws.specs.Runs as run
 use Rattle.garage_laws.specs.Runs.{Call, call, left, Reached, byImage}
-use Rattle.garage_laws.proofs.Calls.{untouched}
+use Rattle.garage_laws.proofs.EachCall.{untouched}
 use Rattle.wire.specs.declared.What.{What}
 use Rattle.wire.specs.declared.What.the-variants.{Request, Event, Result, Image, Ask, Held}
 use Rattle.wire_laws.specs.Statements.{Bytes}

@@ -22,7 +22,8 @@ use Rattle.garage_laws.specs.Runs as run
 use Rattle.garage_laws.specs.Runs.{Call, call, said, left, calls, atStart, byImage, NoImages, Reached}
 use Rattle.garage_laws.proofs.Fits.{fit-start, after-result}
 use Rattle.garage_laws.proofs.Issues.{issues-in-turn}
-use Rattle.garage_laws.proofs.Calls.{image-has, image-is, untouched, fit-says, following}
+use Rattle.garage_laws.proofs.Calls.{image-has, image-is, following}
+use Rattle.garage_laws.proofs.EachCall.{untouched, fit-says}
 use Rattle.garage_laws.proofs.Steps.{Step, refuses, opens, fails, succeeds, drives, tells, steps, reached}
 use Rattle.garage_laws.proofs.Always.{begins-has, fit-step, small-step, fit-stays, always-laid-out}
 use Rattle.garage_laws.proofs.Demands.{never-fourteen}

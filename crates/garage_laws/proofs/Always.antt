@@ -25,7 +25,8 @@ use Rattle.garage_laws.specs.Runs.{Call, said, left, calls, Begins, atSt
 use Rattle.garage_laws.specs.Demands.{AlwaysLaidOut, CarsCounted, FitStays, NeverUnfit}
 use Rattle.garage_laws.proofs.Instance.{possibleAs, afterAs, next-sound, after-sound, next-cars}
 use Rattle.garage_laws.proofs.Fits.{fit-has, fit-start, fit-holding, fit-opened, fit-answering}
-use Rattle.garage_laws.proofs.Calls.{following, answering-bits, event-is, image-has, image-is, untouched, unfit-is, fit-says}
+use Rattle.garage_laws.proofs.Calls.{following, answering-bits, event-is, image-has, image-is}
+use Rattle.garage_laws.proofs.EachCall.{untouched, unfit-is, fit-says}
 use Rattle.garage_laws.proofs.Steps.{Step, refuses, opens, fails, succeeds, drives, tells, steps, parts}
 
 -- ---- fit

@@ -17,7 +17,8 @@ use Rattle.garage_laws.specs.Runs as run
 use Rattle.garage_laws.specs.Runs.{Call, said}
 use Rattle.garage_laws.specs.Demands.{ResultTaken, EventTaken, Changes, OnlySuccessChanges}
 use Rattle.garage_laws.proofs.Instance.{possibleAs}
-use Rattle.garage_laws.proofs.Calls.{success-is, done-has, answering-bits, event-has, event-is, untouched}
+use Rattle.garage_laws.proofs.Calls.{success-is, done-has, answering-bits, event-has, event-is}
+use Rattle.garage_laws.proofs.EachCall.{untouched}
 use Rattle.garage_laws.proofs.Steps.{Step, refuses, opens, fails, succeeds, drives, tells, steps}
 
 pub result-taken : ResultTaken

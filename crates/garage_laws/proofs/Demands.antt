@@ -13,7 +13,7 @@ use Rattle.garage_laws.specs.Runs as run
 use Rattle.garage_laws.specs.Runs.{call}
 use Rattle.garage_laws.specs.Demands.{RefusedUntouched, CallsInTable, AcceptedExactly, ReasonExactly, ResultRecord, FailureKeeps, LateExactly, IssuesInTurn, FirstIsZero, ImageKeepsCount, BehindCounts, EventRecord, ImageTaken, AskKeeps, ResultTaken, EventTaken, OnlySuccessChanges, PlacesRight, PlacesElse, PlacesInRange, AlwaysLaidOut, CarsCounted, AnyOrder, OrdersExist, AnyOrderAmid, AmidUnmoved, AmidExists, AmidCovers, NeverFourteen, FitStays, NeverUnfit}
 use Rattle.garage_laws.proofs.Instance.{afterAs}
-use Rattle.garage_laws.proofs.Calls as calls
+use Rattle.garage_laws.proofs.EachCall as each
 use Rattle.garage_laws.proofs.Calls.{Drivable, request-has, request-is, success-has, success-is, failure-has, failure-is, answering-bits, event-has, event-is, image-has, image-is, ask-has, ask-is}
 use Rattle.garage_laws.proofs.Places as places
 use Rattle.garage_laws.proofs.Refusals as refusals
@@ -36,7 +36,7 @@ rest o = o .station
 -- ---- 1. It always answers
 
 pub refused-untouched : RefusedUntouched
-refused-untouched = calls.untouched
+refused-untouched = each.untouched
 
 pub calls-in-table : CallsInTable
 calls-in-table s c = (call s c .answer, refl)

@@ -23,7 +23,8 @@ use Rattle.garage_laws.specs.Runs.{call, said, left, calls}
 use Rattle.garage_laws.specs.Orders.{Fair, replies}
 use Rattle.garage_laws.specs.Demands.{Waiting}
 use Rattle.garage_laws.proofs.Instance.{rules, possibleAs}
-use Rattle.garage_laws.proofs.Calls.{success-is, failure-is, event-has, event-is, event-number, untouched}
+use Rattle.garage_laws.proofs.Calls.{success-is, failure-is, event-has, event-is, event-number}
+use Rattle.garage_laws.proofs.EachCall.{untouched}
 use Rattle.garage_laws.proofs.Steps.{steps}
 use Rattle.garage_laws.proofs.Issues.{issues-in-turn}
 use Rattle.garage_laws.proofs.Always.{fit-step}

@@ -22,7 +22,8 @@ use Rattle.garage_laws.specs.Runs as run
 use Rattle.garage_laws.specs.Runs.{Call, call, said, left, carried, opens, calls, setsOpened}
 use Rattle.garage_laws.specs.Demands.{Heard, LateExactly, IssuesInTurn, FirstIsZero, BehindCounts}
 use Rattle.garage_laws.proofs.Fits.{after-result}
-use Rattle.garage_laws.proofs.Calls.{either, untouched, following, request-has, request-is, success-has, success-is, success-either, failure-has, failure-is, done-has, event-has, event-is, image-has, image-is, ask-has, ask-is}
+use Rattle.garage_laws.proofs.Calls.{either, following, request-has, request-is, success-has, success-is, success-either, failure-has, failure-is, done-has, event-has, event-is, image-has, image-is, ask-has, ask-is}
+use Rattle.garage_laws.proofs.EachCall.{untouched}
 
 -- ---- what a call carries and leaves
 

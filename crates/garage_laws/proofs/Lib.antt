@@ -2,6 +2,7 @@ pub mod Instance
 pub mod Fits
 pub mod Reasons
 pub mod Calls
+pub mod EachCall
 pub mod Places
 pub mod Refusals
 pub mod Steps

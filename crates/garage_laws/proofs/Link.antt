@@ -35,7 +35,8 @@ use Rattle.garage_laws.specs.Demands.{Acceptable, Waiting, NeverFourteen
 use Rattle.garage_laws.proofs.Instance.{rules, framed, blank, possibleAs}
 use Rattle.garage.proofs.Padding.{five-at, zeros-at, kept-code}
 use Rattle.garage_laws.proofs.Fits.{fit-has, some-every, marksWith, after-result}
-use Rattle.garage_laws.proofs.Calls.{following, success-either, each-call}
+use Rattle.garage_laws.proofs.Calls.{following, success-either}
+use Rattle.garage_laws.proofs.EachCall.{each-call}
 use Rattle.garage_laws.proofs.Always.{begins-has}
 use Rattle.garage_laws.proofs.Steps.{Step, refuses, opens, fails, succeeds, drives, tells, reached}
 

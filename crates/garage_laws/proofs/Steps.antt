@@ -21,7 +21,8 @@ use Rattle.garage_laws.specs.Runs as run
 use Rattle.garage_laws.specs.Runs.{Call, said, left, calls, NoImages, Begins, Reached}
 use Rattle.garage_laws.specs.Demands.{Acceptable, Waiting}
 use Rattle.garage_laws.proofs.Instance.{afterAs}
-use Rattle.garage_laws.proofs.Calls.{request-has, request-is, following, success-has, success-is, failure-has, failure-is, done-has, Drivable, event-has, event-is, untouched}
+use Rattle.garage_laws.proofs.Calls.{request-has, request-is, following, success-has, success-is, failure-has, failure-is, done-has, Drivable, event-has, event-is}
+use Rattle.garage_laws.proofs.EachCall.{untouched}
 
 -- a call leads from the station s to another
 pub data Step (s : Station) : Call → Station → Type 0 where

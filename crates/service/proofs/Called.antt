@@ -19,7 +19,7 @@ use Rattle.garage.specs.Turns.{turnOf}
 use Rattle.garage.proofs.Turns.{Kept, kept-refused, kept-requested, kept-evented, kept-resulted, kept-imaged}
 use Rattle.garage_laws.specs.Runs as run
 use Rattle.garage_laws.specs.Runs.{Call}
-use Rattle.garage_laws.proofs.Calls.{unfit-is}
+use Rattle.garage_laws.proofs.EachCall.{unfit-is}
 use Rattle.garage_laws.proofs.Demands.{fit-stays}
 use Rattle.wire.specs.declared.What.{What}
 use Rattle.wire.specs.declared.What.the-variants.{Request, Event, Result, Image, Ask, Answer, Held}

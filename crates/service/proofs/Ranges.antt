@@ -15,7 +15,7 @@ use Rattle.answers.proofs.Promises.{answer-in}
 use Rattle.garage.specs.declared.Station.{Station}
 use Rattle.garage.specs.declared.Outcome.{Outcome}
 use Rattle.garage_laws.specs.Runs.{call}
-use Rattle.garage_laws.proofs.Calls.{not-seventeen}
+use Rattle.garage_laws.proofs.EachCall.{not-seventeen}
 use Rattle.garage_laws.proofs.Demands.{refused-untouched, places-in-range}
 use Rattle.wire.specs.declared.What.{What}
 use Rattle.wire.specs.declared.What.the-variants.{Request, Event, Result, Image, Ask, Held}
