@@ -186,7 +186,7 @@ fn main() {
             let shut: Vec<_> = whole.iter().map(|file| told(&name, &how(file), &name_of(file))).collect();
             if public_none { list += &format!("\n## `{name}`\n"); }
             list += &format!("\nAs a whole: {}.\n", shut.join("; "));
-            tried += whole.len();
+            tried += whole.iter().map(|file| how(file).split("; ").count()).sum::<usize>();
         }
         for file in edits.iter().filter(|_| words[1] == "check") {
             let edit = name_of(file);
