@@ -58,7 +58,7 @@ fn main() {
     }));
     time("garage_sound", || { black_box(reference::sound(black_box(START))); });
     time("garage_cars", || { black_box(reference::cars(black_box(START))); });
-    time("garage_allowed", || { black_box(Instruction::read(black_box(LEFT_BELT)).map(|belts| belts.allowed(black_box(START)))); });
+    time("garage_allowed", || { black_box(Instruction::read(black_box(LEFT_BELT)).map(|belts| belts.judge(black_box(START)))); });
     let eight = EIGHT.concat();
     time("request_of_eight", || lent(&start, |station| station.request(black_box(8), black_box(&eight))));
     next("next_by_belt", LEFT_BELT);

@@ -29,9 +29,17 @@
  * is fine, and what stands past those bytes keeps its value.
  *
  * Answers. An entry that returns uint32_t answers with a number of the table below and a place: STATION_NUMBER and STATION_PLACE
- * take them apart. The place is the instruction at fault, counted from 0, for STATION_BAD_FIELD in a request, STATION_OVERLAP and
- * STATION_NOT_ALLOWED; else it is STATION_NOWHERE. A call that isn't taken writes nothing; of a message that isn't, only the refusal is
+ * take them apart. The place is the instruction at fault, counted from 0, in a request for STATION_BAD_FIELD, STATION_OVERLAP and the
+ * reasons, 20 to 28; else it is STATION_NOWHERE. A call that isn't taken writes nothing; of a message that isn't, only the refusal is
  * written, as the message that answers it (station_message).
+ *
+ * Reasons. An instruction that the record doesn't allow is refused for the first of its conditions that fails, in this order; a request,
+ * for its least instruction that isn't allowed, whatever a later one has:
+ *   GARAGE_BELTS     25, 20, 21, 22, 23, 24
+ *   GARAGE_SHUTTLES  20, 21, 22, 24, 23
+ *   GARAGE_TILT      22, 28 of a lowered shuttle; 22, 23 of a tilted one
+ *   GARAGE_LIFT      26, 24
+ *   GARAGE_ROTATE    27, 28
  */
 #ifndef STATION_H
 #define STATION_H
@@ -48,7 +56,7 @@ extern "C" {
 #define STATION_NUMBER(answer) ((uint8_t)((answer) & 0xFFu))
 #define STATION_PLACE(answer) ((uint8_t)(((answer) >> 8) & 0xFFu))
 
-/* What the numbers mean. */
+/* What the numbers mean; 9, 18 and 19 are none. */
 enum {
     STATION_TAKEN = 0,              /* taken */
     STATION_TOO_FEW_BYTES = 1,      /* fewer bytes than a message or a count says, or an instruction has */
@@ -59,7 +67,6 @@ enum {
     STATION_SET_OUTSTANDING = 6,    /* a set still waits for results */
     STATION_EMPTY_SET = 7,          /* no instruction */
     STATION_OVERLAP = 8,            /* an instruction touches what an earlier one of the set touches */
-    STATION_NOT_ALLOWED = 9,        /* an instruction isn't allowed on the record */
     STATION_EVENT_IMPOSSIBLE = 10,  /* no car can come in, or none can leave */
     STATION_NO_SET = 11,            /* a result, and no set is outstanding */
     STATION_NOT_IN_SET = 12,        /* a result for an instruction that the set doesn't have */
@@ -67,7 +74,16 @@ enum {
     STATION_NOW_NOT_ALLOWED = 14,   /* reported done, and the record doesn't allow it */
     STATION_UNSOUND = 15,           /* the image is no possible garage */
     STATION_UNFIT = 16,             /* the lent bytes are no station */
-    STATION_NO_ROOM = 17            /* lent room is too short */
+    STATION_NO_ROOM = 17,           /* lent room is too short */
+    STATION_NOTHING_NAMED = 20,     /* an instruction names no belt, or no row */
+    STATION_GAP = 21,               /* the belts or rows that it names have one between them that it doesn't */
+    STATION_NOT_AVAILABLE = 22,     /* a shuttle, or a belt's lift, isn't there; for a tilt: not all lowered, or none tilted there */
+    STATION_NOT_FREE = 23,          /* the end of the belts, the next row or the slot below isn't free, or isn't there */
+    STATION_ODD_COUNT = 24,         /* an odd count of occupied half cells: a car would be torn */
+    STATION_HALF_MOVE = 25,         /* a half move in row 2 or 3 */
+    STATION_SAME_HEIGHT = 26,       /* the lift is at that height */
+    STATION_NOT_AT_ROTATION = 27,   /* the lift isn't at rotation height */
+    STATION_CELLS_NOT_FREE = 28     /* cells that must be free for the tilt or the rotation aren't */
 };
 
 /* The place where an answer names no instruction. */
@@ -129,7 +145,7 @@ enum {
 uint32_t station_start(uint8_t *room, size_t room_length);
 
 /* Requests a set of `count` instructions: the first 5 * count bytes of `set`, and none past them. 17; 1 if count is at most eight and
- * `set` is shorter than that; 16; then 6, 5, 7, 4, 8, 9. Taken, the set is outstanding and the record is as it was. */
+ * `set` is shorter than that; 16; then 6, 5, 7, 4, 8, 20 to 28. Taken, the set is outstanding and the record is as it was. */
 uint32_t station_request(uint8_t *room, size_t room_length, uint8_t count, const uint8_t *set, size_t set_length);
 
 /* A car came in (STATION_CAR_IN) or left (STATION_CAR_OUT). 17, 16, then 4, 6, 10. */
@@ -161,11 +177,12 @@ bool garage_sound(uint64_t image);
 /* The number of cars of a sound record, at most 30; 255 if the image isn't sound. */
 uint32_t garage_cars(uint64_t image);
 
-/* Whether the record allows the instruction that the first five bytes of `five` say: 1 where there are fewer, 4 where they say no
- * instruction, then 9 or 0. The place is always STATION_NOWHERE. The image is not tested for soundness. */
+/* Whether the record allows the instruction that the first five bytes of `five` say, or why not: 1 where there are fewer, 4 where they
+ * say no instruction, then the reason, 20 to 28, or 0. The place is always STATION_NOWHERE. The image is not tested for soundness. */
 uint32_t garage_allowed(uint64_t image, const uint8_t *five, size_t five_length);
 
-/* The same, and if it is allowed the eight bytes of the record after it are written to `next`. 17 where that is too short, then 1, 4, 9. */
+/* The same, and if it is allowed the eight bytes of the record after it are written to `next`. 17 where that is too short, then 1, 4, 20
+ * to 28. */
 uint32_t garage_next(uint64_t image, const uint8_t *five, size_t five_length, uint8_t *next, size_t next_length);
 
 #ifdef __cplusplus

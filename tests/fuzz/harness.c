@@ -13,6 +13,8 @@
 /* The reference's side, reference_c.rs. */
 uint32_t reference_call(const struct command *command);
 bool reference_gives(uint8_t entry, uint8_t number);
+uint16_t reference_reason(const struct command *command, uint32_t answer);
+bool reference_refuses(uint8_t opcode, uint8_t number);
 
 int LLVMFuzzerInitialize(int *count, char ***words);
 int LLVMFuzzerTestOneInput(const uint8_t *data, size_t size);
@@ -28,7 +30,7 @@ enum { LIFT_AT = 52, SLOTS_AT = 40 };
 #define MIDDLES (UINT64_C(0xFF) << 21 | UINT64_C(0xFF) << 31)
 
 /* Runs are lent up to lengths that no longer fit a byte. */
-enum { RUN_MOST = 320, NUMBERS = 18, RUNS = 3 };
+enum { RUN_MOST = 320, NUMBERS = STATION_CELLS_NOT_FREE + 1, OPCODES = GARAGE_ROTATE + 1, RUNS = 3 };
 
 static struct page pages[RUNS];
 static size_t page_size;
@@ -36,35 +38,46 @@ static size_t page_size;
 /* ---- what was reached */
 
 static uint64_t calls;
-static bool seen[ENTRIES][NUMBERS];
+static bool seen[ENTRIES][NUMBERS], refused[OPCODES][NUMBERS];
 
 /* Told to the fuzzer beside the code that was reached: an input is kept where one of these is new. */
 static struct {
     uint8_t answers[ENTRIES][32];
+    uint8_t reasons[OPCODES][NUMBERS];
     uint8_t cars[32];
     uint8_t lift[8];
     uint8_t shuttles[2][64];
     uint8_t outstanding[STATION_MOST + 1][STATION_MOST + 1];
 } reached __attribute__((section("__libfuzzer_extra_counters")));
 
-static void tell(uint8_t entry, uint32_t answer) {
+static void tell(const struct command *command, uint32_t answer) {
     uint8_t number = STATION_NUMBER(answer);
+    uint16_t reason = reference_reason(command, answer);
     calls++;
-    reached.answers[entry][number % 32] = 1;
+    reached.answers[command->entry][number % 32] = 1;
     if (number < NUMBERS)
-        seen[entry][number] = true;
+        seen[command->entry][number] = true;
+    if (reason != 0)
+        reached.reasons[reason >> 8][number] = refused[reason >> 8][number] = true;
 }
 
-/* Says whether each entry gave every number that it can give, and no other; if not, too little was tried. */
+/* Says whether each entry gave every number that it can give, and no other, and each opcode was refused for all that it can be on a
+ * sound record; if not, too little was tried. */
 static void summary(void) {
     bool all = true;
+    for (uint8_t opcode = 0; opcode < OPCODES; opcode++)
+        for (uint8_t number = 0; number < NUMBERS; number++)
+            if (reference_refuses(opcode, number) != refused[opcode][number]) {
+                fprintf(stderr, "opcode %d was %s with %d\n", opcode, refused[opcode][number] ? "refused" : "never refused", number);
+                all = false;
+            }
     for (uint8_t entry = 0; entry < ENTRIES; entry++)
         for (uint8_t number = 0; number < NUMBERS; number++)
             if (entry != CARS && reference_gives(entry, number) != seen[entry][number]) {
                 fprintf(stderr, "entry %d %s %d\n", entry, seen[entry][number] ? "gave" : "never gave", number);
                 all = false;
             }
-    fprintf(stderr, "calls compared: %llu, %s\n", (unsigned long long)calls, all ? "every number came" : "numbers are amiss");
+    fprintf(stderr, "calls compared: %llu, %s\n", (unsigned long long)calls, all ? "every number and reason came" : "some are amiss");
 }
 
 /* ---- a call compared */
@@ -149,7 +162,7 @@ static void compare(struct command *command, unsigned places) {
         abort();
     }
     under_way = NULL;
-    tell(command->entry, answer);
+    tell(command, answer);
 }
 
 /* ---- an input read */

@@ -5,6 +5,7 @@ mod command;
 #[path = "../host/reference.rs"]
 mod reference;
 
+use reference::REASONS;
 use std::slice::{from_raw_parts, from_raw_parts_mut};
 
 /// As `struct lent` of command.h.
@@ -26,23 +27,42 @@ pub struct Command {
     output: Lent,
 }
 
+impl Command {
+    /// # Safety
+    /// Each run is valid for its size, and overlaps no other.
+    unsafe fn lent(&self) -> command::Command<'_> {
+        let &Command { entry, first, second, image, ref room, ref input, ref output } = self;
+        command::Command {
+            entry,
+            first,
+            second,
+            image,
+            room: from_raw_parts_mut(room.bytes, room.size),
+            input: from_raw_parts(input.bytes, input.size),
+            output: from_raw_parts_mut(output.bytes, output.size),
+        }
+    }
+}
+
 /// What the call must return; its rooms are left as it must leave them.
 ///
 /// # Safety
 /// Each run is valid for its size, and overlaps no other.
 #[no_mangle]
-pub unsafe extern "C" fn reference_call(given: &Command) -> u32 {
-    let &Command { entry, first, second, image, ref room, ref input, ref output } = given;
-    command::call(&mut command::Command {
-        entry,
-        first,
-        second,
-        image,
-        room: from_raw_parts_mut(room.bytes, room.size),
-        input: from_raw_parts(input.bytes, input.size),
-        output: from_raw_parts_mut(output.bytes, output.size),
-    })
+pub unsafe extern "C" fn reference_call(given: &Command) -> u32 { command::call(&mut given.lent()) }
+
+/// Where a call's answer says why an instruction isn't allowed on a sound record: the opcode in the upper byte, the number; else 0.
+///
+/// # Safety
+/// Each run is valid for its size, and overlaps no other.
+#[no_mangle]
+pub unsafe extern "C" fn reference_reason(given: &Command, answer: u32) -> u16 {
+    command::reason_told(&given.lent(), answer).map_or(0, |(opcode, number)| u16::from_be_bytes([opcode, number]))
 }
+
+/// Whether an opcode can be refused with a number for what a sound record is.
+#[no_mangle]
+pub extern "C" fn reference_refuses(opcode: u8, number: u8) -> bool { REASONS.contains(&(opcode, number)) }
 
 /// Whether an entry can answer with a number.
 #[no_mangle]

@@ -7,16 +7,16 @@ use crate::reference::{cars, lent, read_call, sound, Answer, Call, Instruction, 
 /// all. (What garage_cars returns is not of the table.)
 pub const ENTRIES: [(&str, &[u8]); 11] = [
     ("station_start", &[0, 17]),
-    ("station_request", &[0, 1, 4, 5, 6, 7, 8, 9, 16, 17]),
+    ("station_request", &[0, 1, 4, 5, 6, 7, 8, 16, 17, 20, 21, 22, 23, 24, 25, 26, 27, 28]),
     ("station_event", &[0, 4, 6, 10, 16, 17]),
     ("station_result", &[0, 4, 11, 12, 13, 14, 16, 17]),
     ("station_image", &[0, 6, 15, 16, 17]),
     ("station_ask", &[0, 16, 17]),
-    ("station_message", &[0, 1, 2, 3, 4, 5, 6, 7, 8, 9, 10, 11, 12, 13, 14, 15, 16, 17]),
+    ("station_message", &[0, 1, 2, 3, 4, 5, 6, 7, 8, 10, 11, 12, 13, 14, 15, 16, 17, 20, 21, 22, 23, 24, 25, 26, 27, 28]),
     ("garage_sound", &[0, 1]),
     ("garage_cars", &[]),
-    ("garage_allowed", &[0, 1, 4, 9]),
-    ("garage_next", &[0, 1, 4, 9, 17]),
+    ("garage_allowed", &[0, 1, 4, 20, 21, 22, 23, 24, 25, 26, 27, 28]),
+    ("garage_next", &[0, 1, 4, 17, 20, 21, 22, 23, 24, 25, 26, 27, 28]),
 ];
 
 /// One call with all that it is given; what an entry doesn't take is not looked at.
@@ -91,12 +91,12 @@ fn message(room: &mut [u8], message: &[u8], output: &mut [u8]) -> Answer {
     })
 }
 
-/// Whether an image allows the instruction of these bytes, and the record after it.
+/// Whether an image allows the instruction of these bytes or why not, and the record after it.
 fn verdict(image: u64, five: &[u8]) -> (Answer, Option<u64>) {
-    match five.first_chunk().and_then(|&five| Instruction::read(five)) {
-        None => ((4, 255), None),
-        Some(instruction) if instruction.allowed(image) => ((0, 255), Some(instruction.next(image))),
-        Some(_) => ((9, 255), None),
+    let Some(instruction) = five.first_chunk().and_then(|&five| Instruction::read(five)) else { return ((4, 255), None) };
+    match instruction.judge(image) {
+        Ok(()) => ((0, 255), Some(instruction.next(image))),
+        Err(number) => ((number, 255), None),
     }
 }
 
@@ -108,6 +108,19 @@ fn next(image: u64, five: &[u8], output: &mut [u8]) -> Answer {
         if let Some(after) = after { put(output, &after.to_le_bytes()); }
         answer
     })
+}
+
+/// Where a call's answer says why an instruction isn't allowed on a sound record: its opcode and the number. A station that answers so
+/// is fit; of the questions on any image, those on a sound one count.
+pub fn reason_told(command: &Command, answer: u32) -> Option<(u8, u8)> {
+    let (number, place) = (answer as u8, (answer >> 8) as usize);
+    let at = match command.entry {
+        1 => CODE * place,
+        6 => 5 + CODE * place,
+        9 | 10 if sound(command.image) => 0,
+        _ => return None,
+    };
+    (number >= 20).then(|| (command.input[at], number))
 }
 
 /// What the call returns; its rooms are left as it must leave them.

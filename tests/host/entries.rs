@@ -1,14 +1,14 @@
 //! Every entry for C against the reference: `entries COMMANDS STACK PROGRAM..`, where the program is entries.c. Seeded commands on
 //! stations as they come by calls and on damaged ones, in rooms long and short: what an entry returns and what it leaves in every room
 //! must be what the reference says, and no call may take more than so many bytes of stack. Each entry must have given every number that
-//! it can give, and no other.
+//! it can give, and no other; those that say why an instruction isn't allowed, every reason of each opcode on sound records.
 
 mod command;
 mod reference;
 mod traffic;
 
 use command::{Command, ENTRIES};
-use reference::Station;
+use reference::{Station, REASONS};
 use std::collections::BTreeSet;
 use std::io::{BufReader, Read, Write};
 use std::process::{exit, Stdio};
@@ -26,12 +26,13 @@ struct Given {
     output: Vec<u8>,
 }
 
-/// A command in bytes, and what it must return and leave.
+/// A command in bytes, what it must return and leave, and the reason that this gives for an opcode.
 struct Trial {
     entry: u8,
     sent: Vec<u8>,
     answer: u32,
     left: Vec<u8>,
+    reason: Option<(u8, u8)>,
 }
 
 impl Given {
@@ -44,8 +45,10 @@ impl Given {
         }
         let Given { entry, first, second, image, .. } = self;
         let (room, input, output) = (&mut self.room[..], &self.input[..], &mut self.output[..]);
-        let answer = command::call(&mut Command { entry, first, second, image, room, input, output });
-        Trial { entry, sent, answer, left: [self.room, self.output].concat() }
+        let mut command = Command { entry, first, second, image, room, input, output };
+        let answer = command::call(&mut command);
+        let reason = command::reason_told(&command, answer);
+        Trial { entry, sent, answer, left: [self.room, self.output].concat(), reason }
     }
 }
 
@@ -115,7 +118,8 @@ fn station_call(numbers: &mut Numbers, station: &Station) -> Given {
 
 fn message_call(numbers: &mut Numbers, station: &Station) -> Given {
     let room = station_room(numbers, station);
-    let mut message = traffic::framed_message(numbers, station);
+    let refused = if numbers.one_in(6) { traffic::refused_request(numbers, station.record, 2) } else { None };
+    let mut message = refused.unwrap_or_else(|| traffic::framed_message(numbers, station));
     if numbers.one_in(10) { message[0] = numbers.byte(); }
     if numbers.one_in(10) { message.truncate(numbers.below(message.len() as u64 + 1) as usize); }
     let more = numbers.below(3) as usize;
@@ -126,7 +130,8 @@ fn message_call(numbers: &mut Numbers, station: &Station) -> Given {
 
 fn record_call(numbers: &mut Numbers, record: u64) -> Given {
     let image = if numbers.one_in(3) { record } else { traffic::near_record(numbers, record) };
-    let mut five = traffic::any_five(numbers).to_vec();
+    let refused = if numbers.one_in(4) { traffic::refused_five(numbers, image) } else { None };
+    let mut five = refused.unwrap_or_else(|| traffic::any_five(numbers)).to_vec();
     if numbers.one_in(20) { five.truncate(numbers.below(5) as usize); }
     let size = if numbers.one_in(20) { numbers.below(8) } else { 8 + numbers.below(3) } as usize;
     match numbers.below(5) {
@@ -168,6 +173,7 @@ fn main() {
     let sender = std::thread::spawn(move || pipe.write_all(&sent).expect("the program reads"));
     let mut answers = BufReader::new(child.stdout.take().expect("a pipe"));
     let mut seen = vec![BTreeSet::new(); ENTRIES.len()];
+    let mut reasons = vec![BTreeSet::new(); ENTRIES.len()];
     let mut stacks = [0; ENTRIES.len()];
     for (at, trial) in trials.iter().enumerate() {
         let (mut answer, mut stack, mut left) = ([0; 4], [0; 4], vec![0; trial.left.len()]);
@@ -181,6 +187,7 @@ fn main() {
             exit(1);
         }
         seen[entry].insert(answer as u8);
+        reasons[entry].extend(trial.reason);
         stacks[entry] = stack.max(stacks[entry]);
     }
     sender.join().expect("the sender ends");
@@ -197,6 +204,11 @@ fn main() {
             eprintln!("{entry} gave {seen:?}, expected {numbers:?}");
             exit(1);
         }
+    }
+    let telling = ENTRIES.iter().zip(&reasons).filter(|((_, numbers), _)| REASONS.iter().any(|(_, reason)| numbers.contains(reason)));
+    for ((entry, _), reasons) in telling {
+        if !traffic::every_reason(entry, reasons) { exit(1); }
+        println!("entries: {entry} gave {} pairs of opcode and reason on sound records, all that can come", reasons.len());
     }
     println!("entries: at most {limit} bytes of stack, of {stacks:?}");
     println!("entries: {} commands, each answer and room as the reference's; every number that each entry can give came", trials.len());

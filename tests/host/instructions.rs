@@ -1,4 +1,4 @@
-//! The reference's five instructions: which are well-formed, their areas, when each is allowed, and the record after it.
+//! The reference's five instructions: which are well-formed, their areas, why one is not allowed, and the record after it.
 use super::floor::ROTATION_CELLS;
 use super::*;
 
@@ -12,6 +12,30 @@ pub enum Instruction {
     Rotate,
 }
 use Instruction::{Belts, Lift, Rotate, Shuttles, Tilt};
+
+// Why an instruction is refused, by the numbers of the table.
+const BAD_FIELD: u8 = 4;
+const NOTHING_NAMED: u8 = 20;
+const GAP: u8 = 21;
+const NOT_AVAILABLE: u8 = 22; // of a tilt: not all lowered, or none tilted there
+const NO_WAY: u8 = 23; // the end, the next row or the slot below is not free or not there
+const ODD: u8 = 24;
+const HALF_MOVE: u8 = 25; // in row 2 or 3
+const SAME_HEIGHT: u8 = 26;
+const NOT_AT_ROTATION: u8 = 27;
+const CELLS_TAKEN: u8 = 28; // those of a tilt or a rotation
+
+/// What each opcode is refused for where a sound record doesn't allow it: all pairs of opcode and number that there are.
+pub const REASONS: [(u8, u8); 18] = [
+    (1, HALF_MOVE), (1, NOTHING_NAMED), (1, GAP), (1, NOT_AVAILABLE), (1, NO_WAY), (1, ODD),
+    (2, NOTHING_NAMED), (2, GAP), (2, NOT_AVAILABLE), (2, ODD), (2, NO_WAY),
+    (3, NOT_AVAILABLE), (3, CELLS_TAKEN), (3, NO_WAY),
+    (4, SAME_HEIGHT), (4, ODD),
+    (5, NOT_AT_ROTATION), (5, CELLS_TAKEN),
+];
+
+/// A condition: where it fails, its number is told.
+fn holds(condition: bool, number: u8) -> Result<(), u8> { condition.then_some(()).ok_or(number) }
 
 pub fn named(mask: u8, at: u32) -> bool { bit(mask.into(), at) }
 
@@ -94,49 +118,64 @@ impl Instruction {
     }
 
     /// Whether the instruction is allowed on this record. (Ill-formed: never.)
-    pub fn allowed(&self, image: u64) -> bool {
+    pub fn allowed(&self, image: u64) -> bool { self.judge(image).is_ok() }
+
+    /// Whether the instruction is allowed on this record, or else the number of the first of its conditions that fails, in the
+    /// paper's order. (Ill-formed: that of a bad field.)
+    pub fn judge(&self, image: u64) -> Result<(), u8> {
         match *self {
-            _ if !self.well_formed() => false,
+            _ if !self.well_formed() => Err(BAD_FIELD),
             Belts { row, mask, d, size } => {
-                let Some((low, high)) = ends(mask) else { return false }; // at least one belt
+                holds(row == 1 || size == FULL, HALF_MOVE)?; // only row 1 moves by halves
+                let (low, high) = ends(mask).ok_or(NOTHING_NAMED)?;
+                holds((low..=high).all(|belt| named(mask, belt)), GAP)?;
                 // A shuttle belt needs its lowered shuttle, the lift belt the basement.
                 let available = |belt| match shuttle_side(row, belt) {
                     Some(side) => bit(image, slot(side, row, LOWERED)),
                     None => (row, belt) != (1, 2) || height(image) == BASEMENT,
                 };
+                holds((low..=high).all(available), NOT_AVAILABLE)?;
                 let (span, by) = (span(row, mask), shift(row, size));
                 let end = if d == HIGHER { span.end - by..span.end } else { span.start..span.start + by };
-                (row == 1 || size == FULL) // only row 1 moves by halves
-                    && (low..=high).all(|belt| named(mask, belt) && available(belt)) // no gap
-                    && free(image, end) // at the end toward d, as many cells as the shift is long
-                    && (row != 1 || even(image, span)) // no car of row 1 is torn
+                holds(free(image, end), NO_WAY)?; // at the end toward d, as many cells as the shift is long
+                holds(row != 1 || even(image, span), ODD) // no car of row 1 is torn
             }
             Shuttles { side, mask, orientation, d } => {
-                let Some((low, high)) = ends(mask) else { return false }; // at least one row
-                let (low, high) = (low as u8 + 1, high as u8 + 1);
+                let (low, high) = ends(mask).map(|(low, high)| (low as u8 + 1, high as u8 + 1)).ok_or(NOTHING_NAMED)?;
+                holds(rows(mask).eq(low..=high), GAP)?;
                 let present = |row| bit(image, slot(side, row, orientation));
-                (low..=high).all(|row| named(mask, u32::from(row) - 1) && present(row)) // no gap
-                    && (orientation != LOWERED || low != 1 || even(image, position(side, 1))) // no half car
-                    // The row they shift into exists and has no such shuttle.
-                    && next_row(if d == HIGHER { high } else { low }, d).is_some_and(|row| !present(row))
+                holds(rows(mask).all(present), NOT_AVAILABLE)?;
+                let whole = orientation != LOWERED || low != 1 || even(image, position(side, 1)); // no half car
+                holds(whole, ODD)?;
+                // The row they shift into exists and has no such shuttle.
+                let next = next_row(if d == HIGHER { high } else { low }, d);
+                holds(next.is_some_and(|row| !present(row)), NO_WAY)
             }
             // All three of the side are lowered and no car is on this one.
             Tilt { side, row, orientation: LOWERED } => {
-                (1..=3).all(|row| bit(image, slot(side, row, LOWERED))) && free(image, position(side, row))
+                holds((1..=3).all(|row| bit(image, slot(side, row, LOWERED))), NOT_AVAILABLE)?;
+                holds(free(image, position(side, row)), CELLS_TAKEN)
             }
-            // A tilted one is there and no lowered one.
-            Tilt { side, row, .. } => bit(image, slot(side, row, TILTED)) && !bit(image, slot(side, row, LOWERED)),
+            // A tilted one is there and no lowered one below it.
+            Tilt { side, row, .. } => {
+                holds(bit(image, slot(side, row, TILTED)), NOT_AVAILABLE)?;
+                holds(!bit(image, slot(side, row, LOWERED)), NO_WAY)
+            }
             // To another height; out of the basement only with the lift's cells free, or an even
             // number of cells occupied on either side of it, so that no car is torn.
             Lift { height: to } => {
+                holds(height(image) != to, SAME_HEIGHT)?;
                 let whole = || {
                     free(image, LIFT_CELLS)
                         || even(image, ROW_1.start..LIFT_CELLS.start) && even(image, LIFT_CELLS.end..ROW_1.end)
                 };
-                height(image) != to && (height(image) != BASEMENT || whole())
+                holds(height(image) != BASEMENT || whole(), ODD)
             }
             // At rotation height, the six cells beside the lift free.
-            Rotate => height(image) == ROTATION && ROTATION_CELLS.into_iter().all(|cells| free(image, cells)),
+            Rotate => {
+                holds(height(image) == ROTATION, NOT_AT_ROTATION)?;
+                holds(ROTATION_CELLS.into_iter().all(|cells| free(image, cells)), CELLS_TAKEN)
+            }
         }
     }
 

@@ -54,7 +54,7 @@ fn call_body(kind: u16, body: &[u8]) -> Result<Call<'_>, Answer> {
 /// The same for every kind. An answer has a number of the table and an instruction's place or none.
 fn message_body(kind: u16, body: &[u8]) -> Result<Message<'_>, Answer> {
     match (kind, body) {
-        (128, &[number @ 0..=17, place @ (0..=7 | NO_PLACE)]) => Ok(Message::Answer { number, place }),
+        (128, &[number @ (0..=8 | 10..=17 | 20..=28), place @ (0..=7 | NO_PLACE)]) => Ok(Message::Answer { number, place }),
         (128, [_, _]) => Err(answer(4)),
         (129, &[a, b, c, d, e, f, g, h]) => Ok(Message::Image(u64::from_le_bytes([a, b, c, d, e, f, g, h]))),
         (128 | 129, _) => Err(answer(2)),

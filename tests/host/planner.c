@@ -1,6 +1,7 @@
 /* A small planner over station.h. It drives one car in, parks it on row 2, fetches it again and drives it out. Before each set it
  * works out the record that must follow; after the motors' results (here every one succeeds at once) it holds the station's record
- * against that. Every answer is checked: the first refusal ends the run with a message. */
+ * against that. How far a car goes along a row it learns from the reason why the next move is not allowed. Every answer is checked:
+ * the first refusal that it doesn't count on ends the run with a message. */
 #include "station.h"
 
 #include <inttypes.h>
@@ -29,25 +30,38 @@ static Instruction lift(int height) { return code(GARAGE_LIFT, height, 0, 0, 0);
 /* ---- in words */
 
 static const char *const numbers[] = {
-    "taken",
-    "fewer bytes than the message says",
-    "length below 2, above 43, or not the kind's",
-    "unknown kind",
-    "a field out of range",
-    "more than eight instructions",
-    "a set is outstanding",
-    "empty set",
-    "overlap",
-    "not allowed",
-    "event impossible",
-    "no set is outstanding",
-    "not in the set",
-    "already answered",
-    "not allowed on the present record",
-    "image not sound",
-    "station unfit",
-    "room too small",
+    [STATION_TAKEN] = "taken",
+    [STATION_TOO_FEW_BYTES] = "fewer bytes than the message says",
+    [STATION_BAD_LENGTH] = "length below 2, above 43, or not the kind's",
+    [STATION_UNKNOWN_KIND] = "unknown kind",
+    [STATION_BAD_FIELD] = "a field out of range",
+    [STATION_TOO_MANY] = "more than eight instructions",
+    [STATION_SET_OUTSTANDING] = "a set is outstanding",
+    [STATION_EMPTY_SET] = "empty set",
+    [STATION_OVERLAP] = "overlap",
+    [STATION_EVENT_IMPOSSIBLE] = "event impossible",
+    [STATION_NO_SET] = "no set is outstanding",
+    [STATION_NOT_IN_SET] = "not in the set",
+    [STATION_ALREADY_ANSWERED] = "already answered",
+    [STATION_NOW_NOT_ALLOWED] = "not allowed on the present record",
+    [STATION_UNSOUND] = "image not sound",
+    [STATION_UNFIT] = "station unfit",
+    [STATION_NO_ROOM] = "room too small",
+    [STATION_NOTHING_NAMED] = "nothing named",
+    [STATION_GAP] = "a gap between those named",
+    [STATION_NOT_AVAILABLE] = "not available",
+    [STATION_NOT_FREE] = "no free place to move to",
+    [STATION_ODD_COUNT] = "odd count: a car would be torn",
+    [STATION_HALF_MOVE] = "half move in row 2 or 3",
+    [STATION_SAME_HEIGHT] = "already at that height",
+    [STATION_NOT_AT_ROTATION] = "not at rotation height",
+    [STATION_CELLS_NOT_FREE] = "cells not free for the tilt or the rotation",
 };
+
+static const char *words(unsigned number) {
+    const char *found = number < sizeof numbers / sizeof *numbers ? numbers[number] : NULL;
+    return found != NULL ? found : "?";
+}
 
 static const char *const belts_of_row_1[] = {"left shuttle's", "left", "lift's", "right", "right shuttle's"};
 static const char *const belts_of_others[] = {"left shuttle's", "middle", "right shuttle's"};
@@ -124,7 +138,7 @@ static void show(uint64_t image) {
 static void must(const char *call, uint32_t answer) {
     unsigned number = STATION_NUMBER(answer);
     if (number == STATION_TAKEN) return;
-    printf("stopped: %s is refused with %u (%s)", call, number, number <= STATION_NO_ROOM ? numbers[number] : "?");
+    printf("stopped: %s is refused with %u (%s)", call, number, words(number));
     if (STATION_PLACE(answer) != STATION_NOWHERE) printf(" at instruction %u", STATION_PLACE(answer));
     putchar('\n');
     exit(1);
@@ -134,6 +148,18 @@ static uint64_t record_now(void) {
     uint8_t eight[STATION_IMAGE_SIZE];
     must("ask", station_ask(room, sizeof room, eight, sizeof eight));
     return number_of(eight);
+}
+
+/* Whether the record allows an instruction. The planner counts on one reason why not, and says it; any other ends the run. */
+static bool allows(Instruction i, unsigned reason) {
+    uint32_t answer = garage_allowed(record_now(), i.five, sizeof i.five);
+    if (STATION_NUMBER(answer) != reason) {
+        must("question", answer);
+        return true;
+    }
+    printf("not now, %u (%s): ", reason, words(reason));
+    say_instruction(&i);
+    return false;
 }
 
 static void headline(const char *what) { printf("step %u: %s\n", ++steps, what); }
@@ -184,11 +210,12 @@ enum { TO_SHUTTLE_1 = 1 << 2 | 1 << 3 | 1 << 4, MIDDLE_2 = 1 << 1, TO_SHUTTLE_2 
 /* Rows that a shuttle move names. */
 enum { ROWS_1_2 = 1 << 0 | 1 << 1, ROWS_2_3 = 1 << 1 | 1 << 2 };
 
-/* From the lift's cells 11 and 12 to the right shuttle's 18 and 19 are seven half cells. */
+/* By whole cells until the end is not free, and by the half cell that is left then: from the lift's cells 11 and 12 to the right
+ * shuttle's 18 and 19 are seven half cells. */
 static void along_row_1(int toward) {
-    if (toward == GARAGE_LOWER) one("half a cell to begin with", belts(1, TO_SHUTTLE_1, toward, GARAGE_HALF));
-    for (int k = 0; k < 3; k++) one("along row 1", belts(1, TO_SHUTTLE_1, toward, GARAGE_FULL));
-    if (toward == GARAGE_HIGHER) one("half a cell more", belts(1, TO_SHUTTLE_1, toward, GARAGE_HALF));
+    Instruction whole = belts(1, TO_SHUTTLE_1, toward, GARAGE_FULL);
+    while (allows(whole, STATION_NOT_FREE)) one("along row 1", whole);
+    one("half a cell more", belts(1, TO_SHUTTLE_1, toward, GARAGE_HALF));
 }
 
 static void park(void) {

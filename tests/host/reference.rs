@@ -1,6 +1,6 @@
 //! A reference station for one garage, written from the scope paper's words alone, cell by cell.
 //! Everything is total: no input makes a function panic. Answer numbers are those of the paper's
-//! table (0 taken, 1 to 17 refused); a refusal changes nothing.
+//! table (0 taken, all others refused); a refusal changes nothing.
 #![allow(dead_code, unused_imports)] // each driver uses its own part of this module
 
 use std::ops::Range;
@@ -15,7 +15,7 @@ mod instructions;
 mod messages;
 
 use floor::{LEFT_BELT, LIFT_CELLS, OTHER_ROWS, RIGHT_BELT, ROW_1};
-pub use instructions::Instruction;
+pub use instructions::{Instruction, REASONS};
 use instructions::{named, read_set};
 pub use messages::{read_call, read_message, serve, stream, write_message, Message, Refused};
 
@@ -193,7 +193,8 @@ impl Station {
     }
 
     /// A set is taken if none is outstanding, it has one to eight well-formed instructions, no two
-    /// share a part of their areas, and each is allowed on the record, which stays as it is.
+    /// share a part of their areas, and each is allowed on the record, which stays as it is; of those that
+    /// are not, the least tells why.
     fn take_request(&mut self, count: u8, bytes: &[u8]) -> Answer {
         if self.count != 0 { return answer(6); }
         if count > 8 { return answer(5); }
@@ -210,7 +211,7 @@ impl Station {
             earlier |= area;
         }
         for (place, instruction) in (0..count).zip(&set) {
-            if !instruction.allowed(self.record) { return (9, place); }
+            if let Err(number) = instruction.judge(self.record) { return (number, place); }
         }
         self.count = count;
         self.set[..bytes.len()].copy_from_slice(bytes);

@@ -2,7 +2,8 @@
 //! What is plausible next is judged by the reference station, which takes each message as it is made.
 #![allow(dead_code)] // each driver uses its own part of this module
 
-use crate::reference::{Instruction, Station};
+use crate::reference::{Instruction, Station, REASONS};
+use std::collections::BTreeSet;
 
 /// A seeded generator of numbers (splitmix64).
 pub struct Numbers(pub u64);
@@ -48,9 +49,23 @@ pub fn any_five(numbers: &mut Numbers) -> [u8; 5] {
     five
 }
 
-/// Instructions that the record allows and that don't overlap, as many as are found in some tries.
-fn allowed_set(numbers: &mut Numbers, record: u64, wanted: usize) -> Vec<u8> {
-    let (mut bytes, mut taken) = (Vec::new(), 0);
+/// Whether each opcode was refused for all of its reasons, and no other; if not, says what is amiss.
+pub fn every_reason(who: &str, came: &BTreeSet<(u8, u8)>) -> bool {
+    let amiss: Vec<_> = came.symmetric_difference(&REASONS.into()).copied().collect();
+    if !amiss.is_empty() { eprintln!("{who}: pairs of opcode and number that never came, or can't come: {amiss:?}"); }
+    amiss.is_empty()
+}
+
+/// An instruction that the record refuses, found in some tries; which reason is picked beforehand, so that none is rare.
+pub fn refused_five(numbers: &mut Numbers, record: u64) -> Option<[u8; 5]> {
+    let (op, reason) = REASONS[numbers.below(REASONS.len() as u64) as usize];
+    let refused = |five: &[u8; 5]| five[0] == op && Instruction::read(*five).is_some_and(|one| one.judge(record) == Err(reason));
+    (0..100).map(|_| good_five(numbers)).find(refused)
+}
+
+/// Instructions that the record allows and that overlap neither each other nor what is taken, as many as are found in some tries.
+fn allowed_set(numbers: &mut Numbers, record: u64, mut taken: u64, wanted: usize) -> Vec<u8> {
+    let mut bytes = Vec::new();
     for _ in 0..40 * wanted {
         if bytes.len() == 5 * wanted { break; }
         let five = good_five(numbers);
@@ -76,10 +91,22 @@ fn request(bytes: &[u8]) -> Vec<u8> {
     message(1, &body)
 }
 
+/// A request that is refused for one of its instructions, which stands at any place among others that are allowed.
+pub fn refused_request(numbers: &mut Numbers, record: u64, wanted: usize) -> Option<Vec<u8>> {
+    let five = refused_five(numbers, record)?;
+    let area = Instruction::read(five)?.area();
+    let mut bytes = allowed_set(numbers, record, area, wanted - 1);
+    let at = 5 * numbers.below(bytes.len() as u64 / 5 + 1) as usize;
+    bytes.splice(at..at, five);
+    Some(request(&bytes))
+}
+
 /// A request: mostly one that is allowed, of one to three instructions, now and then of up to eight.
 fn some_request(numbers: &mut Numbers, record: u64) -> Vec<u8> {
     let wanted = if numbers.one_in(12) { 8 } else { 1 + numbers.below(3) as usize };
-    let mut bytes = allowed_set(numbers, record, wanted);
+    let refused = if numbers.one_in(24) { refused_request(numbers, record, wanted) } else { None };
+    if let Some(request) = refused { return request; }
+    let mut bytes = allowed_set(numbers, record, 0, wanted);
     if numbers.one_in(8) {
         for _ in 0..=numbers.below(2) {
             if bytes.len() < 40 { bytes.extend_from_slice(&any_five(numbers)); }

@@ -3,6 +3,9 @@
 //! A slice crosses as a pointer and a length, so its pointer is valid for that length; `&mut` slices overlap nothing; `&mut self`
 //! keeps two threads from one station. These are all the duties that the header names.
 
+mod numbers;
+
+pub use numbers::Number;
 use std::fmt;
 
 /// The entries as the archive has them.
@@ -32,12 +35,12 @@ mod raw {
 /// A number of the table, and the place of the instruction that it names, or `NOWHERE`.
 #[derive(Clone, Copy, Debug, PartialEq, Eq)]
 pub struct Answer {
-    pub number: u8,
+    pub number: Number,
     pub place: u8,
 }
 
 pub const NOWHERE: u8 = 255;
-pub const TAKEN: Answer = Answer { number: 0, place: NOWHERE };
+pub const TAKEN: Answer = Answer { number: Number::Taken, place: NOWHERE };
 
 /// The record of the start.
 pub const START: u64 = 0x0009_1B00_0000_0000;
@@ -49,12 +52,14 @@ pub type Five = [u8; 5];
 const REPLY_MOST: usize = 12;
 
 impl Answer {
+    /// What an entry returned: each is proved to answer with a number of the table.
     fn of(said: u32) -> Answer {
-        Answer { number: (said & 0xFF) as u8, place: (said >> 8 & 0xFF) as u8 }
+        let number = Number::try_from((said & 0xFF) as u8).expect("a number of the table");
+        Answer { number, place: (said >> 8 & 0xFF) as u8 }
     }
 
     pub fn taken(self) -> bool {
-        self.number == 0
+        self.number == Number::Taken
     }
 }
 
@@ -154,44 +159,49 @@ pub fn next(image: u64, five: &Five) -> Result<u64, Answer> {
 
 #[cfg(test)]
 mod tests {
+    use super::Number::*;
     use super::*;
 
     const LIFT_DOWN: Five = [4, 2, 0, 0, 0];
     const TO_THE_LEFT: Five = [1, 1, 6, 0, 0];
 
-    fn refusal(number: u8) -> Answer {
+    fn refusal(number: Number) -> Answer {
         Answer { number, place: NOWHERE }
+    }
+
+    fn refusal_at(number: Number, place: u8) -> Answer {
+        Answer { number, place }
     }
 
     #[test]
     fn a_car_goes_down_and_to_the_left() {
         let mut s = Station::start();
         assert_eq!(s.ask(), Ok(START));
-        assert_eq!((s.event(1), s.event(1)), (TAKEN, refusal(10)));
+        assert_eq!((s.event(1), s.event(1)), (TAKEN, refusal(EventImpossible)));
         assert_eq!(s.request(1, &LIFT_DOWN), TAKEN);
         assert_eq!(s.ask(), Ok(START | 1 << 52), "acceptance leaves the record");
-        assert_eq!((s.event(2), s.image(START)), (refusal(6), refusal(6)));
+        assert_eq!((s.event(2), s.image(START)), (refusal(SetOutstanding), refusal(SetOutstanding)));
         assert_eq!(s.result(0, 1), TAKEN);
         assert_eq!(s.ask(), Ok(0x0049_1B00_0000_1800));
         assert_eq!((s.request(1, &TO_THE_LEFT), s.result(0, 1)), (TAKEN, TAKEN));
         assert_eq!(s.ask(), Ok(0x0049_1B00_0000_0C00));
-        assert_eq!(s.request(1, &[4, 0, 0, 0, 0]), Answer { number: 9, place: 0 });
+        assert_eq!(s.request(1, &[4, 0, 0, 0, 0]), refusal_at(OddCount, 0));
     }
 
     #[test]
     fn refusals_come_in_order_and_change_nothing() {
         let mut s = Station::start();
-        assert_eq!(s.request(1, &LIFT_DOWN[..4]), refusal(1));
-        assert_eq!(s.request(9, &[]), refusal(5));
-        assert_eq!(s.request(0, &[]), refusal(7));
-        assert_eq!(s.request(2, &[LIFT_DOWN, [4, 3, 0, 0, 0]].concat()), Answer { number: 4, place: 1 });
-        assert_eq!(s.request(2, &[LIFT_DOWN, LIFT_DOWN].concat()), Answer { number: 8, place: 1 });
-        assert_eq!((s.result(0, 1), s.result(0, 2), s.event(3)), (refusal(11), refusal(4), refusal(4)));
-        assert_eq!(s.image(1), refusal(15));
+        assert_eq!(s.request(1, &LIFT_DOWN[..4]), refusal(TooFewBytes));
+        assert_eq!(s.request(9, &[]), refusal(TooMany));
+        assert_eq!(s.request(0, &[]), refusal(EmptySet));
+        assert_eq!(s.request(2, &[LIFT_DOWN, [4, 3, 0, 0, 0]].concat()), refusal_at(BadField, 1));
+        assert_eq!(s.request(2, &[LIFT_DOWN, LIFT_DOWN].concat()), refusal_at(Overlap, 1));
+        assert_eq!((s.result(0, 1), s.result(0, 2), s.event(3)), (refusal(NoSet), refusal(BadField), refusal(BadField)));
+        assert_eq!(s.image(1), refusal(Unsound));
         assert_eq!(s, Station::start());
         let mut damaged = Station::from_bytes([0xEE; 50]);
-        assert_eq!((damaged.event(1), damaged.ask()), (refusal(16), Err(refusal(16))));
-        assert_eq!(damaged.request(1, &[]), refusal(1), "before 16");
+        assert_eq!((damaged.event(1), damaged.ask()), (refusal(Unfit), Err(refusal(Unfit))));
+        assert_eq!(damaged.request(1, &[]), refusal(TooFewBytes), "before 16");
         assert_eq!(damaged.bytes(), &[0xEE; 50]);
     }
 
@@ -199,13 +209,13 @@ mod tests {
     fn short_rooms_are_refused_and_long_ones_keep_their_rest() {
         let mut room = [0xEE; 52];
         let said = |room: &mut [u8]| Answer::of(unsafe { raw::station_start(room.as_mut_ptr(), room.len()) });
-        assert_eq!(said(&mut room[..49]), refusal(17));
+        assert_eq!(said(&mut room[..49]), refusal(NoRoom));
         assert_eq!(room, [0xEE; 52]);
         assert_eq!(said(&mut room), TAKEN);
         assert_eq!((&room[..50], &room[50..]), (&Station::start().bytes()[..], &[0xEE; 2][..]));
         let mut image = [0xEE; 9];
         let said = |image: &mut [u8]| Answer::of(unsafe { raw::station_ask(room.as_ptr(), room.len(), image.as_mut_ptr(), image.len()) });
-        assert_eq!((said(&mut image[..7]), image), (refusal(17), [0xEE; 9]));
+        assert_eq!((said(&mut image[..7]), image), (refusal(NoRoom), [0xEE; 9]));
         assert_eq!((said(&mut image), image), (TAKEN, [0, 0, 0, 0, 0, 0x1B, 9, 0, 0xEE]));
     }
 
@@ -232,7 +242,7 @@ mod tests {
                 raw::garage_next(START, five.as_ptr(), five.len(), null_mut(), 0),
             ]
         };
-        assert_eq!(no_station.map(Answer::of), [refusal(17); 11]);
+        assert_eq!(no_station.map(Answer::of), [refusal(NoRoom); 11]);
         let no_input = unsafe {
             [
                 raw::station_request(station, length, 0, null(), 0),
@@ -243,7 +253,7 @@ mod tests {
                 raw::garage_next(START, null(), 0, to, 8),
             ]
         };
-        assert_eq!(no_input.map(Answer::of), [7, 5, 1, 1, 1, 1].map(refusal));
+        assert_eq!(no_input.map(Answer::of), [EmptySet, TooMany, TooFewBytes, TooFewBytes, TooFewBytes, TooFewBytes].map(refusal));
         assert_eq!((&room, eight, &reply[..7]), (start.bytes(), [0xEE; 8], &[4, 0, 128, 0, 1, 255, 0xEE][..]));
     }
 
@@ -252,9 +262,9 @@ mod tests {
         assert_eq!((sound(START), cars(START)), (true, Some(0)));
         assert_eq!((sound(1), cars(1)), (false, None));
         assert_eq!(cars(0x0049_1B00_0000_3C00), Some(2));
-        assert_eq!(allowed(0x0049_1B00_0000_3C00, &[4, 0, 0, 0, 0]), refusal(9));
-        assert_eq!(allowed(START, &[4, 0, 1, 0, 0]), refusal(4));
-        assert_eq!((next(START, &[6, 0, 0, 0, 0]), next(START, &[4, 0, 0, 0, 0])), (Err(refusal(4)), Err(refusal(9))));
+        assert_eq!(allowed(0x0049_1B00_0000_3C00, &[4, 0, 0, 0, 0]), refusal(OddCount));
+        assert_eq!(allowed(START, &[4, 0, 1, 0, 0]), refusal(BadField));
+        assert_eq!((next(START, &[6, 0, 0, 0, 0]), next(START, &[4, 0, 0, 0, 0])), (Err(refusal(BadField)), Err(refusal(SameHeight))));
         assert_eq!((allowed(START | 3, &[2, 0, 3, 0, 1]), next(START | 3, &[2, 0, 3, 0, 1])), (TAKEN, Ok(0x0009_1E00_0010_0000)));
     }
 
@@ -264,8 +274,54 @@ mod tests {
         assert_eq!(s.message(&[3, 0, 2, 0, 1, 2, 0, 5, 0]), (TAKEN, vec![4, 0, 128, 0, 0, 255]));
         assert_eq!(s.message(&[2, 0, 5, 0]), (TAKEN, vec![10, 0, 129, 0, 0, 0, 0, 0, 0, 0x1B, 0x19, 0]));
         let before = s.clone();
-        assert_eq!(s.message(&[]), (refusal(1), vec![4, 0, 128, 0, 1, 255]));
-        assert_eq!(s.message(&[8, 0, 1, 0, 1, 4, 0, 0, 0, 0]), (Answer { number: 9, place: 0 }, vec![4, 0, 128, 0, 9, 0]));
+        assert_eq!(s.message(&[]), (refusal(TooFewBytes), vec![4, 0, 128, 0, 1, 255]));
+        assert_eq!(s.message(&[8, 0, 1, 0, 1, 4, 0, 0, 0, 0]), (refusal_at(SameHeight, 0), vec![4, 0, 128, 0, 26, 0]));
         assert_eq!(s, before);
+    }
+
+    #[test]
+    #[should_panic(expected = "a number of the table")]
+    fn an_answer_outside_the_table_is_none() {
+        Answer::of(9);
+    }
+
+    #[test]
+    fn answers_in_words() {
+        assert_eq!(TAKEN.to_string(), "0 (taken)");
+        assert_eq!(refusal_at(OddCount, 2).to_string(), "24 (odd count: a car would be torn) at 2");
+    }
+
+    /// Every reason of each opcode: the first condition that fails hides the ones behind it.
+    #[test]
+    fn each_reason_is_told() {
+        let (basement, rotation) = (START | 2 << 53, START | 1 << 53);
+        // on the left side: all three lowered; in row 3 a tilted one above a lowered one
+        let (lowered, above) = (START ^ 1 << 42 ^ 1 << 48, START ^ 1 << 42 ^ 1 << 40);
+        let told = [
+            (START, [1, 2, 0, 0, 0], HalfMove),
+            (START, [1, 3, 5, 0, 0], HalfMove),
+            (START, [1, 3, 0, 0, 1], NothingNamed),
+            (START, [1, 3, 5, 0, 1], Gap),
+            (START, [1, 1, 4, 0, 1], NotAvailable),
+            (START | 1 << 21, [1, 2, 2, 0, 1], NotFree),
+            (basement | 0b11 << 10, [1, 1, 2, 0, 1], OddCount),
+            (START, [2, 0, 0, 0, 0], NothingNamed),
+            (START, [2, 0, 5, 0, 0], Gap),
+            (START, [2, 0, 4, 0, 0], NotAvailable),
+            (START | 0b11 << 1, [2, 0, 1, 0, 0], OddCount),
+            (START, [2, 0, 1, 0, 0], NotFree),
+            (START, [3, 0, 1, 0, 0], NotAvailable),
+            (lowered | 0b11, [3, 0, 1, 0, 0], CellsNotFree),
+            (START, [3, 0, 1, 1, 0], NotAvailable),
+            (above, [3, 0, 3, 1, 0], NotFree),
+            (START, [4, 0, 0, 0, 0], SameHeight),
+            (basement | 0b11 << 10, [4, 0, 0, 0, 0], OddCount),
+            (START, [5, 0, 0, 0, 0], NotAtRotation),
+            (rotation | 0b11 << 7, [5, 0, 0, 0, 0], CellsNotFree),
+        ];
+        for (record, five, reason) in told {
+            assert!(sound(record));
+            assert_eq!((allowed(record, &five), next(record, &five)), (refusal(reason), Err(refusal(reason))), "{five:?}");
+        }
     }
 }

@@ -1,10 +1,24 @@
--- Document 01's table of numbers: the number and the place of each answer. Assumes nothing.
+-- The table of numbers of document 01, with document 02's reasons: the number and the place of each answer. Assumes nothing.
 use mathlib.Core.Path.{_≡_}
-use mathlib.Core.Bool.{Bool}
+use mathlib.Core.Bool.{Bool, _&&_, _||_}
 use Prim.Native.Nat.{ℕ}
 use lib.Dec.{leb}
+use Rattle.answers.specs.declared.Reason.{Reason}
+use Rattle.answers.specs.declared.Reason.the-variants.{NothingNamed, Gap, NotAvailable, NotFree, OddCount, HalfMove, SameHeight, NotAtRotation, CellsNotFree}
 use Rattle.answers.specs.declared.Answer.{Answer}
 use Rattle.answers.specs.declared.Answer.the-variants.{Taken, TooFewBytes, BadLength, UnknownKind, BadField, TooMany, SetOutstanding, EmptySet, Overlap, NotAllowed, EventImpossible, NoSet, NotInSet, AlreadyAnswered, NowNotAllowed, Unsound, Unfit, NoRoom}
+
+-- the number of a reason
+abbrev pub reasonNumber : Reason → ℕ
+reasonNumber NothingNamed = 20
+reasonNumber Gap = 21
+reasonNumber NotAvailable = 22
+reasonNumber NotFree = 23
+reasonNumber OddCount = 24
+reasonNumber HalfMove = 25
+reasonNumber SameHeight = 26
+reasonNumber NotAtRotation = 27
+reasonNumber CellsNotFree = 28
 
 -- the number of an answer
 abbrev pub numberOf : Answer → ℕ
@@ -17,7 +31,7 @@ numberOf TooMany = 5
 numberOf SetOutstanding = 6
 numberOf EmptySet = 7
 numberOf (Overlap p) = 8
-numberOf (NotAllowed p) = 9
+numberOf (NotAllowed why p) = reasonNumber why
 numberOf EventImpossible = 10
 numberOf NoSet = 11
 numberOf NotInSet = 12
@@ -31,9 +45,9 @@ numberOf NoRoom = 17
 abbrev pub OfTable : ℕ → Type 0
 OfTable n = (a : Answer) × (n ≡ numberOf a)
 
--- the same as a test: 0 to 17
+-- the same as a test: 0 to 8, 10 to 17, 20 to 28
 abbrev pub inTable : ℕ → Bool
-inTable n = leb n 17
+inTable n = leb n 8 || (leb 10 n && leb n 17 || leb 20 n && leb n 28)
 
 -- the place where an answer names no instruction
 abbrev pub nowhere : ℕ
@@ -50,7 +64,7 @@ placeOf TooMany = nowhere
 placeOf SetOutstanding = nowhere
 placeOf EmptySet = nowhere
 placeOf (Overlap p) = p
-placeOf (NotAllowed p) = p
+placeOf (NotAllowed why p) = p
 placeOf EventImpossible = nowhere
 placeOf NoSet = nowhere
 placeOf NotInSet = nowhere

@@ -1,6 +1,28 @@
 // What the station answers: a case for each number of document 01's table, with the place of an instruction where it has one.
 ghost use mathlib.Core.Path.{_≡_};
-ghost use Rattle.answers.specs.Answers.{numberOf, inTable, placeOf};
+ghost use Rattle.answers.specs.Answers.{reasonNumber, numberOf, inTable, placeOf};
+
+// Why an instruction is not allowed: a case for each number that stands for a condition.
+pub enum Reason {
+    // 20: nothing named
+    NothingNamed,
+    // 21: a gap
+    Gap,
+    // 22: not available; for a tilt: not all lowered, or none tilted there
+    NotAvailable,
+    // 23: end, next row or slot below not free or not there
+    NotFree,
+    // 24: odd count
+    OddCount,
+    // 25: half move in row 2 or 3
+    HalfMove,
+    // 26: same height
+    SameHeight,
+    // 27: not at rotation height
+    NotAtRotation,
+    // 28: cells not free for tilt or rotation
+    CellsNotFree,
+}
 
 pub enum Answer {
     // 0: taken
@@ -21,8 +43,8 @@ pub enum Answer {
     EmptySet,
     // 8: overlap
     Overlap(u8),
-    // 9: not allowed
-    NotAllowed(u8),
+    // 20 to 28: not allowed, by the reason
+    NotAllowed(Reason, u8),
     // 10: event impossible
     EventImpossible,
     // 11: result with no set outstanding
@@ -48,7 +70,26 @@ pub const NOWHERE: u8 = 255;
 pub fn in_table(n: u8) -> bool
     ensures { λ b. ⌜ b ≡ inTable n ⌝ }
 {
-    n <= 17
+    (n <= 8) | ((10 <= n) & (n <= 17) | (20 <= n) & (n <= 28))
+}
+
+impl Reason {
+    // Its number in the table.
+    pub fn number(self) -> u8
+        ensures { λ n. ⌜ n ≡ reasonNumber self ⌝ }
+    {
+        match self {
+            Reason::NothingNamed => 20,
+            Reason::Gap => 21,
+            Reason::NotAvailable => 22,
+            Reason::NotFree => 23,
+            Reason::OddCount => 24,
+            Reason::HalfMove => 25,
+            Reason::SameHeight => 26,
+            Reason::NotAtRotation => 27,
+            Reason::CellsNotFree => 28,
+        }
+    }
 }
 
 impl Answer {
@@ -66,7 +107,7 @@ impl Answer {
             Answer::SetOutstanding => 6,
             Answer::EmptySet => 7,
             Answer::Overlap(_) => 8,
-            Answer::NotAllowed(_) => 9,
+            Answer::NotAllowed(why, _) => why.number(),
             Answer::EventImpossible => 10,
             Answer::NoSet => 11,
             Answer::NotInSet => 12,
@@ -92,7 +133,7 @@ impl Answer {
             Answer::SetOutstanding => NOWHERE,
             Answer::EmptySet => NOWHERE,
             Answer::Overlap(p) => p,
-            Answer::NotAllowed(p) => p,
+            Answer::NotAllowed(_, p) => p,
             Answer::EventImpossible => NOWHERE,
             Answer::NoSet => NOWHERE,
             Answer::NotInSet => NOWHERE,

@@ -1,6 +1,6 @@
 -- The shape of a belt mask, the cells that it names and the slots that it needs, by the numbers that the code computes: tests at every row and mask. Assumes nothing.
 use mathlib.Core.Path.{_≡_, refl}
-use mathlib.Core.Bool.{Bool, cond, not, _&&_, Bool·beq}
+use mathlib.Core.Bool.{Bool, cond, Bool·beq}
 use mathlib.Core.List.{[], _∷_}
 use Prim.Native.Nat.{ℕ, _+_, _-_, _*_, _/_, _%_}
 use lib.Bits.{bitAnd}
@@ -14,19 +14,29 @@ use Rattle.rules.specs.Rules.{beltsNamed}
 use Rattle.rules.proofs.Every.{rows, each-row}
 use Rattle.bits.proofs.Lists.{same, same-eq}
 
--- a mask is a run of ones if adding its lowest one clears them all
-abbrev run : ℕ → Bool
-run m = not (eqb m 0) && eqb (bitAnd (m + bitAnd m (32 - m)) m) 0
+-- a mask of no belt is zero
+abbrev noneRight : ℕ → ℕ → Bool
+noneRight row mask = Bool·beq (eqb mask 0) (isEmpty (cells row mask))
 
--- such a mask names at least one belt and leaves no gap
+none-test : T (rows noneRight)
+unfolding rows every
+none-test = tt
+
+pub none-is : (row mask : ℕ) → T (beltsNamed row mask) → eqb mask 0 ≡ isEmpty (cells row mask)
+none-is row mask w = beq→eq (eqb mask 0) _ (each-row noneRight none-test row mask w)
+
+-- a mask is a run of ones if adding its lowest one clears them all; then its belts leave no gap
+abbrev run : ℕ → Bool
+run m = eqb (bitAnd (m + bitAnd m (32 - m)) m) 0
+
 abbrev runRight : ℕ → ℕ → Bool
-runRight row mask = Bool·beq (run mask) (not (isEmpty (cells row mask)) && adjacent (cells row mask))
+runRight row mask = Bool·beq (run mask) (adjacent (cells row mask))
 
 run-test : T (rows runRight)
 unfolding rows every
 run-test = tt
 
-pub run-is : (row mask : ℕ) → T (beltsNamed row mask) → run mask ≡ not (isEmpty (cells row mask)) && adjacent (cells row mask)
+pub run-is : (row mask : ℕ) → T (beltsNamed row mask) → run mask ≡ adjacent (cells row mask)
 run-is row mask w = beq→eq (run mask) _ (each-row runRight run-test row mask w)
 
 -- the cells of the named belts, as the code has them

@@ -1,15 +1,17 @@
 // Belt moves in code. The row's cells stay in the record: a span of belts is a mask, and its content is shifted inside it as one number.
 ghost use mathlib.Core.Path.{_≡_};
-ghost use mathlib.Core.Bool.{true, not, _&&_, _||_};
+ghost use mathlib.Core.Bool.{true};
 ghost use Prim.Native.Nat.{_<_};
-ghost use lib.Dec.{T, eqb};
+ghost use lib.Dec.{T};
+ghost use lib.ListN.{drop};
 ghost use Rattle.bits.specs.Bits.{bit, image};
-ghost use Rattle.bits.specs.Places.{places, isEmpty, adjacent};
+ghost use Rattle.bits.specs.Places.{places, adjacent};
 ghost use Rattle.floor.specs.Tests.{holds, both, set, when, atBasement};
 ghost use Rattle.rules.specs.Named.{step, cells, neededSlots, liftNamed};
-ghost use Rattle.rules.specs.Rules.{wellFormed, beltsNamed, allowed, next};
-ghost use Rattle.rules.specs.Verdicts.{verdictOf, movedOf};
+ghost use Rattle.rules.specs.Rules.{wellFormed, beltsNamed, clauses, allowed, next};
+ghost use Rattle.rules.specs.Verdicts.{judged, verdictOf, movedOf};
 ghost use Rattle.belts.specs.Private.{shifted, leaving};
+use answers::Reason;
 use floor::masks::HEIGHT_HIGH;
 use floor::masks::HEIGHT_LOW;
 use floor::masks::LEFT_BELT;
@@ -76,13 +78,13 @@ fn leaving(span: u64, up: bool, n: u8) -> u64
     span & !shifted(span, !up, n)
 }
 
-// Rows 2 and 3 move full only; at least one belt; no gap: adding the lowest bit clears a run of bits.
-fn shaped(row: u8, mask: u8, size: u8) -> bool
+// The belts leave no gap: adding the lowest bit clears a run of bits. The row is named for the contract.
+fn gapless(row: u8, mask: u8) -> bool
     requires { ⌜ T (beltsNamed row mask) ⌝ }
-    ensures { λ b. ⌜ b ≡ ((eqb row 1 || eqb size 1) && (not (isEmpty (cells row mask)) && adjacent (cells row mask))) ⌝ }
+    ensures { λ b. ⌜ b ≡ adjacent (cells row mask) ⌝ }
 {
     let low = mask & (32 - mask);
-    ((row == 1) | (size == 1)) & ((mask != 0) & ((mask + low) & mask == 0))
+    (mask + low) & mask == 0
 }
 
 // The lowered slots that the belts need.
@@ -110,15 +112,39 @@ fn available(r: u64, row: u8, mask: u8) -> bool
     slots
 }
 
-// The move is allowed: its end is free, and in row 1 the span holds an even number of occupied cells.
-fn allowed(r: u64, row: u8, mask: u8, toward: u8, size: u8) -> bool
-    requires { ⌜ T (wellFormed (Instruction.Belts row mask toward size)) ⌝ }
-    ensures { λ b. ⌜ b ≡ allowed (Instruction.Belts row mask toward size) (bit r) ⌝ }
+// The conditions that look at cars: the end of the span is free, and in row 1 it holds an even number of occupied cells.
+fn roomy(r: u64, row: u8, mask: u8, toward: u8, size: u8) -> Verdict
+    requires { ⌜ T (wellFormed (Instruction.Belts row mask toward size)) × (adjacent (cells row mask) ≡ true) ⌝ }
+    ensures { λ v. ⌜ v ≡ judged (drop 4 (clauses (Instruction.Belts row mask toward size))) (bit r) ⌝ }
 {
     let cells = span(row, mask);
-    let clear = bits::free(r, leaving(cells, toward == 1, step(row, size)));
-    let whole = !(row == 1) | bits::even(r, cells);
-    shaped(row, mask, size) & (available(r, row, mask) & (clear & whole))
+    if !bits::free(r, leaving(cells, toward == 1, step(row, size))) {
+        return Verdict::NotAllowed(Reason::NotFree);
+    }
+    if (row == 1) & !bits::even(r, cells) {
+        return Verdict::NotAllowed(Reason::OddCount);
+    }
+    Verdict::Allowed
+}
+
+// The conditions of a move in their order, each with its reason.
+fn judged(r: u64, row: u8, mask: u8, toward: u8, size: u8) -> Verdict
+    requires { ⌜ T (wellFormed (Instruction.Belts row mask toward size)) ⌝ }
+    ensures { λ v. ⌜ v ≡ judged (clauses (Instruction.Belts row mask toward size)) (bit r) ⌝ }
+{
+    if !((row == 1) | (size == 1)) {
+        return Verdict::NotAllowed(Reason::HalfMove);
+    }
+    if mask == 0 {
+        return Verdict::NotAllowed(Reason::NothingNamed);
+    }
+    if !gapless(row, mask) {
+        return Verdict::NotAllowed(Reason::Gap);
+    }
+    if !available(r, row, mask) {
+        return Verdict::NotAllowed(Reason::NotAvailable);
+    }
+    roomy(r, row, mask, toward, size)
 }
 
 // The record after it: what stands in the span is shifted inside it.
@@ -130,7 +156,7 @@ fn next(r: u64, row: u8, mask: u8, toward: u8, size: u8) -> u64
     bits::laid(r, cells, shifted(r & cells, toward == 1, step(row, size)))
 }
 
-// Whether the move is allowed on the record.
+// Whether the move is allowed on the record, and why not.
 pub fn belts_verdict(r: u64, row: u8, mask: u8, toward: u8, size: u8) -> Verdict
     ensures { λ v. ⌜ v ≡ verdictOf (Instruction.Belts row mask toward size) r ⌝ }
 {
@@ -142,26 +168,16 @@ pub fn belts_verdict(r: u64, row: u8, mask: u8, toward: u8, size: u8) -> Verdict
     }) {
         return Verdict::IllFormed;
     }
-    if !allowed(r, row, mask, toward, size) {
-        return Verdict::NotAllowed;
-    }
-    Verdict::Allowed
+    judged(r, row, mask, toward, size)
 }
 
 // The record after the move, where it is allowed.
 pub fn belts_moved(r: u64, row: u8, mask: u8, toward: u8, size: u8) -> Moved
     ensures { λ m. ⌜ m ≡ movedOf (Instruction.Belts row mask toward size) r ⌝ }
 {
-    if !rules::well_formed(Instruction::Belts {
-        row,
-        mask,
-        toward,
-        size,
-    }) {
-        return Moved::IllFormed;
+    match belts_verdict(r, row, mask, toward, size) {
+        Verdict::Allowed => Moved::Record(next(r, row, mask, toward, size)),
+        Verdict::NotAllowed(why) => Moved::NotAllowed(why),
+        Verdict::IllFormed => Moved::IllFormed,
     }
-    if !allowed(r, row, mask, toward, size) {
-        return Moved::NotAllowed;
-    }
-    Moved::Record(next(r, row, mask, toward, size))
 }

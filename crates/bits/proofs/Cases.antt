@@ -2,6 +2,7 @@
 -- Assumes nothing.
 use mathlib.Core.Path.{_≡_, refl, sym, ap₂, _∙_, subst}
 use mathlib.Core.Bool.{Bool, true, false, cond, not, _&&_, _||_, true≢false, Bool·beq}
+use mathlib.Core.Logic.{_⊎_, inl, inr}
 use borrow.Author.Tests.{not-true, not-false}
 use lib.Dec.{T}
 
@@ -17,13 +18,17 @@ pub off : (b : Bool) → (b ≡ true → ⊥) → b ≡ false
 off true h = absurd (h refl)
 off false h = refl
 
--- both parts of a conjunction, neither of a disjunction
+-- both parts of a conjunction; one part of a disjunction, or neither
 pub both : (a b : Bool) → a && b ≡ true → (a ≡ true) × (b ≡ true)
 both true b e = (refl, e)
 both false b e = clash e refl
 
 pub and-intro : {a b : Bool} → a ≡ true → b ≡ true → a && b ≡ true
 and-intro p q = ap₂ _&&_ p q
+
+pub one-of : (a b : Bool) → a || b ≡ true → (a ≡ true) ⊎ (b ≡ true)
+one-of true b e = inl refl
+one-of false b e = inr e
 
 pub neither : (a b : Bool) → a || b ≡ false → (a ≡ false) × (b ≡ false)
 neither true b e = clash refl e

@@ -1,23 +1,25 @@
--- The answers: from whether an instruction is allowed and the next record to what is answered, and from that to the verdict.
+-- The answers: from what is said of an instruction and the next record to what is answered, and from that to the verdict.
 -- Assumes nothing.
 use mathlib.Core.Path.{_≡_, refl, sym, ap, _∙_}
-use mathlib.Core.Bool.{Bool, true, false, cond, not}
+use mathlib.Core.Bool.{Bool, true, false, not}
 use Prim.Native.Nat.{ℕ, _^_, _<_}
 use lib.Dec.{T}
 use borrow.Author.Tests.{not-false}
 use Rattle.bits.specs.Bits.{bit, image}
 use Rattle.bits.proofs.Cases.{T→true, true→T, failed}
 use Rattle.bits.proofs.Digits.{image-bit}
+use Rattle.answers.specs.declared.Reason.{Reason}
 use Rattle.rules.specs.declared.Instruction.{Instruction}
 use Rattle.rules.specs.declared.Instruction.the-variants.{Rotate}
 use Rattle.rules.specs.declared.Event.{Event}
 use Rattle.rules.specs.declared.Moved.{Moved}
+use Rattle.rules.specs.declared.Driven.{Driven}
 use Rattle.rules.specs.declared.Verdict.{Verdict}
-use Rattle.rules.specs.Rules.{wellFormed, allowed, next}
+use Rattle.rules.specs.Rules.{wellFormed, clauses, allowed, next}
 use Rattle.rules.specs.Events.{possible, after}
-use Rattle.rules.specs.Verdicts.{verdictOf, movedOf, drivenOf}
+use Rattle.rules.specs.Verdicts.{judged, verdictOf, movedBy, movedOf, drivenOf}
 use Rattle.rules.proofs.Answering as answering
-use Rattle.rules.proofs.Answering.{not-allowed, has-moved}
+use Rattle.rules.proofs.Answering.{is-verdict, not-moved, has-moved, is-allowed}
 use Rattle.engine.specs.Private.{told}
 
 -- what is known of an instruction is known of the variant that it is
@@ -28,22 +30,30 @@ module _ (i : Instruction) (r : ℕ) where
   pub ill-formed : (b : Bool) → b ≡ wellFormed i → not b ≡ true → Moved.IllFormed ≡ movedOf i r
   ill-formed b p q = answering.ill-formed i r (failed p q) .1
 
-  module _ (w : T (wellFormed i)) (b : Bool) (p : b ≡ allowed i (bit r)) where
-    pub taken : (x : ℕ) → b ≡ true → x ≡ image (next i (bit r)) → Moved.Record x ≡ movedOf i r
-    taken x q e = has-moved i r (T→true (wellFormed i) w) (sym p ∙ q) e
+  -- of a well-formed one its conditions say it
+  module _ (w : T (wellFormed i)) (v : Verdict) (p : v ≡ judged (clauses i) (bit r)) where
+    pub taken : (x : ℕ) → v ≡ Verdict.Allowed → x ≡ image (next i (bit r)) → Moved.Record x ≡ movedOf i r
+    taken x q e = has-moved i r (T→true (wellFormed i) w) (sym q ∙ p) e
 
-    pub refused : b ≡ false → Moved.NotAllowed ≡ movedOf i r
-    refused q = not-allowed i r (T→true (wellFormed i) w) (sym p ∙ q) .1
+    pub refused : (why : Reason) → v ≡ Verdict.NotAllowed why → Moved.NotAllowed why ≡ movedOf i r
+    refused why q = not-moved i r (T→true (wellFormed i) w) (sym q ∙ p)
+
+    pub unread : v ≡ Verdict.IllFormed → Moved.IllFormed ≡ movedOf i r
+    unfolding movedOf
+    unread q = ap (λ (u : Verdict). movedBy u (image (next i (bit r)))) (is-verdict i r (T→true (wellFormed i) w) (sym q ∙ p))
+
+    pub permitted : v ≡ Verdict.Allowed → allowed i (bit r) ≡ true
+    permitted q = is-allowed i r (T→true (wellFormed i) w) (sym q ∙ p)
 
 -- the verdict is told by the next record
 pub told-verdict : (i : Instruction) (r : ℕ) → told (movedOf i r) ≡ verdictOf i r
-unfolding movedOf verdictOf
-told-verdict i r = go (wellFormed i) (allowed i (bit r))
+unfolding movedOf
+told-verdict i r = go (verdictOf i r)
   where
-    go : (w a : Bool) → told (cond w (cond a (Moved.Record (image (next i (bit r)))) Moved.NotAllowed) Moved.IllFormed) ≡ cond w (cond a Verdict.Allowed Verdict.NotAllowed) Verdict.IllFormed
-    go true true = refl
-    go true false = refl
-    go false a = refl
+    go : (v : Verdict) → told (movedBy v (image (next i (bit r)))) ≡ v
+    go Verdict.Allowed = refl
+    go (Verdict.NotAllowed why) = refl
+    go Verdict.IllFormed = refl
 
 -- rotating keeps the record
 pub rotated : (r : ℕ) → r < 2 ^ 64 → r ≡ image (next Rotate (bit r))
@@ -53,10 +63,10 @@ rotated r h = sym (image-bit r h)
 -- ---- events
 
 module _ (e : Event) (r : ℕ) (b : Bool) (p : b ≡ possible e (bit r)) where
-  pub event-taken : (x : ℕ) → b ≡ true → x ≡ image (after e (bit r)) → Moved.Record x ≡ drivenOf e r
+  pub event-taken : (x : ℕ) → b ≡ true → x ≡ image (after e (bit r)) → Driven.Record x ≡ drivenOf e r
   unfolding drivenOf
-  event-taken x q h = rw (sym p ∙ q) (ap Moved.Record h)
+  event-taken x q h = rw (sym p ∙ q) (ap Driven.Record h)
 
-  pub event-refused : b ≡ false → Moved.NotAllowed ≡ drivenOf e r
+  pub event-refused : b ≡ false → Driven.Impossible ≡ drivenOf e r
   unfolding drivenOf
   event-refused q = rw (sym p ∙ q)

@@ -1,5 +1,5 @@
 -- The lift in code: the conditions of its moves, of rotating and of the car events, and the next records. Assumes nothing.
-use mathlib.Core.Path.{_≡_, refl, sym, ap, _∙_}
+use mathlib.Core.Path.{_≡_, refl, sym, ap, ap₂, _∙_}
 use mathlib.Core.Bool.{Bool, true, false, cond, not, _&&_, _||_, and-true}
 use mathlib.Core.List.{[], _∷_}
 use Prim.Native.Nat.{ℕ, _+_, _*_, _%_, _^_, _<_}
@@ -8,13 +8,16 @@ use lib.Dec.{T, eqb, leb→le}
 use Rattle.bits.specs.Bits.{Bits, bit, image, count, allSet, laid}
 use Rattle.bits.specs.Places.{places}
 use Rattle.bits.specs.Search.{every}
-use Rattle.bits.proofs.Cases.{and-l, and-r, T→true}
+use Rattle.bits.proofs.Cases.{and-l, and-r}
 use Rattle.bits.proofs.Search.{each}
 use Rattle.floor.specs.Floor.{raisedCar}
-use Rattle.floor.specs.Tests.{holds, allHold, heightIs, atBasement}
+use Rattle.floor.specs.Tests.{holds, heightIs, atBasement}
+use Rattle.answers.specs.declared.Reason.the-variants.{OddCount, SameHeight, NotAtRotation, CellsNotFree}
 use Rattle.rules.specs.declared.Instruction.the-variants.{Lift, Rotate}
 use Rattle.rules.specs.declared.Event.the-variants.{CarIn, CarOut}
-use Rattle.rules.specs.Rules.{wellFormed, conditions, allowed, next}
+use Rattle.rules.specs.declared.Verdict.the-variants.{Allowed, NotAllowed}
+use Rattle.rules.specs.Rules.{wellFormed, clauses, next}
+use Rattle.rules.specs.Verdicts.{judged}
 use Rattle.rules.specs.Events.{possible, after}
 use Rattle.engine.specs.Private.{liftBits}
 use Rattle.bits.proofs.Lists.{same, same-eq, bit-list}
@@ -34,17 +37,17 @@ noneOf m f = eqb (count (places m) f) 0
 abbrev evenOf : ℕ → Bits → Bool
 evenOf m f = eqb (count (places m) f % 2) 0
 
--- the code's tests are the conditions
-pub lift-law : (height : ℕ) (f : Bits) → T (wellFormed (Lift height))
-    → (not (holds (heightIs height) f) && (not (holds atBasement f) || (noneOf 0x1800 f || (evenOf 0x7FF f && evenOf 0xFE000 f)))) ≡ allowed (Lift height) f
-unfolding allowed places
-lift-law height f w =
-    ap (λ (b : Bool). not (holds (heightIs height) f) && b) (sym (and-true (not (holds atBasement f) || (noneOf 0x1800 f || (evenOf 0x7FF f && evenOf 0xFE000 f)))))
-    ∙ sym (ap (λ (b : Bool). b && allHold (conditions (Lift height)) f) (T→true (wellFormed (Lift height)) w))
+-- what the code's tests say is what the conditions say
+pub lift-law : (height : ℕ) (f : Bits) (still whole : Bool)
+    → holds (heightIs height) f ≡ still → (not (holds atBasement f) || (noneOf 0x1800 f || (evenOf 0x7FF f && evenOf 0xFE000 f))) ≡ whole
+    → cond (not still) (cond whole Allowed (NotAllowed OddCount)) (NotAllowed SameHeight) ≡ judged (clauses (Lift height)) f
+unfolding places
+lift-law height f still whole p q = ap₂ (λ (x y : Bool). cond (not x) (cond y Allowed (NotAllowed OddCount)) (NotAllowed SameHeight)) (sym p) (sym q)
 
-pub rotate-law : (f : Bits) → (holds (heightIs 1) f && noneOf 0xE700 f) ≡ allowed Rotate f
-unfolding allowed places
-rotate-law f = ap (λ (b : Bool). holds (heightIs 1) f && b) (sym (and-true (noneOf 0xE700 f)))
+pub rotate-law : (f : Bits) (there clear : Bool) → holds (heightIs 1) f ≡ there → noneOf 0xE700 f ≡ clear
+    → cond there (cond clear Allowed (NotAllowed CellsNotFree)) (NotAllowed NotAtRotation) ≡ judged (clauses Rotate) f
+unfolding places
+rotate-law f there clear p q = ap₂ (λ (x y : Bool). cond x (cond y Allowed (NotAllowed CellsNotFree)) (NotAllowed NotAtRotation)) (sym p) (sym q)
 
 pub in-law : (f : Bits) → (holds (heightIs 0) f && noneOf 0x10000000000000 f) ≡ possible CarIn f
 unfolding possible places

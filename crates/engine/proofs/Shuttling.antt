@@ -1,6 +1,6 @@
 -- A shuttle move in code: its conditions and its next record, by masks of rows. Assumes nothing.
 use mathlib.Core.Path.{_≡_, refl, sym, ap, ap₂, subst, _∙_}
-use mathlib.Core.Bool.{Bool, true, false, cond, not, _&&_, _||_, and-true, Bool·beq}
+use mathlib.Core.Bool.{Bool, true, false, cond, not, _&&_, _||_, Bool·beq}
 use mathlib.Core.List.{List, map, _++_}
 use Prim.Native.Nat.{ℕ, zero, suc, _+_, _-_, _*_, _/_, _%_, _^_, _<_}
 use lib.Bits.{bitAnd, bitOr, or-lt, and-le-r}
@@ -16,9 +16,13 @@ use Rattle.bits.proofs.Search.{each}
 use Rattle.bits.proofs.Digits.{digit-lt}
 use Rattle.bits.proofs.Packing.{byte-digit}
 use Rattle.floor.specs.Floor.{lowered, slot, place}
-use Rattle.floor.specs.Tests.{holds, allHold, when, even}
+use Rattle.floor.specs.Tests.{holds, when, even}
+use Rattle.answers.specs.declared.Reason.the-variants.{NothingNamed, Gap, NotAvailable, NotFree, OddCount}
 use Rattle.rules.specs.declared.Instruction.the-variants.{Shuttles}
-use Rattle.rules.specs.Rules.{wellFormed, conditions, allowed, next}
+use Rattle.rules.specs.declared.Verdict.{Verdict}
+use Rattle.rules.specs.declared.Verdict.the-variants.{Allowed, NotAllowed}
+use Rattle.rules.specs.Rules.{wellFormed, clauses, allowed, next}
+use Rattle.rules.specs.Verdicts.{judged}
 use Rattle.rules.specs.Named.{rowsOf, ahead}
 use Rattle.engine.specs.Private.{slotsOf, cellsOf, onto, carsOf}
 use Rattle.bits.proofs.Lists.{same, same-eq, bit-list, or-list}
@@ -91,21 +95,29 @@ whole-law side rows zero f h = row (bit rows 0) refl
 whole-law side rows (suc zero) f h = refl
 whole-law side rows (suc (suc o)) f h = absurd (omega arith)
 
--- the code's five tests are the conditions
-pub shuttles-law : (side mask orientation toward x : ℕ) (f : Bits) → T (wellFormed (Shuttles side mask orientation toward)) → (x < 8) × (rowsOf x ≡ ahead toward mask)
-    → (not (eqb mask 0) && (not (eqb mask 5) && (allSet (slotsOf side orientation mask) f
-    && ((eqb orientation 1 || eqb (count (cellsOf side (mask % 2)) f % 2) 0) && (not (eqb x 0) && eqb (count (slotsOf side orientation x) f) 0)))))
-    ≡ allowed (Shuttles side mask orientation toward) f
-unfolding allowed
-shuttles-law side mask orientation toward x f w (small, here) =
+-- the next row is there and free
+clear-law : (side orientation toward mask x : ℕ) (f : Bits) → (x < 8) × (rowsOf x ≡ ahead toward mask)
+    → (not (eqb x 0) && eqb (count (slotsOf side orientation x) f) 0) ≡ (not (isEmpty (ahead toward mask)) && eqb (count (map (slot side orientation) (ahead toward mask)) f) 0)
+clear-law side orientation toward mask x f (small, here) =
+    ap₂ _&&_ (some-row x small ∙ ap (λ (ks : List ℕ). not (isEmpty ks)) here) (ap (λ (ks : List ℕ). eqb (count (map (slot side orientation) ks) f) 0) here)
+
+-- what is said by the answers to five tests, the first that fails
+abbrev pub inOrder : Bool → Bool → Bool → Bool → Bool → Verdict
+inOrder named joined there whole clear =
+    cond named (cond joined (cond there (cond whole (cond clear Allowed (NotAllowed NotFree)) (NotAllowed OddCount)) (NotAllowed NotAvailable)) (NotAllowed Gap)) (NotAllowed NothingNamed)
+
+-- what the code's tests say is what the conditions say
+pub shuttles-law : (side mask orientation toward x : ℕ) (f : Bits) (named joined there whole clear : Bool)
+    → T (wellFormed (Shuttles side mask orientation toward)) → (x < 8) × (rowsOf x ≡ ahead toward mask)
+    → not (eqb mask 0) ≡ named → not (eqb mask 5) ≡ joined → allSet (slotsOf side orientation mask) f ≡ there
+    → (eqb orientation 1 || eqb (count (cellsOf side (mask % 2)) f % 2) 0) ≡ whole → (not (eqb x 0) && eqb (count (slotsOf side orientation x) f) 0) ≡ clear
+    → inOrder named joined there whole clear ≡ judged (clauses (Shuttles side mask orientation toward)) f
+shuttles-law side mask orientation toward x f named joined there whole clear w next p q s t u =
     let b = bounds side mask orientation toward w in
-    let last : (not (eqb x 0) && eqb (count (slotsOf side orientation x) f) 0) ≡ (not (isEmpty (ahead toward mask)) && eqb (count (map (slot side orientation) (ahead toward mask)) f) 0) =
-    ap₂ _&&_ (some-row x small ∙ ap (λ (ks : List ℕ). not (isEmpty ks)) here) (ap (λ (ks : List ℕ). eqb (count (map (slot side orientation) ks) f) 0) here) in
-    ap₂ _&&_ (some-row mask (b .1))
-    (ap₂ _&&_ (no-gap mask (b .1))
-    (ap (λ (y : Bool). allSet (slotsOf side orientation mask) f && y)
-    (ap₂ _&&_ (whole-law side mask orientation f (b .2)) (last ∙ sym (and-true _)))))
-    ∙ sym (ap (λ (y : Bool). y && allHold (conditions (Shuttles side mask orientation toward)) f) (T→true (wellFormed (Shuttles side mask orientation toward)) w))
+    ap₂ (λ (m n : Bool). inOrder m n there whole clear) (sym p ∙ some-row mask (b .1)) (sym q ∙ no-gap mask (b .1))
+    ∙ ap₂ (λ (m n : Bool). inOrder (not (isEmpty (rowsOf mask))) (adjacent (rowsOf mask)) m n clear) (sym s) (sym t ∙ whole-law side mask orientation f (b .2))
+    ∙ ap (inOrder (not (isEmpty (rowsOf mask))) (adjacent (rowsOf mask)) (allSet (slotsOf side orientation mask) f) (holds (when (eqb orientation lowered && bit mask 0) (even (place side 1))) f))
+    (sym u ∙ clear-law side orientation toward mask x f next)
 
 -- ---- masks of rows stay below 8
 

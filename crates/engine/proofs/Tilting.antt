@@ -1,22 +1,24 @@
 -- A tilt in code: its conditions and its next record, by masks of slots and cells. Assumes nothing.
 use mathlib.Core.Path.{_≡_, sym, ap, ap₂, _∙_}
-use mathlib.Core.Bool.{Bool, true, cond, _&&_, and-true}
+use mathlib.Core.Bool.{Bool, true, cond, _&&_}
 use mathlib.Core.List.{List, [], _∷_, map, append-nil}
 use Prim.Native.Nat.{ℕ, _-_, _*_, _%_, _^_, _≤_, _<_}
 use native.Mathlib.Omega.{arith}
 use lib.Bits.{bitOr}
 use lib.Dec.{T, eqb, leb, ltb, leb→le}
-use borrow.Author.Tests.{eq-eqb, ne-eqb, ltb-true, le-leb}
+use borrow.Author.Tests.{ltb-true, le-leb}
 use Rattle.bits.specs.Bits.{Bits, bit, image, count, allSet, laid}
 use Rattle.bits.specs.Places.{join, places}
 use Rattle.bits.specs.Search.{every}
 use Rattle.bits.proofs.Cases.{and-l, and-r, under, T→true}
 use Rattle.bits.proofs.Search.{each}
 use Rattle.floor.specs.Floor.{slot, place}
-use Rattle.floor.specs.Tests.{allHold}
+use Rattle.answers.specs.declared.Reason.the-variants.{NotAvailable, NotFree, CellsNotFree}
 use Rattle.rules.specs.declared.Instruction.the-variants.{Tilt}
+use Rattle.rules.specs.declared.Verdict.the-variants.{Allowed, NotAllowed}
 use Rattle.rules.specs.Named.{rowsOf}
-use Rattle.rules.specs.Rules.{wellFormed, conditions, allowed, next}
+use Rattle.rules.specs.Rules.{wellFormed, clauses, next}
+use Rattle.rules.specs.Verdicts.{judged}
 use Rattle.engine.specs.Private.{slotsOf, cellsOf}
 use Rattle.bits.proofs.Lists.{same, same-eq, bit-list, or-list}
 use Rattle.engine.proofs.Settings.{laid-right}
@@ -57,10 +59,6 @@ module _ (side row orientation : ℕ) (w : T (wellFormed (Tilt side row orientat
         omega (arith, leb→le orientation 1 (and-r (leb side 1 && rows) (leb orientation 1) w)),
       )
 
-  -- what is asked of a well-formed one
-  well : (b : Bool) → b ≡ (wellFormed (Tilt side row orientation) && b)
-  well b = sym (ap (λ (x : Bool). x && b) (T→true (wellFormed (Tilt side row orientation)) w))
-
   module _ (here : ℕ) (e : rowsOf here ≡ row ∷ []) where
     -- the slot and the cells of the row
     slot-here : (orientation : ℕ) → slotsOf side orientation here ≡ slot side orientation row ∷ []
@@ -69,23 +67,21 @@ module _ (side row orientation : ℕ) (w : T (wellFormed (Tilt side row orientat
     cells-here : cellsOf side here ≡ place side row
     cells-here = ap (λ (rows : List ℕ). join (map (place side) rows)) e ∙ append-nil (place side row)
 
-    -- from lowered
-    pub lowered-law : (f : Bits) → orientation ≡ 0
-        → (allSet (slotsOf side 0 7) f && eqb (count (cellsOf side here) f) 0) ≡ allowed (Tilt side row orientation) f
-    unfolding allowed
-    lowered-law f o =
-        ap (λ (b : Bool). allSet (slotsOf side 0 7) f && b) (ap (λ (ks : List ℕ). eqb (count ks f) 0) cells-here ∙ sym (and-true _))
-        ∙ sym (ap (λ (b : Bool). allHold (cond b (conditions (Tilt side row 0)) (conditions (Tilt side row 1))) f) (eq-eqb orientation 0 o))
-        ∙ well (allHold (conditions (Tilt side row orientation)) f)
+    -- from lowered, by the code's two tests
+    pub lowered-law : (f : Bits) (there clear : Bool) → orientation ≡ 0 → allSet (slotsOf side 0 7) f ≡ there → eqb (count (cellsOf side here) f) 0 ≡ clear
+        → cond there (cond clear Allowed (NotAllowed CellsNotFree)) (NotAllowed NotAvailable) ≡ judged (clauses (Tilt side row orientation)) f
+    lowered-law f there clear o p q =
+        ap₂ (λ (x y : Bool). cond x (cond y Allowed (NotAllowed CellsNotFree)) (NotAllowed NotAvailable)) (sym p) (sym q ∙ ap (λ (ks : List ℕ). eqb (count ks f) 0) cells-here)
+        ∙ ap (λ (x : ℕ). judged (clauses (Tilt side row x)) f) (sym o)
 
     -- from tilted
-    pub tilted-law : (f : Bits) → (orientation ≡ 0 → ⊥)
-        → (allSet (slotsOf side 1 here) f && eqb (count (slotsOf side 0 here) f) 0) ≡ allowed (Tilt side row orientation) f
-    unfolding allowed
-    tilted-law f o =
-        ap₂ _&&_ (ap (λ (ks : List ℕ). allSet ks f) (slot-here 1)) (ap (λ (ks : List ℕ). eqb (count ks f) 0) (slot-here 0) ∙ sym (and-true _))
-        ∙ sym (ap (λ (b : Bool). allHold (cond b (conditions (Tilt side row 0)) (conditions (Tilt side row 1))) f) (ne-eqb orientation 0 o))
-        ∙ well (allHold (conditions (Tilt side row orientation)) f)
+    pub tilted-law : (f : Bits) (there clear : Bool) → (orientation ≡ 0 → ⊥) → allSet (slotsOf side 1 here) f ≡ there → eqb (count (slotsOf side 0 here) f) 0 ≡ clear
+        → cond there (cond clear Allowed (NotAllowed NotFree)) (NotAllowed NotAvailable) ≡ judged (clauses (Tilt side row orientation)) f
+    tilted-law f there clear o p q =
+        let one : 1 ≡ orientation = omega (arith, bounds .3) in
+        ap₂ (λ (x y : Bool). cond x (cond y Allowed (NotAllowed NotFree)) (NotAllowed NotAvailable))
+        (sym p ∙ ap (λ (ks : List ℕ). allSet ks f) (slot-here 1)) (sym q ∙ ap (λ (ks : List ℕ). eqb (count ks f) 0) (slot-here 0))
+        ∙ ap (λ (x : ℕ). judged (clauses (Tilt side row x)) f) one
 
     -- the next record
     pub tilt-next : (r t t' n : ℕ) → t < 2 ^ 64 → t' < 2 ^ 64 → n < 2 ^ 64

@@ -37,5 +37,5 @@ liftBits height car =
 -- what the answer with the next record says of an instruction: it is allowed where it has one
 abbrev pub told : Moved → Verdict
 told (Record r) = Verdict.Allowed
-told NotAllowed = Verdict.NotAllowed
+told (NotAllowed why) = Verdict.NotAllowed why
 told IllFormed = Verdict.IllFormed

@@ -1,4 +1,4 @@
-// What an instruction or a car event does to a record: whether it is allowed, and the next record.
+// What an instruction or a car event does to a record: whether it is allowed or why not, and the next record.
 ghost use mathlib.Core.Path.{_≡_};
 ghost use Rattle.bits.specs.Bits.{bit, image};
 ghost use Rattle.rules.specs.declared.Instruction.{Instruction};
@@ -6,6 +6,7 @@ ghost use Rattle.rules.specs.Events.{possible, after};
 ghost use Rattle.rules.specs.Verdicts.{verdictOf, movedOf, drivenOf, codeVerdict, codeMoved};
 ghost use Rattle.engine.specs.Private.{told};
 use rules::Code;
+use rules::Driven;
 use rules::Event;
 use rules::Instruction;
 use rules::Moved;
@@ -73,12 +74,12 @@ fn told(m: Moved) -> Verdict
 {
     match m {
         Moved::Record(_) => Verdict::Allowed,
-        Moved::NotAllowed => Verdict::NotAllowed,
+        Moved::NotAllowed(why) => Verdict::NotAllowed(why),
         Moved::IllFormed => Verdict::IllFormed,
     }
 }
 
-// Whether an instruction is allowed: it is where it has a next record. A belt move's is not worked out for that.
+// Whether an instruction is allowed, and why not: it is where it has a next record. A belt move's is not worked out for that.
 pub fn verdict(i: Instruction, r: u64) -> Verdict
     ensures { λ v. ⌜ v ≡ verdictOf i r ⌝ }
 {
@@ -127,11 +128,11 @@ fn after(e: Event, r: u64) -> u64
 }
 
 // The record after a car event, where it is possible.
-pub fn driven(e: Event, r: u64) -> Moved
-    ensures { λ m. ⌜ m ≡ drivenOf e r ⌝ }
+pub fn driven(e: Event, r: u64) -> Driven
+    ensures { λ d. ⌜ d ≡ drivenOf e r ⌝ }
 {
     if possible(e, r) {
-        return Moved::Record(after(e, r));
+        return Driven::Record(after(e, r));
     }
-    Moved::NotAllowed
+    Driven::Impossible
 }

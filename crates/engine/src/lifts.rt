@@ -5,10 +5,11 @@ ghost use lib.Dec.{T};
 ghost use Rattle.bits.specs.Bits.{bit, image};
 ghost use Rattle.bits.specs.Places.{places};
 ghost use Rattle.rules.specs.declared.Instruction.{Instruction};
-ghost use Rattle.rules.specs.Rules.{wellFormed, allowed, next};
-ghost use Rattle.rules.specs.Verdicts.{movedOf};
+ghost use Rattle.rules.specs.Rules.{wellFormed, clauses, next};
+ghost use Rattle.rules.specs.Verdicts.{judged, movedOf};
 ghost use Rattle.engine.specs.Private.{liftBits};
 use super::masks::height_is;
+use answers::Reason;
 use floor::masks::HEIGHT;
 use floor::masks::HEIGHT_AT;
 use floor::masks::LEFT_OF_LIFT;
@@ -19,15 +20,22 @@ use floor::masks::RAISED_CAR;
 use floor::masks::RIGHT_OF_LIFT;
 use floor::masks::TURNING_CELLS;
 use rules::Moved;
+use rules::Verdict;
 
 // The height differs; in the basement the lift's two cells are free, or no car stands half on it: the cells on either side
 // hold an even number each.
-fn lift_allowed(r: u64, height: u8) -> bool
-    requires { ⌜ T (wellFormed (Instruction.Lift height)) ⌝ }
-    ensures { λ b. ⌜ b ≡ allowed (Instruction.Lift height) (bit r) ⌝ }
+fn lift_judged(r: u64, height: u8) -> Verdict
+    ensures { λ v. ⌜ v ≡ judged (clauses (Instruction.Lift height)) (bit r) ⌝ }
 {
-    let whole = bits::even(r, LEFT_OF_LIFT) & bits::even(r, RIGHT_OF_LIFT);
-    !height_is(r, height) & (!height_is(r, 2) | (bits::free(r, LIFT_CELLS) | whole))
+    let even = bits::even(r, LEFT_OF_LIFT) & bits::even(r, RIGHT_OF_LIFT);
+    let whole = !height_is(r, 2) | (bits::free(r, LIFT_CELLS) | even);
+    if height_is(r, height) {
+        return Verdict::NotAllowed(Reason::SameHeight);
+    }
+    if !whole {
+        return Verdict::NotAllowed(Reason::OddCount);
+    }
+    Verdict::Allowed
 }
 
 // The bits of the lift at a height, with a car or without: in the basement the car stands on its two cells.
@@ -68,25 +76,35 @@ pub fn lift_moved(r: u64, height: u8) -> Moved
     requires { ⌜ T (wellFormed (Instruction.Lift height)) ⌝ }
     ensures { λ m. ⌜ m ≡ movedOf (Instruction.Lift height) r ⌝ }
 {
-    if lift_allowed(r, height) {
-        return Moved::Record(lift_next(r, height));
+    let v = lift_judged(r, height);
+    match v {
+        Verdict::Allowed => Moved::Record(lift_next(r, height)),
+        Verdict::NotAllowed(why) => Moved::NotAllowed(why),
+        Verdict::IllFormed => Moved::IllFormed,
     }
-    Moved::NotAllowed
 }
 
 // At rotation height with its six cells free.
-fn rotate_allowed(r: u64) -> bool
-    ensures { λ b. ⌜ b ≡ allowed Instruction.Rotate (bit r) ⌝ }
+fn rotate_judged(r: u64) -> Verdict
+    ensures { λ v. ⌜ v ≡ judged (clauses Instruction.Rotate) (bit r) ⌝ }
 {
-    height_is(r, 1) & bits::free(r, TURNING_CELLS)
+    if !height_is(r, 1) {
+        return Verdict::NotAllowed(Reason::NotAtRotation);
+    }
+    if !bits::free(r, TURNING_CELLS) {
+        return Verdict::NotAllowed(Reason::CellsNotFree);
+    }
+    Verdict::Allowed
 }
 
 // Rotating keeps the record.
 pub fn rotate_moved(r: u64) -> Moved
     ensures { λ m. ⌜ m ≡ movedOf Instruction.Rotate r ⌝ }
 {
-    if rotate_allowed(r) {
-        return Moved::Record(r);
+    let v = rotate_judged(r);
+    match v {
+        Verdict::Allowed => Moved::Record(r),
+        Verdict::NotAllowed(why) => Moved::NotAllowed(why),
+        Verdict::IllFormed => Moved::IllFormed,
     }
-    Moved::NotAllowed
 }

@@ -6,12 +6,14 @@ ghost use lib.Dec.{T};
 ghost use Rattle.bits.specs.Bits.{bit, image};
 ghost use Rattle.rules.specs.declared.Instruction.{Instruction};
 ghost use Rattle.rules.specs.Named.{rowsOf, ahead};
-ghost use Rattle.rules.specs.Rules.{wellFormed, allowed, next};
-ghost use Rattle.rules.specs.Verdicts.{movedOf};
+ghost use Rattle.rules.specs.Rules.{wellFormed, clauses, allowed, next};
+ghost use Rattle.rules.specs.Verdicts.{judged, movedOf};
 ghost use Rattle.engine.specs.Private.{onto, carsOf};
 use super::masks::cells;
 use super::masks::slots;
+use answers::Reason;
 use rules::Moved;
+use rules::Verdict;
 
 // Rows moved by one toward d.
 fn onto(rows: u64, toward: u8) -> u64
@@ -53,16 +55,31 @@ fn cars(r: u64, side: u8) -> u64
 }
 
 // At least one row, no gap, a shuttle in each; a lowered one in row 1 has a whole car or none; the next row is there and free.
-fn shuttles_allowed(r: u64, side: u8, mask: u8, orientation: u8, toward: u8) -> bool
+fn shuttles_judged(r: u64, side: u8, mask: u8, orientation: u8, toward: u8) -> Verdict
     requires { ⌜ T (wellFormed (Instruction.Shuttles side mask orientation toward)) ⌝ }
-    ensures { λ b. ⌜ b ≡ allowed (Instruction.Shuttles side mask orientation toward) (bit r) ⌝ }
+    ensures { λ v. ⌜ v ≡ judged (clauses (Instruction.Shuttles side mask orientation toward)) (bit r) ⌝ }
 {
     let rows = mask as u64;
     let next = ahead(rows, toward);
     let there = bits::all(r, slots(side, orientation, rows));
     let whole = (orientation == 1) | bits::even(r, cells(side, rows % 2));
     let clear = (next != 0) & bits::free(r, slots(side, orientation, next));
-    (rows != 0) & ((rows != 5) & (there & (whole & clear)))
+    if rows == 0 {
+        return Verdict::NotAllowed(Reason::NothingNamed);
+    }
+    if rows == 5 {
+        return Verdict::NotAllowed(Reason::Gap);
+    }
+    if !there {
+        return Verdict::NotAllowed(Reason::NotAvailable);
+    }
+    if !whole {
+        return Verdict::NotAllowed(Reason::OddCount);
+    }
+    if !clear {
+        return Verdict::NotAllowed(Reason::NotFree);
+    }
+    Verdict::Allowed
 }
 
 // The slots move by a row; lowered shuttles take their cars along.
@@ -90,8 +107,10 @@ pub fn shuttles_moved(r: u64, side: u8, mask: u8, orientation: u8, toward: u8) -
     requires { ⌜ T (wellFormed (Instruction.Shuttles side mask orientation toward)) ⌝ }
     ensures { λ m. ⌜ m ≡ movedOf (Instruction.Shuttles side mask orientation toward) r ⌝ }
 {
-    if shuttles_allowed(r, side, mask, orientation, toward) {
-        return Moved::Record(shuttles_next(r, side, mask, orientation, toward));
+    let v = shuttles_judged(r, side, mask, orientation, toward);
+    match v {
+        Verdict::Allowed => Moved::Record(shuttles_next(r, side, mask, orientation, toward)),
+        Verdict::NotAllowed(why) => Moved::NotAllowed(why),
+        Verdict::IllFormed => Moved::IllFormed,
     }
-    Moved::NotAllowed
 }

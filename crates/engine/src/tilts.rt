@@ -6,11 +6,13 @@ ghost use lib.Dec.{T};
 ghost use Rattle.bits.specs.Bits.{bit, image};
 ghost use Rattle.rules.specs.declared.Instruction.{Instruction};
 ghost use Rattle.rules.specs.Named.{rowsOf};
-ghost use Rattle.rules.specs.Rules.{wellFormed, allowed, next};
-ghost use Rattle.rules.specs.Verdicts.{movedOf};
+ghost use Rattle.rules.specs.Rules.{wellFormed, clauses, next};
+ghost use Rattle.rules.specs.Verdicts.{judged, movedOf};
 use super::masks::cells;
 use super::masks::slots;
+use answers::Reason;
 use rules::Moved;
+use rules::Verdict;
 
 // One row as a mask of rows.
 fn only(row: u8) -> u64
@@ -21,15 +23,27 @@ fn only(row: u8) -> u64
 }
 
 // From lowered: all three of the side are lowered and the position is free. From tilted: a tilted one is there and no lowered one.
-fn tilt_allowed(r: u64, side: u8, row: u8, orientation: u8) -> bool
+fn tilt_judged(r: u64, side: u8, row: u8, orientation: u8) -> Verdict
     requires { ⌜ T (wellFormed (Instruction.Tilt side row orientation)) ⌝ }
-    ensures { λ b. ⌜ b ≡ allowed (Instruction.Tilt side row orientation) (bit r) ⌝ }
+    ensures { λ v. ⌜ v ≡ judged (clauses (Instruction.Tilt side row orientation)) (bit r) ⌝ }
 {
     let here = only(row);
     if orientation == 0 {
-        return bits::all(r, slots(side, 0, 7)) & bits::free(r, cells(side, here));
+        if !bits::all(r, slots(side, 0, 7)) {
+            return Verdict::NotAllowed(Reason::NotAvailable);
+        }
+        if !bits::free(r, cells(side, here)) {
+            return Verdict::NotAllowed(Reason::CellsNotFree);
+        }
+        return Verdict::Allowed;
     }
-    bits::all(r, slots(side, 1, here)) & bits::free(r, slots(side, 0, here))
+    if !bits::all(r, slots(side, 1, here)) {
+        return Verdict::NotAllowed(Reason::NotAvailable);
+    }
+    if !bits::free(r, slots(side, 0, here)) {
+        return Verdict::NotAllowed(Reason::NotFree);
+    }
+    Verdict::Allowed
 }
 
 // The shuttle has the other orientation.
@@ -47,8 +61,10 @@ pub fn tilt_moved(r: u64, side: u8, row: u8, orientation: u8) -> Moved
     requires { ⌜ T (wellFormed (Instruction.Tilt side row orientation)) ⌝ }
     ensures { λ m. ⌜ m ≡ movedOf (Instruction.Tilt side row orientation) r ⌝ }
 {
-    if tilt_allowed(r, side, row, orientation) {
-        return Moved::Record(tilt_next(r, side, row, orientation));
+    let v = tilt_judged(r, side, row, orientation);
+    match v {
+        Verdict::Allowed => Moved::Record(tilt_next(r, side, row, orientation)),
+        Verdict::NotAllowed(why) => Moved::NotAllowed(why),
+        Verdict::IllFormed => Moved::IllFormed,
     }
-    Moved::NotAllowed
 }

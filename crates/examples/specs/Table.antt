@@ -1,5 +1,6 @@
--- Document 01's floor examples P1 to P12 as one table: from the start, calls with what each is answered, and the record between them.
--- The calls are those that the contracts of the code cite. One claim says that the whole table is right. Assumes nothing.
+-- Document 01's floor examples P1 to P12, with document 02's reasons, as one table: from the start, calls with what each is answered, and
+-- the record between them. The calls are those that the contracts of the code cite. One claim says that the whole table is right.
+-- Assumes nothing.
 use mathlib.Core.Bool.{Bool, true, false, _&&_}
 use mathlib.Core.List.{List, [], _∷_, _++_, map}
 use Prim.Native.Nat.{ℕ}
@@ -75,12 +76,12 @@ done i = result i 1
 abbrev pub failed : ℕ → Call
 failed i = result i 0
 
--- an instruction alone is accepted and done, and makes this record; alone, it is not allowed
+-- an instruction alone is accepted and done, and makes this record; alone, it is refused with a reason's number
 abbrev pub makes : Instruction → ℕ → List Step
 makes i r = taken (asking (i ∷ [])) ∷ taken (done 0) ∷ holds r ∷ []
 
-abbrev pub barred : Instruction → Step
-barred i = answers (asking (i ∷ [])) 9 0
+abbrev pub barred : Instruction → ℕ → Step
+barred i number = answers (asking (i ∷ [])) number 0
 
 -- the start record
 abbrev pub S : ℕ
@@ -114,19 +115,19 @@ table =
     -- P4: after P2, lift to basement
     ∷ p4
     -- P5: then row 1 mask 6, lower, half; lift to street now
-    ∷ (p4 ++ makes (Belts 1 6 0 0) 0x00491B0000000C00 ++ barred (Lift street) ∷ [])
+    ∷ (p4 ++ makes (Belts 1 6 0 0) 0x00491B0000000C00 ++ barred (Lift street) 24 ∷ [])
     -- P6: sound, 2 cars; lift up
-    ∷ (taken (image 0x00491B0000003C00) ∷ cars 2 ∷ barred (Lift rotation) ∷ barred (Lift street) ∷ [])
+    ∷ (taken (image 0x00491B0000003C00) ∷ cars 2 ∷ barred (Lift rotation) 24 ∷ barred (Lift street) 24 ∷ [])
     -- P7: half a car
     ∷ (refused (image 0x00091B0000000001) 15 ∷ [])
     -- P8: left lowered rows 1 and 2 higher
     ∷ (taken (image 0x00091B0000000003) ∷ makes (Shuttles left 3 lowered 1) 0x00091E0000100000)
     -- P9: the same with 06 first
-    ∷ (taken (image 0x00091B0000000006) ∷ barred (Shuttles left 3 lowered 1) ∷ [])
+    ∷ (taken (image 0x00091B0000000006) ∷ barred (Shuttles left 3 lowered 1) 24 ∷ [])
     -- P10: on S, lower both row-3 shuttles in one set; right one failing
     ∷ (p10 (done 1) 0x00003F0000000000 ++ taken (image S) ∷ p10 (failed 1) 0x00081F0000000000)
     -- P11: rotate, allowed; then with a car on one of its cells
-    ∷ (taken (image 0x00291B00000000C0) ∷ makes Rotate 0x00291B00000000C0 ++ taken (image 0x00291B0000000180) ∷ barred Rotate ∷ [])
+    ∷ (taken (image 0x00291B00000000C0) ∷ makes Rotate 0x00291B00000000C0 ++ taken (image 0x00291B0000000180) ∷ barred Rotate 28 ∷ [])
     -- P12: same tilt twice
     ∷ (answers (asking (lowers left ∷ lowers left ∷ [])) 8 1 ∷ [])
     ∷ []

@@ -3,7 +3,7 @@ use Prim.Native.Nat.{ℕ, suc, _+_, _*_, _-_, _≤_, _<_}
 use native.Mathlib.Omega.{arith}
 use native.Mathlib.Numerals.{add-one}
 use mathlib.Core.Path.{_≡_, refl, sym, ap, ap₂, _∙_}
-use mathlib.Core.Bool.{Bool, true, not, _&&_, _||_}
+use mathlib.Core.Bool.{Bool, true, false, cond, not, _&&_, _||_}
 use mathlib.Core.List.{List, [], _∷_, _++_, append-nil}
 use lib.Bits.{bitAnd, bitOr, or-self, or-add-and, and-le-l, and-le-r}
 use lib.Dec.{eqb, ltb}
@@ -26,6 +26,13 @@ pub judged : (f : Code → Bool) {x y : Code} {b v : Bool} → x ≡ y → b ≡
 judged f e d t = rw (← e, ← d, t)
 
 -- ---- three searches in one
+
+-- a test picks what stands for its answer
+pub where-true : (b : Bool) (x y : ℕ) → b ≡ true → x ≡ cond b x y
+where-true b x y e = rw e
+
+pub where-false : (b : Bool) (x y : ℕ) → b ≡ false → y ≡ cond b x y
+where-false b x y e = rw e
 
 -- the areas of the instructions below i, and of these the least that is bad, that overlaps an earlier one, that is not allowed
 pub record Searched (set : List ℕ) (n r seen worst overlap closed i : ℕ) : Type 0 where

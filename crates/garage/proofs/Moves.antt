@@ -5,7 +5,7 @@ use mathlib.Core.Path.{_≡_, refl, ap, _∙_}
 use mathlib.Core.Bool.{Bool, true, false, cond}
 use mathlib.Core.List.{[]}
 use lib.Dec.{eqb}
-use Rattle.bits.specs.Bits.{Bits, bit, packed, image}
+use Rattle.bits.specs.Bits.{bit, packed, image}
 use Rattle.bits.specs.Places.{elem}
 use Rattle.bits.proofs.Cases.{split}
 use Rattle.rules.specs.declared.Instruction.{Instruction}
@@ -15,21 +15,22 @@ use Rattle.rules.specs.declared.Verdict.{Verdict}
 use Rattle.rules.specs.declared.Event.{Event}
 use Rattle.rules.specs.declared.EventReading.{EventReading}
 use Rattle.rules.specs.declared.Moved.{Moved}
-use Rattle.rules.specs.declared.Moved.the-variants.{Record, NotAllowed, IllFormed}
+use Rattle.rules.specs.declared.Driven.{Driven}
 use Rattle.rules.specs.declared.Reading.{Reading}
 use Rattle.rules.specs.declared.Reading.the-variants.{Good, Bad}
-use Rattle.rules.specs.Rules.{wellFormed, areaOf, area, allowed, next}
+use Rattle.rules.specs.Rules.{areaOf, area, allowed, next}
 use Rattle.rules.specs.Events.{possible}
 use Rattle.rules.specs.Codes.{readCode, readEvent}
-use Rattle.rules.specs.Verdicts.{onCode, maskOf, codeMask, verdictOf, codeVerdict, movedOf, codeMoved, drivenOf}
+use Rattle.rules.specs.Verdicts.{onCode, maskOf, codeMask, verdictOf, codeVerdict, isAllowed, movedBy, movedOf, codeMoved, drivenOf}
 use Rattle.rules.proofs.CodeLaws.{one-form}
+use Rattle.rules.proofs.Reasons.{allows-is}
 use Rattle.answers.specs.declared.Answer.the-variants.{BadField, EventImpossible, NowNotAllowed}
 use Rattle.answers.specs.Answers.{nowhere}
 use Rattle.garage.specs.declared.Station.{Station}
 use Rattle.garage.specs.Held.{codeAt, isGood, heldArea, heldAllowed, heldNext}
 use Rattle.garage.specs.Station.{holding, answering}
 use Rattle.garage.specs.Calls.{refused, taken, occurred, driven, evented, succeeded}
-use Rattle.garage.specs.Private.{heldMask, maskIn, isAllowed}
+use Rattle.garage.specs.Private.{heldMask, maskIn}
 
 -- ---- areas and verdicts
 
@@ -42,20 +43,13 @@ held-area x e = ap maskIn e ∙ read (readCode x) refl
     read (Good i) d = rw (one-form x i d .1)
     read Bad d = refl
 
--- what is ill formed is never allowed
-ill-formed : (i : Instruction) (f : Bits) → wellFormed i ≡ false → allowed i f ≡ false
-unfolding allowed
-ill-formed i f w = rw w
-
 -- and are never allowed
 pub held-verdict : (x : Code) (r : ℕ) {v : Verdict} → v ≡ codeVerdict x r → isAllowed v ≡ heldAllowed x (bit r)
-unfolding heldAllowed codeVerdict verdictOf
+unfolding heldAllowed codeVerdict
 held-verdict x r e = ap isAllowed e ∙ read (readCode x)
   where
     read : (g : Reading) → isAllowed (onCode (λ i. verdictOf i r) Verdict.IllFormed g) ≡ onCode (λ i. allowed i (bit r)) false g
-    read (Good i) = split (wellFormed i)
-        (λ w. split (allowed i (bit r)) (λ a. rw (w, a)) (λ a. rw (w, a)))
-        (λ w. rw (w, ill-formed i (bit r) w))
+    read (Good i) = allows-is i r
     read Bad = refl
 
 -- ---- one reading
@@ -81,21 +75,27 @@ module _ (x : Code) (r : ℕ) where
 
 -- one answer where the move is made, another where it isn't
 abbrev pub onMoved : {A : Type 0} → (ℕ → A) → A → Moved → A
-onMoved made unmade (Record r) = made r
-onMoved made unmade NotAllowed = unmade
-onMoved made unmade IllFormed = unmade
+onMoved made unmade (Moved.Record r) = made r
+onMoved made unmade (Moved.NotAllowed why) = unmade
+onMoved made unmade Moved.IllFormed = unmade
+
+-- it is made where the verdict allows it
+made-allowed : {A : Type 0} (made : ℕ → A) (unmade : A) (v : Verdict) (x : ℕ) → onMoved made unmade (movedBy v x) ≡ cond (isAllowed v) (made x) unmade
+made-allowed made unmade Verdict.Allowed x = refl
+made-allowed made unmade (Verdict.NotAllowed why) x = refl
+made-allowed made unmade Verdict.IllFormed x = refl
 
 -- an instruction's move is made exactly where it is allowed
 held-moved : {A : Type 0} (made : ℕ → A) (unmade : A) (x : Code) (r : ℕ)
     → onMoved made unmade (codeMoved x r) ≡ cond (heldAllowed x (bit r)) (made (image (heldNext x (bit r)))) unmade
 unfolding heldAllowed heldNext codeMoved movedOf
-held-moved made unmade x r = read (readCode x)
+held-moved {A} made unmade x r = read (readCode x)
   where
-    read : (g : Reading) → onMoved made unmade (onCode (λ i. movedOf i r) IllFormed g)
+    read : (g : Reading) → onMoved made unmade (onCode (λ i. movedOf i r) Moved.IllFormed g)
         ≡ cond (onCode (λ i. allowed i (bit r)) false g) (made (image (onCode (λ i. next i (bit r)) (bit r) g))) unmade
-    read (Good i) = split (wellFormed i)
-        (λ w. split (allowed i (bit r)) (λ a. rw (w, a)) (λ a. rw (w, a)))
-        (λ w. rw (w, ill-formed i (bit r) w))
+    read (Good i) =
+        made-allowed made unmade (verdictOf i r) (image (next i (bit r)))
+        ∙ ap (λ (b : Bool). cond {A = A} b (made (image (next i (bit r)))) unmade) (allows-is i r)
     read Bad = refl
 
 -- success of instruction i
@@ -104,9 +104,14 @@ pub success : (s : Station) (i : ℕ) {x : Code} {m : Moved} → x ≡ codeAt (s
 unfolding succeeded
 success s i d e = rw (e, d) (held-moved (λ r. taken (answering s i r)) (refused s NowNotAllowed) (codeAt (s .set) i) (s .bits))
 
+-- one answer where a car event is possible, another where it isn't
+abbrev pub onDriven : {A : Type 0} → (ℕ → A) → A → Driven → A
+onDriven made unmade (Driven.Record r) = made r
+onDriven made unmade Driven.Impossible = unmade
+
 -- a car event
-pub moved-event : (s : Station) (e : Event) {m : Moved} → m ≡ drivenOf e (s .bits)
-    → onMoved (λ r. taken (holding s r)) (refused s EventImpossible) m ≡ occurred s e
+pub moved-event : (s : Station) (e : Event) {d : Driven} → d ≡ drivenOf e (s .bits)
+    → onDriven (λ r. taken (holding s r)) (refused s EventImpossible) d ≡ occurred s e
 unfolding drivenOf occurred
 moved-event s e d = rw d (split (possible e (bit (s .bits))) (λ t. rw t) (λ t. rw t))
 

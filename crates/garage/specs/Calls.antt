@@ -12,13 +12,13 @@ use Rattle.rules.specs.declared.Event.the-variants.{CarIn, CarOut}
 use Rattle.rules.specs.Events.{possible, after}
 use Rattle.rules.specs.Codes.{most}
 use Rattle.answers.specs.declared.Answer.{Answer}
-use Rattle.answers.specs.declared.Answer.the-variants.{Taken, BadField, TooMany, SetOutstanding, EmptySet, Overlap, NotAllowed, EventImpossible, NoSet, NotInSet, AlreadyAnswered, NowNotAllowed, Unsound, Unfit}
+use Rattle.answers.specs.declared.Answer.the-variants.{Taken, BadField, TooMany, SetOutstanding, EmptySet, Overlap, EventImpossible, NoSet, NotInSet, AlreadyAnswered, NowNotAllowed, Unsound, Unfit}
 use Rattle.answers.specs.Answers.{nowhere}
 use Rattle.garage.specs.declared.Station.{Station}
 use Rattle.garage.specs.declared.Outcome.{Outcome}
 use Rattle.garage.specs.declared.Report.{Report}
 use Rattle.garage.specs.declared.Picture.{Picture}
-use Rattle.garage.specs.Held.{codeAt, heldAllowed, heldNext, bad, overlapsEarlier, barred, liftIn}
+use Rattle.garage.specs.Held.{codeAt, heldAllowed, heldNext, bad, overlapsEarlier, barred, whyNot, liftIn}
 use Rattle.garage.specs.Station.{inSet, marked, fit, holding, opened, answering}
 
 -- the station as it was, and why; the next station, taken
@@ -38,7 +38,10 @@ unlessAny n fault s a o = cond (ltb (least n fault) n) (refused s (a (least n fa
 
 -- the end of a request: no two of its n instructions overlap and each is allowed on the present record, and the set is outstanding
 unfoldable pub accepted : Station → ℕ → List ℕ → Outcome
-accepted s n set = unlessAny n (overlapsEarlier set) s Overlap (unlessAny n (barred set (s .bits)) s NotAllowed (taken (opened s n set)))
+accepted s n set =
+    unlessAny n (overlapsEarlier set) s Overlap
+    (unlessAny n (barred set (s .bits)) s (whyNot set (s .bits))
+    (taken (opened s n set)))
 
 -- a request past the test of fitness: no set is outstanding, and 1 to 8 instructions, five bytes each, are well formed
 unfoldable pub requested : Station → ℕ → List ℕ → Outcome

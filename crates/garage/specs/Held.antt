@@ -8,10 +8,11 @@ use Rattle.bits.specs.Bits.{Bits, bit}
 use Rattle.bits.specs.Places.{share}
 use Rattle.bits.specs.Search.{some}
 use Rattle.floor.specs.Floor.{lift}
+use Rattle.answers.specs.declared.Answer.{Answer}
 use Rattle.rules.specs.declared.Code.{Code}
 use Rattle.rules.specs.Rules.{areaOf, allowed, next}
 use Rattle.rules.specs.Codes.{readCode, codeFrom}
-use Rattle.rules.specs.Verdicts.{onCode}
+use Rattle.rules.specs.Verdicts.{onCode, codeVerdict, answerFor}
 
 -- instruction i of a set: its own five bytes
 unfoldable pub codeAt : List ℕ → ℕ → Code
@@ -39,6 +40,10 @@ overlapsEarlier set i = some i (λ j. share (heldArea (codeAt set i)) (heldArea 
 
 abbrev pub barred : List ℕ → ℕ → ℕ → Bool
 barred set r i = not (heldAllowed (codeAt set i) (bit r))
+
+-- what is answered for instruction i on the record with this image: why it is not allowed
+abbrev pub whyNot : List ℕ → ℕ → ℕ → Answer
+whyNot set r i = answerFor (codeVerdict (codeAt set i) r) i
 
 -- one of the first n instructions of a set has the lift in its area
 unfoldable pub liftIn : List ℕ → ℕ → Bool

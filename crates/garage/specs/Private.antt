@@ -1,5 +1,5 @@
 -- What the contracts of private functions cite; no public one rests on it. Assumes nothing.
-use mathlib.Core.Bool.{Bool, true, false, cond, _&&_}
+use mathlib.Core.Bool.{Bool, cond, _&&_}
 use mathlib.Core.List.{List}
 use Prim.Native.Nat.{ℕ, zero, suc}
 use lib.Bits.{bitOr}
@@ -8,7 +8,6 @@ use Rattle.bits.specs.Bits.{image}
 use Rattle.bits.specs.Places.{elem}
 use Rattle.rules.specs.declared.Code.{Code}
 use Rattle.rules.specs.declared.Area.{Area}
-use Rattle.rules.specs.declared.Verdict.{Verdict}
 use Rattle.garage.specs.Held.{codeAt, heldArea}
 
 -- the area of an instruction as a mask
@@ -20,15 +19,10 @@ unfoldable pub areas : List ℕ → ℕ → ℕ
 areas set zero = 0
 areas set (suc n) = bitOr (areas set n) (heldMask (codeAt set n))
 
--- the mask that an answer gives, or none; whether a verdict allows
+-- the mask that an answer gives, or none
 abbrev pub maskIn : Area → ℕ
 maskIn (Area.Mask m) = m
 maskIn Area.IllFormed = 0
-
-abbrev pub isAllowed : Verdict → Bool
-isAllowed Verdict.Allowed = true
-isAllowed Verdict.NotAllowed = false
-isAllowed Verdict.IllFormed = false
 
 -- a search that found something, or n: it is i where it found nothing before and i is at fault
 abbrev pub firstOf : ℕ → ℕ → Bool → ℕ → ℕ

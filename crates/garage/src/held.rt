@@ -1,8 +1,9 @@
 // One instruction as the station holds it, by its five bytes: bad bytes have an empty area, are never allowed and change nothing.
 ghost use mathlib.Core.Path.{_≡_};
 ghost use Rattle.bits.specs.Bits.{bit};
+ghost use Rattle.rules.specs.Verdicts.{isAllowed};
 ghost use Rattle.garage.specs.Held.{isGood, heldAllowed};
-ghost use Rattle.garage.specs.Private.{heldMask, maskIn, isAllowed};
+ghost use Rattle.garage.specs.Private.{heldMask, maskIn};
 use rules::Area;
 use rules::Code;
 use rules::Reading;
@@ -34,7 +35,7 @@ fn allows(v: Verdict) -> bool
 {
     match v {
         Verdict::Allowed => true,
-        Verdict::NotAllowed => false,
+        Verdict::NotAllowed(_) => false,
         Verdict::IllFormed => false,
     }
 }

@@ -9,6 +9,7 @@ ghost use Rattle.garage.specs.Turns.{turnOf, afterTurn};
 use crate::sets::Faults;
 use answers::Answer;
 use answers::NOWHERE;
+use rules::Driven;
 use rules::Event;
 use rules::EventReading;
 use rules::Moved;
@@ -172,7 +173,7 @@ impl Station {
         Outcome { station, answer }
     }
 
-    // The end of a request, by what a search of its set has found: no overlap, each instruction allowed. The set is named for the contract.
+    // The end of a request, by what a search of its set has found: no overlap, each instruction allowed.
     fn accepted(self, count: u8, set: [u8; 40], found: Faults) -> Turn
         requires { ⌜ (found .overlap ≡ least count (overlapsEarlier set)) × (found .barred ≡ least count (barred set (self .bits))) ⌝ }
         ensures { λ t. ⌜ t ≡ turnOf (accepted self count set) ⌝ }
@@ -181,7 +182,8 @@ impl Station {
             return self.unmoved(Answer::Overlap(found.overlap));
         }
         if found.barred < count {
-            return self.unmoved(Answer::NotAllowed(found.barred));
+            let verdict = engine::code_verdict(sets::code_at(&set, found.barred), self.bits);
+            return self.unmoved(verdict.answer(found.barred));
         }
         Turn {
             answer: Answer::Taken,
@@ -227,9 +229,8 @@ impl Station {
         ensures { λ t. ⌜ t ≡ turnOf (occurred self e) ⌝ }
     {
         match engine::driven(e, self.bits) {
-            Moved::Record(r) => self.holding(r),
-            Moved::NotAllowed => self.unmoved(Answer::EventImpossible),
-            Moved::IllFormed => self.unmoved(Answer::EventImpossible),
+            Driven::Record(r) => self.holding(r),
+            Driven::Impossible => self.unmoved(Answer::EventImpossible),
         }
     }
 
@@ -274,7 +275,7 @@ impl Station {
         let set = self.set;
         match engine::code_moved(sets::code_at(&set, i), self.bits) {
             Moved::Record(r) => self.answering(i, r),
-            Moved::NotAllowed => self.unmoved(Answer::NowNotAllowed),
+            Moved::NotAllowed(_) => self.unmoved(Answer::NowNotAllowed),
             Moved::IllFormed => self.unmoved(Answer::NowNotAllowed),
         }
     }

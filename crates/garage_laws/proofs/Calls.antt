@@ -1,9 +1,10 @@
 -- Each call taken apart: when it is taken, and what it then leaves. A call is one chain of refusals; what is taken has passed each of
 -- them, and what is refused leaves the station. Assumes nothing.
 use mathlib.Core.Path.{_≡_, refl, ap, _∙_}
+use mathlib.Core.Logic.{_⊎_, inl, inr}
 use mathlib.Core.Bool.{Bool, true, false, not, cond}
 use mathlib.Core.List.{List}
-use Prim.Native.Nat.{ℕ, _<_}
+use Prim.Native.Nat.{ℕ, _≤_, _<_}
 use native.Mathlib.Omega.{arith}
 use lib.Dec.{eqb, ltb}
 use borrow.Author.Tests.{ltb-false, lt-ltb, le-ltb, le-leb, eqb-false, ne-eqb, not-false}
@@ -18,20 +19,21 @@ use Rattle.rules.specs.declared.EventReading.the-variants.{Good as Told, Bad as
 use Rattle.rules.specs.Events.{possible, after}
 use Rattle.rules.specs.Codes.{readEvent, most}
 use Rattle.answers.specs.declared.Answer.{Answer}
-use Rattle.answers.specs.declared.Answer.the-variants.{BadField, TooMany, SetOutstanding, EmptySet, Overlap, NotAllowed, EventImpossible, NoSet, NotInSet, AlreadyAnswered, NowNotAllowed, Unsound, Unfit}
+use Rattle.answers.specs.declared.Answer.the-variants.{BadField, TooMany, SetOutstanding, EmptySet, Overlap, EventImpossible, NoSet, NotInSet, AlreadyAnswered, NowNotAllowed, Unsound, Unfit}
 use Rattle.answers.specs.Answers.{numberOf, nowhere}
 use Rattle.garage.specs.declared.Station.{Station}
 use Rattle.garage.specs.declared.Outcome.{Outcome}
 use Rattle.garage.specs.declared.Report.{Report}
-use Rattle.garage.specs.Held.{codeAt, heldAllowed, heldNext, bad, overlapsEarlier, barred, liftIn}
+use Rattle.garage.specs.Held.{codeAt, heldAllowed, heldNext, bad, overlapsEarlier, barred, whyNot, liftIn}
 use Rattle.garage.specs.Station.{inSet, marked, fit, holding, opened, answering}
 use Rattle.garage.specs.Calls as station
 use Rattle.garage.specs.Calls.{refused, taken, onFit}
 use Rattle.garage.proofs.Marks.{in-set}
 use Rattle.garage_laws.specs.Runs as run
 use Rattle.garage_laws.specs.Runs.{Call, call, said, left}
-use Rattle.garage_laws.specs.Demands.{Acceptable, Waiting}
+use Rattle.garage_laws.specs.Demands.{Acceptable, Orderly, Waiting}
 use Rattle.garage_laws.proofs.Instance.{onEvent, possibleAs, afterAs, heldAs, replyAs}
+use Rattle.garage_laws.proofs.Reasons.{why-number, least-fault}
 use Rattle.garage_laws.proofs.Fits.{fit-has, after-result}
 
 -- an outcome that is answered 0
@@ -45,10 +47,13 @@ pub either : (P : Outcome → Type 0) (t : Bool) {o p : Outcome} → (t ≡ true
 either P true f g = f refl
 either P false f g = g refl
 
--- whose refusal is no answer 0
+-- whose refusal, where there is one, is no answer 0
+passed-where : (t : Bool) (s : Station) (a : Answer) (o : Outcome) → (t ≡ true → numberOf a ≡ 0 → ⊥) → Zero (cond t (refused s a) o) → (t ≡ false) × Zero o
+passed-where true s a o other e = absurd (other refl e)
+passed-where false s a o other e = (refl, e)
+
 passed : (t : Bool) (s : Station) (a : Answer) (o : Outcome) → (numberOf a ≡ 0 → ⊥) → Zero (cond t (refused s a) o) → (t ≡ false) × Zero o
-passed true s a o other e = absurd (other e)
-passed false s a o other e = (refl, e)
+passed t s a o other = passed-where t s a o (λ e. other)
 
 -- the same of a test that must pass
 met : (t : Bool) (s : Station) (a : Answer) (o : Outcome) → (numberOf a ≡ 0 → ⊥) → Zero (cond t o (refused s a)) → (t ≡ true) × Zero o
@@ -56,11 +61,23 @@ met true s a o other e = (refl, e)
 met false s a o other e = absurd (other e)
 
 -- no instruction is at fault
-faultless : (n : ℕ) (fault : ℕ → Bool) → ltb (least n fault) n ≡ false → (i : ℕ) → i < n → fault i ≡ false
+pub faultless : (n : ℕ) (fault : ℕ → Bool) → ltb (least n fault) n ≡ false → (i : ℕ) → i < n → fault i ≡ false
 faultless n fault e i h = let l = ltb-false (least n fault) n e in least-below n fault i (omega arith)
 
 no-fault : (n : ℕ) (fault : ℕ → Bool) → ((i : ℕ) → i < n → fault i ≡ false) → ltb (least n fault) n ≡ false
 no-fault n fault none = let e = least-none n fault none in le-ltb (least n fault) n (omega arith)
+
+-- a refusal other than 14, 16 and 17
+abbrev Other : Answer → Type 0
+Other a = (numberOf a ≡ 0 → ⊥) × (numberOf a ≡ 14 → ⊥) × (numberOf a ≡ 16 → ⊥) × (numberOf a ≡ 17 → ⊥)
+
+-- so is why an instruction that is found is not allowed
+barred-other : (s : Station) (n : ℕ) (set : List ℕ) → ltb (least n (barred set (s .bits))) n ≡ true → Other (whyNot set (s .bits) (least n (barred set (s .bits))))
+barred-other s n set t = go (why-number set (s .bits) (least n (barred set (s .bits))) (least-fault n (barred set (s .bits)) t .passes))
+  where
+    go : {k : ℕ} → (k ≡ 4) ⊎ (20 ≤ k) → (k ≡ 0 → ⊥) × (k ≡ 14 → ⊥) × (k ≡ 16 → ⊥) × (k ≡ 17 → ⊥)
+    go (inl h) = omega arith
+    go (inr h) = omega arith
 
 -- ---- a request, part by part
 
@@ -70,7 +87,7 @@ module _ (s : Station) (n : ℕ) (set : List ℕ) where
   unfolding station.accepted
   accepted-has e =
       let (a, e₁) = passed (ltb (least n (overlapsEarlier set)) n) s (Overlap (least n (overlapsEarlier set))) _ (λ z. omega arith) e in
-      let (b, e₂) = passed (ltb (least n (barred set (s .bits))) n) s (NotAllowed (least n (barred set (s .bits)))) _ (λ z. omega arith) e₁ in
+      let (b, e₂) = passed-where (ltb (least n (barred set (s .bits))) n) s _ _ (λ t. barred-other s n set t .0) e₁ in
       (a, b)
 
   requested-has : Zero (station.requested s n set)
@@ -83,42 +100,64 @@ module _ (s : Station) (n : ℕ) (set : List ℕ) where
       let (d, e₄) = passed (ltb (least n (bad set)) n) s (BadField (least n (bad set))) _ (λ z. omega arith) e₃ in
       (a, b, c, d, e₄)
 
+  -- past each test but the last it is orderly
+  pub orderly-of : fit s ≡ true → ltb 0 (s .count) ≡ false → ltb most n ≡ false → eqb n 0 ≡ false
+      → ltb (least n (bad set)) n ≡ false → ltb (least n (overlapsEarlier set)) n ≡ false → Orderly s n set
+  orderly-of a b c d f g =
+      record {
+        fits = a;
+        idle = (let l = ltb-false 0 (s .count) b in omega arith);
+        some = (let l = eqb-false n 0 d in omega arith);
+        few = ltb-false most n c;
+        good = faultless n (bad set) f;
+        apart = faultless n (overlapsEarlier set) g;
+      }
+
   pub request-has : said s (run.request n set) ≡ 0 → Acceptable s n set
   unfolding station.request overlapsEarlier
   request-has e =
       let (a, e₁) = met (fit s) s Unfit (station.requested s n set) (λ z. omega arith) e in
       let (b, c, d, f, e₂) = requested-has e₁ in
       let (g, h) = accepted-has e₂ in
+      let O = orderly-of a b c d f g in
       record {
-        fits = a;
-        idle = (let l = ltb-false 0 (s .count) b in omega arith);
-        some = (let l = eqb-false n 0 d in omega arith);
-        few = ltb-false most n c;
-        good = λ i l. not-false _ (faultless n (bad set) f i l);
-        apart = λ i j l m. none-at i _ (faultless n (overlapsEarlier set) g i l) j (omega arith);
+        fits = O .fits;
+        idle = O .idle;
+        some = O .some;
+        few = O .few;
+        good = λ i l. not-false _ (O .good i l);
+        apart = λ i j l m. none-at i _ (O .apart i l) j (omega arith);
         allowed = λ i l. not-false _ (faultless n (barred set (s .bits)) h i l);
       }
 
-  module _ (A : Acceptable s n set) where
-    accepted-is : station.accepted s n set ≡ taken (opened s n set)
-    unfolding station.accepted overlapsEarlier
-    accepted-is = rw (
-      no-fault n (overlapsEarlier set) (λ i h. none-is i _ (λ j l. A .apart i j h l)),
-      no-fault n (barred set (s .bits)) (λ i h. rw (A .allowed i h)),
-    )
-
+  -- an orderly one comes to its last test
+  module _ (O : Orderly s n set) where
     requested-is : station.requested s n set ≡ station.accepted s n set
     unfolding station.requested
     requested-is = rw (
-      le-ltb 0 (s .count) (let z = A .idle in omega arith),
-      le-ltb most n (A .few),
-      ne-eqb n 0 (λ z. (let l = A .some in omega arith)),
-      no-fault n (bad set) (λ i h. rw (A .good i h)),
+      le-ltb 0 (s .count) (let z = O .idle in omega arith),
+      le-ltb most n (O .few),
+      ne-eqb n 0 (λ z. (let l = O .some in omega arith)),
+      no-fault n (bad set) (O .good),
     )
 
-    pub request-is : station.request s n set ≡ taken (opened s n set)
-    unfolding station.request
-    request-is = rw (A .fits) (requested-is ∙ accepted-is)
+    pub orderly-is : station.request s n set ≡ station.unlessAny n (barred set (s .bits)) s (whyNot set (s .bits)) (taken (opened s n set))
+    unfolding station.request station.accepted
+    orderly-is = rw (O .fits) (requested-is ∙ rw (no-fault n (overlapsEarlier set) (O .apart)))
+
+  pub request-is : Acceptable s n set → station.request s n set ≡ taken (opened s n set)
+  unfolding overlapsEarlier
+  request-is A = orderly-is orderly ∙ rw (no-fault n (barred set (s .bits)) (λ i h. rw (A .allowed i h)))
+    where
+      orderly : Orderly s n set
+      orderly = record {
+        fits = A .fits;
+        idle = A .idle;
+        some = A .some;
+        few = A .few;
+        good = λ i h. rw (A .good i h);
+        apart = λ i h. none-is i _ (λ j l. A .apart i j h l);
+      }
 
 -- ---- a result, part by part
 
@@ -272,10 +311,6 @@ ask-is s f = rw f
 -- ---- every call is refused since the station is unfit, or with a number that is none of 0, 14, 16 and 17, or taken, or a success of an
 -- instruction that waits
 
--- a refusal other than 14, 16 and 17
-abbrev Other : Answer → Type 0
-Other a = (numberOf a ≡ 0 → ⊥) × (numberOf a ≡ 14 → ⊥) × (numberOf a ≡ 16 → ⊥) × (numberOf a ≡ 17 → ⊥)
-
 module _ (P : Outcome → Type 0) (s : Station) (unfit : fit s ≡ false → P (refused s Unfit)) (no : (a : Answer) → Other a → P (refused s a)) (done : (t : Station) → P (taken t)) (told : (i : ℕ) → Waiting s i → P (station.succeeded s i)) where
   unless : (t : Bool) (a : Answer) {o : Outcome} → Other a → (t ≡ false → P o) → P (cond t (refused s a) o)
   unless t a other f = either P t (λ e. no a other) f
@@ -287,7 +322,7 @@ module _ (P : Outcome → Type 0) (s : Station) (unfit : fit s ≡ false → P (
   unfolding station.accepted
   accepting n set =
       unless (ltb (least n (overlapsEarlier set)) n) (Overlap (least n (overlapsEarlier set))) (omega arith)
-      (λ a. unless (ltb (least n (barred set (s .bits))) n) (NotAllowed (least n (barred set (s .bits)))) (omega arith)
+      (λ a. either P (ltb (least n (barred set (s .bits))) n) (λ t. no _ (barred-other s n set t))
       (λ b. done (opened s n set)))
 
   requesting : (n : ℕ) (set : List ℕ) → P (station.requested s n set)

@@ -10,11 +10,12 @@ use Rattle.garage.specs.declared.Station.{Station}
 use Rattle.garage.specs.declared.Outcome.{Outcome}
 use Rattle.garage.specs.Station.{holding}
 use Rattle.garage_laws.specs.Runs.{call}
-use Rattle.garage_laws.specs.Demands.{RefusedUntouched, CallsInTable, AcceptedExactly, ResultRecord, FailureKeeps, EventRecord, ImageTaken, AskKeeps, ResultTaken, EventTaken, OnlySuccessChanges, PlacesRight, PlacesElse, PlacesInRange, AlwaysLaidOut, CarsCounted, AnyOrder, OrdersExist, AnyOrderAmid, AmidUnmoved, AmidExists, AmidCovers, NeverFourteen, FitStays, NeverUnfit}
+use Rattle.garage_laws.specs.Demands.{RefusedUntouched, CallsInTable, AcceptedExactly, ReasonExactly, ResultRecord, FailureKeeps, EventRecord, ImageTaken, AskKeeps, ResultTaken, EventTaken, OnlySuccessChanges, PlacesRight, PlacesElse, PlacesInRange, AlwaysLaidOut, CarsCounted, AnyOrder, OrdersExist, AnyOrderAmid, AmidUnmoved, AmidExists, AmidCovers, NeverFourteen, FitStays, NeverUnfit}
 use Rattle.garage_laws.proofs.Instance.{afterAs}
 use Rattle.garage_laws.proofs.Calls as calls
 use Rattle.garage_laws.proofs.Calls.{Drivable, request-has, request-is, success-has, success-is, failure-has, failure-is, answering-bits, event-has, event-is, image-has, image-is, ask-has, ask-is}
 use Rattle.garage_laws.proofs.Places as places
+use Rattle.garage_laws.proofs.Refusals as refusals
 use Rattle.garage_laws.proofs.Steps.{asked}
 use Rattle.garage_laws.proofs.Changes as changes
 use Rattle.garage_laws.proofs.Always as always
@@ -42,6 +43,9 @@ calls-in-table s c = (call s c .answer, refl)
 
 pub accepted-exactly : AcceptedExactly
 accepted-exactly s n set = ((request-has s n set, λ A. ap number (request-is s n set A)), λ A. ap rest (request-is s n set A))
+
+pub reason-exactly : ReasonExactly
+reason-exactly = refusals.reason-exactly
 
 pub result-record : ResultRecord
 result-record s i = (

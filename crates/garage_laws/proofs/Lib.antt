@@ -1,7 +1,9 @@
 pub mod Instance
 pub mod Fits
+pub mod Reasons
 pub mod Calls
 pub mod Places
+pub mod Refusals
 pub mod Steps
 pub mod Changes
 pub mod Always

@@ -1,34 +1,36 @@
 -- The places: a request's answer names the least instruction at fault, every other answer none. Assumes nothing.
-use mathlib.Core.Path.{_≡_, refl}
+use mathlib.Core.Path.{_≡_, refl, sym, subst}
 use mathlib.Core.Logic.{_⊎_, inl, inr}
-use mathlib.Core.Bool.{Bool, true, not, cond}
+use mathlib.Core.Bool.{Bool, true, false, not, cond}
 use mathlib.Core.List.{List}
 use Prim.Native.Nat.{ℕ, _≤_, _<_}
 use native.Mathlib.Omega.{arith}
 use lib.Dec.{eqb, ltb}
-use borrow.Author.Tests.{ltb-true, ltb-false}
+use borrow.Author.Tests.{ltb-true, ltb-false, not-false}
 use Rattle.bits.specs.Bits.{bit}
 use Rattle.bits.specs.Search.{least, IsLeast}
-use Rattle.bits.proofs.Least.{found-least}
 use Rattle.floor.specs.Sound.{sound}
 use Rattle.rules.specs.declared.EventReading.{EventReading}
 use Rattle.rules.specs.declared.EventReading.the-variants.{Good as Told, Bad as Untold}
 use Rattle.rules.specs.Events.{possible}
 use Rattle.rules.specs.Codes.{readEvent, most}
+use Rattle.answers.specs.declared.Reason.{Reason}
 use Rattle.answers.specs.declared.Answer.{Answer}
 use Rattle.answers.specs.declared.Answer.the-variants.{Taken, TooFewBytes, BadLength, UnknownKind, BadField, TooMany, SetOutstanding, EmptySet, Overlap, NotAllowed, EventImpossible, NoSet, NotInSet, AlreadyAnswered, NowNotAllowed, Unsound, Unfit, NoRoom}
-use Rattle.answers.specs.Answers.{numberOf, placeOf, nowhere}
+use Rattle.answers.specs.Answers.{reasonNumber, numberOf, placeOf, nowhere}
+use Rattle.answers.proofs.Promises.{reason-from}
 use Rattle.garage.specs.declared.Station.{Station}
 use Rattle.garage.specs.declared.Outcome.{Outcome}
 use Rattle.garage.specs.declared.Report.{Report}
 use Rattle.garage.specs.declared.Picture.{Picture}
-use Rattle.garage.specs.Held.{bad, overlapsEarlier, barred, liftIn}
+use Rattle.garage.specs.Held.{bad, overlapsEarlier, barred, whyNot, liftIn}
 use Rattle.garage.specs.Station.{inSet, marked, fit}
 use Rattle.garage.specs.Calls as station
 use Rattle.garage_laws.specs.Runs as run
 use Rattle.garage_laws.specs.Runs.{call}
 use Rattle.garage_laws.specs.Demands.{PlacesRight, PlacesElse, PlacesInRange}
-use Rattle.garage_laws.proofs.Calls.{either, success-either, event-as, drivenAs}
+use Rattle.garage_laws.proofs.Calls.{either, faultless, success-either, event-as, drivenAs}
+use Rattle.garage_laws.proofs.Reasons.{least-fault, good-refused}
 
 -- the number and the place of an outcome
 abbrev number : Outcome → ℕ
@@ -39,31 +41,46 @@ place o = placeOf (o .answer)
 
 -- ---- a request
 
-least-fault : (n : ℕ) (fault : ℕ → Bool) → ltb (least n fault) n ≡ true → IsLeast n fault (least n fault)
-least-fault n fault t = found-least n fault (ltb-true (least n fault) n t)
-
 module _ (s : Station) (n : ℕ) (set : List ℕ) where
   record Right (o : Outcome) : Type 0 where
     four : number o ≡ 4 → IsLeast n (bad set) (place o)
     eight : number o ≡ 8 → IsLeast n (overlapsEarlier set) (place o)
-    nine : number o ≡ 9 → IsLeast n (barred set (s .bits)) (place o)
+    reason : (why : Reason) → number o ≡ reasonNumber why → IsLeast n (barred set (s .bits)) (place o)
     range : (place o < most) ⊎ (place o ≡ nowhere)
 
+  -- an answer below the reasons' is none of theirs
+  below : {k : ℕ} → k < 20 → (why : Reason) → k ≡ reasonNumber why → ⊥
+  below h why e = let l = reason-from why in omega arith
+
   -- an answer that names no instruction
-  plain : (o : Outcome) → (number o ≡ 4 → ⊥) × (number o ≡ 8 → ⊥) × (number o ≡ 9 → ⊥) → place o ≡ nowhere → Right o
-  plain o other e = record { four = λ z. absurd (other .0 z); eight = λ z. absurd (other .1 z); nine = λ z. absurd (other .2 z); range = inr e }
+  plain : (o : Outcome) → (number o ≡ 4 → ⊥) × (number o ≡ 8 → ⊥) × (number o < 20) → place o ≡ nowhere → Right o
+  plain o other e = record { four = λ z. absurd (other .0 z); eight = λ z. absurd (other .1 z); reason = λ why z. absurd (below (other .2) why z); range = inr e }
 
   -- one of at most eight
   small : (fault : ℕ → Bool) → n ≤ most → ltb (least n fault) n ≡ true → least n fault < most
   small fault h t = let l = ltb-true (least n fault) n t in omega arith
 
-  accepted-right : n ≤ most → Right (station.accepted s n set)
+  -- the least not allowed, with its reason
+  refused-right : n ≤ most → ltb (least n (bad set)) n ≡ false → ltb (least n (barred set (s .bits))) n ≡ true
+      → Right (station.refused s (whyNot set (s .bits) (least n (barred set (s .bits)))))
+  refused-right few good t =
+      let L = least-fault n (barred set (s .bits)) t in
+      let R = good-refused set (s .bits) _ (L .passes) (not-false _ (faultless n (bad set) good _ (L .within))) in
+      subst (λ (a : Answer). Right (station.refused s a)) (sym (R .told))
+      (let l = reason-from (R .why) in record {
+        four = λ z. absurd (omega arith);
+        eight = λ z. absurd (omega arith);
+        reason = λ why z. L;
+        range = inl (small _ few t);
+      })
+
+  accepted-right : n ≤ most → ltb (least n (bad set)) n ≡ false → Right (station.accepted s n set)
   unfolding station.accepted
-  accepted-right few =
+  accepted-right few good =
       either Right (ltb (least n (overlapsEarlier set)) n)
-      (λ t. record { four = λ z. absurd (omega arith); eight = λ z. least-fault n _ t; nine = λ z. absurd (omega arith); range = inl (small _ few t) }) (λ a.
+      (λ t. record { four = λ z. absurd (omega arith); eight = λ z. least-fault n _ t; reason = λ why z. absurd (below (omega arith) why z); range = inl (small _ few t) }) (λ a.
       either Right (ltb (least n (barred set (s .bits))) n)
-      (λ t. record { four = λ z. absurd (omega arith); eight = λ z. absurd (omega arith); nine = λ z. least-fault n _ t; range = inl (small _ few t) })
+      (refused-right few good)
       (λ b. plain _ (omega arith) refl))
 
   requested-right : Right (station.requested s n set)
@@ -74,19 +91,19 @@ module _ (s : Station) (n : ℕ) (set : List ℕ) where
       either Right (eqb n 0) (λ t. plain _ (omega arith) refl) (λ c.
       let few = ltb-false most n b in
       either Right (ltb (least n (bad set)) n)
-      (λ t. record { four = λ z. least-fault n _ t; eight = λ z. absurd (omega arith); nine = λ z. absurd (omega arith); range = inl (small _ few t) })
-      (λ d. accepted-right few))))
+      (λ t. record { four = λ z. least-fault n _ t; eight = λ z. absurd (omega arith); reason = λ why z. absurd (below (omega arith) why z); range = inl (small _ few t) })
+      (λ d. accepted-right few d))))
 
   request-right : Right (station.request s n set)
   unfolding station.request
   request-right = either Right (fit s) (λ f. requested-right) (λ f. plain _ (omega arith) refl)
 
 pub places-right : PlacesRight
-places-right s n set = let R = request-right s n set in (R .four, R .eight, R .nine)
+places-right s n set = let R = request-right s n set in (R .four, R .eight, R .reason)
 
 -- ---- every other answer
 
-answer-nowhere : (a : Answer) → ((numberOf a ≡ 4) ⊎ ((numberOf a ≡ 8) ⊎ (numberOf a ≡ 9)) → ⊥) → placeOf a ≡ nowhere
+answer-nowhere : (a : Answer) → ((numberOf a ≡ 4) ⊎ ((numberOf a ≡ 8) ⊎ ((why : Reason) × (numberOf a ≡ reasonNumber why))) → ⊥) → placeOf a ≡ nowhere
 answer-nowhere Taken other = refl
 answer-nowhere TooFewBytes other = refl
 answer-nowhere BadLength other = refl
@@ -96,7 +113,7 @@ answer-nowhere TooMany other = refl
 answer-nowhere SetOutstanding other = refl
 answer-nowhere EmptySet other = refl
 answer-nowhere (Overlap p) other = absurd (other (inr (inl refl)))
-answer-nowhere (NotAllowed p) other = absurd (other (inr (inr refl)))
+answer-nowhere (NotAllowed why p) other = absurd (other (inr (inr (why, refl))))
 answer-nowhere EventImpossible other = refl
 answer-nowhere NoSet other = refl
 answer-nowhere NotInSet other = refl

@@ -6,15 +6,20 @@ use mathlib.Core.Bool.{Bool, true, false}
 use mathlib.Core.List.{List, [], _∷_, _++_}
 use Prim.Native.Nat.{ℕ, _+_, _≤_, _<_}
 use lib.ListN.{length}
-use Rattle.bits.specs.Bits.{bit, image, digit}
+use Rattle.bits.specs.Bits.{Bits, bit, image, digit}
 use Rattle.bits.specs.Places.{share}
 use Rattle.bits.specs.Search.{IsLeast}
 use Rattle.floor.specs.Cars.{Car, Layout}
 use Rattle.floor.specs.Sound.{Sound}
+use Rattle.rules.specs.declared.Instruction.{Instruction}
+use Rattle.rules.specs.declared.Reading.the-variants.{Good}
 use Rattle.rules.specs.declared.Event.{Event}
 use Rattle.rules.specs.Events.{possible, after}
-use Rattle.rules.specs.Codes.{eventCode, most}
-use Rattle.answers.specs.Answers.{OfTable, nowhere}
+use Rattle.rules.specs.Rules.{clauses}
+use Rattle.rules.specs.Codes.{readCode, eventCode, most}
+use Rattle.rules.specs.Promises.{FirstFails}
+use Rattle.answers.specs.declared.Reason.{Reason}
+use Rattle.answers.specs.Answers.{reasonNumber, OfTable, nowhere}
 use Rattle.garage.specs.declared.Station.{Station}
 use Rattle.garage.specs.Held.{codeAt, isGood, heldArea, heldAllowed, heldNext, bad, overlapsEarlier, barred, liftIn}
 use Rattle.garage.specs.Station.{fit, marked, holding, opened, answering}
@@ -48,6 +53,27 @@ abbrev pub AcceptedExactly : Type 0
 AcceptedExactly =
     (s : Station) (n : ℕ) (set : List ℕ)
     → ((said s (run.request n set) ≡ 0) ↔ Acceptable s n set) × (Acceptable s n set → left s (run.request n set) ≡ opened s n set)
+
+-- what a request must have for its instructions to be judged: all that is asked of an acceptable one before they are
+pub record Orderly (s : Station) (n : ℕ) (set : List ℕ) : Type 0 where
+  pub fits : fit s ≡ true
+  pub idle : s .count ≡ 0
+  pub some : 1 ≤ n
+  pub few : n ≤ most
+  pub good : (i : ℕ) → i < n → bad set i ≡ false
+  pub apart : (i : ℕ) → i < n → overlapsEarlier set i ≡ false
+
+-- of the conditions of the instruction at p the first that fails has this reason
+abbrev pub ReasonAt : List ℕ → ℕ → Bits → Reason → Type 0
+ReasonAt set p f why = (i : Instruction) × (readCode (codeAt set p) ≡ Good i) × FirstFails (clauses i) f why
+
+-- a request is refused with a reason and a place exactly if it is orderly, the place is the least not allowed, and the reason belongs to
+-- the first condition that fails there
+abbrev pub ReasonExactly : Type 0
+ReasonExactly =
+    (s : Station) (n : ℕ) (set : List ℕ) (why : Reason) (p : ℕ)
+    → ((said s (run.request n set) ≡ reasonNumber why) × (placed s (run.request n set) ≡ p))
+    ↔ (Orderly s n set × IsLeast n (barred set (s .bits)) p × ReasonAt set p (bit (s .bits)) why)
 
 -- an instruction of the outstanding set that has no result yet
 abbrev pub Waiting : Station → ℕ → Type 0
@@ -108,17 +134,18 @@ Changes run.ask = ⊥
 abbrev pub OnlySuccessChanges : Type 0
 OnlySuccessChanges = (s : Station) (c : Call) → (left s c .bits ≡ s .bits) ⊎ ((said s c ≡ 0) × Changes c)
 
--- a request that is answered 4 names the least bad instruction, with 8 the least overlapping an earlier one, with 9 the least not allowed
+-- a request that is answered 4 names the least bad instruction, with 8 the least overlapping an earlier one, with a reason the least not
+-- allowed
 abbrev pub PlacesRight : Type 0
 PlacesRight =
     (s : Station) (n : ℕ) (set : List ℕ)
     → (said s (run.request n set) ≡ 4 → IsLeast n (bad set) (placed s (run.request n set)))
     × (said s (run.request n set) ≡ 8 → IsLeast n (overlapsEarlier set) (placed s (run.request n set)))
-    × (said s (run.request n set) ≡ 9 → IsLeast n (barred set (s .bits)) (placed s (run.request n set)))
+    × ((why : Reason) → said s (run.request n set) ≡ reasonNumber why → IsLeast n (barred set (s .bits)) (placed s (run.request n set)))
 
--- the answers that name an instruction: 4, 8 and 9 to a request
+-- the answers that name an instruction: 4, 8 and 20 to 28 to a request
 abbrev pub Names : Call → ℕ → Type 0
-Names (run.request n set) k = (k ≡ 4) ⊎ ((k ≡ 8) ⊎ (k ≡ 9))
+Names (run.request n set) k = (k ≡ 4) ⊎ ((k ≡ 8) ⊎ ((why : Reason) × (k ≡ reasonNumber why)))
 Names (run.reports r) k = ⊥
 Names (run.event e) k = ⊥
 Names (run.pictures p) k = ⊥

@@ -1,20 +1,24 @@
 -- The frame laws: an instruction's verdict and its new bits rest on its area alone, and it changes nothing outside; an event's on the lift.
 -- That each test reads only the area is a test itself, computed for every well-formed instruction. Assumes nothing.
-use mathlib.Core.Path.{_≡_, ap}
-use mathlib.Core.Bool.{Bool, true, false, _&&_}
+use mathlib.Core.Path.{_≡_, refl, ap, ap₂}
+use mathlib.Core.Bool.{Bool, true, false, cond, _&&_}
+use mathlib.Core.List.{List, [], _∷_, map}
 use Prim.Native.Nat.{ℕ}
 use lib.Dec.{T}
-use Rattle.bits.specs.Bits.{Bits}
+use Rattle.bits.specs.Bits.{Bits, bit}
 use Rattle.bits.specs.Places.{elem}
 use Rattle.bits.specs.Search.{every}
 use Rattle.bits.proofs.Cases.{and-l, and-r, split, T→true, true→T}
 use Rattle.bits.proofs.Sharing.{areBits, Small, are-small}
 use Rattle.floor.specs.Floor.{lift}
-use Rattle.floor.proofs.Reading.{allReadIn, changeIn, all-agree, changed-agree, changed-outside}
+use Rattle.floor.proofs.Reading.{readsIn, allReadIn, changeIn, holds-agree, all-agree, changed-agree, changed-outside}
 use Rattle.rules.specs.declared.Instruction.{Instruction}
+use Rattle.rules.specs.declared.Verdict.{Verdict}
+use Rattle.rules.specs.declared.Verdict.the-variants.{NotAllowed, IllFormed}
 use Rattle.rules.specs.declared.Event.{Event}
 use Rattle.rules.specs.declared.Event.the-variants.{CarIn, CarOut}
-use Rattle.rules.specs.Rules.{wellFormed, areaOf, area, conditions, changes, allowed, next}
+use Rattle.rules.specs.Rules.{wellFormed, areaOf, area, Clause, _else_, test, clauses, conditions, changes, allowed, next}
+use Rattle.rules.specs.Verdicts.{judged, verdictOf}
 use Rattle.rules.specs.Events.{eventConditions, eventChanges, possible, after}
 use Rattle.rules.proofs.Every.{everywhere, each}
 
@@ -68,6 +72,20 @@ pub same-verdict : (i : Instruction) (f g : Bits) → Agree i f g → allowed i 
 unfolding allowed
 same-verdict i f g e = split (wellFormed i)
     (λ w. ap (λ (b : Bool). wellFormed i && b) (all-agree (areaOf i) f g (in-area i f g e) (conditions i) (conditions-in i (true→T w))))
+    (λ w. rw w)
+
+-- its conditions are judged the same, with the same reason
+judged-agree : (a : List ℕ) (f g : Bits) → ((k : ℕ) → T (elem k a) → f k ≡ g k) → (cs : List Clause) → T (allReadIn a (map test cs)) → judged cs f ≡ judged cs g
+judged-agree a f g e [] h = refl
+judged-agree a f g e ((t else why) ∷ cs) h =
+    let now = holds-agree a f g e t (and-l (readsIn a t) (allReadIn a (map test cs)) h) in
+    let rest = judged-agree a f g e cs (and-r (readsIn a t) (allReadIn a (map test cs)) h) in
+    ap₂ (λ (b : Bool) (v : Verdict). cond b v (NotAllowed why)) now rest
+
+pub same-reason : (i : Instruction) (r q : ℕ) → Agree i (bit r) (bit q) → verdictOf i r ≡ verdictOf i q
+unfolding verdictOf
+same-reason i r q e = split (wellFormed i)
+    (λ w. ap (λ (v : Verdict). cond (wellFormed i) v IllFormed) (judged-agree (areaOf i) (bit r) (bit q) (in-area i (bit r) (bit q) e) (clauses i) (conditions-in i (true→T w))))
     (λ w. rw w)
 
 -- ---- events read and write the lift alone

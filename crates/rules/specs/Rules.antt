@@ -1,4 +1,4 @@
--- The five instructions of document 01: which are well formed, their areas, when each is allowed, and the next record.
+-- The five instructions of document 01: which are well formed, their areas, when each is allowed and why not, and the next record.
 -- Assumes nothing.
 use mathlib.Core.Bool.{Bool, true, false, cond, not, _&&_, _||_}
 use mathlib.Core.List.{List, [], _∷_, _++_, map}
@@ -9,6 +9,8 @@ use Rattle.bits.specs.Places.{elem, share, isEmpty, adjacent, join}
 use Rattle.floor.specs.Floor.{rowCells, lowered, tilted, slot, place, lift, liftCells, leftOfLift, rightOfLift, turningCells, raisedCar, heightLow, heightHigh, rotation, basement}
 use Rattle.floor.specs.Tests.{Test, fact, set, free, even, no, both, either, when, choose, allHold, heightIs, atBasement, Change, _≔_, changed}
 use Rattle.floor.specs.Sound.{slots}
+use Rattle.answers.specs.declared.Reason.{Reason}
+use Rattle.answers.specs.declared.Reason.the-variants.{NothingNamed, Gap, NotAvailable, NotFree, OddCount, HalfMove, SameHeight, NotAtRotation, CellsNotFree}
 use Rattle.rules.specs.declared.Instruction.{Instruction}
 use Rattle.rules.specs.declared.Instruction.the-variants.{Belts, Shuttles, Tilt, Lift, Rotate}
 use Rattle.rules.specs.Named.{cells, neededSlots, liftNamed, step, end, rowsOf, onward, ahead, rowsMoved, shift, one}
@@ -53,52 +55,66 @@ area i k = elem k (areaOf i)
 unfoldable pub overlap : Instruction → Instruction → Bool
 overlap i j = share (areaOf i) (areaOf j)
 
--- ---- when each is allowed, in the paper's order
+-- ---- when each is allowed: conditions in the paper's order, and why not
 
-abbrev pub conditions : Instruction → List Test
-conditions (Belts row mask toward size) =
+-- a condition, and the reason that is given where it is the first to fail
+pub data Clause : Type 0 where
+  _else_ : Test → Reason → Clause
+
+infix 70 _else_
+abbrev pub test : Clause → Test
+test (t else why) = t
+
+abbrev pub clauses : Instruction → List Clause
+clauses (Belts row mask toward size) =
     -- rows 2 and 3 move full only
-    fact (eqb row 1 || eqb size 1)
+    fact (eqb row 1 || eqb size 1) else HalfMove
     -- at least one belt
-    ∷ fact (not (isEmpty (cells row mask)))
+    ∷ fact (not (isEmpty (cells row mask))) else NothingNamed
     -- the belts border each other without a gap
-    ∷ fact (adjacent (cells row mask))
+    ∷ fact (adjacent (cells row mask)) else Gap
     -- each is available: a shuttle belt needs its lowered shuttle, the lift belt basement height
-    ∷ both (set (neededSlots row mask)) (when (liftNamed row mask) atBasement)
+    ∷ both (set (neededSlots row mask)) (when (liftNamed row mask) atBasement) else NotAvailable
     -- the end of the span toward d is free
-    ∷ free (end toward (step row size) (cells row mask))
+    ∷ free (end toward (step row size) (cells row mask)) else NotFree
     -- in row 1 the number of occupied cells in the span is even
-    ∷ when (eqb row 1) (even (cells row mask))
+    ∷ when (eqb row 1) (even (cells row mask)) else OddCount
     ∷ []
-conditions (Shuttles side mask orientation toward) =
+clauses (Shuttles side mask orientation toward) =
     -- at least one row
-    fact (not (isEmpty (rowsOf mask)))
+    fact (not (isEmpty (rowsOf mask))) else NothingNamed
     -- no gap
-    ∷ fact (adjacent (rowsOf mask))
+    ∷ fact (adjacent (rowsOf mask)) else Gap
     -- each has a shuttle in that orientation
-    ∷ set (map (slot side orientation) (rowsOf mask))
+    ∷ set (map (slot side orientation) (rowsOf mask)) else NotAvailable
     -- if lowered and row 1 is named, an even number of that shuttle's two cells is occupied
-    ∷ when (eqb orientation lowered && bit mask 0) (even (place side 1))
+    ∷ when (eqb orientation lowered && bit mask 0) (even (place side 1)) else OddCount
     -- a next row toward d exists and has no shuttle in that orientation
-    ∷ both (fact (not (isEmpty (ahead toward mask)))) (free (map (slot side orientation) (ahead toward mask)))
+    ∷ both (fact (not (isEmpty (ahead toward mask)))) (free (map (slot side orientation) (ahead toward mask))) else NotFree
     ∷ []
-conditions (Tilt side row orientation) =
-    cond (eqb orientation lowered)
-    -- all three of the side are lowered and the position's cells are free
-    (set (slots side lowered) ∷ free (place side row) ∷ [])
-    -- a tilted one is there and no lowered one
-    (set (slot side tilted row ∷ []) ∷ free (slot side lowered row ∷ []) ∷ [])
-conditions (Lift height) =
+clauses (Tilt side row orientation) =
+    let down = eqb orientation lowered in
+    -- from lowered, all three of the side are lowered; from tilted, a tilted one is there
+    set (cond down (slots side lowered) (slot side tilted row ∷ [])) else NotAvailable
+    -- from lowered, the position's cells are free; from tilted, no lowered one is there
+    ∷ free (cond down (place side row) (slot side lowered row ∷ [])) else cond down CellsNotFree NotFree
+    ∷ []
+clauses (Lift height) =
     -- the height differs
-    no (heightIs height)
+    no (heightIs height) else SameHeight
     -- leaving the basement, cells 11 and 12 are free, or the cells on either side each hold an even number of occupied cells
-    ∷ either (no atBasement) (either (free liftCells) (both (even leftOfLift) (even rightOfLift)))
+    ∷ either (no atBasement) (either (free liftCells) (both (even leftOfLift) (even rightOfLift))) else OddCount
     ∷ []
-conditions Rotate =
-    -- at rotation height with its six cells free
-    heightIs rotation
-    ∷ free turningCells
+clauses Rotate =
+    -- at rotation height
+    heightIs rotation else NotAtRotation
+    -- with its six cells free
+    ∷ free turningCells else CellsNotFree
     ∷ []
+
+-- the conditions alone
+abbrev pub conditions : Instruction → List Test
+conditions i = map test (clauses i)
 
 unfoldable pub allowed : Instruction → Bits → Bool
 allowed i f = wellFormed i && allHold (conditions i) f

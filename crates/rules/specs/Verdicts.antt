@@ -1,8 +1,11 @@
 -- What the code answers about an instruction, good or bad, on a record: the verdict, the next record, the area, the overlap of two.
 -- Assumes nothing.
-use mathlib.Core.Bool.{cond, _&&_}
+use mathlib.Core.Bool.{Bool, true, false, cond, _&&_}
+use mathlib.Core.List.{List, [], _∷_}
 use Prim.Native.Nat.{ℕ}
-use Rattle.bits.specs.Bits.{bit, image}
+use Rattle.bits.specs.Bits.{Bits, bit, image}
+use Rattle.floor.specs.Tests.{holds}
+use Rattle.answers.specs.declared.Answer.{Answer}
 use Rattle.rules.specs.declared.Instruction.{Instruction}
 use Rattle.rules.specs.declared.Event.{Event}
 use Rattle.rules.specs.declared.Code.{Code}
@@ -10,19 +13,43 @@ use Rattle.rules.specs.declared.Reading.{Reading}
 use Rattle.rules.specs.declared.Reading.the-variants.{Good, Bad}
 use Rattle.rules.specs.declared.Verdict.{Verdict}
 use Rattle.rules.specs.declared.Moved.{Moved}
+use Rattle.rules.specs.declared.Driven.{Driven}
 use Rattle.rules.specs.declared.Area.{Area}
 use Rattle.rules.specs.declared.Sharing.{Sharing}
-use Rattle.rules.specs.Rules.{wellFormed, area, overlap, allowed, next}
+use Rattle.rules.specs.Rules.{wellFormed, area, overlap, Clause, _else_, clauses, next}
 use Rattle.rules.specs.Events.{possible, after}
 use Rattle.rules.specs.Codes.{readCode}
 
--- whether an instruction is allowed on the record with this image
+-- what a record says of conditions: all hold, or the reason of the first that fails
+abbrev pub judged : List Clause → Bits → Verdict
+judged [] f = Verdict.Allowed
+judged ((t else why) ∷ cs) f = cond (holds t f) (judged cs f) (Verdict.NotAllowed why)
+
+-- whether an instruction is allowed on the record with this image, and why not
 unfoldable pub verdictOf : Instruction → ℕ → Verdict
-verdictOf i r = cond (wellFormed i) (cond (allowed i (bit r)) Verdict.Allowed Verdict.NotAllowed) Verdict.IllFormed
+verdictOf i r = cond (wellFormed i) (judged (clauses i) (bit r)) Verdict.IllFormed
+
+-- whether a verdict allows
+abbrev pub isAllowed : Verdict → Bool
+isAllowed Verdict.Allowed = true
+isAllowed (Verdict.NotAllowed why) = false
+isAllowed Verdict.IllFormed = false
+
+-- a next record where the verdict allows it, else what the verdict says
+abbrev pub movedBy : Verdict → ℕ → Moved
+movedBy Verdict.Allowed x = Moved.Record x
+movedBy (Verdict.NotAllowed why) x = Moved.NotAllowed why
+movedBy Verdict.IllFormed x = Moved.IllFormed
 
 -- the image after it, where it is allowed
 unfoldable pub movedOf : Instruction → ℕ → Moved
-movedOf i r = cond (wellFormed i) (cond (allowed i (bit r)) (Moved.Record (image (next i (bit r)))) Moved.NotAllowed) Moved.IllFormed
+movedOf i r = movedBy (verdictOf i r) (image (next i (bit r)))
+
+-- what is answered for a verdict on the instruction at this place
+abbrev pub answerFor : Verdict → ℕ → Answer
+answerFor Verdict.Allowed p = Answer.Taken
+answerFor (Verdict.NotAllowed why) p = Answer.NotAllowed why p
+answerFor Verdict.IllFormed p = Answer.BadField p
 
 -- its area as a mask
 unfoldable pub maskOf : Instruction → Area
@@ -33,8 +60,8 @@ unfoldable pub sharingOf : Instruction → Instruction → Sharing
 sharingOf i j = cond (wellFormed i && wellFormed j) (cond (overlap i j) Sharing.Overlap Sharing.Apart) Sharing.IllFormed
 
 -- the image after a car event, where it is possible
-unfoldable pub drivenOf : Event → ℕ → Moved
-drivenOf e r = cond (possible e (bit r)) (Moved.Record (image (after e (bit r)))) Moved.NotAllowed
+unfoldable pub drivenOf : Event → ℕ → Driven
+drivenOf e r = cond (possible e (bit r)) (Driven.Record (image (after e (bit r)))) Driven.Impossible
 
 -- ---- the same of five bytes: bad ones say nothing that is well formed
 

@@ -3,6 +3,9 @@ ghost use mathlib.Core.Path.{_≡_};
 ghost use mathlib.Core.Bool.{cond};
 ghost use Rattle.rules.specs.Rules.{wellFormed};
 ghost use Rattle.rules.specs.Codes.{codeOf, kept, readCode, readBytes, readEvent};
+ghost use Rattle.rules.specs.Verdicts.{answerFor};
+use answers::Answer;
+use answers::Reason;
 
 // An instruction, by value. The fields hold the numbers that a message carries.
 pub enum Instruction {
@@ -59,15 +62,21 @@ pub enum EventReading {
 // What is said of an instruction on a record.
 pub enum Verdict {
     Allowed,
-    NotAllowed,
+    NotAllowed(Reason),
     IllFormed,
 }
 
-// The record after an instruction or an event, where it is allowed.
+// The record after an instruction, where it is allowed.
 pub enum Moved {
     Record(u64),
-    NotAllowed,
+    NotAllowed(Reason),
     IllFormed,
+}
+
+// The record after a car event, where it is possible.
+pub enum Driven {
+    Record(u64),
+    Impossible,
 }
 
 // An instruction's area, as a mask of the record's bits.
@@ -81,6 +90,21 @@ pub enum Sharing {
     Overlap,
     Apart,
     IllFormed,
+}
+
+// ---- what a verdict says further
+
+impl Verdict {
+    // What is answered for it, on the instruction at this place.
+    pub fn answer(self, place: u8) -> Answer
+        ensures { λ a. ⌜ a ≡ answerFor self place ⌝ }
+    {
+        match self {
+            Verdict::Allowed => Answer::Taken,
+            Verdict::NotAllowed(why) => Answer::NotAllowed(why, place),
+            Verdict::IllFormed => Answer::BadField(place),
+        }
+    }
 }
 
 // ---- which instructions are well formed: each number is in its range

@@ -24,7 +24,7 @@ use Rattle.rules.specs.declared.Event.the-variants.{CarIn, CarOut}
 use Rattle.rules.specs.Rules.{wellFormed, conditions, allowed, next}
 use Rattle.rules.specs.Events.{eventConditions, possible, after}
 use Rattle.rules.proofs.Frame as frame
-use Rattle.rules_laws.specs.Laws.{SameVerdict, SameBits, KeptOutside, EventsLocal, StaysSound, SameCars, EventSound, Counted, EventCars}
+use Rattle.rules_laws.specs.Laws.{SameVerdict, SameReason, SameBits, KeptOutside, EventsLocal, StaysSound, SameCars, EventSound, Counted, EventCars}
 use Rattle.rules_laws.proofs.Shift.{whole-same}
 use Rattle.rules_laws.proofs.RulesKept.{instruction-rules, event-rules}
 use Rattle.rules_laws.proofs.Moves.{Safe, safe, cars-same}
@@ -33,6 +33,9 @@ use Rattle.rules_laws.proofs.Moves.{Safe, safe, cars-same}
 
 pub same-verdict : SameVerdict
 same-verdict i f g e = frame.same-verdict i f g e
+
+pub same-reason : SameReason
+same-reason i r q e = frame.same-reason i r q e
 
 pub same-bits : SameBits
 same-bits i w f g e = frame.same-next i (true→T w) f g e

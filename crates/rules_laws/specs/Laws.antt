@@ -3,7 +3,7 @@
 use mathlib.Core.Path.{_≡_}
 use mathlib.Core.Bool.{true, false}
 use Prim.Native.Nat.{ℕ, suc}
-use Rattle.bits.specs.Bits.{Bits}
+use Rattle.bits.specs.Bits.{Bits, bit}
 use Rattle.bits.specs.Places.{elem}
 use Rattle.floor.specs.Floor.{lift}
 use Rattle.floor.specs.Cars.{cars}
@@ -13,6 +13,7 @@ use Rattle.rules.specs.declared.Event.{Event}
 use Rattle.rules.specs.declared.Event.the-variants.{CarIn, CarOut}
 use Rattle.rules.specs.Rules.{wellFormed, area, allowed, next}
 use Rattle.rules.specs.Events.{possible, after}
+use Rattle.rules.specs.Verdicts.{verdictOf}
 
 -- ---- areas
 
@@ -23,6 +24,10 @@ Agree places f g = (k : ℕ) → places k ≡ true → f k ≡ g k
 -- on two records that agree on its area, an instruction gets the same verdict
 abbrev pub SameVerdict : Type 0
 SameVerdict = (i : Instruction) (f g : Bits) → Agree (area i) f g → allowed i f ≡ allowed i g
+
+-- and, where it isn't allowed, the same reason
+abbrev pub SameReason : Type 0
+SameReason = (i : Instruction) (r q : ℕ) → Agree (area i) (bit r) (bit q) → verdictOf i r ≡ verdictOf i q
 
 -- and, where it is well formed, it leaves the same bits in its area
 abbrev pub SameBits : Type 0

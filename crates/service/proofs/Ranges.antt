@@ -10,7 +10,7 @@ use borrow.Author.Tests.{le-leb, leb-true, eqb-true, eqb-false, ne-eqb, not-true
 use lib.Dec.{leb, eqb}
 use Rattle.bits.proofs.Cases.{split, both}
 use Rattle.answers.specs.declared.Answer.{Answer}
-use Rattle.answers.specs.Answers.{numberOf, placeOf}
+use Rattle.answers.specs.Answers.{numberOf, inTable, placeOf}
 use Rattle.answers.proofs.Promises.{answer-in}
 use Rattle.garage.specs.declared.Station.{Station}
 use Rattle.garage.specs.declared.Outcome.{Outcome}
@@ -68,7 +68,7 @@ numberIn Ask = 0
 placed : (a : Answer) → tellable a ≡ true → (placeOf a ≤ 7) ⊎ (placeOf a ≡ 255)
 placed a e =
     let r = both (inRange (answerMessage a)) (not (eqb (numberOf a) 17)) e .0 in
-    let p = both (leb (numberOf a) 17) (leb (placeOf a) 7 || eqb (placeOf a) 255) r .1 in
+    let p = both (inTable (numberOf a)) (leb (placeOf a) 7 || eqb (placeOf a) 255) r .1 in
     split (leb (placeOf a) 7) (λ t. inl (leb-true (placeOf a) 7 t)) (λ t. inr (eqb-true (placeOf a) 255 (rw t at p)))
 
 module _ (s : Station) where

@@ -1,6 +1,5 @@
 -- What is answered of an instruction is told by its verdict, without the next record; and of the five bytes that say one. Assumes nothing.
-use mathlib.Core.Path.{_≡_, refl, sym, ap, _∙_}
-use mathlib.Core.Bool.{Bool, true, false, cond}
+use mathlib.Core.Path.{_≡_, refl, ap, _∙_}
 use mathlib.Core.List.{List}
 use Prim.Native.Nat.{ℕ, _≤_, _<_}
 use borrow.Author.Tests.{lt-ltb, le-ltb}
@@ -11,32 +10,22 @@ use Rattle.rules.specs.declared.Moved.{Moved}
 use Rattle.rules.specs.declared.Reading.{Reading}
 use Rattle.rules.specs.declared.Verdict.{Verdict}
 use Rattle.rules.specs.declared.Verdict.the-variants.{Allowed, NotAllowed, IllFormed}
-use Rattle.rules.specs.Rules.{wellFormed, allowed, next}
+use Rattle.rules.specs.Rules.{next}
 use Rattle.rules.specs.Codes.{readBytes}
-use Rattle.rules.specs.Verdicts.{verdictOf, movedOf, onCode}
-use Rattle.answers.specs.declared.Answer.{Answer}
-use Rattle.answers.specs.declared.Answer.the-variants.{Taken, TooFewBytes, BadField}
+use Rattle.rules.specs.Verdicts.{verdictOf, movedBy, movedOf, answerFor, onCode}
+use Rattle.answers.specs.declared.Answer.the-variants.{TooFewBytes}
 use Rattle.answers.specs.Answers.{nowhere}
 use Rattle.station_c.specs.Entries.{returned, moved, answerTo, judgement}
 
--- a verdict as an answer
-abbrev pub judge : Verdict → Answer
-judge Allowed = Taken
-judge NotAllowed = Answer.NotAllowed nowhere
-judge IllFormed = BadField nowhere
+-- the answer for a verdict is the one with the next record
+by-verdict : (v : Verdict) (x : ℕ) → answerFor v nowhere ≡ answerTo (movedBy v x)
+by-verdict Allowed x = refl
+by-verdict (NotAllowed why) x = refl
+by-verdict IllFormed x = refl
 
-judged-so : (i : Instruction) (r : ℕ) → judge (verdictOf i r) ≡ answerTo (movedOf i r)
-unfolding verdictOf movedOf
-judged-so i r = go (wellFormed i) (allowed i (bit r))
-  where
-    go : (w a : Bool) → judge (cond w (cond a Allowed NotAllowed) IllFormed) ≡ answerTo (cond w (cond a (Moved.Record (image (next i (bit r)))) Moved.NotAllowed) Moved.IllFormed)
-    go true true = refl
-    go true false = refl
-    go false a = refl
-
--- of a verdict that is known
-pub by-verdict : (i : Instruction) (r : ℕ) {v w : Verdict} → v ≡ verdictOf i r → v ≡ w → judge w ≡ answerTo (movedOf i r)
-by-verdict i r e k = ap judge (sym k ∙ e) ∙ judged-so i r
+pub judged-so : (i : Instruction) (r : ℕ) {v : Verdict} → v ≡ verdictOf i r → answerFor v nowhere ≡ answerTo (movedOf i r)
+unfolding movedOf
+judged-so i r e = ap (λ (v : Verdict). answerFor v nowhere) e ∙ by-verdict (verdictOf i r) (image (next i (bit r)))
 
 -- ---- by the five bytes
 

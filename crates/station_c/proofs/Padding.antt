@@ -12,7 +12,8 @@ use Rattle.bits.specs.Bits.{bit}
 use Rattle.bits.specs.Places.{share}
 use Rattle.bits.specs.Search.{some}
 use Rattle.rules.specs.declared.Code.{Code}
-use Rattle.answers.specs.declared.Answer.the-variants.{TooFewBytes, TooMany, SetOutstanding, EmptySet, BadField, Overlap, NotAllowed}
+use Rattle.answers.specs.declared.Answer.the-variants.{TooFewBytes, TooMany, SetOutstanding, EmptySet, BadField, Overlap}
+use Rattle.rules.specs.Verdicts.{codeVerdict, answerFor}
 use Rattle.garage.specs.declared.Station.{Station}
 use Rattle.garage.specs.declared.Outcome.{Outcome}
 use Rattle.garage.specs.Held.{codeAt, isGood, heldArea, heldAllowed, overlapsEarlier}
@@ -42,7 +43,7 @@ module _ (s : Station) (n : ℕ) where
       (cond (eqb n 0) (refused s EmptySet)
       (unlessAny n (λ i. not (isGood (code i))) s BadField
       (unlessAny n (λ i. some i (λ j. share (heldArea (code i)) (heldArea (code j)))) s Overlap
-      (unlessAny n (λ i. not (heldAllowed (code i) (bit (s .bits)))) s NotAllowed
+      (unlessAny n (λ i. not (heldAllowed (code i) (bit (s .bits)))) s (λ i. answerFor (codeVerdict (code i) (s .bits)) i)
       (taken made)))))))
 
   as-form : (set : List ℕ) → request s n set ≡ form (codeAt set) (opened s n set)

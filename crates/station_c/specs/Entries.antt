@@ -119,10 +119,10 @@ exchange room message reply =
 unfoldable pub moved : ℕ → List ℕ → Moved
 moved r five = onCode (λ i. movedOf i r) IllFormed (readBytes five)
 
--- what is answered of it: it is allowed; 9; 4 where the bytes say no instruction
+-- what is answered of it: it is allowed; why not; 4 where the bytes say no instruction
 abbrev pub answerTo : Moved → Answer
 answerTo (Record r) = Taken
-answerTo Moved.NotAllowed = NotAllowed nowhere
+answerTo (Moved.NotAllowed why) = NotAllowed why nowhere
 answerTo IllFormed = BadField nowhere
 
 -- whether the record r allows the instruction that the first five bytes say: 1 where they are fewer
@@ -132,7 +132,7 @@ judgement r five = cond (ltb (length five) 5) TooFewBytes (answerTo (moved r fiv
 -- the record after it, if it is allowed
 abbrev pub recordIn : Moved → ℕ
 recordIn (Record r) = r
-recordIn Moved.NotAllowed = 0
+recordIn (Moved.NotAllowed why) = 0
 recordIn IllFormed = 0
 
 -- the next record is asked for: 17, then as above

@@ -19,7 +19,6 @@ use garage::Station;
 use rules::Instruction;
 use rules::Moved;
 use rules::Reading;
-use rules::Verdict;
 use wire::What;
 
 // The bytes of a lent station, of a record, and of an instruction.
@@ -280,7 +279,7 @@ fn answer_to(m: Moved) -> Answer
 {
     match m {
         Moved::Record(_) => Answer::Taken,
-        Moved::NotAllowed => Answer::NotAllowed(NOWHERE),
+        Moved::NotAllowed(why) => Answer::NotAllowed(why, NOWHERE),
         Moved::IllFormed => Answer::BadField(NOWHERE),
     }
 }
@@ -290,7 +289,7 @@ fn record_in(m: Moved) -> u64
 {
     match m {
         Moved::Record(r) => r,
-        Moved::NotAllowed => 0,
+        Moved::NotAllowed(_) => 0,
         Moved::IllFormed => 0,
     }
 }
@@ -299,12 +298,8 @@ fn record_in(m: Moved) -> u64
 fn judged(i: Instruction, image: u64) -> Answer
     ensures { λ a. ⌜ a ≡ answerTo (movedOf i image) ⌝ }
 {
-    let v = engine::verdict(i, image);
-    match v {
-        Verdict::Allowed => Answer::Taken,
-        Verdict::NotAllowed => Answer::NotAllowed(NOWHERE),
-        Verdict::IllFormed => Answer::BadField(NOWHERE),
-    }
+    let verdict = engine::verdict(i, image);
+    verdict.answer(NOWHERE)
 }
 
 // Whether a record allows the instruction that five bytes say.

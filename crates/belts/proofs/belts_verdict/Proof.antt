@@ -1,7 +1,7 @@
--- `belts::belts_verdict` meets its contract: each answer is the definition's. Assumes nothing.
-use borrow.Author.Needs.{needs}
+-- `belts::belts_verdict` meets its contract. Assumes nothing.
+use Rattle.rules.proofs.Answering.{ill-formed, is-verdict}
 use Rattle.bits.proofs.Cases.{true→T, passed, failed}
-use Rattle.rules.proofs.Answering.{ill-formed, not-allowed, is-allowed}
+use borrow.Author.Needs.{needs}
 use Rattle.belts.proofs.belts_verdict.Statement.{statement}
 use Rattle.belts.proofs.belts_verdict.Tie as tie
 
@@ -11,14 +11,11 @@ well-formed-requires c κs = search needs
 returns : tie.Need-returns
 returns c = ill-formed _ _ (failed (c .before .well-formed .ensures) (c .if1 .taken)) .0
 
-allowed-requires : tie.Need-allowed-requires
-allowed-requires c κs = true→T (passed (c .before .well-formed .ensures) (c .if1 .left))
+judged-requires : tie.Need-judged-requires
+judged-requires c κs = true→T (passed (c .before .well-formed .ensures) (c .if1 .left))
 
 returns-2 : tie.Need-returns-2
-returns-2 c = not-allowed _ _ (passed (c .before .before .before .well-formed .ensures) (c .before .before .if1 .left)) (failed (c .before .allowed .ensures) (c .if2 .taken)) .0
-
-returns-3 : tie.Need-returns-3
-returns-3 c = is-allowed _ _ (passed (c .before .before .before .well-formed .ensures) (c .before .before .if1 .left)) (passed (c .before .allowed .ensures) (c .if2 .left))
+returns-2 c = is-verdict _ _ (passed (c .before .before .well-formed .ensures) (c .before .if1 .left)) (c .judged .ensures)
 
 pub belts-verdict-spec : {M : Type 1} → statement M
-belts-verdict-spec = tie.close (tie.spec well-formed-requires returns allowed-requires returns-2 returns-3)
+belts-verdict-spec = tie.close (tie.spec well-formed-requires returns judged-requires returns-2)

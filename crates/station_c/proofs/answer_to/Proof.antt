@@ -6,20 +6,21 @@ use Rattle.station_c.proofs.answer_to.Tie as tie
 enum-told : tie.Need-enum-told
 enum-told c = search needs
 
+enum-known-m : tie.Need-enum-known-m
+enum-known-m c = search needs
+
 enum-told-2 : tie.Need-enum-told-2
 enum-told-2 c = search needs
-
-enum-told-3 : tie.Need-enum-told-3
-enum-told-3 c = search needs
 
 returns : tie.Need-returns
 returns c = search needs
 
 returns-2 : tie.Need-returns-2
-returns-2 c = rw (c .enum-told2 .given .1)
+returns-2 c = rw (c .before .m .given .1)
 
 returns-3 : tie.Need-returns-3
-returns-3 c = rw (c .enum-told3 .given .1)
+returns-3 c = rw (c .enum-told2 .given .1)
 
 pub answer-to-spec : {M : Type 1} → statement M
-answer-to-spec = tie.close (tie.spec enum-told enum-told-2 enum-told-3 returns returns-2 returns-3)
+answer-to-spec =
+    tie.close (tie.spec enum-told enum-known-m enum-told-2 returns returns-2 returns-3)

@@ -30,6 +30,12 @@ enum-told-8 c = search needs
 enum-told-9 : tie.Need-enum-told-9
 enum-told-9 c = search needs
 
+enum-known-self : tie.Need-enum-known-self
+enum-known-self c = search needs
+
+number-requires : tie.Need-number-requires
+number-requires c κs = search needs
+
 enum-told-10 : tie.Need-enum-told-10
 enum-told-10 c = search needs
 
@@ -53,9 +59,6 @@ enum-told-16 c = search needs
 
 enum-told-17 : tie.Need-enum-told-17
 enum-told-17 c = search needs
-
-enum-told-18 : tie.Need-enum-told-18
-enum-told-18 c = search needs
 
 returns : tie.Need-returns
 returns c = rw (c .enum-told .given .1)
@@ -85,31 +88,31 @@ returns-9 : tie.Need-returns-9
 returns-9 c = rw (c .enum-told9 .given .1)
 
 returns-10 : tie.Need-returns-10
-returns-10 c = rw (c .enum-told10 .given .1)
+returns-10 c = rw (c .before .before .self .given .1) (c .number .ensures)
 
 returns-11 : tie.Need-returns-11
-returns-11 c = rw (c .enum-told11 .given .1)
+returns-11 c = rw (c .enum-told10 .given .1)
 
 returns-12 : tie.Need-returns-12
-returns-12 c = rw (c .enum-told12 .given .1)
+returns-12 c = rw (c .enum-told11 .given .1)
 
 returns-13 : tie.Need-returns-13
-returns-13 c = rw (c .enum-told13 .given .1)
+returns-13 c = rw (c .enum-told12 .given .1)
 
 returns-14 : tie.Need-returns-14
-returns-14 c = rw (c .enum-told14 .given .1)
+returns-14 c = rw (c .enum-told13 .given .1)
 
 returns-15 : tie.Need-returns-15
-returns-15 c = rw (c .enum-told15 .given .1)
+returns-15 c = rw (c .enum-told14 .given .1)
 
 returns-16 : tie.Need-returns-16
-returns-16 c = rw (c .enum-told16 .given .1)
+returns-16 c = rw (c .enum-told15 .given .1)
 
 returns-17 : tie.Need-returns-17
-returns-17 c = rw (c .enum-told17 .given .1)
+returns-17 c = rw (c .enum-told16 .given .1)
 
 returns-18 : tie.Need-returns-18
-returns-18 c = rw (c .enum-told18 .given .1)
+returns-18 c = rw (c .enum-told17 .given .1)
 
 pub number-spec : {M : Type 1} → statement M
 number-spec =
@@ -124,6 +127,8 @@ number-spec =
     enum-told-7
     enum-told-8
     enum-told-9
+    enum-known-self
+    number-requires
     enum-told-10
     enum-told-11
     enum-told-12
@@ -132,7 +137,6 @@ number-spec =
     enum-told-15
     enum-told-16
     enum-told-17
-    enum-told-18
     returns
     returns-2
     returns-3
