@@ -110,8 +110,8 @@ enum {
 };
 
 /* The bytes of stack that a call may take on x86-64, below the frame that makes it. No theorem says so: it is measured on many calls, and
- * added up over the archive's instructions for every path. That comes to about 970 for station_message, 950 for station_request, 680 for
- * station_result, 520 for station_event, and less than 500 for each other; the C library's memcpy and the like are left out. */
+ * added up over the archive's instructions for every path. That comes to about 970 for station_message, 860 for station_request, 620 for
+ * station_result, and less than 500 for each other; the C library's memcpy and the like are left out. */
 enum { STATION_STACK_MOST = 1024 };
 
 /* The record of the start: no cars, rows 1 and 2 lowered and row 3 tilted on both sides, the lift at street height. */

@@ -162,27 +162,8 @@ impl Answer {
         ensures { λ k. ⌜ k ≡ issueOf self ⌝ }
     {
         match self {
-            Answer::Taken => 0,
             Answer::Opened(issue) => issue,
-            Answer::TooFewBytes => 0,
-            Answer::BadLength => 0,
-            Answer::UnknownKind => 0,
-            Answer::BadField(_) => 0,
-            Answer::TooMany => 0,
-            Answer::SetOutstanding => 0,
-            Answer::EmptySet => 0,
-            Answer::Overlap(_) => 0,
-            Answer::NotAllowed(_, _) => 0,
-            Answer::EventImpossible => 0,
-            Answer::NoSet => 0,
-            Answer::NotInSet => 0,
-            Answer::AlreadyAnswered => 0,
-            Answer::NowNotAllowed => 0,
-            Answer::Unsound => 0,
-            Answer::Unfit => 0,
-            Answer::NoRoom => 0,
-            Answer::Late => 0,
-            Answer::NotIssued => 0,
+            _ => 0,
         }
     }
 }

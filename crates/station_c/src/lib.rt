@@ -75,11 +75,12 @@ fn answer(a: Answer, src: &[u8], room: &mut [u8]) -> u32
     requires { ⌜ length (now src) ≤ length (now room) ⌝ }
     ensures { λ r. ⌜ Leaves (writes a (now (src .entry)) (now (room .entry))) r (now (room .exit)) ⌝ }
 {
-    if a.number() != 0 {
-        return say(a);
+    let r = say(a);
+    if r % 256 != 0 {
+        return r;
     }
     bytes::copy(src, room);
-    say(a)
+    r
 }
 
 // The same of a call's outcome.
