@@ -75,12 +75,12 @@ fn answer(a: Answer, src: &[u8], room: &mut [u8]) -> u32
     requires { ⌜ length (now src) ≤ length (now room) ⌝ }
     ensures { λ r. ⌜ Leaves (writes a (now (src .entry)) (now (room .entry))) r (now (room .exit)) ⌝ }
 {
-    let r = say(a);
-    if r % 256 != 0 {
-        return r;
+    let said = say(a);
+    if said % 256 != 0 {
+        return said;
     }
     bytes::copy(src, room);
-    r
+    said
 }
 
 // The same of a call's outcome.
