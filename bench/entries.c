@@ -12,6 +12,7 @@
 enum { CALLS = 200000 };
 
 static uint8_t start[STATION_SIZE], outstanding[STATION_SIZE], room[STATION_SIZE], image[STATION_IMAGE_SIZE], answer[STATION_REPLY_MOST];
+static uint16_t issue; /* the outstanding set's */
 static const uint8_t left_belt[STATION_CODE_SIZE] = {GARAGE_BELTS, 1, 2, GARAGE_LOWER, GARAGE_FULL};
 static const uint8_t shuttle[STATION_CODE_SIZE] = {GARAGE_SHUTTLES, GARAGE_LEFT, 2, GARAGE_LOWERED, GARAGE_HIGHER};
 static const uint8_t tilt[STATION_CODE_SIZE] = {GARAGE_TILT, GARAGE_LEFT, 3, GARAGE_TILTED, 0};
@@ -30,7 +31,7 @@ CALL(start) { station_start(room, STATION_SIZE); }
 CALL(request) { memcpy(room, start, STATION_SIZE); station_request(room, STATION_SIZE, 1, left_belt, sizeof left_belt); }
 CALL(eight) { memcpy(room, start, STATION_SIZE); station_request(room, STATION_SIZE, STATION_MOST, eight, sizeof eight); }
 CALL(event) { memcpy(room, start, STATION_SIZE); station_event(room, STATION_SIZE, STATION_CAR_IN); }
-CALL(result) { memcpy(room, outstanding, STATION_SIZE); station_result(room, STATION_SIZE, 0, STATION_DONE); }
+CALL(result) { memcpy(room, outstanding, STATION_SIZE); station_result(room, STATION_SIZE, issue, 0, STATION_DONE); }
 CALL(image) { memcpy(room, start, STATION_SIZE); station_image(room, STATION_SIZE, STATION_START_IMAGE); }
 CALL(ask) { station_ask(start, STATION_SIZE, image, sizeof image); }
 CALL(message) { memcpy(room, start, STATION_SIZE); station_message(room, STATION_SIZE, request, sizeof request, answer, sizeof answer); }
@@ -65,7 +66,7 @@ static double nanoseconds_of(void (*call)(void *)) {
 int main(int words, char **word) {
     station_start(start, sizeof start);
     memcpy(outstanding, start, sizeof start);
-    station_request(outstanding, sizeof outstanding, 1, left_belt, sizeof left_belt);
+    issue = STATION_SET(station_request(outstanding, sizeof outstanding, 1, left_belt, sizeof left_belt));
     for (size_t at = 0; at < sizeof entries / sizeof *entries; at++) {
         if (words > 1) {
             if (strcmp(word[1], entries[at].name) == 0)

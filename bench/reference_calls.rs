@@ -4,7 +4,7 @@
 #[path = "../tests/host/reference.rs"]
 mod reference;
 
-use reference::{Call, Instruction, Station, START};
+use reference::{answer, Answer, Call, Instruction, Station, START};
 use std::hint::black_box;
 use std::time::Instant;
 
@@ -27,10 +27,10 @@ fn time(name: &str, mut call: impl FnMut()) {
 }
 
 /// A call on a station that is lent as bytes and written back if it is taken.
-fn lent(room: &[u8; 50], call: impl FnOnce(&mut Station) -> (u8, u8)) {
+fn lent(room: &[u8; Station::SIZE], call: impl FnOnce(&mut Station) -> Answer) {
     let mut room = *black_box(room);
     let mut station = Station::from_bytes(&room);
-    if call(&mut station).0 == 0 { room = station.to_bytes(); }
+    if call(&mut station).number == 0 { room = station.to_bytes(); }
     black_box(room);
 }
 
@@ -41,20 +41,20 @@ fn next(name: &str, five: [u8; 5]) {
 }
 
 fn main() {
-    assert_eq!(Station::start().request(8, &EIGHT.concat()), (0, 255), "the eight are taken");
+    assert_eq!(Station::start().request(8, &EIGHT.concat()), answer(0), "the eight are taken");
     let start = Station::start().to_bytes();
     let mut station = Station::start();
-    station.request(1, &LEFT_BELT);
+    let issue = station.request(1, &LEFT_BELT).issue;
     let outstanding = station.to_bytes();
     time("station_start", || { black_box(Station::start().to_bytes()); });
     time("station_request", || lent(&start, |station| station.request(black_box(1), black_box(&LEFT_BELT))));
     time("station_event", || lent(&start, |station| station.event(black_box(1))));
-    time("station_result", || lent(&outstanding, |station| station.result(black_box(0), black_box(1))));
+    time("station_result", || lent(&outstanding, |station| station.result(black_box(issue), black_box(0), black_box(1))));
     time("station_image", || lent(&start, |station| station.image(black_box(START))));
     time("station_ask", || lent(&start, |station| station.ask()));
     time("station_message", || lent(&start, |station| match reference::read_call(black_box(&REQUEST)) {
         Ok((call @ Call::Request { .. }, _)) => station.take(call),
-        _ => (4, 255),
+        _ => answer(4),
     }));
     time("garage_sound", || { black_box(reference::sound(black_box(START))); });
     time("garage_cars", || { black_box(reference::cars(black_box(START))); });

@@ -17,21 +17,28 @@
  *   - Bytes that are no station are refused with STATION_UNFIT.
  *   - Bytes that station_start wrote, and after it these entries alone, are a station with all that is promised: each call answers by
  *     the rules, an accepted set is safe in any order of its results, and the record is what the results and events since the start,
- *     or since the last image that was taken, have made of it. They may be copied, kept, and put back as they are; the record is then
- *     that of when they were kept.
+ *     or since the last image that was taken, have made of it. They may be copied, kept, and put back as they are; the record and the
+ *     count of sets are then those of when they were kept.
  *   - Other bytes that happen to be a station, another garage's or made by hand, are answered as that station: each call still answers
  *     by the rules and leaves a station whose record is sound. Only the promise on calls in a row is lost: the set that they say is
  *     outstanding need never have been accepted, so that a result may be refused with STATION_NOW_NOT_ALLOWED and the order of
  *     results may count, and the record need not be this garage's.
  *
  * A station is lent as STATION_SIZE bytes, `room`: the record in eight bytes, the lowest first; how many instructions the
- * outstanding set has; a bit for each of them that is answered; five bytes for each, and zeros in the unused places. A longer room
- * is fine, and what stands past those bytes keeps its value.
+ * outstanding set has; a bit for each of them that is answered; five bytes for each, and zeros in the unused places; the issue of the
+ * next set in two bytes, the lowest first, which may be any. A longer room is fine, and what stands past those bytes keeps its value.
  *
- * Answers. An entry that returns uint32_t answers with a number of the table below and a place: STATION_NUMBER and STATION_PLACE
- * take them apart. The place is the instruction at fault, counted from 0, in a request for STATION_BAD_FIELD, STATION_OVERLAP and the
- * reasons, 20 to 28; else it is STATION_NOWHERE. A call that isn't taken writes nothing; of a message that isn't, only the refusal is
- * written, as the message that answers it (station_message).
+ * Answers. An entry that returns uint32_t answers with a number of the table below, a place and an issue: STATION_NUMBER,
+ * STATION_PLACE and STATION_SET take them apart. The place is the instruction at fault, counted from 0, in a request for
+ * STATION_BAD_FIELD, STATION_OVERLAP and the reasons, 20 to 28; else it is STATION_NOWHERE. The issue is that of the set where a
+ * request was taken, else 0. A call that isn't taken writes nothing; of a message that isn't, only the refusal is written, as the
+ * message that answers it (station_message).
+ *
+ * Issues. Each accepted set has a number of 16 bits, its issue: 0 for the first set since station_start, then one more for each set,
+ * and 0 again after 65535. A request that is refused takes none, and an event or an image leaves the count as it is. A result says of
+ * which set it is, so that one that comes after its set has closed is not taken for the next set's. Of one that isn't of the
+ * outstanding set the distance is told, counted backward from that set's issue and round the end: up to 32767 it is STATION_LATE,
+ * beyond that STATION_NOT_ISSUED. A result that comes 65536 sets late, or a multiple of that, can't be told from one in time.
  *
  * Reasons. An instruction that the record doesn't allow is refused for the first of its conditions that fails, in this order; a request,
  * for its least instruction that isn't allowed, whatever a later one has:
@@ -52,9 +59,10 @@
 extern "C" {
 #endif
 
-/* The two parts of an answer. */
+/* The three parts of an answer. */
 #define STATION_NUMBER(answer) ((uint8_t)((answer) & 0xFFu))
 #define STATION_PLACE(answer) ((uint8_t)(((answer) >> 8) & 0xFFu))
+#define STATION_SET(answer) ((uint16_t)(((answer) >> 16) & 0xFFFFu))
 
 /* What the numbers mean; 9, 18 and 19 are none. */
 enum {
@@ -83,7 +91,9 @@ enum {
     STATION_HALF_MOVE = 25,         /* a half move in row 2 or 3 */
     STATION_SAME_HEIGHT = 26,       /* the lift is at that height */
     STATION_NOT_AT_ROTATION = 27,   /* the lift isn't at rotation height */
-    STATION_CELLS_NOT_FREE = 28     /* cells that must be free for the tilt or the rotation aren't */
+    STATION_CELLS_NOT_FREE = 28,    /* cells that must be free for the tilt or the rotation aren't */
+    STATION_LATE = 29,              /* a result of a set 1 to 32767 before the outstanding one */
+    STATION_NOT_ISSUED = 30         /* a result of a set that is neither that nor the outstanding one */
 };
 
 /* The place where an answer names no instruction. */
@@ -91,7 +101,7 @@ enum { STATION_NOWHERE = 255 };
 
 /* Sizes in bytes, and the largest set. */
 enum {
-    STATION_SIZE = 50,         /* a station */
+    STATION_SIZE = 52,         /* a station */
     STATION_IMAGE_SIZE = 8,    /* a record, the lowest byte first */
     STATION_CODE_SIZE = 5,     /* an instruction */
     STATION_MOST = 8,          /* instructions in a set */
@@ -100,7 +110,7 @@ enum {
 };
 
 /* The bytes of stack that a call may take on x86-64, below the frame that makes it. No theorem says so: it is measured on many calls, and
- * added up over the archive's instructions for every path. That comes to about 900 for station_message, 850 for station_request, 600 for
+ * added up over the archive's instructions for every path. That comes to about 970 for station_message, 860 for station_request, 620 for
  * station_result, and less than 500 for each other; the C library's memcpy and the like are left out. */
 enum { STATION_STACK_MOST = 1024 };
 
@@ -145,15 +155,17 @@ enum {
 uint32_t station_start(uint8_t *room, size_t room_length);
 
 /* Requests a set of `count` instructions: the first 5 * count bytes of `set`, and none past them. 17; 1 if count is at most eight and
- * `set` is shorter than that; 16; then 6, 5, 7, 4, 8, 20 to 28. Taken, the set is outstanding and the record is as it was. */
+ * `set` is shorter than that; 16; then 6, 5, 7, 4, 8, 20 to 28. Taken, the set is outstanding, the record is as it was, and the
+ * answer has the set's issue: STATION_SET. */
 uint32_t station_request(uint8_t *room, size_t room_length, uint8_t count, const uint8_t *set, size_t set_length);
 
 /* A car came in (STATION_CAR_IN) or left (STATION_CAR_OUT). 17, 16, then 4, 6, 10. */
 uint32_t station_event(uint8_t *room, size_t room_length, uint8_t way);
 
-/* The result of instruction `number` of the outstanding set, counted from 0: STATION_DONE applies it to the record, STATION_FAILED
- * leaves the record as it is. With the last result the set is no longer outstanding. 17, 16, then 4, 11, 12, 13, 14. */
-uint32_t station_result(uint8_t *room, size_t room_length, uint8_t number, uint8_t done);
+/* The result of instruction `number`, counted from 0, of the set that was given `issue`: STATION_DONE applies it to the record,
+ * STATION_FAILED leaves the record as it is. With the last result the set is no longer outstanding. 17, 16, then 4, 11, 29, 30, 12, 13,
+ * 14. */
+uint32_t station_result(uint8_t *room, size_t room_length, uint16_t issue, uint8_t number, uint8_t done);
 
 /* Takes an image as the record, as after somebody looked for themselves. 17, 16, then 6, 15. */
 uint32_t station_image(uint8_t *room, size_t room_length, uint64_t image);
@@ -164,8 +176,8 @@ uint32_t station_ask(const uint8_t *room, size_t room_length, uint8_t *image, si
 /* Answers the first message of `message`, as the program does: the message that answers is written to `reply` (its first two bytes
  * say how many follow) and, if the message is taken, the next station to `room`. A message that is refused is answered too: `reply`
  * then has the refusal, and `room` is not written. 17 is returned where `room` or `reply` is too short, and nothing is written; a room of
- * STATION_REPLY_MOST bytes is always enough. Else returns the number and the place that were answered, or 0 with STATION_NOWHERE
- * where the image was. What stands past the first message is not looked at. */
+ * STATION_REPLY_MOST bytes is always enough. Else returns the number, the place and the issue that were answered, or 0 with
+ * STATION_NOWHERE where the image was. What stands past the first message is not looked at. */
 uint32_t station_message(uint8_t *room, size_t room_length, const uint8_t *message, size_t message_length, uint8_t *reply,
                          size_t reply_length);
 

@@ -4,6 +4,7 @@
 #define _GNU_SOURCE /* memfd_create */
 #include "command.h"
 #include "guards.h"
+#include "input.h"
 
 #include <stdbool.h>
 #include <stdio.h>
@@ -24,13 +25,10 @@ int LLVMFuzzerTestOneInput(const uint8_t *data, size_t size);
 #define ASTRAY 0
 #endif
 
-/* Where the record has the lift's car and height, and the shuttles' slots; the cells of row 1, and of the middle belts of the others. */
+/* Where the record has the lift's car and height, and the shuttles' slots. */
 enum { LIFT_AT = 52, SLOTS_AT = 40 };
-#define ROW_1 UINT64_C(0xFFFFF)
-#define MIDDLES (UINT64_C(0xFF) << 21 | UINT64_C(0xFF) << 31)
 
-/* Runs are lent up to lengths that no longer fit a byte. */
-enum { RUN_MOST = 320, NUMBERS = STATION_CELLS_NOT_FREE + 1, OPCODES = GARAGE_ROTATE + 1, RUNS = 3 };
+enum { NUMBERS = STATION_NOT_ISSUED + 1, OPCODES = GARAGE_ROTATE + 1, RUNS = 3 };
 
 static struct page pages[RUNS];
 static size_t page_size;
@@ -100,8 +98,8 @@ static void show(const char *name, const uint8_t *bytes, size_t size) {
 
 static void show_call(void) {
     static const char *const names[RUNS] = {"room", "in", "out"};
-    fprintf(stderr, "found in a call of entry %d with %d, %d, %#llx; expected %#x and to leave\n", under_way->entry, under_way->first,
-            under_way->second, (unsigned long long)under_way->image, expected);
+    fprintf(stderr, "found in a call of entry %d with %d, %d, %d, %#llx; expected %#x and to leave\n", under_way->entry, under_way->first,
+            under_way->second, under_way->issue, (unsigned long long)under_way->image, expected);
     for (int run = 0; run < RUNS; run++) {
         struct lent *after = run_of(under_way, run);
         show(names[run], before[run], after->size);
@@ -165,122 +163,7 @@ static void compare(struct command *command, unsigned places) {
     tell(command, answer);
 }
 
-/* ---- an input read */
-
-static const uint8_t *input;
-static size_t input_left;
-
-/* The next byte; zeros past the end. */
-static uint8_t take(void) {
-    if (input_left == 0)
-        return 0;
-    input_left--;
-    return *input++;
-}
-
-static void take_run(uint8_t *to, size_t size) {
-    for (size_t at = 0; at < size; at++)
-        to[at] = take();
-}
-
-/* How much is lent: about what is needed, or more than a byte can say. */
-static size_t take_size(void) {
-    uint8_t byte = take();
-    return byte < 0xC0 ? byte % 64 : RUN_MOST - 64 + byte % 64;
-}
-
-/* Changes some bits of one byte. */
-static void damage(uint8_t *bytes, size_t size) {
-    size_t at = take() % size;
-    bytes[at] ^= take();
-}
-
-/* The station as the calls before left it, with bytes behind it. */
-static uint8_t kept[RUN_MOST];
-
-static uint64_t number_of(const uint8_t *eight) {
-    uint64_t image = 0;
-    for (int at = 0; at < STATION_IMAGE_SIZE; at++)
-        image |= (uint64_t)eight[at] << (8 * at);
-    return image;
-}
-
-static void put_number(uint8_t *eight, uint64_t image) {
-    for (int at = 0; at < STATION_IMAGE_SIZE; at++)
-        eight[at] = (uint8_t)(image >> (8 * at));
-}
-
-/* An image: mostly the station's record, with one thing changed or many cars more. */
-static uint64_t take_image(void) {
-    uint64_t record = number_of(kept);
-    uint8_t eight[STATION_IMAGE_SIZE], pick = take();
-    switch (pick >> 6) {
-    case 0: return record ^ UINT64_C(3) << pick % 19; /* a car of row 1 */
-    case 1: return record ^ UINT64_C(1) << pick % 64;
-    case 2: return record | (pick & 1 ? ROW_1 : 0) | (pick & 2 ? MIDDLES : 0);
-    default: take_run(eight, sizeof eight); return number_of(eight);
-    }
-}
-
-static uint8_t bit(uint8_t byte, int at) { return byte >> at & 1; }
-
-/* An instruction: well formed, from two bytes, or any five. */
-static void take_five(uint8_t *five) {
-    uint8_t pick = take(), fields = take(), row = (uint8_t)(1 + (pick >> 3) % 3);
-    uint8_t well_formed[][STATION_CODE_SIZE] = {
-        {GARAGE_BELTS, row, fields & (row == 1 ? 31 : 7), bit(fields, 5), bit(fields, 6)},
-        {GARAGE_SHUTTLES, bit(fields, 3), fields & 7, bit(fields, 4), bit(fields, 5)},
-        {GARAGE_TILT, bit(fields, 3), row, bit(fields, 4), 0},
-        {GARAGE_LIFT, fields % 3, 0, 0, 0},
-        {GARAGE_ROTATE, 0, 0, 0, 0},
-    };
-    uint8_t opcode = pick & 7;
-    if (GARAGE_BELTS <= opcode && opcode <= GARAGE_ROTATE) {
-        memcpy(five, well_formed[opcode - GARAGE_BELTS], STATION_CODE_SIZE);
-    } else {
-        five[0] = fields;
-        take_run(five + 1, STATION_CODE_SIZE - 1);
-    }
-}
-
-/* A count and as many instructions, up to nine of them. */
-static uint8_t take_set(uint8_t *set) {
-    uint8_t count = take() % 10;
-    for (int at = 0; at < count; at++)
-        take_five(set + STATION_CODE_SIZE * at);
-    return count;
-}
-
-/* A message of a kind that is read, or any bytes; gives its size. */
-static size_t take_message(uint8_t *message) {
-    uint8_t pick = take(), kind = pick % 8, *body = message + 4;
-    size_t size = 0;
-    switch (kind) {
-    case STATION_KIND_REQUEST:
-        body[0] = take_set(body + 1);
-        size = 1 + STATION_CODE_SIZE * (size_t)body[0];
-        break;
-    case STATION_KIND_EVENT:
-        body[size++] = take() % 4;
-        break;
-    case STATION_KIND_RESULT:
-        body[size++] = pick >> 3 & 15;
-        body[size++] = take() % 4;
-        break;
-    case STATION_KIND_IMAGE:
-        put_number(body, take_image());
-        size = STATION_IMAGE_SIZE;
-        break;
-    case STATION_KIND_ASK:
-        break;
-    default:
-        size = take() % 64;
-        take_run(message, size);
-        return size;
-    }
-    message[0] = (uint8_t)(2 + size), message[1] = 0, message[2] = kind, message[3] = 0;
-    return 4 + size;
-}
+/* ---- the steps of a program */
 
 /* One call of an entry on the kept station. An unusual one is given any bytes and any lengths. */
 static void one_call(uint8_t entry, unsigned places, bool unusual) {
@@ -297,7 +180,8 @@ static void one_call(uint8_t entry, unsigned places, bool unusual) {
         break;
     case RESULT: {
         uint8_t byte = take();
-        command.first = byte % 10, command.second = byte >> 7 ? STATION_FAILED : STATION_DONE;
+        command.first = byte & 15, command.second = byte >> 7 ? STATION_FAILED : STATION_DONE;
+        command.issue = take_issue(byte >> 4 & 7);
         break;
     }
     case MESSAGE:
@@ -333,15 +217,15 @@ static void one_call(uint8_t entry, unsigned places, bool unusual) {
 
 /* Reports each outstanding instruction done, from the first on or from the last back. */
 static void settle(unsigned places, bool backward) {
-    uint8_t none[1], count = kept[8] <= STATION_MOST ? kept[8] : 0;
+    uint8_t none[1], count = kept[SET_AT] <= STATION_MOST ? kept[SET_AT] : 0;
     for (uint8_t at = 0; at < count; at++) {
         struct command command = {.entry = RESULT, .first = backward ? (uint8_t)(count - 1 - at) : at, .second = STATION_DONE,
-                                  .room = {kept, STATION_SIZE}, .in = {none, 0}, .out = {none, 0}};
+                                  .issue = present_issue(), .room = {kept, STATION_SIZE}, .in = {none, 0}, .out = {none, 0}};
         compare(&command, places);
     }
 }
 
-/* Damage that no call does, and calls in a row; numbered behind the entries. */
+/* Damage that no call does, marks or the next issue among it, and calls in a row; numbered behind the entries. */
 enum { NEW_RECORD = ENTRIES, NEW_SET, NEW_MARKS, NEW_STATION, SETTLE };
 
 static void one_step(void) {
@@ -352,11 +236,14 @@ static void one_step(void) {
         put_number(kept, take_image());
         break;
     case NEW_SET:
-        memset(kept + 8, 0, STATION_SIZE - 8);
-        kept[8] = take_set(kept + 10) % (STATION_MOST + 1);
+        memset(kept + SET_AT, 0, ISSUE_AT - SET_AT);
+        kept[SET_AT] = take_set(kept + CODES_AT) % (STATION_MOST + 1);
         break;
     case NEW_MARKS:
-        kept[9] = take();
+        if (pick >> 7)
+            take_run(kept + ISSUE_AT, 2);
+        else
+            kept[MARKS_AT] = take();
         break;
     case NEW_STATION:
         take_run(kept, STATION_SIZE);
@@ -372,14 +259,14 @@ static void one_step(void) {
 static void tell_station(void) {
     uint64_t record = number_of(kept);
     uint8_t marks = 0;
-    for (uint8_t left = kept[9]; left != 0; left &= (uint8_t)(left - 1))
+    for (uint8_t left = kept[MARKS_AT]; left != 0; left &= (uint8_t)(left - 1))
         marks++;
     reached.cars[garage_cars(record) % 32] = 1;
     reached.lift[record >> LIFT_AT & 7] = 1;
     for (int side = 0; side < 2; side++)
         reached.shuttles[side][(record >> (SLOTS_AT + 3 * side) & 7) | (record >> (SLOTS_AT + 6 + 3 * side) & 7) << 3] = 1;
-    if (kept[8] <= STATION_MOST)
-        reached.outstanding[kept[8]][marks] = 1;
+    if (kept[SET_AT] <= STATION_MOST)
+        reached.outstanding[kept[SET_AT]][marks] = 1;
 }
 
 int LLVMFuzzerInitialize(int *count, char ***words) {

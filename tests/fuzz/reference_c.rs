@@ -21,6 +21,7 @@ pub struct Command {
     entry: u8,
     first: u8,
     second: u8,
+    issue: u16,
     image: u64,
     room: Lent,
     input: Lent,
@@ -31,11 +32,12 @@ impl Command {
     /// # Safety
     /// Each run is valid for its size, and overlaps no other.
     unsafe fn lent(&self) -> command::Command<'_> {
-        let &Command { entry, first, second, image, ref room, ref input, ref output } = self;
+        let &Command { entry, first, second, issue, image, ref room, ref input, ref output } = self;
         command::Command {
             entry,
             first,
             second,
+            issue,
             image,
             room: from_raw_parts_mut(room.bytes, room.size),
             input: from_raw_parts(input.bytes, input.size),

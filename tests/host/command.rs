@@ -1,7 +1,7 @@
 //! What each entry for C must return and leave, by the reference. command.h makes the same calls on the entries.
 #![allow(dead_code)] // each driver uses its own part of this module
 
-use crate::reference::{cars, lent, read_call, sound, Answer, Call, Instruction, Station};
+use crate::reference::{answer, answer_message, cars, lent, read_call, sound, Answer, Call, Instruction, Station, REASON_NUMBERS};
 
 /// The entries in the order of their numbers, each with the answer numbers that it can give: no others, and a long run gives them
 /// all. (What garage_cars returns is not of the table.)
@@ -9,10 +9,10 @@ pub const ENTRIES: [(&str, &[u8]); 11] = [
     ("station_start", &[0, 17]),
     ("station_request", &[0, 1, 4, 5, 6, 7, 8, 16, 17, 20, 21, 22, 23, 24, 25, 26, 27, 28]),
     ("station_event", &[0, 4, 6, 10, 16, 17]),
-    ("station_result", &[0, 4, 11, 12, 13, 14, 16, 17]),
+    ("station_result", &[0, 4, 11, 12, 13, 14, 16, 17, 29, 30]),
     ("station_image", &[0, 6, 15, 16, 17]),
     ("station_ask", &[0, 16, 17]),
-    ("station_message", &[0, 1, 2, 3, 4, 5, 6, 7, 8, 10, 11, 12, 13, 14, 15, 16, 17, 20, 21, 22, 23, 24, 25, 26, 27, 28]),
+    ("station_message", &[0, 1, 2, 3, 4, 5, 6, 7, 8, 10, 11, 12, 13, 14, 15, 16, 17, 20, 21, 22, 23, 24, 25, 26, 27, 28, 29, 30]),
     ("garage_sound", &[0, 1]),
     ("garage_cars", &[]),
     ("garage_allowed", &[0, 1, 4, 20, 21, 22, 23, 24, 25, 26, 27, 28]),
@@ -25,18 +25,23 @@ pub struct Command<'a> {
     /// Its byte arguments: a count, a way, or a number and an outcome.
     pub first: u8,
     pub second: u8,
+    /// The set that a result is of.
+    pub issue: u16,
     pub image: u64,
     pub room: &'a mut [u8],
     pub input: &'a [u8],
     pub output: &'a mut [u8],
 }
 
-/// The bytes of a station, of a record, and of an instruction.
-const STATION: usize = 50;
+/// The bytes of a record and of an instruction.
 const RECORD: usize = 8;
 const CODE: usize = 5;
 
-fn said((number, place): Answer) -> u32 { u32::from(number) + 256 * u32::from(place) }
+/// An answer as a number: from the lowest, a byte for its number, one for its place, and two for its issue.
+fn said(Answer { number, place, issue }: Answer) -> u32 {
+    let [low, high] = issue.to_le_bytes();
+    u32::from_le_bytes([number, place, low, high])
+}
 
 fn put(room: &mut [u8], bytes: &[u8]) { room[..bytes.len()].copy_from_slice(bytes) }
 
@@ -45,10 +50,10 @@ fn station_in(room: &[u8]) -> Station { room.first_chunk().map_or(Station::start
 
 /// A call on the lent station, which is written back if the call is taken.
 fn on_station(room: &mut [u8], bytes_for_all: bool, call: impl FnOnce(&mut Station) -> Answer) -> Answer {
-    lent(room.len() >= STATION, bytes_for_all, || {
+    lent(room.len() >= Station::SIZE, bytes_for_all, || {
         let mut station = station_in(room);
         let answer = call(&mut station);
-        if answer.0 == 0 { put(room, &station.to_bytes()); }
+        if answer.number == 0 { put(room, &station.to_bytes()); }
         answer
     })
 }
@@ -60,32 +65,34 @@ fn request(room: &mut [u8], count: u8, set: &[u8]) -> Answer {
 
 /// The record of the lent station, put to a room for an image.
 fn ask(room: &[u8], image: &mut [u8]) -> Answer {
-    lent(room.len() >= STATION && image.len() >= RECORD, true, || {
+    lent(room.len() >= Station::SIZE && image.len() >= RECORD, true, || {
         let mut station = station_in(room);
         let answer = station.ask();
-        if answer.0 == 0 { put(image, &station.record.to_le_bytes()); }
+        if answer.number == 0 { put(image, &station.record.to_le_bytes()); }
         answer
     })
 }
 
-/// The reply to a message, as number and place and as bytes.
+/// The reply to a message, as an answer and as bytes.
 fn reply(station: &mut Station, message: &[u8]) -> (Answer, Vec<u8>) {
-    let told = |(number, place): Answer| ((number, place), vec![4, 0, 128, 0, number, place]);
-    match read_call(message) {
-        Err(refused) => told((refused.number, refused.place)),
-        Ok((call, _)) => match station.take(call) {
-            (0, place) if call == Call::Ask => ((0, place), [&[10, 0, 129, 0], &station.record.to_le_bytes()[..]].concat()),
-            answer => told(answer),
-        },
-    }
+    let (answer, asked) = match read_call(message) {
+        Err(refused) => (refused.answer, false),
+        Ok((call, _)) => (station.take(call), call == Call::Ask),
+    };
+    let bytes = if asked && answer.number == 0 {
+        [&[10, 0, 129, 0], &station.record.to_le_bytes()[..]].concat()
+    } else {
+        answer_message(answer).to_vec()
+    };
+    (answer, bytes)
 }
 
 /// A message answered on the lent station, which is written back if the message is taken; where its reply doesn't fit nothing is written.
 fn message(room: &mut [u8], message: &[u8], output: &mut [u8]) -> Answer {
     let mut station = station_in(room);
     let (answer, bytes) = reply(&mut station, message);
-    lent(room.len() >= STATION && output.len() >= bytes.len(), true, || {
-        if answer.0 == 0 { put(room, &station.to_bytes()); }
+    lent(room.len() >= Station::SIZE && output.len() >= bytes.len(), true, || {
+        if answer.number == 0 { put(room, &station.to_bytes()); }
         put(output, &bytes);
         answer
     })
@@ -93,10 +100,10 @@ fn message(room: &mut [u8], message: &[u8], output: &mut [u8]) -> Answer {
 
 /// Whether an image allows the instruction of these bytes or why not, and the record after it.
 fn verdict(image: u64, five: &[u8]) -> (Answer, Option<u64>) {
-    let Some(instruction) = five.first_chunk().and_then(|&five| Instruction::read(five)) else { return ((4, 255), None) };
+    let Some(instruction) = five.first_chunk().and_then(|&five| Instruction::read(five)) else { return (answer(4), None) };
     match instruction.judge(image) {
-        Ok(()) => ((0, 255), Some(instruction.next(image))),
-        Err(number) => ((number, 255), None),
+        Ok(()) => (answer(0), Some(instruction.next(image))),
+        Err(number) => (answer(number), None),
     }
 }
 
@@ -113,24 +120,25 @@ fn next(image: u64, five: &[u8], output: &mut [u8]) -> Answer {
 /// Where a call's answer says why an instruction isn't allowed on a sound record: its opcode and the number. A station that answers so
 /// is fit; of the questions on any image, those on a sound one count.
 pub fn reason_told(command: &Command, answer: u32) -> Option<(u8, u8)> {
-    let (number, place) = (answer as u8, (answer >> 8) as usize);
+    let [number, place, ..] = answer.to_le_bytes();
+    if !REASON_NUMBERS.contains(&number) { return None; }
     let at = match command.entry {
-        1 => CODE * place,
-        6 => 5 + CODE * place,
+        1 => CODE * usize::from(place),
+        6 => 5 + CODE * usize::from(place),
         9 | 10 if sound(command.image) => 0,
         _ => return None,
     };
-    (number >= 20).then(|| (command.input[at], number))
+    Some((command.input[at], number))
 }
 
 /// What the call returns; its rooms are left as it must leave them.
 pub fn call(command: &mut Command) -> u32 {
-    let &mut Command { entry, first, second, image, ref mut room, input, ref mut output } = command;
+    let &mut Command { entry, first, second, issue, image, ref mut room, input, ref mut output } = command;
     said(match entry {
-        0 => on_station(room, true, |station| { *station = Station::start(); (0, 255) }),
+        0 => on_station(room, true, |station| { *station = Station::start(); answer(0) }),
         1 => request(room, first, input),
         2 => on_station(room, true, |station| station.event(first)),
-        3 => on_station(room, true, |station| station.result(first, second)),
+        3 => on_station(room, true, |station| station.result(issue, first, second)),
         4 => on_station(room, true, |station| station.image(image)),
         5 => ask(room, output),
         6 => message(room, input, output),

@@ -64,8 +64,8 @@ fn reduced_floor() -> (Records, [u64; 6]) {
         assert!(sound(record));
         let moved = instructions.iter().filter(|(_, one)| one.allowed(record)).map(|(kind, one)| (*kind, one.next(record)));
         let driven = [1, 2].into_iter().filter_map(|event| {
-            let mut station = Station { record, count: 0, answered: 0, set: [0; 40] };
-            (station.event(event).0 == 0).then_some((5, station.record))
+            let mut station = Station { record, ..Station::start() };
+            (station.event(event).number == 0).then_some((5, station.record))
         });
         for (kind, next) in moved.chain(driven) {
             steps[kind] += 1;

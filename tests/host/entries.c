@@ -1,6 +1,6 @@
 /* Runs the entries of station.h on commands from standard input and writes what each returned and left, so that another program
- * can compare. A command: its number, two byte arguments, an image of eight bytes, and three lent runs of bytes, each with a byte for
- * its length. An answer: four bytes, how many bytes of stack the call took in four more, then the two rooms that an entry may write.
+ * can compare. A command: its number, two byte arguments, an issue of two bytes, an image of eight, and three lent runs of bytes, each with a
+ * byte for its length. An answer: four bytes, how many bytes of stack the call took in four more, then the two rooms that an entry may write.
  * All numbers have the lowest byte first. */
 #include "command.h"
 #include "stack.h"
@@ -21,11 +21,11 @@ static uint8_t take_byte(void) {
     return byte;
 }
 
-static uint64_t take_image(void) {
-    uint64_t image = 0;
-    for (int at = 0; at < 8; at++)
-        image |= (uint64_t)take_byte() << (8 * at);
-    return image;
+static uint64_t take_number(int size) {
+    uint64_t number = 0;
+    for (int at = 0; at < size; at++)
+        number |= (uint64_t)take_byte() << (8 * at);
+    return number;
 }
 
 /* A run is lent in its own room; where it has no bytes, every other time at NULL. */
@@ -69,7 +69,8 @@ int main(void) {
         it.command.entry = (uint8_t)entry;
         it.command.first = take_byte();
         it.command.second = take_byte();
-        it.command.image = take_image();
+        it.command.issue = (uint16_t)take_number(2);
+        it.command.image = take_number(8);
         take_run(&it.command.room, room);
         take_run(&it.command.in, in);
         take_run(&it.command.out, out);

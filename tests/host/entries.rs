@@ -20,6 +20,7 @@ struct Given {
     entry: u8,
     first: u8,
     second: u8,
+    issue: u16,
     image: u64,
     room: Vec<u8>,
     input: Vec<u8>,
@@ -38,14 +39,15 @@ struct Trial {
 impl Given {
     fn trial(mut self) -> Trial {
         let mut sent = vec![self.entry, self.first, self.second];
+        sent.extend(self.issue.to_le_bytes());
         sent.extend(self.image.to_le_bytes());
         for run in [&self.room, &self.input, &self.output] {
             sent.push(run.len() as u8);
             sent.extend(run);
         }
-        let Given { entry, first, second, image, .. } = self;
+        let Given { entry, first, second, issue, image, .. } = self;
         let (room, input, output) = (&mut self.room[..], &self.input[..], &mut self.output[..]);
-        let mut command = Command { entry, first, second, image, room, input, output };
+        let mut command = Command { entry, first, second, issue, image, room, input, output };
         let answer = command::call(&mut command);
         let reason = command::reason_told(&command, answer);
         Trial { entry, sent, answer, left: [self.room, self.output].concat(), reason }
@@ -59,7 +61,7 @@ fn any_bytes(numbers: &mut Numbers, size: usize) -> Vec<u8> { (0..size).map(|_| 
 fn station_room(numbers: &mut Numbers, station: &Station) -> Vec<u8> {
     let mut room = station.to_bytes().to_vec();
     if numbers.one_in(25) {
-        room.truncate(numbers.below(50) as usize);
+        room.truncate(numbers.below(Station::SIZE as u64) as usize);
     } else {
         let more = numbers.below(4) as usize;
         room.extend(any_bytes(numbers, more));
@@ -70,7 +72,7 @@ fn station_room(numbers: &mut Numbers, station: &Station) -> Vec<u8> {
 /// A station that is not always one reached by calls.
 fn damaged(numbers: &mut Numbers, station: &Station) -> Station {
     let mut other = *station;
-    match numbers.below(6) {
+    match numbers.below(7) {
         0 => other.record = traffic::near_record(numbers, station.record),
         1 => {
             // a fit station whose instructions need not be allowed
@@ -84,6 +86,8 @@ fn damaged(numbers: &mut Numbers, station: &Station) -> Station {
         2 => other.count = numbers.below(12) as u8,
         3 => other.answered = numbers.byte(),
         4 => other.set[numbers.below(40) as usize] = numbers.byte(),
+        // any next issue is fit; every other time one round the end
+        5 => other.next_issue = (if numbers.one_in(2) { numbers.next() } else { 65535 + numbers.below(3) }) as u16,
         _ => {}
     }
     other
@@ -106,7 +110,8 @@ fn station_call(numbers: &mut Numbers, station: &Station) -> Given {
         4 | 5 => {
             let number = if numbers.one_in(8) { numbers.byte() } else { numbers.below(4) as u8 };
             let done = if numbers.one_in(20) { numbers.byte() } else { numbers.below(2) as u8 };
-            Given { entry: 3, first: number, second: done, room, ..Given::default() }
+            let issue = traffic::some_issue(numbers, station);
+            Given { entry: 3, first: number, second: done, issue, room, ..Given::default() }
         }
         6 => Given { entry: 4, image: traffic::near_record(numbers, station.record), room, ..Given::default() },
         _ => {

@@ -1,6 +1,7 @@
 //! The reference's five instructions: which are well-formed, their areas, why one is not allowed, and the record after it.
 use super::floor::ROTATION_CELLS;
 use super::*;
+use std::ops::RangeInclusive;
 
 /// An instruction, its fields as the message gives them.
 #[derive(Clone, Copy, Debug, PartialEq, Eq)]
@@ -33,6 +34,9 @@ pub const REASONS: [(u8, u8); 18] = [
     (4, SAME_HEIGHT), (4, ODD),
     (5, NOT_AT_ROTATION), (5, CELLS_TAKEN),
 ];
+
+/// Their numbers.
+pub const REASON_NUMBERS: RangeInclusive<u8> = NOTHING_NAMED..=CELLS_TAKEN;
 
 /// A condition: where it fails, its number is told.
 fn holds(condition: bool, number: u8) -> Result<(), u8> { condition.then_some(()).ok_or(number) }

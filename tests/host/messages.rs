@@ -1,5 +1,5 @@
 //! The reference's messages and its program: what bytes say, the bytes of a message, and a whole session answered.
-use super::{answer, read_set, Answer, Call, Station, NO_PLACE};
+use super::{answer, answer_at, read_set, Answer, Call, Station, NO_PLACE};
 use std::io::{self, ErrorKind, Read, Write};
 
 // ---- Messages ----------------------------------------------------------------------------------
@@ -8,21 +8,20 @@ use std::io::{self, ErrorKind, Read, Write};
 #[derive(Clone, Copy, Debug, PartialEq, Eq)]
 pub enum Message<'a> {
     Call(Call<'a>),
-    Answer { number: u8, place: u8 },
+    Answer(Answer),
     Image(u64),
 }
 
 /// Why a message isn't read, and how many bytes it took where its length frames it.
 #[derive(Clone, Copy, Debug, PartialEq, Eq)]
 pub struct Refused {
-    pub number: u8,
-    pub place: u8,
+    pub answer: Answer,
     pub took: Option<usize>,
 }
 
 /// The first message's kind, body and bytes taken; what follows it isn't looked at.
 fn frame(input: &[u8]) -> Result<(u16, &[u8], usize), Refused> {
-    let refused = |number| Err(Refused { number, place: NO_PLACE, took: None });
+    let refused = |number| Err(Refused { answer: answer(number), took: None });
     let &[low, high, ref rest @ ..] = input else { return refused(1) };
     let length = usize::from(u16::from_le_bytes([low, high]));
     if !(2..=43).contains(&length) { return refused(2); }
@@ -39,11 +38,11 @@ fn call_body(kind: u16, body: &[u8]) -> Result<Call<'_>, Answer> {
         (1, &[count, ..]) if count > 8 => Err(answer(5)),
         (1, &[count, ref bytes @ ..]) if bytes.len() == 5 * usize::from(count) => match read_set(bytes) {
             Ok(_) => Ok(Call::Request { count, bytes }),
-            Err(place) => Err((4, place)),
+            Err(place) => Err(answer_at(4, place)),
         },
         (2, &[event @ (1 | 2)]) => Ok(Call::Event(event)),
-        (3, &[number, outcome @ (0 | 1)]) => Ok(Call::Result { number, outcome }),
-        (2, [_]) | (3, [_, _]) => Err(answer(4)),
+        (3, &[low, high, number, outcome @ (0 | 1)]) => Ok(Call::Result { issue: u16::from_le_bytes([low, high]), number, outcome }),
+        (2, [_]) | (3, [_, _, _, _]) => Err(answer(4)),
         (4, &[a, b, c, d, e, f, g, h]) => Ok(Call::Image(u64::from_le_bytes([a, b, c, d, e, f, g, h]))),
         (5, []) => Ok(Call::Ask),
         (1..=5, _) => Err(answer(2)),
@@ -51,11 +50,13 @@ fn call_body(kind: u16, body: &[u8]) -> Result<Call<'_>, Answer> {
     }
 }
 
-/// The same for every kind. An answer has a number of the table and an instruction's place or none.
+/// The same for every kind. An answer has a number of the table, an instruction's place or none, and any issue.
 fn message_body(kind: u16, body: &[u8]) -> Result<Message<'_>, Answer> {
     match (kind, body) {
-        (128, &[number @ (0..=8 | 10..=17 | 20..=28), place @ (0..=7 | NO_PLACE)]) => Ok(Message::Answer { number, place }),
-        (128, [_, _]) => Err(answer(4)),
+        (128, &[number @ (0..=8 | 10..=17 | 20..=30), place @ (0..=7 | NO_PLACE), low, high]) => {
+            Ok(Message::Answer(Answer { number, place, issue: u16::from_le_bytes([low, high]) }))
+        }
+        (128, [_, _, _, _]) => Err(answer(4)),
         (129, &[a, b, c, d, e, f, g, h]) => Ok(Message::Image(u64::from_le_bytes([a, b, c, d, e, f, g, h]))),
         (128 | 129, _) => Err(answer(2)),
         _ => call_body(kind, body).map(Message::Call),
@@ -63,7 +64,7 @@ fn message_body(kind: u16, body: &[u8]) -> Result<Message<'_>, Answer> {
 }
 
 fn framed<T>(read: Result<T, Answer>, took: usize) -> Result<(T, usize), Refused> {
-    let refused = |(number, place)| Refused { number, place, took: Some(took) };
+    let refused = |answer| Refused { answer, took: Some(took) };
     read.map(|read| (read, took)).map_err(refused)
 }
 
@@ -77,6 +78,18 @@ pub fn read_message(input: &[u8]) -> Result<(Message<'_>, usize), Refused> {
     frame(input).and_then(|(kind, body, took)| framed(message_body(kind, body), took))
 }
 
+/// An answer's number, place and issue.
+fn answer_body(Answer { number, place, issue }: Answer) -> [u8; 4] {
+    let [low, high] = issue.to_le_bytes();
+    [number, place, low, high]
+}
+
+/// The message that tells an answer.
+pub fn answer_message(answer: Answer) -> [u8; 8] {
+    let [number, place, low, high] = answer_body(answer);
+    [6, 0, 128, 0, number, place, low, high]
+}
+
 /// The library's writer, giving the bytes written: refuses more than eight instructions, then a bad
 /// field, then a room shorter than the message. The room past the message keeps its bytes, after a
 /// refusal all of it does.
@@ -87,10 +100,13 @@ pub fn write_message(message: &Message, room: &mut [u8]) -> Result<usize, Answer
             (1, &[count], bytes.get(..5 * usize::from(count)).ok_or(answer(1))?)
         }
         Message::Call(Call::Event(event)) => (2, &[event], &[]),
-        Message::Call(Call::Result { number, outcome }) => (3, &[number, outcome], &[]),
+        Message::Call(Call::Result { issue, number, outcome }) => {
+            let [low, high] = issue.to_le_bytes();
+            (3, &[low, high, number, outcome], &[])
+        }
         Message::Call(Call::Image(image)) => (4, &image.to_le_bytes(), &[]),
         Message::Call(Call::Ask) => (5, &[], &[]),
-        Message::Answer { number, place } => (128, &[number, place], &[]),
+        Message::Answer(answer) => (128, &answer_body(answer), &[]),
         Message::Image(image) => (129, &image.to_le_bytes(), &[]),
     };
     let mut body = [0; 41];
@@ -117,10 +133,10 @@ fn run(
 ) -> (usize, bool) {
     let mut at = 0;
     while at < input.len() {
-        let ((number, place), took) = match read_call(&input[at..]) {
+        let (answer, took) = match read_call(&input[at..]) {
             Ok((call, took)) => {
                 let answer = take(station, call);
-                if call == Call::Ask && answer.0 == 0 {
+                if call == Call::Ask && answer.number == 0 {
                     output.extend_from_slice(&[10, 0, 129, 0]);
                     output.extend_from_slice(&station.record.to_le_bytes());
                     at += took;
@@ -128,10 +144,10 @@ fn run(
                 }
                 (answer, Some(took))
             }
-            Err(Refused { number: 1, .. }) if !ended => break,
-            Err(Refused { number, place, took }) => ((number, place), took),
+            Err(refused) if refused.answer.number == 1 && !ended => break,
+            Err(Refused { answer, took }) => (answer, took),
         };
-        output.extend_from_slice(&[4, 0, 128, 0, number, place]);
+        output.extend_from_slice(&answer_message(answer));
         let Some(took) = took else { return (at, false) };
         at += took;
     }

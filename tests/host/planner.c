@@ -1,7 +1,8 @@
 /* A small planner over station.h. It drives one car in, parks it on row 2, fetches it again and drives it out. Before each set it
  * works out the record that must follow; after the motors' results (here every one succeeds at once) it holds the station's record
- * against that. How far a car goes along a row it learns from the reason why the next move is not allowed. Every answer is checked:
- * the first refusal that it doesn't count on ends the run with a message. */
+ * against that. How far a car goes along a row it learns from the reason why the next move is not allowed. A slow motor board says its
+ * result once more when the next set has begun, which must be late. Every answer is checked: the first refusal that it doesn't count on
+ * ends the run with a message. */
 #include "station.h"
 
 #include <inttypes.h>
@@ -12,6 +13,12 @@
 typedef struct {
     uint8_t five[STATION_CODE_SIZE];
 } Instruction;
+
+/* What a motor board reports done: an instruction, by its set and its place there. */
+typedef struct {
+    uint16_t issue;
+    uint8_t number;
+} Report;
 
 static uint8_t room[STATION_SIZE];
 static unsigned steps;
@@ -56,6 +63,8 @@ static const char *const numbers[] = {
     [STATION_SAME_HEIGHT] = "already at that height",
     [STATION_NOT_AT_ROTATION] = "not at rotation height",
     [STATION_CELLS_NOT_FREE] = "cells not free for the tilt or the rotation",
+    [STATION_LATE] = "late: of a set before the present one",
+    [STATION_NOT_ISSUED] = "of a set that was not issued",
 };
 
 static const char *words(unsigned number) {
@@ -171,6 +180,21 @@ static void drive(const char *what, uint8_t way) {
     show(record_now());
 }
 
+static uint32_t report_done(Report report) { return station_result(room, sizeof room, report.issue, report.number, STATION_DONE); }
+
+/* The motors carry out a set; before that the slow board says its last result of the set before again, where there is one. */
+static void run_motors(uint16_t issue, uint8_t count) {
+    static Report last;
+    if (issue != 0 && STATION_NUMBER(report_done(last)) != STATION_LATE) {
+        printf("stopped: a result of the set before isn't late\n");
+        exit(1);
+    }
+    for (uint8_t i = 0; i < count; i++) {
+        last = (Report){issue, i};
+        must("result", report_done(last));
+    }
+}
+
 /* One set: planned, requested, carried out, and the record held against the plan. */
 static void carry_out(const char *what, const Instruction *set, uint8_t count) {
     uint8_t bytes[STATION_MOST * STATION_CODE_SIZE], eight[STATION_IMAGE_SIZE];
@@ -183,9 +207,10 @@ static void carry_out(const char *what, const Instruction *set, uint8_t count) {
         printf("  %u: ", i);
         say_instruction(&set[i]);
     }
-    must("request", station_request(room, sizeof room, count, bytes, (size_t)STATION_CODE_SIZE * count));
-    for (uint8_t i = 0; i < count; i++) must("result", station_result(room, sizeof room, i, STATION_DONE));
-    printf("  answer 0 (taken), %u done\n", count);
+    uint32_t answer = station_request(room, sizeof room, count, bytes, (size_t)STATION_CODE_SIZE * count);
+    must("request", answer);
+    run_motors(STATION_SET(answer), count);
+    printf("  answer 0 (taken) as set %u, %u done\n", STATION_SET(answer), count);
     if (record_now() != planned) {
         printf("stopped: the record isn't the planned one\n");
         exit(1);

@@ -5,14 +5,14 @@
 //! gives it), 16 (the program's station is always fit) and 17 (its room is always enough) can't. So must every reason that each
 //! opcode can be refused for.
 
+mod pipes;
 mod reference;
 mod traffic;
 
-use reference::{read_message, Instruction, Station, START};
+use pipes::{answer_in, answers, messages_in};
+use reference::{answer, answer_at, read_message, write_message, Answer, Instruction, Message, Station, REASON_NUMBERS, START};
 use std::collections::BTreeSet;
-use std::io::Write;
-use std::process::{exit, Command, Stdio};
-use traffic::Numbers;
+use std::process::exit;
 
 /// The papers' instructions that are not allowed: on which record, and why.
 const NOT_ALLOWED: [(u64, [u8; 5], u8); 8] = [
@@ -30,63 +30,53 @@ const NOT_ALLOWED: [(u64, [u8; 5], u8); 8] = [
 fn examples() {
     for (record, five, number) in NOT_ALLOWED {
         let mut station = Station { record, ..Station::start() };
-        assert_eq!(station.request(1, &five), (number, 0), "{five:?} on {record:#018x}");
+        assert_eq!(station.request(1, &five), answer_at(number, 0), "{five:?} on {record:#018x}");
     }
     assert!(Instruction::read([5, 0, 0, 0, 0]).is_some_and(|rotate| rotate.allowed(0x0029_1B00_0000_00C0)), "P11");
     // the least one that isn't allowed tells why, whatever a later one has
     let (half, gap) = ([1, 2, 2, 0, 0], [1, 3, 5, 0, 1]);
-    assert_eq!(Station::start().request(2, &[half, gap].concat()), (25, 0));
-    assert_eq!(Station::start().request(3, &[[1, 1, 2, 0, 1], gap, half].concat()), (21, 1));
+    assert_eq!(Station::start().request(2, &[half, gap].concat()), answer_at(25, 0));
+    assert_eq!(Station::start().request(3, &[[1, 1, 2, 0, 1], gap, half].concat()), answer_at(21, 1));
     for number in 0..=255 {
-        let known = !matches!(number, 9 | 18 | 19 | 29..);
-        assert_eq!(read_message(&[4, 0, 128, 0, number, 255]).err().map(|refused| refused.number), (!known).then_some(4));
+        let known = !matches!(number, 9 | 18 | 19 | 31..);
+        assert_eq!(read_message(&[6, 0, 128, 0, number, 255, 1, 2]).err().map(|refused| refused.answer), (!known).then_some(answer(4)));
     }
 }
 
-/// What the program writes for an input that comes in pieces.
-fn answers(program: &str, input: &[u8], seed: u64) -> Vec<u8> {
-    let mut child = Command::new(program).stdin(Stdio::piped()).stdout(Stdio::piped()).spawn().expect("the program starts");
-    let mut pipe = child.stdin.take().expect("a pipe");
-    let output = std::thread::scope(|all| {
-        all.spawn(move || {
-            let mut numbers = Numbers(seed);
-            let mut rest = input;
-            while !rest.is_empty() {
-                let most = if numbers.one_in(4) { 7 } else { 200_000 };
-                let size = rest.len().min(1 + numbers.below(most) as usize);
-                // the program may stop before the input ends: then the pipe is closed
-                if pipe.write_all(&rest[..size]).is_err() { break; }
-                rest = &rest[size..];
-            }
-        });
-        child.wait_with_output().expect("the program ends")
-    });
-    assert!(output.status.success(), "the program's exit status is not 0");
-    output.stdout
-}
-
-/// The messages that some bytes begin with, as far as they are whole.
-fn messages_in(mut bytes: &[u8]) -> impl Iterator<Item = &[u8]> {
-    std::iter::from_fn(move || {
-        let (message, rest) = bytes.split_at_checked(2 + usize::from(*bytes.first()?))?;
-        bytes = rest;
-        Some(message)
-    })
-}
-
-/// Number and place of a message that is an answer.
-fn answer_in(message: &[u8]) -> Option<(u8, u8)> {
-    match *message {
-        [4, 0, 128, 0, number, place] => Some((number, place)),
-        _ => None,
-    }
+/// The same of the number that each set has.
+fn issues() {
+    let belt = [1, 1, 2, 0, 1];
+    let with_issue = |issue| Answer { issue, ..answer(0) };
+    let session = reference::serve(&[3, 0, 2, 0, 1, 2, 0, 5, 0]);
+    assert_eq!(session, [6, 0, 128, 0, 0, 255, 0, 0, 10, 0, 129, 0, 0, 0, 0, 0, 0, 0x1B, 0x19, 0]);
+    // the first set has 0; with it present the numbers from 65535 down to 32769 are late, though none was issued
+    let mut station = Station::start();
+    assert_eq!((station.result(0, 0, 1), station.request(1, &belt)), (answer(11), with_issue(0)));
+    let told = [65535, 32769, 32768, 1].map(|issue| station.result(issue, 0, 1).number);
+    assert_eq!(told, [29, 29, 30, 30]);
+    // 4 before 29, and 29 before 12
+    assert_eq!((station.result(65535, 0, 2), station.result(65535, 8, 1)), (answer(4), answer(29)));
+    // a refused request, an event and an image keep the count; after 65535 comes 0
+    assert_eq!((station.request(1, &belt), station.result(0, 0, 1)), (answer(6), answer(0)));
+    assert_eq!((station.request(0, &[]), station.event(1), station.image(START)), (answer(7), answer(0), answer(0)));
+    assert_eq!((station.request(1, &belt), station.result(0, 0, 1).number, station.result(1, 0, 0)), (with_issue(1), 29, answer(0)));
+    station.next_issue = 65535;
+    assert_eq!((station.request(1, &belt), station.next_issue), (with_issue(65535), 0));
+    // as messages: a result begins with it and an answer ends with it, and a result without it is too short
+    let mut room = [0; 8];
+    let answered = Message::Answer(Answer { number: 0, place: 255, issue: 0x1234 });
+    assert_eq!((write_message(&answered, &mut room), room), (Ok(8), [6, 0, 128, 0, 0, 255, 0x34, 0x12]));
+    let result = [6, 0, 3, 0, 0x34, 0x12, 7, 1];
+    let (read, took) = read_message(&result).expect("a result");
+    assert_eq!((write_message(&read, &mut room), room, took), (Ok(8), result, 8));
+    assert_eq!(read_message(&[4, 0, 3, 0, 7, 1]).err().map(|refused| refused.answer), Some(answer(2)));
 }
 
 /// What the instructions were refused for that the record didn't allow, each with its opcode: each message has one answer.
 fn reasons_in<'a>(input: &'a [u8], output: &'a [u8]) -> impl Iterator<Item = (u8, u8)> + 'a {
     messages_in(input).zip(messages_in(output)).filter_map(|(message, answer)| {
-        let (number, place) = answer_in(answer).filter(|&(number, _)| number >= 20)?;
-        Some((message[5 + 5 * usize::from(place)], number))
+        let told = answer_in(answer).filter(|told| REASON_NUMBERS.contains(&told.number))?;
+        Some((message[5 + 5 * usize::from(told.place)], told.number))
     })
 }
 
@@ -96,6 +86,7 @@ fn main() {
     let messages: usize = messages.parse().expect("a number");
     let sessions: u64 = sessions.parse().expect("a number");
     examples();
+    issues();
     let (mut seen, mut reasons) = (BTreeSet::new(), BTreeSet::new());
     let long = (0..2).map(|seed| (seed, traffic::input(seed, messages)));
     let short = (0..sessions).map(|seed| (seed, traffic::damaged_input(1000 + seed, (seed % 40) as usize)));
@@ -108,11 +99,11 @@ fn main() {
             eprintln!("seed {seed}: {} bytes, expected {}; they differ first at {at}", got.len(), expected.len());
             exit(1);
         }
-        seen.extend(messages_in(&got).filter_map(answer_in).map(|(number, _)| number));
+        seen.extend(messages_in(&got).filter_map(answer_in).map(|answer| answer.number));
         reasons.extend(reasons_in(&input, &got));
         compared += 1;
     }
-    let wanted: BTreeSet<u8> = (0..=8).chain(10..=13).chain([15]).chain(20..=28).collect();
+    let wanted: BTreeSet<u8> = (0..=8).chain(10..=13).chain([15]).chain(20..=30).collect();
     if seen != wanted {
         eprintln!("the numbers that came are {seen:?}, expected {wanted:?}");
         exit(1);

@@ -15,14 +15,22 @@ mod instructions;
 mod messages;
 
 use floor::{LEFT_BELT, LIFT_CELLS, OTHER_ROWS, RIGHT_BELT, ROW_1};
-pub use instructions::{Instruction, REASONS};
+pub use instructions::{Instruction, REASONS, REASON_NUMBERS};
 use instructions::{named, read_set};
-pub use messages::{read_call, read_message, serve, stream, write_message, Message, Refused};
+pub use messages::{answer_message, read_call, read_message, serve, stream, write_message, Message, Refused};
 
-/// What a call answers: number and place.
-pub type Answer = (u8, u8);
+/// What a call answers: a number of the table, the place of the instruction that it names or none, and the issue of a set that was
+/// taken; with all that isn't a request taken, 0.
+#[derive(Clone, Copy, Debug, PartialEq, Eq)]
+pub struct Answer {
+    pub number: u8,
+    pub place: u8,
+    pub issue: u16,
+}
 pub const NO_PLACE: u8 = 255;
 pub const LARGEST_SET: usize = 8;
+/// There are so many issues, from 0 on; after the last comes the first again.
+const ISSUES: u32 = 65_536;
 /// No cars, rows 1 and 2 lowered and row 3 tilted on both sides, lift at street.
 pub const START: u64 = 0b100_100_011_011 << 40;
 
@@ -126,25 +134,29 @@ pub fn cars(image: u64) -> Option<u32> {
 pub enum Call<'a> {
     Request { count: u8, bytes: &'a [u8] },
     Event(u8),
-    Result { number: u8, outcome: u8 },
+    Result { issue: u16, number: u8, outcome: u8 },
     Image(u64),
     Ask,
 }
 
-/// The record and the outstanding set: its size, a bit for each answered one, five bytes for each.
+/// The record; the outstanding set: its size, a bit for each answered one, five bytes for each; and the issue of the set that is taken
+/// next, any at all.
 #[derive(Clone, Copy, Debug, PartialEq, Eq)]
 pub struct Station {
     pub record: u64,
     pub count: u8,
     pub answered: u8,
     pub set: [u8; 40],
+    pub next_issue: u16,
 }
 
-fn answer(number: u8) -> Answer { (number, NO_PLACE) }
+pub fn answer(number: u8) -> Answer { answer_at(number, NO_PLACE) }
+pub fn answer_at(number: u8, place: u8) -> Answer { Answer { number, place, issue: 0 } }
 
 impl Station {
-    pub fn start() -> Self { Self::idle(START) }
-    fn idle(record: u64) -> Self { Station { record, count: 0, answered: 0, set: [0; 40] } }
+    pub const SIZE: usize = 52;
+
+    pub fn start() -> Self { Station { record: START, count: 0, answered: 0, set: [0; 40], next_issue: 0 } }
 
     /// Record sound; up to eight instructions, all well-formed; marks on no others, and not on every
     /// one of a set; unused places zero.
@@ -163,10 +175,21 @@ impl Station {
         self.set.chunks_exact(5).take(self.count.into()).filter_map(|five| Instruction::read(*five.first_chunk()?))
     }
 
+    /// The issue of the set taken last, which is the outstanding one's.
+    pub fn present_issue(&self) -> u16 { self.next_issue.checked_sub(1).unwrap_or(u16::MAX) }
+
+    /// By how many sets an issue lies behind the present one, counted backward and round the end.
+    fn behind(&self, issue: u16) -> u32 {
+        let (present, given) = (u32::from(self.present_issue()), u32::from(issue));
+        if given <= present { present - given } else { present + ISSUES - given }
+    }
+
     // The calls; where an ask is taken, the image asked for is `record`.
     pub fn request(&mut self, count: u8, bytes: &[u8]) -> Answer { self.take(Call::Request { count, bytes }) }
     pub fn event(&mut self, event: u8) -> Answer { self.take(Call::Event(event)) }
-    pub fn result(&mut self, number: u8, outcome: u8) -> Answer { self.take(Call::Result { number, outcome }) }
+    pub fn result(&mut self, issue: u16, number: u8, outcome: u8) -> Answer {
+        self.take(Call::Result { issue, number, outcome })
+    }
     pub fn image(&mut self, image: u64) -> Answer { self.take(Call::Image(image)) }
     pub fn ask(&mut self) -> Answer { self.take(Call::Ask) }
 
@@ -180,7 +203,7 @@ impl Station {
         match call {
             Call::Request { count, bytes } => self.take_request(count, bytes),
             Call::Event(event) => self.take_event(event),
-            Call::Result { number, outcome } => self.take_result(number, outcome),
+            Call::Result { issue, number, outcome } => self.take_result(issue, number, outcome),
             // A sound image becomes the record while no set is outstanding.
             Call::Image(_) if self.count != 0 => answer(6),
             Call::Image(image) if !sound(image) => answer(15),
@@ -194,7 +217,7 @@ impl Station {
 
     /// A set is taken if none is outstanding, it has one to eight well-formed instructions, no two
     /// share a part of their areas, and each is allowed on the record, which stays as it is; of those that
-    /// are not, the least tells why.
+    /// are not, the least tells why. Taken, it has the issue whose turn it is.
     fn take_request(&mut self, count: u8, bytes: &[u8]) -> Answer {
         if self.count != 0 { return answer(6); }
         if count > 8 { return answer(5); }
@@ -202,20 +225,22 @@ impl Station {
         let Some(bytes) = bytes.get(..5 * usize::from(count)) else { return answer(1) };
         let set = match read_set(bytes) {
             Ok(set) => set,
-            Err(place) => return (4, place),
+            Err(place) => return answer_at(4, place),
         };
         let mut earlier = 0;
         for (place, instruction) in (0..count).zip(&set) {
             let area = instruction.area();
-            if area & earlier != 0 { return (8, place); }
+            if area & earlier != 0 { return answer_at(8, place); }
             earlier |= area;
         }
         for (place, instruction) in (0..count).zip(&set) {
-            if let Err(number) = instruction.judge(self.record) { return (number, place); }
+            if let Err(number) = instruction.judge(self.record) { return answer_at(number, place); }
         }
         self.count = count;
         self.set[..bytes.len()].copy_from_slice(bytes);
-        answer(0)
+        let issue = self.next_issue;
+        self.next_issue = issue.checked_add(1).unwrap_or(0);
+        Answer { issue, ..answer(0) }
     }
 
     /// At street a car comes into an empty lift or leaves an occupied one, unless an outstanding
@@ -230,10 +255,16 @@ impl Station {
     }
 
     /// One result for each instruction: success applies its rule to the record as it is now,
-    /// failure only marks; with the last one nothing is held or marked any more.
-    fn take_result(&mut self, number: u8, outcome: u8) -> Answer {
+    /// failure only marks; with the last one nothing is held or marked any more. It must be of the
+    /// outstanding set: one of up to 32767 sets before is late, any other was not issued.
+    fn take_result(&mut self, issue: u16, number: u8, outcome: u8) -> Answer {
         if outcome > 1 { return answer(4); }
         if self.count == 0 { return answer(11); }
+        match self.behind(issue) {
+            0 => {}
+            1..=32767 => return answer(29),
+            _ => return answer(30),
+        }
         if number >= self.count { return answer(12); }
         if named(self.answered, number.into()) { return answer(13); }
         if outcome == 1 {
@@ -242,24 +273,26 @@ impl Station {
             self.record = instruction.next(self.record);
         }
         self.answered |= 1 << number;
-        if self.answered == self.all_marks() { *self = Self::idle(self.record); }
+        if self.answered == self.all_marks() { *self = Station { record: self.record, next_issue: self.next_issue, ..Self::start() }; }
         answer(0)
     }
 
-    /// Record (little-endian), count, marks, set.
-    pub fn to_bytes(&self) -> [u8; 50] {
-        let mut bytes = [0; 50];
+    /// Record (little-endian), count, marks, set, next issue (little-endian).
+    pub fn to_bytes(&self) -> [u8; Self::SIZE] {
+        let mut bytes = [0; Self::SIZE];
         bytes[..8].copy_from_slice(&self.record.to_le_bytes());
         bytes[8..10].copy_from_slice(&[self.count, self.answered]);
-        bytes[10..].copy_from_slice(&self.set);
+        bytes[10..50].copy_from_slice(&self.set);
+        bytes[50..].copy_from_slice(&self.next_issue.to_le_bytes());
         bytes
     }
 
-    pub fn from_bytes(bytes: &[u8; 50]) -> Self {
+    pub fn from_bytes(bytes: &[u8; Self::SIZE]) -> Self {
         let (mut record, mut set) = ([0; 8], [0; 40]);
         record.copy_from_slice(&bytes[..8]);
-        set.copy_from_slice(&bytes[10..]);
-        Station { record: u64::from_le_bytes(record), count: bytes[8], answered: bytes[9], set }
+        set.copy_from_slice(&bytes[10..50]);
+        let next_issue = u16::from_le_bytes([bytes[50], bytes[51]]);
+        Station { record: u64::from_le_bytes(record), count: bytes[8], answered: bytes[9], set, next_issue }
     }
 }
 

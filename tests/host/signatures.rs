@@ -27,6 +27,7 @@ impl Signature {
 fn number(kind: &str) -> &'static str {
     match kind {
         "u8" => "uint8_t",
+        "u16" => "uint16_t",
         "u32" => "uint32_t",
         "u64" => "uint64_t",
         "usize" => "size_t",

@@ -79,16 +79,21 @@ fn allowed_set(numbers: &mut Numbers, record: u64, mut taken: u64, wanted: usize
     bytes
 }
 
-fn message(kind: u8, body: &[u8]) -> Vec<u8> {
+pub fn message(kind: u8, body: &[u8]) -> Vec<u8> {
     let mut bytes = vec![2 + body.len() as u8, 0, kind, 0];
     bytes.extend_from_slice(body);
     bytes
 }
 
-fn request(bytes: &[u8]) -> Vec<u8> {
+pub fn request(bytes: &[u8]) -> Vec<u8> {
     let mut body = vec![(bytes.len() / 5) as u8];
     body.extend_from_slice(bytes);
     message(1, &body)
+}
+
+pub fn result(issue: u16, number: u8, outcome: u8) -> Vec<u8> {
+    let [low, high] = issue.to_le_bytes();
+    message(3, &[low, high, number, outcome])
 }
 
 /// A request that is refused for one of its instructions, which stands at any place among others that are allowed.
@@ -115,6 +120,18 @@ fn some_request(numbers: &mut Numbers, record: u64) -> Vec<u8> {
     request(&bytes)
 }
 
+/// How far behind the present set's the issue of a result is: the least and the greatest that is late, the ends of those not issued.
+pub const BEHIND: [u16; 4] = [1, 32767, 32768, 65535];
+
+/// The issue of a result: mostly the present set's, else one of those or any.
+pub fn some_issue(numbers: &mut Numbers, station: &Station) -> u16 {
+    let behind = match numbers.below(24) {
+        0 => numbers.next() as u16,
+        pick => BEHIND.get(pick as usize - 1).copied().unwrap_or(0),
+    };
+    station.present_issue().wrapping_sub(behind)
+}
+
 /// A result: mostly of an instruction that waits, mostly a success.
 fn some_result(numbers: &mut Numbers, station: &Station) -> Vec<u8> {
     let waiting: Vec<u8> = (0..station.count).filter(|at| station.answered >> at & 1 == 0).collect();
@@ -124,7 +141,7 @@ fn some_result(numbers: &mut Numbers, station: &Station) -> Vec<u8> {
         _ => numbers.below(10) as u8,
     };
     let outcome = if numbers.one_in(60) { numbers.byte() } else { u8::from(!numbers.one_in(6)) };
-    message(3, &[number, outcome])
+    result(some_issue(numbers, station), number, outcome)
 }
 
 /// Some record near the present one: itself, with bits flipped, or any number.

@@ -14,7 +14,7 @@ mod raw {
         pub fn station_start(room: *mut u8, room_length: usize) -> u32;
         pub fn station_request(room: *mut u8, room_length: usize, count: u8, set: *const u8, set_length: usize) -> u32;
         pub fn station_event(room: *mut u8, room_length: usize, way: u8) -> u32;
-        pub fn station_result(room: *mut u8, room_length: usize, number: u8, done: u8) -> u32;
+        pub fn station_result(room: *mut u8, room_length: usize, issue: u16, number: u8, done: u8) -> u32;
         pub fn station_image(room: *mut u8, room_length: usize, image: u64) -> u32;
         pub fn station_ask(room: *const u8, room_length: usize, image: *mut u8, image_length: usize) -> u32;
         pub fn station_message(
@@ -32,15 +32,18 @@ mod raw {
     }
 }
 
-/// A number of the table, and the place of the instruction that it names, or `NOWHERE`.
+/// A number of the table; the place of the instruction that it names, or `NOWHERE`; and the issue of the set where a request was taken,
+/// else 0.
 #[derive(Clone, Copy, Debug, PartialEq, Eq)]
 pub struct Answer {
     pub number: Number,
     pub place: u8,
+    pub issue: u16,
 }
 
 pub const NOWHERE: u8 = 255;
-pub const TAKEN: Answer = Answer { number: Number::Taken, place: NOWHERE };
+/// What is answered to all that is taken and is no request, and to a request whose set has issue 0.
+pub const TAKEN: Answer = Answer { number: Number::Taken, place: NOWHERE, issue: 0 };
 
 /// The record of the start.
 pub const START: u64 = 0x0009_1B00_0000_0000;
@@ -48,14 +51,18 @@ pub const START: u64 = 0x0009_1B00_0000_0000;
 /// An instruction's five bytes.
 pub type Five = [u8; 5];
 
+/// The bytes of a station.
+const SIZE: usize = 52;
+
 /// The longest message that a station answers with.
 const REPLY_MOST: usize = 12;
 
 impl Answer {
     /// What an entry returned: each is proved to answer with a number of the table.
     fn of(said: u32) -> Answer {
-        let number = Number::try_from((said & 0xFF) as u8).expect("a number of the table");
-        Answer { number, place: (said >> 8 & 0xFF) as u8 }
+        let [number, place, low, high] = said.to_le_bytes();
+        let number = Number::try_from(number).expect("a number of the table");
+        Answer { number, place, issue: u16::from_le_bytes([low, high]) }
     }
 
     pub fn taken(self) -> bool {
@@ -74,26 +81,26 @@ impl fmt::Display for Answer {
 
 /// A station, held as the bytes that the entries read and write.
 #[derive(Clone, Debug, PartialEq, Eq)]
-pub struct Station([u8; 50]);
+pub struct Station([u8; SIZE]);
 
 impl Station {
     pub fn start() -> Station {
-        let mut room = [0; 50];
+        let mut room = [0; SIZE];
         let said = unsafe { raw::station_start(room.as_mut_ptr(), room.len()) };
         debug_assert!(Answer::of(said).taken());
         Station(room)
     }
 
     /// Bytes that were kept; if they are no station, every call is refused with 16.
-    pub fn from_bytes(room: [u8; 50]) -> Station {
+    pub fn from_bytes(room: [u8; SIZE]) -> Station {
         Station(room)
     }
 
-    pub fn bytes(&self) -> &[u8; 50] {
+    pub fn bytes(&self) -> &[u8; SIZE] {
         &self.0
     }
 
-    /// A request of `count` instructions, five bytes each.
+    /// A request of `count` instructions, five bytes each; taken, the answer has the set's issue.
     pub fn request(&mut self, count: u8, set: &[u8]) -> Answer {
         Answer::of(unsafe { raw::station_request(self.0.as_mut_ptr(), self.0.len(), count, set.as_ptr(), set.len()) })
     }
@@ -103,9 +110,9 @@ impl Station {
         Answer::of(unsafe { raw::station_event(self.0.as_mut_ptr(), self.0.len(), way) })
     }
 
-    /// The result of an instruction: 0 failed, 1 done.
-    pub fn result(&mut self, number: u8, done: u8) -> Answer {
-        Answer::of(unsafe { raw::station_result(self.0.as_mut_ptr(), self.0.len(), number, done) })
+    /// The result of an instruction of the set with this issue: 0 failed, 1 done.
+    pub fn result(&mut self, issue: u16, number: u8, done: u8) -> Answer {
+        Answer::of(unsafe { raw::station_result(self.0.as_mut_ptr(), self.0.len(), issue, number, done) })
     }
 
     pub fn image(&mut self, image: u64) -> Answer {
@@ -119,7 +126,7 @@ impl Station {
         image_if_taken(said, image)
     }
 
-    /// The message that answers the first of `message`, and its number and place.
+    /// The message that answers the first of `message`, and what it says.
     pub fn message(&mut self, message: &[u8]) -> (Answer, Vec<u8>) {
         let mut answer = vec![0; REPLY_MOST];
         let said = unsafe {
@@ -166,11 +173,15 @@ mod tests {
     const TO_THE_LEFT: Five = [1, 1, 6, 0, 0];
 
     fn refusal(number: Number) -> Answer {
-        Answer { number, place: NOWHERE }
+        refusal_at(number, NOWHERE)
     }
 
     fn refusal_at(number: Number, place: u8) -> Answer {
-        Answer { number, place }
+        Answer { number, place, issue: 0 }
+    }
+
+    fn taken_as(issue: u16) -> Answer {
+        Answer { issue, ..TAKEN }
     }
 
     #[test]
@@ -178,12 +189,12 @@ mod tests {
         let mut s = Station::start();
         assert_eq!(s.ask(), Ok(START));
         assert_eq!((s.event(1), s.event(1)), (TAKEN, refusal(EventImpossible)));
-        assert_eq!(s.request(1, &LIFT_DOWN), TAKEN);
+        assert_eq!(s.request(1, &LIFT_DOWN), taken_as(0));
         assert_eq!(s.ask(), Ok(START | 1 << 52), "acceptance leaves the record");
         assert_eq!((s.event(2), s.image(START)), (refusal(SetOutstanding), refusal(SetOutstanding)));
-        assert_eq!(s.result(0, 1), TAKEN);
+        assert_eq!(s.result(0, 0, 1), TAKEN);
         assert_eq!(s.ask(), Ok(0x0049_1B00_0000_1800));
-        assert_eq!((s.request(1, &TO_THE_LEFT), s.result(0, 1)), (TAKEN, TAKEN));
+        assert_eq!((s.request(1, &TO_THE_LEFT), s.result(1, 0, 1)), (taken_as(1), TAKEN));
         assert_eq!(s.ask(), Ok(0x0049_1B00_0000_0C00));
         assert_eq!(s.request(1, &[4, 0, 0, 0, 0]), refusal_at(OddCount, 0));
     }
@@ -196,23 +207,54 @@ mod tests {
         assert_eq!(s.request(0, &[]), refusal(EmptySet));
         assert_eq!(s.request(2, &[LIFT_DOWN, [4, 3, 0, 0, 0]].concat()), refusal_at(BadField, 1));
         assert_eq!(s.request(2, &[LIFT_DOWN, LIFT_DOWN].concat()), refusal_at(Overlap, 1));
-        assert_eq!((s.result(0, 1), s.result(0, 2), s.event(3)), (refusal(NoSet), refusal(BadField), refusal(BadField)));
+        assert_eq!((s.result(0, 0, 1), s.result(0, 0, 2), s.event(3)), (refusal(NoSet), refusal(BadField), refusal(BadField)));
         assert_eq!(s.image(1), refusal(Unsound));
         assert_eq!(s, Station::start());
-        let mut damaged = Station::from_bytes([0xEE; 50]);
+        let mut damaged = Station::from_bytes([0xEE; SIZE]);
         assert_eq!((damaged.event(1), damaged.ask()), (refusal(Unfit), Err(refusal(Unfit))));
         assert_eq!(damaged.request(1, &[]), refusal(TooFewBytes), "before 16");
-        assert_eq!(damaged.bytes(), &[0xEE; 50]);
+        assert_eq!(damaged.bytes(), &[0xEE; SIZE]);
+    }
+
+    /// A result that comes when its set has closed and the next has begun is not taken for the next set's.
+    #[test]
+    fn results_of_another_set_are_told() {
+        let mut s = Station::start();
+        assert_eq!((s.request(1, &LIFT_DOWN), s.result(0, 0, 0), s.result(0, 0, 1)), (taken_as(0), TAKEN, refusal(NoSet)));
+        assert_eq!((s.request(1, &LIFT_DOWN), s.request(1, &LIFT_DOWN)), (taken_as(1), refusal(SetOutstanding)));
+        let before = s.clone();
+        assert_eq!((s.result(0, 0, 1), s.result(0, 8, 1)), (refusal(Late), refusal(Late)), "before 12");
+        assert_eq!((s.result(2, 0, 1), s.result(2, 0, 2)), (refusal(NotIssued), refusal(BadField)), "after 4");
+        // a matter of distance only, though none of these was issued
+        assert_eq!((s.result(32770, 0, 1), s.result(32769, 0, 1)), (refusal(Late), refusal(NotIssued)));
+        assert_eq!(s, before);
+        assert_eq!((s.result(1, 0, 1), s.ask()), (TAKEN, Ok(START | 2 << 53)));
+        assert_eq!((s.image(START), s.request(1, &LIFT_DOWN)), (TAKEN, taken_as(2)), "an image keeps the count");
+    }
+
+    #[test]
+    fn the_count_starts_over() {
+        let mut room = *Station::start().bytes();
+        room[50..].copy_from_slice(&[0xFF, 0xFF]);
+        let mut s = Station::from_bytes(room);
+        assert_eq!((s.request(1, &LIFT_DOWN), s.result(65535, 0, 0)), (taken_as(65535), TAKEN));
+        assert_eq!(s, Station::start());
+        assert_eq!(s.request(1, &LIFT_DOWN), taken_as(0));
+        let said = s.message(&[6, 0, 3, 0, 0xFF, 0xFF, 0, 1]);
+        assert_eq!(said, (refusal(Late), vec![6, 0, 128, 0, 29, 255, 0, 0]));
+        assert_eq!(s.message(&[6, 0, 3, 0, 0, 0, 0, 1]), (TAKEN, vec![6, 0, 128, 0, 0, 255, 0, 0]));
+        let said = s.message(&[8, 0, 1, 0, 1, 4, 0, 0, 0, 0]);
+        assert_eq!(said, (taken_as(1), vec![6, 0, 128, 0, 0, 255, 1, 0]));
     }
 
     #[test]
     fn short_rooms_are_refused_and_long_ones_keep_their_rest() {
-        let mut room = [0xEE; 52];
+        let mut room = [0xEE; SIZE + 2];
         let said = |room: &mut [u8]| Answer::of(unsafe { raw::station_start(room.as_mut_ptr(), room.len()) });
-        assert_eq!(said(&mut room[..49]), refusal(NoRoom));
-        assert_eq!(room, [0xEE; 52]);
+        assert_eq!(said(&mut room[..SIZE - 1]), refusal(NoRoom));
+        assert_eq!(room, [0xEE; SIZE + 2]);
         assert_eq!(said(&mut room), TAKEN);
-        assert_eq!((&room[..50], &room[50..]), (&Station::start().bytes()[..], &[0xEE; 2][..]));
+        assert_eq!((&room[..SIZE], &room[SIZE..]), (&Station::start().bytes()[..], &[0xEE; 2][..]));
         let mut image = [0xEE; 9];
         let said = |image: &mut [u8]| Answer::of(unsafe { raw::station_ask(room.as_ptr(), room.len(), image.as_mut_ptr(), image.len()) });
         assert_eq!((said(&mut image[..7]), image), (refusal(NoRoom), [0xEE; 9]));
@@ -232,7 +274,7 @@ mod tests {
                 raw::station_start(null_mut(), 0),
                 raw::station_request(null_mut(), 0, 0, null(), 0),
                 raw::station_event(null_mut(), 0, 1),
-                raw::station_result(null_mut(), 0, 0, 1),
+                raw::station_result(null_mut(), 0, 0, 0, 1),
                 raw::station_image(null_mut(), 0, START),
                 raw::station_ask(null(), 0, null_mut(), 0),
                 raw::station_ask(station, length, null_mut(), 0),
@@ -254,7 +296,7 @@ mod tests {
             ]
         };
         assert_eq!(no_input.map(Answer::of), [EmptySet, TooMany, TooFewBytes, TooFewBytes, TooFewBytes, TooFewBytes].map(refusal));
-        assert_eq!((&room, eight, &reply[..7]), (start.bytes(), [0xEE; 8], &[4, 0, 128, 0, 1, 255, 0xEE][..]));
+        assert_eq!((&room, eight, &reply[..9]), (start.bytes(), [0xEE; 8], &[6, 0, 128, 0, 1, 255, 0, 0, 0xEE][..]));
     }
 
     #[test]
@@ -271,11 +313,11 @@ mod tests {
     #[test]
     fn the_session_of_the_rules() {
         let mut s = Station::start();
-        assert_eq!(s.message(&[3, 0, 2, 0, 1, 2, 0, 5, 0]), (TAKEN, vec![4, 0, 128, 0, 0, 255]));
+        assert_eq!(s.message(&[3, 0, 2, 0, 1, 2, 0, 5, 0]), (TAKEN, vec![6, 0, 128, 0, 0, 255, 0, 0]));
         assert_eq!(s.message(&[2, 0, 5, 0]), (TAKEN, vec![10, 0, 129, 0, 0, 0, 0, 0, 0, 0x1B, 0x19, 0]));
         let before = s.clone();
-        assert_eq!(s.message(&[]), (refusal(TooFewBytes), vec![4, 0, 128, 0, 1, 255]));
-        assert_eq!(s.message(&[8, 0, 1, 0, 1, 4, 0, 0, 0, 0]), (refusal_at(SameHeight, 0), vec![4, 0, 128, 0, 26, 0]));
+        assert_eq!(s.message(&[]), (refusal(TooFewBytes), vec![6, 0, 128, 0, 1, 255, 0, 0]));
+        assert_eq!(s.message(&[8, 0, 1, 0, 1, 4, 0, 0, 0, 0]), (refusal_at(SameHeight, 0), vec![6, 0, 128, 0, 26, 0, 0, 0]));
         assert_eq!(s, before);
     }
 
@@ -289,6 +331,8 @@ mod tests {
     fn answers_in_words() {
         assert_eq!(TAKEN.to_string(), "0 (taken)");
         assert_eq!(refusal_at(OddCount, 2).to_string(), "24 (odd count: a car would be torn) at 2");
+        assert_eq!(refusal(Late).to_string(), "29 (late: of a set before the present one)");
+        assert_eq!(refusal(NotIssued).to_string(), "30 (of a set that was not issued)");
     }
 
     /// Every reason of each opcode: the first condition that fails hides the ones behind it.

@@ -38,7 +38,8 @@ fn files(folder: &Path, ending: &str) -> Vec<PathBuf> {
 
 fn name_of(path: &Path) -> String { path.file_stem().unwrap_or_default().to_string_lossy().into_owned() }
 
-/// The functions of a library crate; public ones are those of lib.rt and of its public modules.
+/// The functions of a library crate; public ones are those of lib.rt and of its public modules, and a type's wherever they stand. A type's
+/// functions are named by the type, without the module.
 fn functions(krate: &Path) -> Vec<Function> {
     let root = krate.join("src/lib.rt");
     let Ok(lib) = fs::read_to_string(&root) else { return Vec::new() };
@@ -65,7 +66,8 @@ fn functions(krate: &Path) -> Vec<Function> {
                 header.push_str(line.trim());
             }
             let name = rest.split('(').next().unwrap_or_default();
-            found.push(Function { path: format!("{inside}{of}{name}"), public: public && open, header });
+            let within = if of.is_empty() { &inside } else { &of };
+            found.push(Function { path: format!("{within}{name}"), public: public && (open || !of.is_empty()), header });
         }
     }
     found
@@ -127,7 +129,7 @@ fn told(krate: &str, how: &str, edit: &str) -> String { format!("{how} ([{edit}]
 
 /// An error that says no more than that a proof's text no longer fits the code, or that another proof is missing.
 fn misfit(error: &str) -> bool {
-    ["was not admitted", "no occurrence of", "no part of the goal", "that can be named from here", "has no field", "expected type `tie.Need-", "is not in scope", "met a bound of its own"]
+    ["was not admitted", "no occurrence of", "no part of the goal", "that can be named from here", "has no field", "expected type `tie.Need-", "is not in scope", "a bound of its own"]
         .iter()
         .any(|words| error.contains(words))
 }
@@ -184,7 +186,7 @@ fn main() {
             let shut: Vec<_> = whole.iter().map(|file| told(&name, &how(file), &name_of(file))).collect();
             if public_none { list += &format!("\n## `{name}`\n"); }
             list += &format!("\nAs a whole: {}.\n", shut.join("; "));
-            tried += whole.len();
+            tried += whole.iter().map(|file| how(file).split("; ").count()).sum::<usize>();
         }
         for file in edits.iter().filter(|_| words[1] == "check") {
             let edit = name_of(file);

@@ -1,4 +1,5 @@
--- The table of numbers of document 01, with document 02's reasons: the number and the place of each answer. Assumes nothing.
+-- The table of numbers of document 01, with document 02's reasons and late results: the number and the place of each answer, and the
+-- issue that it carries. Assumes nothing.
 use mathlib.Core.Path.{_≡_}
 use mathlib.Core.Bool.{Bool, _&&_, _||_}
 use Prim.Native.Nat.{ℕ}
@@ -6,7 +7,7 @@ use lib.Dec.{leb}
 use Rattle.answers.specs.declared.Reason.{Reason}
 use Rattle.answers.specs.declared.Reason.the-variants.{NothingNamed, Gap, NotAvailable, NotFree, OddCount, HalfMove, SameHeight, NotAtRotation, CellsNotFree}
 use Rattle.answers.specs.declared.Answer.{Answer}
-use Rattle.answers.specs.declared.Answer.the-variants.{Taken, TooFewBytes, BadLength, UnknownKind, BadField, TooMany, SetOutstanding, EmptySet, Overlap, NotAllowed, EventImpossible, NoSet, NotInSet, AlreadyAnswered, NowNotAllowed, Unsound, Unfit, NoRoom}
+use Rattle.answers.specs.declared.Answer.the-variants.{Taken, Opened, TooFewBytes, BadLength, UnknownKind, BadField, TooMany, SetOutstanding, EmptySet, Overlap, NotAllowed, EventImpossible, NoSet, NotInSet, AlreadyAnswered, NowNotAllowed, Unsound, Unfit, NoRoom, Late, NotIssued}
 
 -- the number of a reason
 abbrev pub reasonNumber : Reason → ℕ
@@ -23,6 +24,7 @@ reasonNumber CellsNotFree = 28
 -- the number of an answer
 abbrev pub numberOf : Answer → ℕ
 numberOf Taken = 0
+numberOf (Opened k) = 0
 numberOf TooFewBytes = 1
 numberOf BadLength = 2
 numberOf UnknownKind = 3
@@ -40,14 +42,16 @@ numberOf NowNotAllowed = 14
 numberOf Unsound = 15
 numberOf Unfit = 16
 numberOf NoRoom = 17
+numberOf Late = 29
+numberOf NotIssued = 30
 
 -- a number of the table: some answer has it
 abbrev pub OfTable : ℕ → Type 0
 OfTable n = (a : Answer) × (n ≡ numberOf a)
 
--- the same as a test: 0 to 8, 10 to 17, 20 to 28
+-- the same as a test: 0 to 8, 10 to 17, 20 to 30
 abbrev pub inTable : ℕ → Bool
-inTable n = leb n 8 || (leb 10 n && leb n 17 || leb 20 n && leb n 28)
+inTable n = leb n 8 || (leb 10 n && leb n 17 || leb 20 n && leb n 30)
 
 -- the place where an answer names no instruction
 abbrev pub nowhere : ℕ
@@ -56,6 +60,7 @@ nowhere = 255
 -- the place of an answer: the least instruction that is bad, overlaps an earlier one or is not allowed; else nowhere
 abbrev pub placeOf : Answer → ℕ
 placeOf Taken = nowhere
+placeOf (Opened k) = nowhere
 placeOf TooFewBytes = nowhere
 placeOf BadLength = nowhere
 placeOf UnknownKind = nowhere
@@ -73,3 +78,29 @@ placeOf NowNotAllowed = nowhere
 placeOf Unsound = nowhere
 placeOf Unfit = nowhere
 placeOf NoRoom = nowhere
+placeOf Late = nowhere
+placeOf NotIssued = nowhere
+
+-- the issue that an answer carries: the number of the set that it opens, zero unless a request was taken
+abbrev pub issueOf : Answer → ℕ
+issueOf Taken = 0
+issueOf (Opened k) = k
+issueOf TooFewBytes = 0
+issueOf BadLength = 0
+issueOf UnknownKind = 0
+issueOf (BadField p) = 0
+issueOf TooMany = 0
+issueOf SetOutstanding = 0
+issueOf EmptySet = 0
+issueOf (Overlap p) = 0
+issueOf (NotAllowed why p) = 0
+issueOf EventImpossible = 0
+issueOf NoSet = 0
+issueOf NotInSet = 0
+issueOf AlreadyAnswered = 0
+issueOf NowNotAllowed = 0
+issueOf Unsound = 0
+issueOf Unfit = 0
+issueOf NoRoom = 0
+issueOf Late = 0
+issueOf NotIssued = 0

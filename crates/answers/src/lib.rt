@@ -1,6 +1,6 @@
 // What the station answers: a case for each number of document 01's table, with the place of an instruction where it has one.
 ghost use mathlib.Core.Path.{_≡_};
-ghost use Rattle.answers.specs.Answers.{reasonNumber, numberOf, inTable, placeOf};
+ghost use Rattle.answers.specs.Answers.{reasonNumber, numberOf, inTable, placeOf, issueOf};
 
 // Why an instruction is not allowed: a case for each number that stands for a condition.
 pub enum Reason {
@@ -27,6 +27,8 @@ pub enum Reason {
 pub enum Answer {
     // 0: taken
     Taken,
+    // 0: a request is taken, its set outstanding under this issue
+    Opened(u16),
     // 1: fewer bytes than the message says
     TooFewBytes,
     // 2: length below 2, above 43, or not the kind's
@@ -61,6 +63,10 @@ pub enum Answer {
     Unfit,
     // 17: lent output room too small
     NoRoom,
+    // 29: a result of a set issued before the present one
+    Late,
+    // 30: a result of a set that was not issued
+    NotIssued,
 }
 
 // The place that an answer gives where it names no instruction.
@@ -70,7 +76,7 @@ pub const NOWHERE: u8 = 255;
 pub fn in_table(n: u8) -> bool
     ensures { λ b. ⌜ b ≡ inTable n ⌝ }
 {
-    (n <= 8) | ((10 <= n) & (n <= 17) | (20 <= n) & (n <= 28))
+    (n <= 8) | ((10 <= n) & (n <= 17) | (20 <= n) & (n <= 30))
 }
 
 impl Reason {
@@ -99,6 +105,7 @@ impl Answer {
     {
         match self {
             Answer::Taken => 0,
+            Answer::Opened(_) => 0,
             Answer::TooFewBytes => 1,
             Answer::BadLength => 2,
             Answer::UnknownKind => 3,
@@ -116,6 +123,8 @@ impl Answer {
             Answer::Unsound => 15,
             Answer::Unfit => 16,
             Answer::NoRoom => 17,
+            Answer::Late => 29,
+            Answer::NotIssued => 30,
         }
     }
 
@@ -125,6 +134,7 @@ impl Answer {
     {
         match self {
             Answer::Taken => NOWHERE,
+            Answer::Opened(_) => NOWHERE,
             Answer::TooFewBytes => NOWHERE,
             Answer::BadLength => NOWHERE,
             Answer::UnknownKind => NOWHERE,
@@ -142,6 +152,18 @@ impl Answer {
             Answer::Unsound => NOWHERE,
             Answer::Unfit => NOWHERE,
             Answer::NoRoom => NOWHERE,
+            Answer::Late => NOWHERE,
+            Answer::NotIssued => NOWHERE,
+        }
+    }
+
+    // The issue of the set that it opens, or 0.
+    pub fn issue(self) -> u16
+        ensures { λ k. ⌜ k ≡ issueOf self ⌝ }
+    {
+        match self {
+            Answer::Opened(issue) => issue,
+            _ => 0,
         }
     }
 }

@@ -37,10 +37,10 @@ use Rattle.boundary.specs.Statements.{MessageIsCall, WrittenIsHeard}
 replied : (w : What) (s : Station) (n : ℕ) (set : List ℕ) → replyOf w (called w s n set) ≡ reply s (heardAs w n set)
 replied Request s n set = refl
 replied (Event way) s n set = refl
-replied (Result number done) s n set = refl
+replied (Result issue number done) s n set = refl
 replied (Image r) s n set = refl
 replied Ask s n set = refl
-replied (What.Answer number place) s n set = refl
+replied (What.Answer number place issue) s n set = refl
 replied (Held r) s n set = refl
 
 pub message-is-call : MessageIsCall
@@ -54,10 +54,10 @@ message-is-call s bytes =
 kind-written : (w : What) (count : ℕ) (set t : List ℕ) → kindAt (messageBytes (record { what = w; count = count; set = set }) ++ t) ≡ kindOf w
 kind-written Request count set t = refl
 kind-written (Event way) count set t = refl
-kind-written (Result number done) count set t = refl
+kind-written (Result issue number done) count set t = refl
 kind-written (Image r) count set t = refl
 kind-written Ask count set t = refl
-kind-written (What.Answer number place) count set t = refl
+kind-written (What.Answer number place issue) count set t = refl
 kind-written (Held r) count set t = refl
 
 pub written-is-heard : WrittenIsHeard
@@ -121,7 +121,7 @@ unfolding readWhole
 whole-fine m b =
     ways Received-fine (eqb (kindAt m) 1) (λ _. request-fine m)
     (λ _. ways Received-fine (eqb (kindAt m) 2) (λ _. sized-fine m 5 (Event (getD m 4 0)) tt)
-    (λ _. ways Received-fine (eqb (kindAt m) 3) (λ _. sized-fine m 6 (Result (getD m 4 0) (getD m 5 0)) tt)
+    (λ _. ways Received-fine (eqb (kindAt m) 3) (λ _. sized-fine m 8 (Result (fromLittleEndian 2 4 m) (getD m 6 0) (getD m 7 0)) tt)
     (λ _. ways Received-fine (eqb (kindAt m) 4) (λ _. sized-fine m 12 (Image (fromLittleEndian 8 4 m)) (below 8 4 m b))
     (λ _. ways Received-fine (eqb (kindAt m) 5) (λ _. sized-fine m 4 Ask tt) (λ _. record { made = tt; low = omega arith })))))
 

@@ -3,7 +3,7 @@
 use mathlib.Core.Path.{_≡_, refl, sym, ap, subst, _∙_}
 use mathlib.Core.Bool.{true}
 use mathlib.Core.List.{List, [], _∷_, _++_}
-use Prim.Native.Nat.{ℕ, _+_, _*_, _-_, _%_, _≤_}
+use Prim.Native.Nat.{ℕ, _+_, _*_, _-_, _%_, _≤_, _^_, _<_}
 use native.Mathlib.Omega.{arith}
 use borrow.Author.Tests.{eqb-true, eqb-false}
 use lib.Dec.{eqb}
@@ -16,12 +16,14 @@ use Rattle.answers.specs.declared.Answer.{Answer}
 use Rattle.answers.specs.Answers.{numberOf}
 use Rattle.garage.specs.declared.Station.{Station}
 use Rattle.garage.specs.declared.Outcome.{Outcome}
-use Rattle.garage.specs.Station.{startOf, fit}
+use Rattle.garage.specs.Station.{startOf, issueAfter, fit}
 use Rattle.garage.specs.Calls as station
 use Rattle.garage_laws.specs.Runs as run
 use Rattle.garage_laws.specs.Runs.{Call, call, said, left, calls, atStart, byImage, NoImages, Reached}
 use Rattle.garage_laws.proofs.Fits.{fit-start, after-result}
-use Rattle.garage_laws.proofs.Calls.{image-has, image-is, untouched, fit-says, following}
+use Rattle.garage_laws.proofs.Issues.{issues-in-turn}
+use Rattle.garage_laws.proofs.Calls.{image-has, image-is, following}
+use Rattle.garage_laws.proofs.EachCall.{untouched, fit-says}
 use Rattle.garage_laws.proofs.Steps.{Step, refuses, opens, fails, succeeds, drives, tells, steps, reached}
 use Rattle.garage_laws.proofs.Always.{begins-has, fit-step, small-step, fit-stays, always-laid-out}
 use Rattle.garage_laws.proofs.Demands.{never-fourteen}
@@ -138,20 +140,28 @@ places-step s t c (opens {n} {set} A) m h =
     let l = A .few in
     length-append (take (5 * n) set) (replicate (40 - 5 * n) 0) ∙ rw (k, length-replicate {A = ℕ} (40 - 5 * n) 0) (omega arith)
 places-step s t c (fails {i} w) m h = after-result (λ (x : Station). length (x .set) ≡ 40) s i (s .bits) (λ _. refl) (λ _. h)
-places-step s t c (succeeds {i} w a) m h = after-result (λ (x : Station). length (x .set) ≡ 40) s i (following s i) (λ _. refl) (λ _. h)
+places-step s t c (succeeds {i} p w a) m h = after-result (λ (x : Station). length (x .set) ≡ 40) s i (following s i) (λ _. refl) (λ _. h)
 places-step s t c (drives d) m h = h
 places-step s t c tells m h = h
 
 module _ (s : Station) (T : Typed s) where
+  -- the next issue starts over before it needs more bits
+  next-small : (c : Call) → left s c .next < 2 ^ 16
+  next-small c = let h = T .issue in split (run.opens s c)
+      (λ t. let p : left s c .next ≡ issueAfter (s .next) = issues-in-turn s c .1 ∙ rw t in omega arith)
+      (λ t. let p : left s c .next ≡ s .next = issues-in-turn s c .1 ∙ rw t in omega arith)
+
   by-step : (c : Call) → NoImages (c ∷ []) → AsMade c → Typed (left s c)
-  by-step c p m = let q = steps s c p in record { image = small-step s (left s c) c q (T .image); places = places-step s (left s c) c q m (T .places) }
+  by-step c p m =
+      let q = steps s c p in
+      record { image = small-step s (left s c) c q (T .image); places = places-step s (left s c) c q m (T .places); issue = next-small c }
 
   pub typed-call : (c : Call) → AsMade c → Typed (left s c)
   typed-call (run.request n set) m = by-step (run.request n set) tt m
   typed-call (run.reports r) m = by-step (run.reports r) tt m
   typed-call (run.event e) m = by-step (run.event e) tt m
   typed-call (run.pictures p) m = split (eqb (said s (run.pictures p)) 0)
-      (λ t. let w = image-has s (p .bits) (eqb-true _ 0 t) in subst Typed (sym (ap (λ (o : Outcome). o .station) (image-is s (p .bits) w))) (record { image = m; places = T .places }))
+      (λ t. let w = image-has s (p .bits) (eqb-true _ 0 t) in subst Typed (sym (ap (λ (o : Outcome). o .station) (image-is s (p .bits) w))) (record { image = m; places = T .places; issue = T .issue }))
       (λ t. subst Typed (sym (untouched s (run.pictures p) (eqb-false _ 0 t))) T)
   typed-call run.ask m = by-step run.ask tt m
 

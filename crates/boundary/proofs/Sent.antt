@@ -69,15 +69,15 @@ program-sound pieces =
 
 -- ---- neither 14, nor 16, nor 17
 
-never-one : (s : Station) → Reached s → (input : List ℕ) → Bytes input → (place : ℕ)
-    → (reply s (heard input) .answer ≡ What.Answer 14 place → ⊥)
-    × (reply s (heard input) .answer ≡ What.Answer 16 place → ⊥)
-    × (reply s (heard input) .answer ≡ What.Answer 17 place → ⊥)
-never-one s R input b place =
+never-one : (s : Station) → Reached s → (input : List ℕ) → Bytes input → (place issue : ℕ)
+    → (reply s (heard input) .answer ≡ What.Answer 14 place issue → ⊥)
+    × (reply s (heard input) .answer ≡ What.Answer 16 place issue → ⊥)
+    × (reply s (heard input) .answer ≡ What.Answer 17 place issue → ⊥)
+never-one s R input b place issue =
     let (no14, no16) = never-so s R (heard input) (heard-fine input b) in (
       λ e. no14 (ap (λ (w : What). returnedOf w % 256) e ∙ omega arith),
       λ e. no16 (ap (λ (w : What). returnedOf w % 256) e ∙ omega arith),
-      λ e. never-seventeen s input place (ap (λ (x : Reply). x .answer) (message-is-call s input) ∙ e),
+      λ e. never-seventeen s input place issue (ap (λ (x : Reply). x .answer) (message-is-call s input) ∙ e),
     )
 
 never-go : (f : Frame) (k : ℕ) (s : Station) (input : List ℕ) → Bytes input

@@ -29,10 +29,10 @@ pub data Heard : Type 0 where
 abbrev pub heardAs : What → ℕ → List ℕ → Heard
 heardAs Request count set = makes (run.request count set)
 heardAs (Event way) count set = makes (run.event way)
-heardAs (Result number done) count set = makes (run.result number done)
+heardAs (Result issue number done) count set = makes (run.result issue number done)
 heardAs (Image r) count set = makes (run.image r)
 heardAs Ask count set = makes run.ask
-heardAs (What.Answer number place) count set = refuses UnknownKind
+heardAs (What.Answer number place issue) count set = refuses UnknownKind
 heardAs (Held r) count set = refuses UnknownKind
 
 -- by its bytes: what the station's reader refuses makes no call

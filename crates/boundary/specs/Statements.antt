@@ -62,7 +62,7 @@ EntryIsCall =
 
 -- on any room, the place that an entry returns is that of one of eight instructions, or none
 abbrev pub EntryPlacesInRange : Type 0
-EntryPlacesInRange = (room : List ℕ) (u : Use) → (used room u .says / 256 ≤ 7) ⊎ (used room u .says / 256 ≡ nowhere)
+EntryPlacesInRange = (room : List ℕ) (u : Use) → (used room u .says / 256 % 256 ≤ 7) ⊎ (used room u .says / 256 % 256 ≡ nowhere)
 
 -- an ask that is taken writes the record's eight bytes
 abbrev pub AskWrites : Type 0
@@ -96,7 +96,7 @@ ProgramSound =
 abbrev pub NoSuch : List What → Type 0
 NoSuch [] = Unit {0}
 NoSuch (w ∷ l) =
-    ((place : ℕ) → (w ≡ What.Answer 14 place → ⊥) × (w ≡ What.Answer 16 place → ⊥) × (w ≡ What.Answer 17 place → ⊥))
+    ((place issue : ℕ) → (w ≡ What.Answer 14 place issue → ⊥) × (w ≡ What.Answer 16 place issue → ⊥) × (w ≡ What.Answer 17 place issue → ⊥))
     × NoSuch l
 
 -- whatever bytes the program is sent, it never answers 14, 16 or 17

@@ -17,12 +17,12 @@ use Rattle.service.specs.Service.{answerMessage}
 use Rattle.station_c.specs.Entries.{stationSize, Entry, entry, requestOf, asking, exchange}
 use Rattle.boundary.specs.Calls.{Heard, makes, refuses, heard, reply}
 
--- an entry with what it is given: a set of so many instructions; an event; a result; an image; the image's room; a message and the reply's room
+-- an entry with what it is given: a set of so many instructions; an event; a result with its issue; an image; the image's room; a message and the reply's room
 pub data Use : Type 0 where
   start : Use
   request : ℕ → List ℕ → Use
   event : ℕ → Use
-  result : ℕ → ℕ → Use
+  result : ℕ → ℕ → ℕ → Use
   image : ℕ → Use
   ask : List ℕ → Use
   message : List ℕ → List ℕ → Use
@@ -32,7 +32,7 @@ abbrev pub used : List ℕ → Use → Entry
 used room start = entry (λ s. station.taken startOf) room
 used room (request n set) = entry (requestOf n set) room
 used room (event e) = entry (λ s. station.event s e) room
-used room (result i done) = entry (λ s. station.result s (record { number = i; done = done })) room
+used room (result k i done) = entry (λ s. station.result s (record { issue = k; number = i; done = done })) room
 used room (image r) = entry (λ s. station.takeImage s (record { bits = r })) room
 used room (ask out) = record { says = asking room out .says; leaves = room }
 used room (message m out) = record { says = exchange room m out .says; leaves = exchange room m out .station }
@@ -51,7 +51,7 @@ abbrev pub meant : Station → Use → Reply
 meant s start = record { station = startOf; answer = answerMessage Taken }
 meant s (request n set) = reply s (heardRequest n set)
 meant s (event e) = reply s (makes (run.event e))
-meant s (result i done) = reply s (makes (run.result i done))
+meant s (result k i done) = reply s (makes (run.result k i done))
 meant s (image r) = reply s (makes (run.image r))
 meant s (ask out) = reply s (makes run.ask)
 meant s (message m out) = reply s (heard m)
@@ -61,7 +61,7 @@ abbrev pub AsPassed : Use → Type 0
 AsPassed start = Unit {0}
 AsPassed (request n set) = Unit {0}
 AsPassed (event e) = Unit {0}
-AsPassed (result i done) = Unit {0}
+AsPassed (result k i done) = Unit {0}
 AsPassed (image r) = r < 2 ^ 64
 AsPassed (ask out) = Unit {0}
 AsPassed (message m out) = Bytes m
@@ -76,7 +76,7 @@ abbrev pub Roomy : Use → Type 0
 Roomy start = Unit {0}
 Roomy (request n set) = Unit {0}
 Roomy (event e) = Unit {0}
-Roomy (result i done) = Unit {0}
+Roomy (result k i done) = Unit {0}
 Roomy (image r) = Unit {0}
 Roomy (ask out) = 8 ≤ length out
 Roomy (message m out) = 12 ≤ length out

@@ -10,10 +10,10 @@ use Rattle.rules.specs.Codes.{codeOf, readCode}
 use Rattle.rules.specs.Verdicts.{verdictOf, codeVerdict}
 use Rattle.garage.specs.Held.{codeAt, isGood, heldArea, heldAllowed, heldNext, overlapsEarlier, liftIn}
 use Rattle.garage.specs.Station.{fit, answering}
-use Rattle.garage.specs.Calls.{accepted, requested, request, occurred, driven, evented, event, succeeded, ended, numbered, resulted, result, imaged, takeImage}
+use Rattle.garage.specs.Calls.{accepted, requested, request, occurred, driven, evented, event, succeeded, ended, numbered, timely, resulted, result, imaged, takeImage}
 
 pub right : Right
 unfolding allRight stepsRight cars paired sound total packed some every least codeOf readCode allowed next verdictOf codeVerdict possible after
     codeAt isGood heldArea heldAllowed heldNext overlapsEarlier liftIn fit answering
-    accepted requested request occurred driven evented event succeeded ended numbered resulted result imaged takeImage
+    accepted requested request occurred driven evented event succeeded ended numbered timely resulted result imaged takeImage
 right = tt

@@ -69,16 +69,16 @@ carOut = event 2
 abbrev pub asking : List Instruction → Call
 asking set = request (length set) (join (map bytesOf set))
 
--- the result of an instruction of the set
-abbrev pub done : ℕ → Call
-done i = result i 1
+-- the result of an instruction of the set with issue k
+abbrev pub done : ℕ → ℕ → Call
+done k i = result k i 1
 
-abbrev pub failed : ℕ → Call
-failed i = result i 0
+abbrev pub failed : ℕ → ℕ → Call
+failed k i = result k i 0
 
--- an instruction alone is accepted and done, and makes this record; alone, it is refused with a reason's number
-abbrev pub makes : Instruction → ℕ → List Step
-makes i r = taken (asking (i ∷ [])) ∷ taken (done 0) ∷ holds r ∷ []
+-- an instruction alone is accepted under issue k and done, and makes this record; alone, it is refused with a reason's number
+abbrev pub makes : ℕ → Instruction → ℕ → List Step
+makes k i r = taken (asking (i ∷ [])) ∷ taken (done k 0) ∷ holds r ∷ []
 
 abbrev pub barred : Instruction → ℕ → Step
 barred i number = answers (asking (i ∷ [])) number 0
@@ -98,11 +98,11 @@ abbrev pub p2 : List Step
 p2 = taken carIn ∷ refused carIn 10 ∷ []
 
 abbrev pub p4 : List Step
-p4 = p2 ++ makes (Lift basement) 0x00491B0000001800
+p4 = p2 ++ makes 0 (Lift basement) 0x00491B0000001800
 
 -- both row-3 shuttles lowered in one set, the second with this result
-abbrev pub p10 : Call → ℕ → List Step
-p10 second r = taken (asking (lowers left ∷ lowers right ∷ [])) ∷ taken (done 0) ∷ taken second ∷ holds r ∷ []
+abbrev pub p10 : ℕ → Call → ℕ → List Step
+p10 k second r = taken (asking (lowers left ∷ lowers right ∷ [])) ∷ taken (done k 0) ∷ taken second ∷ holds r ∷ []
 
 abbrev pub table : List (List Step)
 table =
@@ -115,19 +115,19 @@ table =
     -- P4: after P2, lift to basement
     ∷ p4
     -- P5: then row 1 mask 6, lower, half; lift to street now
-    ∷ (p4 ++ makes (Belts 1 6 0 0) 0x00491B0000000C00 ++ barred (Lift street) 24 ∷ [])
+    ∷ (p4 ++ makes 1 (Belts 1 6 0 0) 0x00491B0000000C00 ++ barred (Lift street) 24 ∷ [])
     -- P6: sound, 2 cars; lift up
     ∷ (taken (image 0x00491B0000003C00) ∷ cars 2 ∷ barred (Lift rotation) 24 ∷ barred (Lift street) 24 ∷ [])
     -- P7: half a car
     ∷ (refused (image 0x00091B0000000001) 15 ∷ [])
     -- P8: left lowered rows 1 and 2 higher
-    ∷ (taken (image 0x00091B0000000003) ∷ makes (Shuttles left 3 lowered 1) 0x00091E0000100000)
+    ∷ (taken (image 0x00091B0000000003) ∷ makes 0 (Shuttles left 3 lowered 1) 0x00091E0000100000)
     -- P9: the same with 06 first
     ∷ (taken (image 0x00091B0000000006) ∷ barred (Shuttles left 3 lowered 1) 24 ∷ [])
     -- P10: on S, lower both row-3 shuttles in one set; right one failing
-    ∷ (p10 (done 1) 0x00003F0000000000 ++ taken (image S) ∷ p10 (failed 1) 0x00081F0000000000)
+    ∷ (p10 0 (done 0 1) 0x00003F0000000000 ++ taken (image S) ∷ p10 1 (failed 1 1) 0x00081F0000000000)
     -- P11: rotate, allowed; then with a car on one of its cells
-    ∷ (taken (image 0x00291B00000000C0) ∷ makes Rotate 0x00291B00000000C0 ++ taken (image 0x00291B0000000180) ∷ barred Rotate 28 ∷ [])
+    ∷ (taken (image 0x00291B00000000C0) ∷ makes 0 Rotate 0x00291B00000000C0 ++ taken (image 0x00291B0000000180) ∷ barred Rotate 28 ∷ [])
     -- P12: same tilt twice
     ∷ (answers (asking (lowers left ∷ lowers left ∷ [])) 8 1 ∷ [])
     ∷ []

@@ -8,6 +8,7 @@ use garage::Picture;
 use garage::Report;
 use garage::Station;
 use rules::Instruction;
+use std::num::wrapping_sub_u16;
 
 mod run_only;
 
@@ -96,9 +97,17 @@ fn asked(s: Station, name: &[u8], i: Instruction) -> Station {
     told(name, s.request(1, set_of(i)))
 }
 
-// The result of an instruction of the set.
+// The result of an instruction of the present set.
 fn ended(s: Station, name: &[u8], number: u8, done: u8) -> Station {
-    told(name, s.result(Report { number, done }))
+    let issue = wrapping_sub_u16(s.next, 1);
+    told(
+        name,
+        s.result(Report {
+            issue,
+            number,
+            done,
+        }),
+    )
 }
 
 // One instruction is asked for and done, and the record shown.

@@ -3,4 +3,5 @@ pub mod Padding
 pub mod Loops
 pub mod Marks
 pub mod Moves
+pub mod Issues
 pub mod Turns

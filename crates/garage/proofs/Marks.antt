@@ -80,7 +80,7 @@ in-set s i e = let (a, b) = both (leb (s .count) 8) (ltb i (s .count)) e in (leb
 
 -- all marks stand: the set is closed
 pub last-answer : (s : Station) (i r : ℕ) {mark all : ℕ} → mark ≡ 2 ^ i → all ≡ 2 ^ s .count - 1 → bitAnd (bitOr (s .answered) mark) all ≡ all
-    → closed r ≡ answering s i r
+    → closed r (s .next) ≡ answering s i r
 unfolding answering
 last-answer s i r m a e = rw (all-marked (s .count) (bitOr (s .answered) (2 ^ i)), ← m, ← a, eq-eqb _ _ e)
 

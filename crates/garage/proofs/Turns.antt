@@ -23,8 +23,8 @@ use Rattle.garage.specs.declared.Report.{Report}
 use Rattle.garage.specs.declared.Picture.{Picture}
 use Rattle.garage.specs.declared.Turn.{Turn}
 use Rattle.garage.specs.Held.{codeAt, heldAllowed, bad, overlapsEarlier, barred, liftIn}
-use Rattle.garage.specs.Station.{inSet, marked, holding, answering}
-use Rattle.garage.specs.Calls.{refused, taken, accepted, requested, occurred, driven, evented, succeeded, ended, numbered, resulted, imaged}
+use Rattle.garage.specs.Station.{inSet, marked, present, late, holding, answering}
+use Rattle.garage.specs.Calls.{refused, taken, accepted, requested, occurred, driven, evented, succeeded, ended, numbered, timely, resulted, imaged}
 use Rattle.garage.specs.Turns.{turnOf, keptSet, afterTurn}
 use Rattle.garage.proofs.Marks.{in-set}
 
@@ -110,9 +110,13 @@ module _ (s : Station) (fresh : List ℕ) where
   unfolding numbered
   kept-numbered i done = unless (not (inSet s i)) _ (λ a. unless (marked s i) _ (λ b. kept-ended i done (in-set s i (not-false _ a) .1)))
 
+  kept-timely : (r : Report) → Kept (timely s r)
+  unfolding timely
+  kept-timely r = unless (late s (r .issue)) _ (λ a. either (eqb (r .issue) (present s)) (λ b. kept-numbered (r .number) (r .done)) (λ b. kept-refused _))
+
   pub kept-resulted : (r : Report) → Kept (resulted s r)
   unfolding resulted
-  kept-resulted r = unless (ltb 1 (r .done)) _ (λ a. unless (eqb (s .count) 0) _ (λ b. kept-numbered (r .number) (r .done)))
+  kept-resulted r = unless (ltb 1 (r .done)) _ (λ a. unless (eqb (s .count) 0) _ (λ b. kept-timely r))
 
   -- ---- an image
 

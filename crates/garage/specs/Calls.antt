@@ -12,14 +12,14 @@ use Rattle.rules.specs.declared.Event.the-variants.{CarIn, CarOut}
 use Rattle.rules.specs.Events.{possible, after}
 use Rattle.rules.specs.Codes.{most}
 use Rattle.answers.specs.declared.Answer.{Answer}
-use Rattle.answers.specs.declared.Answer.the-variants.{Taken, BadField, TooMany, SetOutstanding, EmptySet, Overlap, EventImpossible, NoSet, NotInSet, AlreadyAnswered, NowNotAllowed, Unsound, Unfit}
+use Rattle.answers.specs.declared.Answer.the-variants.{Taken, Opened, BadField, TooMany, SetOutstanding, EmptySet, Overlap, EventImpossible, NoSet, NotInSet, AlreadyAnswered, NowNotAllowed, Unsound, Unfit, Late, NotIssued}
 use Rattle.answers.specs.Answers.{nowhere}
 use Rattle.garage.specs.declared.Station.{Station}
 use Rattle.garage.specs.declared.Outcome.{Outcome}
 use Rattle.garage.specs.declared.Report.{Report}
 use Rattle.garage.specs.declared.Picture.{Picture}
 use Rattle.garage.specs.Held.{codeAt, heldAllowed, heldNext, bad, overlapsEarlier, barred, whyNot, liftIn}
-use Rattle.garage.specs.Station.{inSet, marked, fit, holding, opened, answering}
+use Rattle.garage.specs.Station.{inSet, marked, present, late, fit, holding, opened, answering}
 
 -- the station as it was, and why; the next station, taken
 abbrev pub refused : Station → Answer → Outcome
@@ -36,12 +36,16 @@ onFit s o = cond (fit s) o (refused s Unfit)
 abbrev pub unlessAny : ℕ → (ℕ → Bool) → Station → (ℕ → Answer) → Outcome → Outcome
 unlessAny n fault s a o = cond (ltb (least n fault) n) (refused s (a (least n fault))) o
 
--- the end of a request: no two of its n instructions overlap and each is allowed on the present record, and the set is outstanding
+-- the set is outstanding, and the answer carries its issue
+abbrev pub opening : Station → ℕ → List ℕ → Outcome
+opening s n set = record { station = opened s n set; answer = Opened (s .next) }
+
+-- the end of a request: no two of its n instructions overlap and each is allowed on the present record
 unfoldable pub accepted : Station → ℕ → List ℕ → Outcome
 accepted s n set =
     unlessAny n (overlapsEarlier set) s Overlap
     (unlessAny n (barred set (s .bits)) s (whyNot set (s .bits))
-    (taken (opened s n set)))
+    (opening s n set))
 
 -- a request past the test of fitness: no set is outstanding, and 1 to 8 instructions, five bytes each, are well formed
 unfoldable pub requested : Station → ℕ → List ℕ → Outcome
@@ -89,12 +93,19 @@ numbered s i done =
     (cond (marked s i) (refused s AlreadyAnswered)
     (ended s i done))
 
+-- a result by the issue of its set: it isn't late, and is the present one
+unfoldable pub timely : Station → Report → Outcome
+timely s r =
+    cond (late s (r .issue)) (refused s Late)
+    (cond (eqb (r .issue) (present s)) (numbered s (r .number) (r .done))
+    (refused s NotIssued))
+
 -- a result past the test of fitness: 0 failed or 1 done, and a set is outstanding
 unfoldable pub resulted : Station → Report → Outcome
 resulted s r =
     cond (ltb 1 (r .done)) (refused s (BadField nowhere))
     (cond (eqb (s .count) 0) (refused s NoSet)
-    (numbered s (r .number) (r .done)))
+    (timely s r))
 
 -- a result
 unfoldable pub result : Station → Report → Outcome

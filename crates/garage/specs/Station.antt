@@ -1,8 +1,9 @@
--- The station: its record, the outstanding set, a mark for each instruction of it that is answered; and when a station is fit.
+-- The station: its record, the outstanding set, a mark for each instruction of it that is answered, and the issue of the next set; and
+-- when a station is fit.
 -- Assumes nothing.
 use mathlib.Core.Bool.{Bool, not, cond, _&&_, _||_}
 use mathlib.Core.List.{List, _++_}
-use Prim.Native.Nat.{ℕ, _+_, _*_, _-_, _^_}
+use Prim.Native.Nat.{ℕ, _+_, _*_, _-_, _%_, _^_}
 use lib.Bits.{bitOr}
 use lib.Dec.{eqb, leb, ltb}
 use lib.ListN.{getD, take, replicate}
@@ -13,13 +14,29 @@ use Rattle.rules.specs.Codes.{most}
 use Rattle.garage.specs.declared.Station.{Station}
 use Rattle.garage.specs.Held.{bad}
 
--- no set is outstanding: no instruction and no mark
-abbrev pub closed : ℕ → Station
-closed r = record { bits = r; count = 0; answered = 0; set = replicate 40 0 }
+-- no set is outstanding, no instruction and no mark: the record, and the issue that the next set will have
+abbrev pub closed : ℕ → ℕ → Station
+closed r next = record { bits = r; count = 0; answered = 0; set = replicate 40 0; next = next }
 
--- the start: no cars, rows 1 and 2 lowered and row 3 tilted on both sides, lift at street, no set
+-- the start: no cars, rows 1 and 2 lowered and row 3 tilted on both sides, lift at street, no set; the first has issue 0
 abbrev pub startOf : Station
-startOf = closed 0x00091B0000000000
+startOf = closed 0x00091B0000000000 0
+
+-- the issue after this one: it starts over at zero after 65535
+abbrev pub issueAfter : ℕ → ℕ
+issueAfter k = (k + 1) % 65536
+
+-- the issue of the present set, which is the one before the next
+abbrev pub present : Station → ℕ
+present s = (s .next + 65535) % 65536
+
+-- how far an issue is behind the present one, counted round the end
+abbrev pub behind : Station → ℕ → ℕ
+behind s k = (present s + (65536 - k)) % 65536
+
+-- it is late: 1 to 32767 behind
+abbrev pub late : Station → ℕ → Bool
+late s k = leb 1 (behind s k) && leb (behind s k) 32767
 
 -- i is the number of an instruction of the set, which has at most eight
 abbrev pub inSet : Station → ℕ → Bool
@@ -45,18 +62,19 @@ fit s =
 
 -- the same set with these marks, the record now r
 abbrev pub noting : Station → ℕ → ℕ → Station
-noting s marks r = record { bits = r; count = s .count; answered = marks; set = s .set }
+noting s marks r = record { bits = r; count = s .count; answered = marks; set = s .set; next = s .next }
 
 -- the same station with another record
 abbrev pub holding : Station → ℕ → Station
 holding s r = noting s (s .answered) r
 
--- a set of n instructions is outstanding, none answered; the record stays
+-- a set of n instructions is outstanding, none answered, under the next issue; the record stays
 abbrev pub opened : Station → ℕ → List ℕ → Station
-opened s n set = record { bits = s .bits; count = n; answered = 0; set = take (5 * n) set ++ replicate (40 - 5 * n) 0 }
+opened s n set =
+    record { bits = s .bits; count = n; answered = 0; set = take (5 * n) set ++ replicate (40 - 5 * n) 0; next = issueAfter (s .next) }
 
 -- instruction i answered, the record now r; with the last of them the station holds no instruction and no mark
 unfoldable pub answering : Station → ℕ → ℕ → Station
 answering s i r =
     let marks = bitOr (s .answered) (2 ^ i) in
-    cond (every (s .count) (bit marks)) (closed r) (noting s marks r)
+    cond (every (s .count) (bit marks)) (closed r (s .next)) (noting s marks r)

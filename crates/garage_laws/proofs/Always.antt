@@ -25,7 +25,8 @@ use Rattle.garage_laws.specs.Runs.{Call, said, left, calls, Begins, atSt
 use Rattle.garage_laws.specs.Demands.{AlwaysLaidOut, CarsCounted, FitStays, NeverUnfit}
 use Rattle.garage_laws.proofs.Instance.{possibleAs, afterAs, next-sound, after-sound, next-cars}
 use Rattle.garage_laws.proofs.Fits.{fit-has, fit-start, fit-holding, fit-opened, fit-answering}
-use Rattle.garage_laws.proofs.Calls.{following, answering-bits, event-is, image-has, image-is, untouched, unfit-is, fit-says}
+use Rattle.garage_laws.proofs.Calls.{following, answering-bits, event-is, image-has, image-is}
+use Rattle.garage_laws.proofs.EachCall.{untouched, unfit-is, fit-says}
 use Rattle.garage_laws.proofs.Steps.{Step, refuses, opens, fails, succeeds, drives, tells, steps, parts}
 
 -- ---- fit
@@ -34,7 +35,7 @@ pub fit-step : (s t : Station) (c : Call) → Step s c t → fit s ≡ true → 
 fit-step s t c (refuses n) f = f
 fit-step s t c (opens {n} {set} A) f = fit-opened s n set A
 fit-step s t c (fails {i} w) f = fit-answering s i (s .bits) f (w .1) (fit-has s f .sound)
-fit-step s t c (succeeds {i} w a) f = fit-answering s i (following s i) f (w .1) (next-sound _ (s .bits) (fit-has s f .sound) a)
+fit-step s t c (succeeds {i} p w a) f = fit-answering s i (following s i) f (w .1) (next-sound _ (s .bits) (fit-has s f .sound) a)
 fit-step s t c (drives {e} d) f = fit-holding s _ f (after-sound (readEvent e) (s .bits) (fit-has s f .sound) (d .2))
 fit-step s t c tells f = f
 
@@ -86,7 +87,7 @@ pub small-step : (s t : Station) (c : Call) → Step s c t → Small s → Small
 small-step s t c (refuses n) h = h
 small-step s t c (opens A) h = h
 small-step s t c (fails {i} w) h = rw (answering-bits s i (s .bits)) h
-small-step s t c (succeeds {i} w a) h = rw (answering-bits s i (following s i)) (packed-lt 64 0 _)
+small-step s t c (succeeds {i} p w a) h = rw (answering-bits s i (following s i)) (packed-lt 64 0 _)
 small-step s t c (drives {e} d) h = after-small (readEvent e) (s .bits) h
 small-step s t c tells h = h
 
@@ -118,7 +119,7 @@ counted-step : (s t : Station) (c : Call) → Step s c t → carsOf t + drove 2 
 counted-step s t c (refuses n) = rw (drove-none 2 s c n, drove-none 1 s c n)
 counted-step s t c (opens A) = refl
 counted-step s t c (fails {i} w) = rw (answering-bits s i (s .bits))
-counted-step s t c (succeeds {i} w a) = rw (answering-bits s i (following s i)) (ap (λ (n : ℕ). n + 0) (next-cars _ (s .bits) (fit-has s (w .0) .sound) a))
+counted-step s t c (succeeds {i} p w a) = rw (answering-bits s i (following s i)) (ap (λ (n : ℕ). n + 0) (next-cars _ (s .bits) (fit-has s (w .0) .sound) a))
 counted-step s t c (drives {e} d) =
     let z : said s (run.event e) ≡ 0 = rw (event-is s e d) in
     rw (drove-one 2 s e z, drove-one 1 s e z) (event-counted e (s .bits) (readEvent e) refl (d .2))

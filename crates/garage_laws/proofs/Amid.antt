@@ -12,7 +12,7 @@ use Rattle.garage_laws.specs.Runs as run
 use Rattle.garage_laws.specs.Runs.{Call, said, left, calls}
 use Rattle.garage_laws.specs.Orders.{Fair, replies, Alike, Amid, ends, kept, asked, refused, takes, turns, turnsAmid, FairAmid, repliesAmid, AlikeAmid}
 use Rattle.garage_laws.specs.Demands.{AnyOrderAmid, AmidUnmoved, AmidExists, AmidCovers}
-use Rattle.garage_laws.proofs.Calls.{untouched}
+use Rattle.garage_laws.proofs.EachCall.{untouched}
 use Rattle.garage_laws.proofs.Changes.{event-taken}
 use Rattle.garage_laws.proofs.Steps as step
 use Rattle.garage_laws.proofs.AnyOrder.{any-order}

@@ -15,8 +15,9 @@ use Rattle.sets.proofs.Machine.{Act, nowhere}
 use Rattle.sets.proofs.Orders as machine-orders
 use Rattle.sets.proofs.AnyOrder as machine-order
 use Rattle.garage.specs.declared.Station.{Station}
-use Rattle.garage.specs.Station.{fit, closed, holding, opened, answering}
-use Rattle.garage_laws.specs.Runs.{Call, calls}
+use Rattle.garage.specs.Station.{present, fit, closed, holding, opened, answering}
+use Rattle.garage_laws.specs.Runs as run
+use Rattle.garage_laws.specs.Runs.{Call, left, calls}
 use Rattle.garage_laws.specs.Orders.{Order, Alike}
 use Rattle.garage_laws.specs.Demands.{AnyOrder}
 use Rattle.garage_laws.proofs.Instance.{rules, framed}
@@ -26,12 +27,12 @@ use Rattle.garage_laws.proofs.Steps.{Step, refuses, opens, fails, succe
 use Rattle.garage_laws.proofs.Always.{begins-has, Small, small-step}
 use Rattle.garage_laws.proofs.Link.{view, kept, request-accepted, request-view}
 use Rattle.garage_laws.proofs.Lists.{asCall, no-images, choice, acts, Unstuck, unstuck, order-heard}
-use Rattle.garage_laws.proofs.Follow.{follows}
+use Rattle.garage_laws.proofs.Follow.{follows, next-kept}
 
 -- ---- a station with no instruction has nothing else either
 
 abbrev Tidy : Station → Type 0
-Tidy s = (0 < s .count) ⊎ (s ≡ closed (s .bits))
+Tidy s = (0 < s .count) ⊎ (s ≡ closed (s .bits) (s .next))
 
 tidy-answering : (s : Station) (i r : ℕ) → i < s .count → Tidy (answering s i r)
 tidy-answering s i r h = after-result Tidy s i r (λ t. inr refl) (λ t. inl (omega arith))
@@ -40,32 +41,32 @@ tidy-step : (s t : Station) (c : Call) → Step s c t → Tidy s → Tidy t
 tidy-step s t c (refuses n) d = d
 tidy-step s t c (opens A) d = inl (A .some)
 tidy-step s t c (fails {i} w) d = tidy-answering s i _ (w .1)
-tidy-step s t c (succeeds {i} w a) d = tidy-answering s i _ (w .1)
+tidy-step s t c (succeeds {i} p w a) d = tidy-answering s i _ (w .1)
 tidy-step s t c (drives x) d = ⊎-elim inl (λ e. inr (ap (λ (u : Station). holding u (t .bits)) e)) d
 tidy-step s t c tells d = d
 
 -- ---- what the machine says of two lists, the station says
 
-module _ (s : Station) (f : fit s ≡ true) (small : Small s) (tidy : Tidy s) where
+module _ (s : Station) (f : fit s ≡ true) (small : Small s) (tidy : Tidy s) (k : ℕ) (now : k ≡ present s) where
   module _ (l : List (Act ℕ)) (e : machine.run rules (view s) l ≡ machine.idle rules (machine.run rules (view s) l .bits) (machine.run rules (view s) l .away))
-      (v : view (calls s (map asCall l)) ≡ machine.run rules (view s) l) where
+      (v : view (calls s (map (asCall k) l)) ≡ machine.run rules (view s) l) where
     -- where the calls end
     abbrev end : Station
-    end = calls s (map asCall l)
+    end = calls s (map (asCall k) l)
 
     end-none : end .count ≡ 0
     end-none = ap (λ (a : machine.Station ℕ Code). a .set .size) (v ∙ e)
 
-    end-closed : end ≡ closed (end .bits)
-    end-closed = ⊎-elim (λ h. absurd (let z = end-none in omega arith)) (λ t. t) (along Tidy tidy-step (map asCall l) (no-images l) s tidy)
+    end-closed : end ≡ closed (end .bits) (s .next)
+    end-closed = ⊎-elim (λ h. absurd (let z = end-none in omega arith)) (λ t. t ∙ ap (closed (end .bits)) (next-kept k l s)) (along Tidy tidy-step (map (asCall k) l) (no-images k l) s tidy)
 
     end-small : Small end
-    end-small = along Small small-step (map asCall l) (no-images l) s small
+    end-small = along Small small-step (map (asCall k) l) (no-images k l) s small
 
-  alike : (l m : List (Act ℕ)) → Unstuck l → Unstuck m → machine-orders.Alike rules (view s) l m → Alike s (map asCall l) (map asCall m)
+  alike : (l m : List (Act ℕ)) → Unstuck l → Unstuck m → machine-orders.Alike rules (view s) l m → Alike s (map (asCall k) l) (map (asCall k) m)
   alike l m p q A =
-      let L = follows l p s f (A .fair .0) in
-      let M = follows m q s f (A .fair .1) in
+      let L = follows k l p s f now (A .fair .0) in
+      let M = follows k m q s f now (A .fair .1) in
       let same : end l (A .closed .0) (L .shows) .bits ≡ end m (A .closed .1) (M .shows) .bits =
       bit-ext 64 _ _ (end-small l (A .closed .0) (L .shows)) (end-small m (A .closed .1) (M .shows)) (λ k h.
       ap (λ (a : machine.Station ℕ Code). bit (a .bits) k) (L .shows) ∙ A .bits k h ∙ sym (ap (λ (a : machine.Station ℕ Code). bit (a .bits) k) (M .shows))) in
@@ -73,7 +74,7 @@ module _ (s : Station) (f : fit s ≡ true) (small : Small s) (tidy : Tidy s) wh
         fair = (L .fair, M .fair);
         answered = L .replied ∙ A .replies ∙ sym (M .replied);
         closed = (end-none l (A .closed .0) (L .shows), end-none m (A .closed .1) (M .shows));
-        same = end-closed l (A .closed .0) (L .shows) ∙ ap closed same ∙ sym (end-closed m (A .closed .1) (M .shows));
+        same = end-closed l (A .closed .0) (L .shows) ∙ ap (λ (r : ℕ). closed r (s .next)) same ∙ sym (end-closed m (A .closed .1) (M .shows));
       }
 
 -- ---- the demand
@@ -81,12 +82,14 @@ module _ (s : Station) (f : fit s ≡ true) (small : Small s) (tidy : Tidy s) wh
 pub any-order : AnyOrder
 any-order s R n set e chosen events l m P Q =
     let A = request-has s n set e in
-    let (a, p) = acts chosen l (P .chosen) in
-    let (b, q) = acts chosen m (Q .chosen) in
-    let O = order-heard (subst (Order n chosen events) p P) in
-    let U = order-heard (subst (Order n chosen events) q Q) in
+    let k = present (left s (run.request n set)) in
+    let (a, p) = acts k chosen l (P .chosen) in
+    let (b, q) = acts k chosen m (Q .chosen) in
+    let O = order-heard k (subst (Order k n chosen events) p P) in
+    let U = order-heard k (subst (Order k n chosen events) q Q) in
     let small : Small s = reached Small small-step (λ t b. begins-has t b .2) s R in
-    let T = machine-order.any-order rules blind blind framed (kept s n set A) (s .bits) nowhere (fit-has s (A .fits) .sound) (request-accepted s n set A) (choice chosen) events a b O U in
+    let T = machine-order.any-order rules blind blind framed (kept s n set A) (s .bits) nowhere (fit-has s (A .fits) .sound) (request-accepted s n set A) (choice k chosen) events a b O U in
     let W : machine-orders.Alike rules (view (opened s n set)) a b = rw (request-view s n set A) T in
-    subst₃ Alike (ap (λ o. o .station) (sym (request-is s n set A))) (sym p) (sym q)
-    (alike (opened s n set) (fit-opened s n set A) small (inl (A .some)) a b (unstuck chosen a (O .chosen)) (unstuck chosen b (U .chosen)) W)
+    let there : left s (run.request n set) ≡ opened s n set = ap (λ o. o .station) (request-is s n set A) in
+    subst₃ Alike (sym there) (sym p) (sym q)
+    (alike (opened s n set) (fit-opened s n set A) small (inl (A .some)) k (ap present there) a b (unstuck k chosen a (O .chosen)) (unstuck k chosen b (U .chosen)) W)

@@ -7,7 +7,7 @@ use mathlib.Core.List.{List}
 use Prim.Native.Nat.{ℕ, _≤_, _<_}
 use native.Mathlib.Omega.{arith}
 use lib.Dec.{eqb, ltb}
-use borrow.Author.Tests.{ltb-false, lt-ltb, le-ltb, le-leb, eqb-false, ne-eqb, not-false}
+use borrow.Author.Tests.{ltb-false, lt-ltb, le-ltb, le-leb, eqb-true, eqb-false, eq-eqb, ne-eqb, not-false}
 use Rattle.bits.specs.Bits.{bit, image}
 use Rattle.bits.specs.Search.{least}
 use Rattle.bits.proofs.Cases.{split, clash, and-intro}
@@ -19,25 +19,25 @@ use Rattle.rules.specs.declared.EventReading.the-variants.{Good as Told, Bad as
 use Rattle.rules.specs.Events.{possible, after}
 use Rattle.rules.specs.Codes.{readEvent, most}
 use Rattle.answers.specs.declared.Answer.{Answer}
-use Rattle.answers.specs.declared.Answer.the-variants.{BadField, TooMany, SetOutstanding, EmptySet, Overlap, EventImpossible, NoSet, NotInSet, AlreadyAnswered, NowNotAllowed, Unsound, Unfit}
+use Rattle.answers.specs.declared.Answer.the-variants.{BadField, TooMany, SetOutstanding, EmptySet, Overlap, EventImpossible, NoSet, NotInSet, AlreadyAnswered, NowNotAllowed, Unsound, Unfit, Late, NotIssued}
 use Rattle.answers.specs.Answers.{numberOf, nowhere}
 use Rattle.garage.specs.declared.Station.{Station}
 use Rattle.garage.specs.declared.Outcome.{Outcome}
 use Rattle.garage.specs.declared.Report.{Report}
 use Rattle.garage.specs.Held.{codeAt, heldAllowed, heldNext, bad, overlapsEarlier, barred, whyNot, liftIn}
-use Rattle.garage.specs.Station.{inSet, marked, fit, holding, opened, answering}
+use Rattle.garage.specs.Station.{inSet, marked, present, behind, late, fit, holding, answering}
 use Rattle.garage.specs.Calls as station
-use Rattle.garage.specs.Calls.{refused, taken, onFit}
+use Rattle.garage.specs.Calls.{refused, taken, onFit, opening}
 use Rattle.garage.proofs.Marks.{in-set}
 use Rattle.garage_laws.specs.Runs as run
-use Rattle.garage_laws.specs.Runs.{Call, call, said, left}
+use Rattle.garage_laws.specs.Runs.{call, said}
 use Rattle.garage_laws.specs.Demands.{Acceptable, Orderly, Waiting}
 use Rattle.garage_laws.proofs.Instance.{onEvent, possibleAs, afterAs, heldAs, replyAs}
 use Rattle.garage_laws.proofs.Reasons.{why-number, least-fault}
 use Rattle.garage_laws.proofs.Fits.{fit-has, after-result}
 
 -- an outcome that is answered 0
-abbrev Zero : Outcome → Type 0
+abbrev pub Zero : Outcome → Type 0
 Zero o = numberOf (o .answer) ≡ 0
 
 -- ---- past a test
@@ -68,11 +68,11 @@ no-fault : (n : ℕ) (fault : ℕ → Bool) → ((i : ℕ) → i < n → fault i
 no-fault n fault none = let e = least-none n fault none in le-ltb (least n fault) n (omega arith)
 
 -- a refusal other than 14, 16 and 17
-abbrev Other : Answer → Type 0
+abbrev pub Other : Answer → Type 0
 Other a = (numberOf a ≡ 0 → ⊥) × (numberOf a ≡ 14 → ⊥) × (numberOf a ≡ 16 → ⊥) × (numberOf a ≡ 17 → ⊥)
 
 -- so is why an instruction that is found is not allowed
-barred-other : (s : Station) (n : ℕ) (set : List ℕ) → ltb (least n (barred set (s .bits))) n ≡ true → Other (whyNot set (s .bits) (least n (barred set (s .bits))))
+pub barred-other : (s : Station) (n : ℕ) (set : List ℕ) → ltb (least n (barred set (s .bits))) n ≡ true → Other (whyNot set (s .bits) (least n (barred set (s .bits))))
 barred-other s n set t = go (why-number set (s .bits) (least n (barred set (s .bits))) (least-fault n (barred set (s .bits)) t .passes))
   where
     go : {k : ℕ} → (k ≡ 4) ⊎ (20 ≤ k) → (k ≡ 0 → ⊥) × (k ≡ 14 → ⊥) × (k ≡ 16 → ⊥) × (k ≡ 17 → ⊥)
@@ -141,11 +141,11 @@ module _ (s : Station) (n : ℕ) (set : List ℕ) where
       no-fault n (bad set) (O .good),
     )
 
-    pub orderly-is : station.request s n set ≡ station.unlessAny n (barred set (s .bits)) s (whyNot set (s .bits)) (taken (opened s n set))
+    pub orderly-is : station.request s n set ≡ station.unlessAny n (barred set (s .bits)) s (whyNot set (s .bits)) (opening s n set)
     unfolding station.request station.accepted
     orderly-is = rw (O .fits) (requested-is ∙ rw (no-fault n (overlapsEarlier set) (O .apart)))
 
-  pub request-is : Acceptable s n set → station.request s n set ≡ taken (opened s n set)
+  pub request-is : Acceptable s n set → station.request s n set ≡ opening s n set
   unfolding overlapsEarlier
   request-is A = orderly-is orderly ∙ rw (no-fault n (barred set (s .bits)) (λ i h. rw (A .allowed i h)))
     where
@@ -192,7 +192,21 @@ module _ (s : Station) (i : ℕ) where
   answering-bits r = after-result (λ t. t .bits ≡ r) s i r (λ t. refl) (λ t. refl)
 
 module _ (s : Station) (r : Report) where
-  resulted-has : Zero (station.resulted s r) → (r .done < 2) × Zero (station.numbered s (r .number) (r .done))
+  timely-has : Zero (station.timely s r) → (r .issue ≡ present s) × Zero (station.numbered s (r .number) (r .done))
+  unfolding station.timely
+  timely-has e =
+      let (a, e₁) = passed (late s (r .issue)) s Late _ (λ z. omega arith) e in
+      let (b, e₂) = met (eqb (r .issue) (present s)) s NotIssued _ (λ z. omega arith) e₁ in
+      (eqb-true _ _ b, e₂)
+
+  -- the present issue is not behind
+  timely-is : r .issue ≡ present s → station.timely s r ≡ station.numbered s (r .number) (r .done)
+  unfolding station.timely
+  timely-is e =
+      let none : behind s (r .issue) ≡ 0 = omega arith in
+      rw (none, eq-eqb (r .issue) (present s) e)
+
+  resulted-has : Zero (station.resulted s r) → (r .done < 2) × Zero (station.timely s r)
   unfolding station.resulted
   resulted-has e =
       let (a, e₁) = passed (ltb 1 (r .done)) s (BadField nowhere) _ (λ z. omega arith) e in
@@ -200,45 +214,46 @@ module _ (s : Station) (r : Report) where
       ((let l = ltb-false 1 (r .done) a in omega arith), e₂)
 
   -- whatever is reported, the instruction waits
-  result-has : said s (run.reports r) ≡ 0 → Waiting s (r .number) × (r .done < 2) × Zero (station.ended s (r .number) (r .done))
+  result-has : said s (run.reports r) ≡ 0 → (r .issue ≡ present s) × Waiting s (r .number) × (r .done < 2) × Zero (station.ended s (r .number) (r .done))
   unfolding station.result
   result-has e =
       let (a, e₁) = met (fit s) s Unfit (station.resulted s r) (λ z. omega arith) e in
       let (b, e₂) = resulted-has e₁ in
-      let (c, d, e₃) = numbered-has s (r .number) (r .done) e₂ in
-      ((a, c, d), b, e₃)
+      let (k, e₃) = timely-has e₂ in
+      let (c, d, e₄) = numbered-has s (r .number) (r .done) e₃ in
+      (k, (a, c, d), b, e₄)
 
-  resulted-is : r .done < 2 → Waiting s (r .number) → station.resulted s r ≡ station.numbered s (r .number) (r .done)
+  resulted-is : r .done < 2 → Waiting s (r .number) → station.resulted s r ≡ station.timely s r
   unfolding station.resulted
   resulted-is b w = let h = w .1 in rw (le-ltb 1 (r .done) (omega arith), ne-eqb (s .count) 0 (λ z. omega arith))
 
-  result-is : r .done < 2 → Waiting s (r .number) → station.result s r ≡ station.ended s (r .number) (r .done)
+  result-is : r .issue ≡ present s → r .done < 2 → Waiting s (r .number) → station.result s r ≡ station.ended s (r .number) (r .done)
   unfolding station.result
-  result-is b w = rw (w .0) (resulted-is b w ∙ numbered-is s (r .number) (r .done) w)
+  result-is k b w = rw (w .0) (resulted-is b w ∙ timely-is k ∙ numbered-is s (r .number) (r .done) w)
 
   -- no other result is taken
   pub done-has : said s (run.reports r) ≡ 0 → r .done < 2
-  done-has e = result-has e .1
+  done-has e = result-has e .2
 
-module _ (s : Station) (i : ℕ) where
+module _ (s : Station) (k i : ℕ) where
   -- a result of this instruction
   abbrev reported : ℕ → Report
-  reported done = record { number = i; done = done }
+  reported done = record { issue = k; number = i; done = done }
 
-  pub success-has : said s (run.result i 1) ≡ 0 → Waiting s i × (heldAllowed (codeAt (s .set) i) (bit (s .bits)) ≡ true)
+  pub success-has : said s (run.result k i 1) ≡ 0 → (k ≡ present s) × Waiting s i × (heldAllowed (codeAt (s .set) i) (bit (s .bits)) ≡ true)
   unfolding station.ended station.succeeded
-  success-has e = let (w, b, e₁) = result-has s (reported 1) e in (w, met (heldAllowed (codeAt (s .set) i) (bit (s .bits))) s NowNotAllowed _ (λ z. omega arith) e₁ .0)
+  success-has e = let (p, w, b, e₁) = result-has s (reported 1) e in (p, w, met (heldAllowed (codeAt (s .set) i) (bit (s .bits))) s NowNotAllowed _ (λ z. omega arith) e₁ .0)
 
-  pub success-is : Waiting s i → heldAllowed (codeAt (s .set) i) (bit (s .bits)) ≡ true → call s (run.result i 1) ≡ taken (answering s i (following s i))
+  pub success-is : k ≡ present s → Waiting s i → heldAllowed (codeAt (s .set) i) (bit (s .bits)) ≡ true → call s (run.result k i 1) ≡ taken (answering s i (following s i))
   unfolding station.ended station.succeeded
-  success-is w t = result-is s (reported 1) (omega arith) w ∙ rw t
+  success-is p w t = result-is s (reported 1) p (omega arith) w ∙ rw t
 
-  pub failure-has : said s (run.result i 0) ≡ 0 → Waiting s i
-  failure-has e = result-has s (reported 0) e .0
+  pub failure-has : said s (run.result k i 0) ≡ 0 → (k ≡ present s) × Waiting s i
+  failure-has e = let (p, w, b, e₁) = result-has s (reported 0) e in (p, w)
 
-  pub failure-is : Waiting s i → call s (run.result i 0) ≡ taken (answering s i (s .bits))
+  pub failure-is : k ≡ present s → Waiting s i → call s (run.result k i 0) ≡ taken (answering s i (s .bits))
   unfolding station.ended
-  failure-is w = result-is s (reported 0) (omega arith) w
+  failure-is p w = result-is s (reported 0) p (omega arith) w
 
 -- ---- a car event, by what its number says
 
@@ -307,77 +322,3 @@ ask-has s e = met (fit s) s Unfit (taken s) (λ z. omega arith) e .0
 pub ask-is : (s : Station) → fit s ≡ true → station.ask s ≡ taken s
 unfolding station.ask
 ask-is s f = rw f
-
--- ---- every call is refused since the station is unfit, or with a number that is none of 0, 14, 16 and 17, or taken, or a success of an
--- instruction that waits
-
-module _ (P : Outcome → Type 0) (s : Station) (unfit : fit s ≡ false → P (refused s Unfit)) (no : (a : Answer) → Other a → P (refused s a)) (done : (t : Station) → P (taken t)) (told : (i : ℕ) → Waiting s i → P (station.succeeded s i)) where
-  unless : (t : Bool) (a : Answer) {o : Outcome} → Other a → (t ≡ false → P o) → P (cond t (refused s a) o)
-  unless t a other f = either P t (λ e. no a other) f
-
-  fitting : {o : Outcome} → (fit s ≡ true → P o) → P (onFit s o)
-  fitting f = either P (fit s) f unfit
-
-  accepting : (n : ℕ) (set : List ℕ) → P (station.accepted s n set)
-  unfolding station.accepted
-  accepting n set =
-      unless (ltb (least n (overlapsEarlier set)) n) (Overlap (least n (overlapsEarlier set))) (omega arith)
-      (λ a. either P (ltb (least n (barred set (s .bits))) n) (λ t. no _ (barred-other s n set t))
-      (λ b. done (opened s n set)))
-
-  requesting : (n : ℕ) (set : List ℕ) → P (station.requested s n set)
-  unfolding station.requested
-  requesting n set =
-      unless (ltb 0 (s .count)) SetOutstanding (omega arith)
-      (λ a. unless (ltb most n) TooMany (omega arith)
-      (λ b. unless (eqb n 0) EmptySet (omega arith)
-      (λ c. unless (ltb (least n (bad set)) n) (BadField (least n (bad set))) (omega arith)
-      (λ d. accepting n set))))
-
-  numbering : (i d : ℕ) → fit s ≡ true → P (station.numbered s i d)
-  unfolding station.numbered station.ended
-  numbering i d f =
-      unless (not (inSet s i)) NotInSet (omega arith)
-      (λ a. unless (marked s i) AlreadyAnswered (omega arith)
-      (λ m. either P (eqb d 0) (λ z. done (answering s i (s .bits))) (λ z. told i (f, in-set s i (not-false _ a) .1, m))))
-
-  resulting : (r : Report) → fit s ≡ true → P (station.resulted s r)
-  unfolding station.resulted
-  resulting r f = unless (ltb 1 (r .done)) (BadField nowhere) (omega arith) (λ a. unless (eqb (s .count) 0) NoSet (omega arith) (λ b. numbering (r .number) (r .done) f))
-
-  driving : (v : EventReading) → P (drivenAs s v)
-  unfolding station.driven station.occurred
-  driving (Told e) = fitting (λ f. unless (liftIn (s .set) (s .count)) SetOutstanding (omega arith) (λ a. either P (possible e (bit (s .bits))) (λ b. done _) (λ b. no EventImpossible (omega arith))))
-  driving Untold = fitting (λ f. no (BadField nowhere) (omega arith))
-
-  pub each-call : (c : Call) → P (call s c)
-  unfolding station.request station.result station.takeImage station.imaged station.ask
-  each-call (run.request n set) = fitting (λ f. requesting n set)
-  each-call (run.reports r) = fitting (λ f. resulting r f)
-  each-call (run.event e) = rw (event-as s e) (driving (readEvent e))
-  each-call (run.pictures p) = fitting (λ f. unless (ltb 0 (s .count)) SetOutstanding (omega arith) (λ a. either P (sound (p .bits)) (λ b. done (holding s (p .bits))) (λ b. no Unsound (omega arith))))
-  each-call run.ask = fitting (λ f. done s)
-
--- a refused call leaves the station as it was
-pub untouched : (s : Station) (c : Call) → (said s c ≡ 0 → ⊥) → left s c ≡ s
-untouched s c = each-call (λ o. (Zero o → ⊥) → o .station ≡ s) s (λ e n. refl) (λ a h n. refl) (λ t n. absurd (n refl))
-    (λ i w. success-either s i (λ o. (Zero o → ⊥) → o .station ≡ s) (λ t n. absurd (n refl)) (λ t n. refl)) c
-
--- on a station that is not fit
-pub unfit-is : (s : Station) → fit s ≡ false → (c : Call) → call s c ≡ refused s Unfit
-unfolding station.request station.result station.event station.takeImage station.ask
-unfit-is s e (run.request n set) = rw e
-unfit-is s e (run.reports r) = rw e
-unfit-is s e (run.event x) = rw e
-unfit-is s e (run.pictures p) = rw e
-unfit-is s e run.ask = rw e
-
--- a fit one never answers 16
-pub fit-says : (s : Station) → fit s ≡ true → (c : Call) → said s c ≡ 16 → ⊥
-fit-says s f = each-call (λ o. numberOf (o .answer) ≡ 16 → ⊥) s (λ e. clash f e) (λ a h. h .2) (λ t z. omega arith)
-    (λ i w. success-either s i (λ o. numberOf (o .answer) ≡ 16 → ⊥) (λ t z. omega arith) (λ t z. omega arith))
-
--- none is answered with 17, which is for lent room
-pub not-seventeen : (s : Station) (c : Call) → said s c ≡ 17 → ⊥
-not-seventeen s = each-call (λ o. numberOf (o .answer) ≡ 17 → ⊥) s (λ e z. omega arith) (λ a h. h .3) (λ t z. omega arith)
-    (λ i w. success-either s i (λ o. numberOf (o .answer) ≡ 17 → ⊥) (λ t z. omega arith) (λ t z. omega arith))

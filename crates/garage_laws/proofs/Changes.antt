@@ -17,13 +17,14 @@ use Rattle.garage_laws.specs.Runs as run
 use Rattle.garage_laws.specs.Runs.{Call, said}
 use Rattle.garage_laws.specs.Demands.{ResultTaken, EventTaken, Changes, OnlySuccessChanges}
 use Rattle.garage_laws.proofs.Instance.{possibleAs}
-use Rattle.garage_laws.proofs.Calls.{success-is, done-has, answering-bits, event-has, event-is, untouched}
+use Rattle.garage_laws.proofs.Calls.{success-is, done-has, answering-bits, event-has, event-is}
+use Rattle.garage_laws.proofs.EachCall.{untouched}
 use Rattle.garage_laws.proofs.Steps.{Step, refuses, opens, fails, succeeds, drives, tells, steps}
 
 pub result-taken : ResultTaken
-result-taken s i zero e = inl refl
-result-taken s i (suc zero) e = inr refl
-result-taken s i (suc (suc done)) e = absurd (omega (arith, done-has s (record { number = i; done = suc (suc done) }) e))
+result-taken s k i zero e = inl refl
+result-taken s k i (suc zero) e = inr refl
+result-taken s k i (suc (suc done)) e = absurd (omega (arith, done-has s (record { issue = k; number = i; done = suc (suc done) }) e))
 
 pub event-taken : EventTaken
 event-taken s e z = go (readEvent e) refl (event-has s e z .2)
@@ -42,7 +43,7 @@ kept-step : (s t : Station) (c : Call) → Step s c t → Kept s c t
 kept-step s t c (refuses n) = inl refl
 kept-step s t c (opens A) = inl refl
 kept-step s t c (fails {i} w) = inl (answering-bits s i (s .bits))
-kept-step s t c (succeeds {i} w a) = inr (rw (success-is s i w a), refl)
+kept-step s t c (succeeds {i} {k} p w a) = inr (rw (success-is s k i p w a), refl)
 kept-step s t c (drives {e} d) = inr (rw (event-is s e d), tt)
 kept-step s t c tells = inl refl
 

@@ -9,13 +9,15 @@ use Rattle.answers.specs.Answers.{numberOf}
 use Rattle.garage.specs.declared.Station.{Station}
 use Rattle.garage.specs.declared.Outcome.{Outcome}
 use Rattle.garage.specs.Station.{holding}
+use Rattle.garage_laws.specs.Runs as run
 use Rattle.garage_laws.specs.Runs.{call}
-use Rattle.garage_laws.specs.Demands.{RefusedUntouched, CallsInTable, AcceptedExactly, ReasonExactly, ResultRecord, FailureKeeps, EventRecord, ImageTaken, AskKeeps, ResultTaken, EventTaken, OnlySuccessChanges, PlacesRight, PlacesElse, PlacesInRange, AlwaysLaidOut, CarsCounted, AnyOrder, OrdersExist, AnyOrderAmid, AmidUnmoved, AmidExists, AmidCovers, NeverFourteen, FitStays, NeverUnfit}
+use Rattle.garage_laws.specs.Demands.{RefusedUntouched, CallsInTable, AcceptedExactly, ReasonExactly, ResultRecord, FailureKeeps, LateExactly, IssuesInTurn, FirstIsZero, ImageKeepsCount, BehindCounts, EventRecord, ImageTaken, AskKeeps, ResultTaken, EventTaken, OnlySuccessChanges, PlacesRight, PlacesElse, PlacesInRange, AlwaysLaidOut, CarsCounted, AnyOrder, OrdersExist, AnyOrderAmid, AmidUnmoved, AmidExists, AmidCovers, NeverFourteen, FitStays, NeverUnfit}
 use Rattle.garage_laws.proofs.Instance.{afterAs}
-use Rattle.garage_laws.proofs.Calls as calls
+use Rattle.garage_laws.proofs.EachCall as each
 use Rattle.garage_laws.proofs.Calls.{Drivable, request-has, request-is, success-has, success-is, failure-has, failure-is, answering-bits, event-has, event-is, image-has, image-is, ask-has, ask-is}
 use Rattle.garage_laws.proofs.Places as places
 use Rattle.garage_laws.proofs.Refusals as refusals
+use Rattle.garage_laws.proofs.Issues as issues
 use Rattle.garage_laws.proofs.Steps.{asked}
 use Rattle.garage_laws.proofs.Changes as changes
 use Rattle.garage_laws.proofs.Always as always
@@ -34,7 +36,7 @@ rest o = o .station
 -- ---- 1. It always answers
 
 pub refused-untouched : RefusedUntouched
-refused-untouched = calls.untouched
+refused-untouched = each.untouched
 
 pub calls-in-table : CallsInTable
 calls-in-table s c = (call s c .answer, refl)
@@ -48,16 +50,31 @@ pub reason-exactly : ReasonExactly
 reason-exactly = refusals.reason-exactly
 
 pub result-record : ResultRecord
-result-record s i = (
-  (success-has s i, λ w. ap number (success-is s i (w .0) (w .1))),
-  λ e. let (w, t) = success-has s i e in let p = ap rest (success-is s i w t) in (p, ap (λ (t : Station). t .bits) p ∙ answering-bits s i _),
+result-record s k i = (
+  (success-has s k i, λ w. ap number (success-is s k i (w .0) (w .1) (w .2))),
+  λ e. let (q, w, t) = success-has s k i e in let p = ap rest (success-is s k i q w t) in (p, ap (λ (t : Station). t .bits) p ∙ answering-bits s i _),
 )
 
 pub failure-keeps : FailureKeeps
-failure-keeps s i = (
-  (failure-has s i, λ w. ap number (failure-is s i w)),
-  λ e. let p = ap rest (failure-is s i (failure-has s i e)) in (p, ap (λ (t : Station). t .bits) p ∙ answering-bits s i _),
+failure-keeps s k i = (
+  (failure-has s k i, λ w. ap number (failure-is s k i (w .0) (w .1))),
+  λ e. let (q, w) = failure-has s k i e in let p = ap rest (failure-is s k i q w) in (p, ap (λ (t : Station). t .bits) p ∙ answering-bits s i _),
 )
+
+pub late-exactly : LateExactly
+late-exactly = issues.late-exactly
+
+pub issues-in-turn : IssuesInTurn
+issues-in-turn = issues.issues-in-turn
+
+pub first-is-zero : FirstIsZero
+first-is-zero = issues.first-is-zero
+
+pub image-keeps-count : ImageKeepsCount
+image-keeps-count s r = issues.issues-in-turn s (run.image r) .1
+
+pub behind-counts : BehindCounts
+behind-counts = issues.behind-counts
 
 pub event-record : EventRecord
 event-record s e =

@@ -46,13 +46,13 @@ has-fit s F = rw (F .sound, le-leb (s .count) most (F .few), F .good, F .marks, 
 
 -- ---- no set
 
-fit-closed : (r : ℕ) → sound r ≡ true → fit (closed r) ≡ true
+fit-closed : (r next : ℕ) → sound r ≡ true → fit (closed r next) ≡ true
 unfolding fit every
-fit-closed r e = rw e
+fit-closed r next e = rw e
 
 pub fit-start : fit startOf ≡ true
 unfolding sound paired
-fit-start = fit-closed (startOf .bits) refl
+fit-start = fit-closed (startOf .bits) 0 refl
 
 -- ---- another record
 
@@ -90,12 +90,12 @@ noted s i r = noting s (marksWith s i) r
 
 -- what holds of it, and of a station with no set, holds after a result
 pub after-result : (P : Station → Type 0) (s : Station) (i r : ℕ)
-    → (every (s .count) (bit (marksWith s i)) ≡ true → P (closed r)) → (every (s .count) (bit (marksWith s i)) ≡ false → P (noted s i r)) → P (answering s i r)
+    → (every (s .count) (bit (marksWith s i)) ≡ true → P (closed r (s .next))) → (every (s .count) (bit (marksWith s i)) ≡ false → P (noted s i r)) → P (answering s i r)
 unfolding answering
 after-result P s i r last more = split (every (s .count) (bit (marksWith s i))) (λ t. rw t (last t)) (λ t. rw t (more t))
 
 pub fit-answering : (s : Station) (i r : ℕ) → fit s ≡ true → i < s .count → sound r ≡ true → fit (answering s i r) ≡ true
-fit-answering s i r f h e = after-result (λ t. fit t ≡ true) s i r (λ t. fit-closed r e) more
+fit-answering s i r f h e = after-result (λ t. fit t ≡ true) s i r (λ t. fit-closed r (s .next) e) more
   where
     F : Fit s
     F = fit-has s f

@@ -1,9 +1,9 @@
 -- The station follows the machine from act to act, as long as the machine's list is fair and says of no instruction that it is stuck:
 -- it takes each result, answers each event as the machine does, and shows the machine's station at the end. Assumes nothing.
-use mathlib.Core.Path.{_≡_, refl, sym, ap, ap₂, subst, subst₂}
+use mathlib.Core.Path.{_≡_, refl, sym, ap, ap₂, subst, subst₂, _∙_}
 use mathlib.Core.Bool.{Bool, true, false, not, _&&_}
 use mathlib.Core.List.{List, [], _∷_, map}
-use Prim.Native.Nat.{ℕ}
+use Prim.Native.Nat.{ℕ, _+_, _%_}
 use native.Mathlib.Omega.{arith}
 use lib.Dec.{ltb}
 use borrow.Author.Tests.{ltb-true, not-true}
@@ -16,26 +16,28 @@ use Rattle.sets.proofs.Machine.{Outcome, failed, finished, stuck, moves, sticks
 use Rattle.sets.proofs.Orders as machine-orders
 use Rattle.garage.specs.declared.Station.{Station}
 use Rattle.garage.specs.Held.{codeAt, heldAllowed, liftIn}
-use Rattle.garage.specs.Station.{fit, marked, answering}
+use Rattle.garage.specs.Station.{present, fit, marked, answering}
 use Rattle.garage.specs.Calls.{taken}
 use Rattle.garage_laws.specs.Runs as run
 use Rattle.garage_laws.specs.Runs.{call, said, left, calls}
 use Rattle.garage_laws.specs.Orders.{Fair, replies}
 use Rattle.garage_laws.specs.Demands.{Waiting}
 use Rattle.garage_laws.proofs.Instance.{rules, possibleAs}
-use Rattle.garage_laws.proofs.Calls.{success-is, failure-is, event-has, event-is, event-number, untouched}
+use Rattle.garage_laws.proofs.Calls.{success-is, failure-is, event-has, event-is, event-number}
+use Rattle.garage_laws.proofs.EachCall.{untouched}
 use Rattle.garage_laws.proofs.Steps.{steps}
+use Rattle.garage_laws.proofs.Issues.{issues-in-turn}
 use Rattle.garage_laws.proofs.Always.{fit-step}
 use Rattle.garage_laws.proofs.Link.{view, blocked-lift, drivable, resulting, result-view}
 use Rattle.garage_laws.proofs.Lists.{told, asCall, Unstuck}
 
 -- ---- a result that the machine takes
 
-result-is : (s : Station) (i : ℕ) (o : Outcome) → sticks o ≡ false → Waiting s i → (moves o ≡ true → heldAllowed (codeAt (s .set) i) (bit (s .bits)) ≡ true)
-    → call s (run.result i (told o)) ≡ taken (answering s i (resulting s i o))
-result-is s i failed u w ok = failure-is s i w
-result-is s i finished u w ok = success-is s i w (ok refl)
-result-is s i stuck u w ok = clash refl u
+result-is : (s : Station) (k i : ℕ) (o : Outcome) → k ≡ present s → sticks o ≡ false → Waiting s i → (moves o ≡ true → heldAllowed (codeAt (s .set) i) (bit (s .bits)) ≡ true)
+    → call s (run.result k i (told o)) ≡ taken (answering s i (resulting s i o))
+result-is s k i failed p u w ok = failure-is s k i p w
+result-is s k i finished p u w ok = success-is s k i p w (ok refl)
+result-is s k i stuck p u w ok = clash refl u
 
 -- only a success is told as 1
 told-moves : (o : Outcome) → told o ≡ 1 → moves o ≡ true
@@ -65,18 +67,28 @@ module _ (s : Station) (f : fit s ≡ true) (e : ℕ) where
 
 -- ---- what follows
 
+-- results and events keep the issue of the next set
+pub next-kept : (k : ℕ) (l : List (Act ℕ)) (s : Station) → calls s (map (asCall k) l) .next ≡ s .next
+next-kept k [] s = refl
+next-kept k (result i o ∷ l) s = next-kept k l (left s (run.result k i (told o))) ∙ issues-in-turn s (run.result k i (told o)) .1
+next-kept k (event e ∷ l) s = next-kept k l (left s (run.event e)) ∙ issues-in-turn s (run.event e) .1
+
+-- so the present one is the same
+present-kept : (k : ℕ) (s : Station) (a : Act ℕ) → k ≡ present s → k ≡ present (left s (asCall k a))
+present-kept k s a e = e ∙ ap (λ (n : ℕ). (n + 65535) % 65536) (sym (next-kept k (a ∷ []) s))
+
 -- the calls on the station s follow the acts on the machine's station a
-pub record Followed (l : List (Act ℕ)) (s : Station) (a : machine.Station ℕ Code) : Type 0 where
-  pub fair : Fair s (map asCall l)
-  pub replied : replies s (map asCall l) ≡ machine-orders.replies rules a l
-  pub shows : view (calls s (map asCall l)) ≡ machine.run rules a l
+pub record Followed (k : ℕ) (l : List (Act ℕ)) (s : Station) (a : machine.Station ℕ Code) : Type 0 where
+  pub fair : Fair s (map (asCall k) l)
+  pub replied : replies s (map (asCall k) l) ≡ machine-orders.replies rules a l
+  pub shows : view (calls s (map (asCall k) l)) ≡ machine.run rules a l
 
 -- the machine's list is fair on another station that is the same
 fair-at : (l : List (Act ℕ)) {a b : machine.Station ℕ Code} → a ≡ b → machine-orders.Fair rules b l → machine-orders.Fair rules a l
 fair-at l e F = subst (λ (a : machine.Station ℕ Code). machine-orders.Fair rules a l) (sym e) F
 
 -- a result, and what follows it
-module _ (s : Station) (f : fit s ≡ true) (i : ℕ) (o : Outcome) (u : sticks o ≡ false) (l : List (Act ℕ)) (F : machine-orders.Fair rules (view s) (result i o ∷ l)) where
+module _ (s : Station) (f : fit s ≡ true) (k : ℕ) (p : k ≡ present s) (i : ℕ) (o : Outcome) (u : sticks o ≡ false) (l : List (Act ℕ)) (F : machine-orders.Fair rules (view s) (result i o ∷ l)) where
   waits : Waiting s i
   waits = let (h, m) = both (ltb i (s .count)) (not (marked s i)) (F .0) in (f, ltb-true i (s .count) h, not-true (marked s i) m)
 
@@ -84,28 +96,29 @@ module _ (s : Station) (f : fit s ≡ true) (i : ℕ) (o : Outcome) (u : sticks 
   abbrev now : Station
   now = answering s i (resulting s i o)
 
-  now-is : left s (run.result i (told o)) ≡ now
-  now-is = ap (λ o. o .station) (result-is s i o u waits (F .1))
+  now-is : left s (run.result k i (told o)) ≡ now
+  now-is = ap (λ o. o .station) (result-is s k i o p u waits (F .1))
 
   now-fit : fit now ≡ true
-  now-fit = subst (λ (t : Station). fit t ≡ true) now-is (fit-step s _ _ (steps s (run.result i (told o)) tt) f)
+  now-fit = subst (λ (t : Station). fit t ≡ true) now-is (fit-step s _ _ (steps s (run.result k i (told o)) tt) f)
 
   now-view : view now ≡ machine.step rules (view s) (result i o)
   now-view = result-view s i o u waits
 
-  with-result : Followed l now (view now) → Followed (result i o ∷ l) s (view s)
+  with-result : Followed k l now (view now) → Followed k (result i o ∷ l) s (view s)
   with-result N =
-      let M : Followed l (left s (run.result i (told o))) (machine.step rules (view s) (result i o)) = subst₂ (Followed l) (sym now-is) now-view N in
-      record { fair = (rw (result-is s i o u waits (F .1)), (λ d. F .1 (told-moves o d)), M .fair); replied = M .replied; shows = M .shows }
+      let M : Followed k l (left s (run.result k i (told o))) (machine.step rules (view s) (result i o)) = subst₂ (Followed k l) (sym now-is) now-view N in
+      record { fair = (rw (result-is s k i o p u waits (F .1)), (λ d. F .1 (told-moves o d)), M .fair); replied = M .replied; shows = M .shows }
 
-pub follows : (l : List (Act ℕ)) → Unstuck l → (s : Station) → fit s ≡ true → machine-orders.Fair rules (view s) l → Followed l s (view s)
-follows [] u s f F = record { fair = tt; replied = refl; shows = refl }
-follows (result i o ∷ l) u s f F =
-    with-result s f i o (u .0) l F
-    (follows l (u .1) (now s f i o (u .0) l F) (now-fit s f i o (u .0) l F) (fair-at l (now-view s f i o (u .0) l F) (F .2)))
-follows (event e ∷ l) u s f F =
+pub follows : (k : ℕ) (l : List (Act ℕ)) → Unstuck l → (s : Station) → fit s ≡ true → k ≡ present s → machine-orders.Fair rules (view s) l → Followed k l s (view s)
+follows k [] u s f p F = record { fair = tt; replied = refl; shows = refl }
+follows k (result i o ∷ l) u s f p F =
+    let present-now = present-kept k s (result i o) p ∙ ap present (now-is s f k p i o (u .0) l F) in
+    with-result s f k p i o (u .0) l F
+    (follows k l (u .1) (now s f k p i o (u .0) l F) (now-fit s f k p i o (u .0) l F) present-now (fair-at l (now-view s f k p i o (u .0) l F) (F .2)))
+follows k (event e ∷ l) u s f p F =
     let v = event-view s f e in
     let t : Station = left s (run.event e) in
-    let N = follows l u t (fit-step s t (run.event e) (steps s (run.event e) tt) f) (fair-at l v F) in
-    let M : Followed l t (machine.step rules (view s) (event e)) = subst (Followed l t) v N in
+    let N = follows k l u t (fit-step s t (run.event e) (steps s (run.event e) tt) f) (present-kept k s (event e) p) (fair-at l v F) in
+    let M : Followed k l t (machine.step rules (view s) (event e)) = subst (Followed k l t) v N in
     record { fair = M .fair; replied = ap₂ _∷_ (event-answer s f e) (M .replied); shows = M .shows }

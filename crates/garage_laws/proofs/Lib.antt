@@ -2,9 +2,11 @@ pub mod Instance
 pub mod Fits
 pub mod Reasons
 pub mod Calls
+pub mod EachCall
 pub mod Places
 pub mod Refusals
 pub mod Steps
+pub mod Issues
 pub mod Changes
 pub mod Always
 pub mod Link

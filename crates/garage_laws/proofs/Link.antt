@@ -35,7 +35,8 @@ use Rattle.garage_laws.specs.Demands.{Acceptable, Waiting, NeverFourteen
 use Rattle.garage_laws.proofs.Instance.{rules, framed, blank, possibleAs}
 use Rattle.garage.proofs.Padding.{five-at, zeros-at, kept-code}
 use Rattle.garage_laws.proofs.Fits.{fit-has, some-every, marksWith, after-result}
-use Rattle.garage_laws.proofs.Calls.{following, success-either, each-call}
+use Rattle.garage_laws.proofs.Calls.{following, success-either}
+use Rattle.garage_laws.proofs.EachCall.{each-call}
 use Rattle.garage_laws.proofs.Always.{begins-has}
 use Rattle.garage_laws.proofs.Steps.{Step, refuses, opens, fails, succeeds, drives, tells, reached}
 
@@ -79,8 +80,8 @@ module _ (s : Station) (n : ℕ) (set : List ℕ) (A : Acceptable s n set) where
 no-code : (m : ℕ) → codeAt (replicate m 0) ≡ (λ j. blank)
 no-code m = fun-ext (λ i. rw (five-at (replicate m 0) i, zeros-at m (5 * i), zeros-at m (5 * i + 1), zeros-at m (5 * i + 2), zeros-at m (5 * i + 3), zeros-at m (5 * i + 4)))
 
-closed-view : (r : ℕ) → view (closed r) ≡ idle rules r nowhere
-closed-view r = λ i. record { bits = r; set = record { size = 0; at = no-code 40 i }; answered = unmarked i; away = nowhere }
+closed-view : (r next : ℕ) → view (closed r next) ≡ idle rules r nowhere
+closed-view r next = λ i. record { bits = r; set = record { size = 0; at = no-code 40 i }; answered = unmarked i; away = nowhere }
 
 module _ (s : Station) (i r : ℕ) where
   -- the station with the record r, and these marks
@@ -89,7 +90,7 @@ module _ (s : Station) (i r : ℕ) where
 
   answering-view : view (answering s i r) ≡ released rules (with-marks (mark i (bit (s .answered))))
   answering-view = after-result (λ t. view t ≡ released rules (with-marks (bit (marksWith s i)))) s i r
-      (λ t. rw (some-every (s .count) (bit (marksWith s i)), t) (closed-view r))
+      (λ t. rw (some-every (s .count) (bit (marksWith s i)), t) (closed-view r (s .next)))
       (λ t. rw (some-every (s .count) (bit (marksWith s i)), t))
       ∙ ap (λ (g : ℕ → Bool). released rules (with-marks g)) (marks (s .answered) i)
 
@@ -134,7 +135,7 @@ module _ (s : Station) (G : Sane s) where
   good-step t c (refuses n) = G
   good-step t c (opens {n} {set} A) = rw (request-view s n set A) (takes-good (request (kept s n set A)) (rw (A .idle) (request-accepted s n set A)))
   good-step t c (fails {i} w) = rw (answering-view s i (s .bits)) (takes-good (act (result i failed)) (result-taken s i failed w))
-  good-step t c (succeeds {i} w a) = rw (answering-view s i (following s i)) (takes-good (act (result i finished)) (result-taken s i finished w))
+  good-step t c (succeeds {i} p w a) = rw (answering-view s i (following s i)) (takes-good (act (result i finished)) (result-taken s i finished w))
   good-step t c (drives {e} d) = takes-good (act (event e)) (drivable s (d .0) e ∙ rw (d .1, d .2))
   good-step t c tells = G
 
@@ -155,5 +156,5 @@ begins-good s b =
 pub never-fourteen : NeverFourteen
 never-fourteen s R =
     let G = reached Sane (λ t u c p g. good-step t g u c p) begins-good s R in
-    each-call (λ o. numberOf (o .answer) ≡ 14 → ⊥) s (λ e z. omega arith) (λ a h. h .1) (λ t z. omega arith)
+    each-call (λ o. numberOf (o .answer) ≡ 14 → ⊥) s (λ e z. omega arith) (λ a h. h .1) (λ t z. omega arith) (λ n set z. omega arith)
     (λ i w. success-either s i (λ o. numberOf (o .answer) ≡ 14 → ⊥) (λ t z. omega arith) (λ t. clash (G .allowed i (w .1, w .2)) t))

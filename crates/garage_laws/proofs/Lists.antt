@@ -27,27 +27,27 @@ told failed = 0
 told finished = 1
 told stuck = 2
 
--- an act as a call
-abbrev pub asCall : Act ℕ → Call
-asCall (result j o) = run.result j (told o)
-asCall (event e) = run.event e
+-- an act as a call, results with issue k
+abbrev pub asCall : ℕ → Act ℕ → Call
+asCall k (result j o) = run.result k j (told o)
+asCall k (event e) = run.event e
 
-pub no-images : (l : List (Act ℕ)) → NoImages (map asCall l)
-no-images [] = tt
-no-images (result j o ∷ l) = no-images l
-no-images (event e ∷ l) = no-images l
+pub no-images : (k : ℕ) (l : List (Act ℕ)) → NoImages (map (asCall k) l)
+no-images k [] = tt
+no-images k (result j o ∷ l) = no-images k l
+no-images k (event e ∷ l) = no-images k l
 
 -- ---- counts, events and choices are the same
 
-same-results : (i : ℕ) (l : List (Act ℕ)) → resultsOf i (map asCall l) ≡ machine-orders.resultsOf i l
-same-results i [] = refl
-same-results i (result j o ∷ l) = ap (λ (n : ℕ). cond (eqb j i) 1 0 + n) (same-results i l)
-same-results i (event e ∷ l) = same-results i l
+same-results : (k i : ℕ) (l : List (Act ℕ)) → resultsOf i (map (asCall k) l) ≡ machine-orders.resultsOf i l
+same-results k i [] = refl
+same-results k i (result j o ∷ l) = ap (λ (n : ℕ). cond (eqb j i) 1 0 + n) (same-results k i l)
+same-results k i (event e ∷ l) = same-results k i l
 
-same-events : (l : List (Act ℕ)) → eventsOf (map asCall l) ≡ machine-orders.eventsOf l
-same-events [] = refl
-same-events (result j o ∷ l) = same-events l
-same-events (event e ∷ l) = ap (λ (es : List ℕ). e ∷ es) (same-events l)
+same-events : (k : ℕ) (l : List (Act ℕ)) → eventsOf (map (asCall k) l) ≡ machine-orders.eventsOf l
+same-events k [] = refl
+same-events k (result j o ∷ l) = same-events k l
+same-events k (event e ∷ l) = ap (λ (es : List ℕ). e ∷ es) (same-events k l)
 
 told-outcome : (b : Bool) → told (outcome b) ≡ digit b
 told-outcome true = refl
@@ -71,18 +71,18 @@ unstuck-outcome : (b : Bool) → sticks (outcome b) ≡ false
 unstuck-outcome true = refl
 unstuck-outcome false = refl
 
-module _ (succeeds : ℕ → Bool) where
+module _ (k : ℕ) (succeeds : ℕ → Bool) where
   abbrev pub choice : ℕ → Outcome
   choice j = outcome (succeeds j)
 
-  heard : (l : List (Act ℕ)) → AsChosen succeeds (map asCall l) → machine-orders.AsChosen choice l
+  heard : (l : List (Act ℕ)) → AsChosen k succeeds (map (asCall k) l) → machine-orders.AsChosen choice l
   heard [] c = tt
-  heard (result j o ∷ l) c = (by-number o (succeeds j) (c .0), heard l (c .1))
+  heard (result j o ∷ l) c = (by-number o (succeeds j) (c .1), heard l (c .2))
   heard (event e ∷ l) c = heard l c
 
-  spoken : (l : List (Act ℕ)) → machine-orders.AsChosen choice l → AsChosen succeeds (map asCall l)
+  spoken : (l : List (Act ℕ)) → machine-orders.AsChosen choice l → AsChosen k succeeds (map (asCall k) l)
   spoken [] c = tt
-  spoken (result j o ∷ l) c = (ap told (c .0) ∙ told-outcome (succeeds j), spoken l (c .1))
+  spoken (result j o ∷ l) c = (refl, ap told (c .0) ∙ told-outcome (succeeds j), spoken l (c .1))
   spoken (event e ∷ l) c = spoken l c
 
   pub unstuck : (l : List (Act ℕ)) → machine-orders.AsChosen choice l → Unstuck l
@@ -91,22 +91,23 @@ module _ (succeeds : ℕ → Bool) where
   unstuck (event e ∷ l) c = unstuck l c
 
   -- results and events as chosen are acts
-  pub acts : (l : List Call) → AsChosen succeeds l → (a : List (Act ℕ)) × (l ≡ map asCall a)
+  pub acts : (l : List Call) → AsChosen k succeeds l → (a : List (Act ℕ)) × (l ≡ map (asCall k) a)
   acts [] c = ([], refl)
   acts (run.request n set ∷ l) c = absurd c
   acts (run.reports r ∷ l) c =
-      let (a, e) = acts l (c .1) in
+      let (a, e) = acts l (c .2) in
       let j = r .number in
-      (result j (choice j) ∷ a, ap₂ (λ (d : ℕ) (m : List Call). run.result j d ∷ m) (c .0 ∙ sym (told-outcome (succeeds j))) e)
+      let told-so = c .1 ∙ sym (told-outcome (succeeds j)) in
+      (result j (choice j) ∷ a, ap (λ (x : ℕ). run.result x j (r .done) ∷ l) (c .0) ∙ ap₂ (λ (d : ℕ) (m : List Call). run.result k j d ∷ m) told-so e)
   acts (run.event x ∷ l) c = let (a, e) = acts l c in (event x ∷ a, ap (λ (m : List Call). run.event x ∷ m) e)
   acts (run.pictures p ∷ l) c = absurd c
   acts (run.ask ∷ l) c = absurd c
 
 -- ---- the last
 
-map-append : (l m : List (Act ℕ)) → map asCall (l ++ m) ≡ map asCall l ++ map asCall m
-map-append [] m = refl
-map-append (a ∷ l) m = ap (λ (n : List Call). asCall a ∷ n) (map-append l m)
+map-append : (k : ℕ) (l m : List (Act ℕ)) → map (asCall k) (l ++ m) ≡ map (asCall k) l ++ map (asCall k) m
+map-append k [] m = refl
+map-append k (a ∷ l) m = ap (λ (n : List Call). asCall k a ∷ n) (map-append k l m)
 
 -- where the calls end with a result, so do the acts
 abbrev Last : List (Act ℕ) → Type 0
@@ -118,40 +119,40 @@ never z = absurd (omega arith)
 later : {l : List (Act ℕ)} (a : Act ℕ) → Last l → Last (a ∷ l)
 later a p = (a ∷ p .0, p .1, p .2, ap (λ (m : List (Act ℕ)). a ∷ m) (p .3))
 
-last-of : (l : List (Act ℕ)) (front : List Call) (r : Report) → map asCall l ≡ front ++ (run.reports r ∷ []) → Last l
-last-of [] [] r e = never (cc)
-last-of [] (c ∷ front) r e = never (cc)
-last-of (result j o ∷ []) [] r e = ([], j, o, refl)
-last-of (event x ∷ []) [] r e = never (cc)
-last-of (a ∷ b ∷ l) [] r e = never (cc)
-last-of (a ∷ l) (c ∷ front) r e =
-    let t : map asCall l ≡ front ++ (run.reports r ∷ []) = cc in
-    later a (last-of l front r t)
+last-of : (k : ℕ) (l : List (Act ℕ)) (front : List Call) (r : Report) → map (asCall k) l ≡ front ++ (run.reports r ∷ []) → Last l
+last-of k [] [] r e = never (cc)
+last-of k [] (c ∷ front) r e = never (cc)
+last-of k (result j o ∷ []) [] r e = ([], j, o, refl)
+last-of k (event x ∷ []) [] r e = never (cc)
+last-of k (a ∷ b ∷ l) [] r e = never (cc)
+last-of k (a ∷ l) (c ∷ front) r e =
+    let t : map (asCall k) l ≡ front ++ (run.reports r ∷ []) = cc in
+    later a (last-of k l front r t)
 
 -- ---- orders
 
-module _ {n : ℕ} {succeeds : ℕ → Bool} {events : List ℕ} {l : List (Act ℕ)} where
-  pub order-heard : Order n succeeds events (map asCall l) → machine-orders.Order n (choice succeeds) events l
+module _ (k : ℕ) {n : ℕ} {succeeds : ℕ → Bool} {events : List ℕ} {l : List (Act ℕ)} where
+  pub order-heard : Order k n succeeds events (map (asCall k) l) → machine-orders.Order n (choice k succeeds) events l
   order-heard O = record {
-    once = λ i h. sym (same-results i l) ∙ O .once i h;
-    only = λ i h. sym (same-results i l) ∙ O .only i h;
-    chosen = heard succeeds l (O .chosen);
-    events = sym (same-events l) ∙ O .those;
-    last = (let (front, r, e) = O .last in last-of l front r e);
+    once = λ i h. sym (same-results k i l) ∙ O .once i h;
+    only = λ i h. sym (same-results k i l) ∙ O .only i h;
+    chosen = heard k succeeds l (O .chosen);
+    events = sym (same-events k l) ∙ O .those;
+    last = (let (front, r, e) = O .last in last-of k l front r e);
   }
 
-  order-spoken : machine-orders.Order n (choice succeeds) events l → (front : List Call) (r : Report) → map asCall l ≡ front ++ (run.reports r ∷ []) → Order n succeeds events (map asCall l)
+  order-spoken : machine-orders.Order n (choice k succeeds) events l → (front : List Call) (r : Report) → map (asCall k) l ≡ front ++ (run.reports r ∷ []) → Order k n succeeds events (map (asCall k) l)
   order-spoken O front r e = record {
-    once = λ i h. same-results i l ∙ O .once i h;
-    only = λ i h. same-results i l ∙ O .only i h;
-    chosen = spoken succeeds l (O .chosen);
-    those = same-events l ∙ O .events;
+    once = λ i h. same-results k i l ∙ O .once i h;
+    only = λ i h. same-results k i l ∙ O .only i h;
+    chosen = spoken k succeeds l (O .chosen);
+    those = same-events k l ∙ O .events;
     last = (front, r, e);
   }
 
 pub orders-exist : OrdersExist
-orders-exist n i h succeeds events =
-    let (f, O) = exists.orders-exist ℕ n i h (choice succeeds) events in
-    let e : map asCall (f ++ (result i (choice succeeds i) ∷ [])) ≡ map asCall f ++ (run.result i (digit (succeeds i)) ∷ []) =
-    map-append f (result i (choice succeeds i) ∷ []) ∙ ap (λ (d : ℕ). map asCall f ++ (run.result i d ∷ [])) (told-outcome (succeeds i)) in
-    (map asCall f, subst (Order n succeeds events) e (order-spoken O (map asCall f) (record { number = i; done = digit (succeeds i) }) e))
+orders-exist k n i h succeeds events =
+    let (f, O) = exists.orders-exist ℕ n i h (choice k succeeds) events in
+    let e : map (asCall k) (f ++ (result i (choice k succeeds i) ∷ [])) ≡ map (asCall k) f ++ (run.result k i (digit (succeeds i)) ∷ []) =
+    map-append k f (result i (choice k succeeds i) ∷ []) ∙ ap (λ (d : ℕ). map (asCall k) f ++ (run.result k i d ∷ [])) (told-outcome (succeeds i)) in
+    (map (asCall k) f, subst (Order k n succeeds events) e (order-spoken k O (map (asCall k) f) (record { issue = k; number = i; done = digit (succeeds i) }) e))

@@ -16,7 +16,7 @@ use Rattle.rules.specs.Events.{possible}
 use Rattle.rules.specs.Codes.{readEvent, most}
 use Rattle.answers.specs.declared.Reason.{Reason}
 use Rattle.answers.specs.declared.Answer.{Answer}
-use Rattle.answers.specs.declared.Answer.the-variants.{Taken, TooFewBytes, BadLength, UnknownKind, BadField, TooMany, SetOutstanding, EmptySet, Overlap, NotAllowed, EventImpossible, NoSet, NotInSet, AlreadyAnswered, NowNotAllowed, Unsound, Unfit, NoRoom}
+use Rattle.answers.specs.declared.Answer.the-variants.{Taken, Opened, TooFewBytes, BadLength, UnknownKind, BadField, TooMany, SetOutstanding, EmptySet, Overlap, NotAllowed, EventImpossible, NoSet, NotInSet, AlreadyAnswered, NowNotAllowed, Unsound, Unfit, NoRoom, Late, NotIssued}
 use Rattle.answers.specs.Answers.{reasonNumber, numberOf, placeOf, nowhere}
 use Rattle.answers.proofs.Promises.{reason-from}
 use Rattle.garage.specs.declared.Station.{Station}
@@ -24,7 +24,7 @@ use Rattle.garage.specs.declared.Outcome.{Outcome}
 use Rattle.garage.specs.declared.Report.{Report}
 use Rattle.garage.specs.declared.Picture.{Picture}
 use Rattle.garage.specs.Held.{bad, overlapsEarlier, barred, whyNot, liftIn}
-use Rattle.garage.specs.Station.{inSet, marked, fit}
+use Rattle.garage.specs.Station.{inSet, marked, present, late, fit}
 use Rattle.garage.specs.Calls as station
 use Rattle.garage_laws.specs.Runs as run
 use Rattle.garage_laws.specs.Runs.{call}
@@ -105,6 +105,7 @@ places-right s n set = let R = request-right s n set in (R .four, R .eight, R .r
 
 answer-nowhere : (a : Answer) → ((numberOf a ≡ 4) ⊎ ((numberOf a ≡ 8) ⊎ ((why : Reason) × (numberOf a ≡ reasonNumber why))) → ⊥) → placeOf a ≡ nowhere
 answer-nowhere Taken other = refl
+answer-nowhere (Opened k) other = refl
 answer-nowhere TooFewBytes other = refl
 answer-nowhere BadLength other = refl
 answer-nowhere UnknownKind other = refl
@@ -122,6 +123,8 @@ answer-nowhere NowNotAllowed other = refl
 answer-nowhere Unsound other = refl
 answer-nowhere Unfit other = refl
 answer-nowhere NoRoom other = refl
+answer-nowhere Late other = refl
+answer-nowhere NotIssued other = refl
 
 record Flat (o : Outcome) : Type 0 where
   flat : place o ≡ nowhere
@@ -142,9 +145,13 @@ module _ (s : Station) where
   unfolding station.numbered
   numbered-flat i done = fork (not (inSet s i)) (flatly refl) (fork (marked s i) (flatly refl) (ended-flat i done))
 
+  timely-flat : (r : Report) → Flat (station.timely s r)
+  unfolding station.timely
+  timely-flat r = fork (late s (r .issue)) (flatly refl) (fork (eqb (r .issue) (present s)) (numbered-flat (r .number) (r .done)) (flatly refl))
+
   resulted-flat : (r : Report) → Flat (station.resulted s r)
   unfolding station.resulted
-  resulted-flat r = fork (ltb 1 (r .done)) (flatly refl) (fork (eqb (s .count) 0) (flatly refl) (numbered-flat (r .number) (r .done)))
+  resulted-flat r = fork (ltb 1 (r .done)) (flatly refl) (fork (eqb (s .count) 0) (flatly refl) (timely-flat r))
 
   result-flat : (r : Report) → Flat (station.result s r)
   unfolding station.result

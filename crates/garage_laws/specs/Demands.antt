@@ -2,9 +2,9 @@
 -- Assumes nothing.
 use mathlib.Core.Path.{_≡_}
 use mathlib.Core.Logic.{_↔_, _⊎_}
-use mathlib.Core.Bool.{Bool, true, false}
+use mathlib.Core.Bool.{Bool, true, false, cond}
 use mathlib.Core.List.{List, [], _∷_, _++_}
-use Prim.Native.Nat.{ℕ, _+_, _≤_, _<_}
+use Prim.Native.Nat.{ℕ, _+_, _%_, _≤_, _<_}
 use lib.ListN.{length}
 use Rattle.bits.specs.Bits.{Bits, bit, image, digit}
 use Rattle.bits.specs.Places.{share}
@@ -21,10 +21,11 @@ use Rattle.rules.specs.Promises.{FirstFails}
 use Rattle.answers.specs.declared.Reason.{Reason}
 use Rattle.answers.specs.Answers.{reasonNumber, OfTable, nowhere}
 use Rattle.garage.specs.declared.Station.{Station}
+use Rattle.garage.specs.declared.Report.{Report}
 use Rattle.garage.specs.Held.{codeAt, isGood, heldArea, heldAllowed, heldNext, bad, overlapsEarlier, barred, liftIn}
-use Rattle.garage.specs.Station.{fit, marked, holding, opened, answering}
+use Rattle.garage.specs.Station.{startOf, issueAfter, present, behind, late, fit, marked, holding, opened, answering}
 use Rattle.garage_laws.specs.Runs as run
-use Rattle.garage_laws.specs.Runs.{Call, said, left, placed, calls, Begins, NoImages, Reached, driven}
+use Rattle.garage_laws.specs.Runs.{Call, said, left, placed, carried, opens, calls, setsOpened, Begins, NoImages, Reached, driven}
 use Rattle.garage_laws.specs.Orders.{Order, Alike, Amid, interrupted, takenOf, turns, turnsAmid, AlikeAmid}
 
 -- ---- 1. It always answers: a refused call leaves the station as it was
@@ -79,22 +80,56 @@ ReasonExactly =
 abbrev pub Waiting : Station → ℕ → Type 0
 Waiting s i = (fit s ≡ true) × (i < s .count) × (marked s i ≡ false)
 
--- a success is taken exactly if its instruction waits and is allowed now; the record is then what its rule makes of the present one
+-- a success is taken exactly if it is of the present set, and its instruction waits and is allowed now; the record is then what its rule
+-- makes of the present one
 abbrev pub ResultRecord : Type 0
 ResultRecord =
-    (s : Station) (i : ℕ)
-    → ((said s (run.result i 1) ≡ 0) ↔ (Waiting s i × (heldAllowed (codeAt (s .set) i) (bit (s .bits)) ≡ true)))
-    × (said s (run.result i 1) ≡ 0
-    → (left s (run.result i 1) ≡ answering s i (image (heldNext (codeAt (s .set) i) (bit (s .bits)))))
-    × (left s (run.result i 1) .bits ≡ image (heldNext (codeAt (s .set) i) (bit (s .bits)))))
+    (s : Station) (k i : ℕ)
+    → ((said s (run.result k i 1) ≡ 0) ↔ ((k ≡ present s) × Waiting s i × (heldAllowed (codeAt (s .set) i) (bit (s .bits)) ≡ true)))
+    × (said s (run.result k i 1) ≡ 0
+    → (left s (run.result k i 1) ≡ answering s i (image (heldNext (codeAt (s .set) i) (bit (s .bits)))))
+    × (left s (run.result k i 1) .bits ≡ image (heldNext (codeAt (s .set) i) (bit (s .bits)))))
 
--- a failure is taken exactly if its instruction waits; the record stays
+-- a failure is taken exactly if it is of the present set and its instruction waits; the record stays
 abbrev pub FailureKeeps : Type 0
 FailureKeeps =
-    (s : Station) (i : ℕ)
-    → ((said s (run.result i 0) ≡ 0) ↔ Waiting s i)
-    × (said s (run.result i 0) ≡ 0
-    → (left s (run.result i 0) ≡ answering s i (s .bits)) × (left s (run.result i 0) .bits ≡ s .bits))
+    (s : Station) (k i : ℕ)
+    → ((said s (run.result k i 0) ≡ 0) ↔ ((k ≡ present s) × Waiting s i))
+    × (said s (run.result k i 0) ≡ 0
+    → (left s (run.result k i 0) ≡ answering s i (s .bits)) × (left s (run.result k i 0) .bits ≡ s .bits))
+
+-- a result that could be of a set: the station is fit, it says 0 or 1, and a set is outstanding
+abbrev pub Heard : Station → Report → Type 0
+Heard s r = (fit s ≡ true) × (r .done ≤ 1) × (0 < s .count)
+
+-- a result is answered 29 exactly if it is such a one and its issue is 1 to 32767 behind the present one, and 30 exactly if it is such a
+-- one and its issue is neither so nor the present one
+abbrev pub LateExactly : Type 0
+LateExactly =
+    (s : Station) (r : Report)
+    → ((said s (run.reports r) ≡ 29) ↔ (Heard s r × (late s (r .issue) ≡ true)))
+    × ((said s (run.reports r) ≡ 30) ↔ (Heard s r × (late s (r .issue) ≡ false) × (r .issue ≡ present s → ⊥)))
+
+-- a request that is taken carries the next issue, which moves on by one, round the end; every other call carries 0 and keeps it
+abbrev pub IssuesInTurn : Type 0
+IssuesInTurn =
+    (s : Station) (c : Call)
+    → (carried s c ≡ cond (opens s c) (s .next) 0) × (left s c .next ≡ cond (opens s c) (issueAfter (s .next)) (s .next))
+
+-- the first set from the start record has issue 0, whatever calls come before it
+abbrev pub FirstIsZero : Type 0
+FirstIsZero =
+    (l : List Call) → setsOpened startOf l ≡ 0
+    → (n : ℕ) (set : List ℕ) → said (calls startOf l) (run.request n set) ≡ 0
+    → (carried (calls startOf l) (run.request n set) ≡ 0) × (present (left (calls startOf l) (run.request n set)) ≡ 0)
+
+-- an image keeps the count, taken or not
+abbrev pub ImageKeepsCount : Type 0
+ImageKeepsCount = (s : Station) (r : ℕ) → left s (run.image r) .next ≡ s .next
+
+-- after calls that open m sets, the issue that was the present one is m behind, counted round the end
+abbrev pub BehindCounts : Type 0
+BehindCounts = (s : Station) (l : List Call) → behind (calls s l) (present s) ≡ setsOpened s l % 65536
 
 -- a car event is taken exactly if no outstanding set has the lift in an area and the event is possible; only the record changes
 abbrev pub EventRecord : Type 0
@@ -116,7 +151,7 @@ AskKeeps = (s : Station) → ((said s run.ask ≡ 0) ↔ (fit s ≡ true)) × (l
 
 -- a result that is taken says 0, failed, or 1, done
 abbrev pub ResultTaken : Type 0
-ResultTaken = (s : Station) (i done : ℕ) → said s (run.result i done) ≡ 0 → (done ≡ 0) ⊎ (done ≡ 1)
+ResultTaken = (s : Station) (k i done : ℕ) → said s (run.result k i done) ≡ 0 → (done ≡ 0) ⊎ (done ≡ 1)
 
 -- an event that is taken says 1, a car in, or 2, a car out
 abbrev pub EventTaken : Type 0
@@ -173,26 +208,27 @@ CarsCounted =
     → (start end : List Car) → Layout (bit (s .bits)) start → Layout (bit (calls s l .bits)) end
     → length end + driven 2 s l ≡ length start + driven 1 s l
 
--- of an accepted set: whichever instructions succeed, two orders of their results with the same car events come to the same
+-- of an accepted set: whichever instructions succeed, two orders of their results, with the present issue, and with the same car events
+-- come to the same
 abbrev pub AnyOrder : Type 0
 AnyOrder =
     (s : Station) → Reached s → (n : ℕ) (set : List ℕ) → said s (run.request n set) ≡ 0
     → (succeeds : ℕ → Bool) (events : List ℕ) (l m : List Call)
-    → Order n succeeds events l → Order n succeeds events m
+    → Order (present (left s (run.request n set))) n succeeds events l → Order (present (left s (run.request n set))) n succeeds events m
     → Alike (left s (run.request n set)) l m
 
--- such orders exist for every size, with any instruction answered last
+-- such orders exist for every issue and size, with any instruction answered last
 abbrev pub OrdersExist : Type 0
 OrdersExist =
-    (n i : ℕ) → i < n → (succeeds : ℕ → Bool) (events : List ℕ)
-    → (front : List Call) × Order n succeeds events (front ++ (run.result i (digit (succeeds i)) ∷ []))
+    (k n i : ℕ) → i < n → (succeeds : ℕ → Bool) (events : List ℕ)
+    → (front : List Call) × Order k n succeeds events (front ++ (run.result k i (digit (succeeds i)) ∷ []))
 
 -- two orders come to the same also with asks, and calls that are refused, put in anywhere between
 abbrev pub AnyOrderAmid : Type 0
 AnyOrderAmid =
     (s : Station) → Reached s → (n : ℕ) (set : List ℕ) → said s (run.request n set) ≡ 0
     → (succeeds : ℕ → Bool) (events : List ℕ) (l m : List Call)
-    → Order n succeeds events l → Order n succeeds events m
+    → Order (present (left s (run.request n set))) n succeeds events l → Order (present (left s (run.request n set))) n succeeds events m
     → (l' m' : List Call) (a : Amid (left s (run.request n set)) l l') (b : Amid (left s (run.request n set)) m m')
     → AlikeAmid a b
 

@@ -29,20 +29,22 @@ eventsOf (event e ∷ l) = e ∷ eventsOf l
 eventsOf (pictures p ∷ l) = eventsOf l
 eventsOf (ask ∷ l) = eventsOf l
 
--- it has only results and car events, and each result is as chosen: 1 for an instruction that succeeds, 0 for one that fails
-abbrev pub AsChosen : (ℕ → Bool) → List Call → Type 0
-AsChosen succeeds [] = Unit {0}
-AsChosen succeeds (request n set ∷ l) = ⊥
-AsChosen succeeds (reports r ∷ l) = (r .done ≡ digit (succeeds (r .number))) × AsChosen succeeds l
-AsChosen succeeds (event e ∷ l) = AsChosen succeeds l
-AsChosen succeeds (pictures p ∷ l) = ⊥
-AsChosen succeeds (ask ∷ l) = ⊥
+-- it has only results of the set with issue k and car events, and each result is as chosen: 1 for an instruction that succeeds, 0 for one
+-- that fails
+abbrev pub AsChosen : ℕ → (ℕ → Bool) → List Call → Type 0
+AsChosen k succeeds [] = Unit {0}
+AsChosen k succeeds (request n set ∷ l) = ⊥
+AsChosen k succeeds (reports r ∷ l) = (r .issue ≡ k) × (r .done ≡ digit (succeeds (r .number))) × AsChosen k succeeds l
+AsChosen k succeeds (event e ∷ l) = AsChosen k succeeds l
+AsChosen k succeeds (pictures p ∷ l) = ⊥
+AsChosen k succeeds (ask ∷ l) = ⊥
 
--- an order of the results of n instructions with these car events: one result for each as chosen, no other, the events in this order, a result last
-pub record Order (n : ℕ) (succeeds : ℕ → Bool) (events : List ℕ) (l : List Call) : Type 0 where
+-- an order of the results of the n instructions of the set with issue k, with these car events: one result for each as chosen, no other, the
+-- events in this order, a result last
+pub record Order (k n : ℕ) (succeeds : ℕ → Bool) (events : List ℕ) (l : List Call) : Type 0 where
   pub once : (i : ℕ) → i < n → resultsOf i l ≡ 1
   pub only : (i : ℕ) → n ≤ i → resultsOf i l ≡ 0
-  pub chosen : AsChosen succeeds l
+  pub chosen : AsChosen k succeeds l
   pub those : eventsOf l ≡ events
   pub last : (front : List Call) × (r : Report) × (l ≡ front ++ (reports r ∷ []))
 

@@ -1,11 +1,12 @@
 -- A call of the station, lists of calls, each on the station that the last one left, and the stations that are reached so.
 -- Assumes nothing.
 use mathlib.Core.Path.{_≡_}
-use mathlib.Core.Bool.{cond, _&&_}
+use mathlib.Core.Bool.{Bool, false, cond, _&&_}
 use mathlib.Core.List.{List, [], _∷_}
 use Prim.Native.Nat.{ℕ, _+_, _^_, _<_}
 use lib.Dec.{eqb}
-use Rattle.answers.specs.Answers.{numberOf, placeOf}
+use Rattle.bits.specs.Bits.{digit}
+use Rattle.answers.specs.Answers.{numberOf, placeOf, issueOf}
 use Rattle.garage.specs.declared.Station.{Station}
 use Rattle.garage.specs.declared.Outcome.{Outcome}
 use Rattle.garage.specs.declared.Report.{Report}
@@ -21,9 +22,9 @@ pub data Call : Type 0 where
   pictures : Picture → Call
   ask : Call
 
--- a result by its numbers, an image by its record
-abbrev pub result : ℕ → ℕ → Call
-result i done = reports (record { number = i; done = done })
+-- a result by its numbers, the issue first; an image by its record
+abbrev pub result : ℕ → ℕ → ℕ → Call
+result k i done = reports (record { issue = k; number = i; done = done })
 
 abbrev pub image : ℕ → Call
 image r = pictures (record { bits = r })
@@ -47,10 +48,27 @@ left s c = call s c .station
 abbrev pub placed : Station → Call → ℕ
 placed s c = placeOf (call s c .answer)
 
+-- the issue that its answer carries
+abbrev pub carried : Station → Call → ℕ
+carried s c = issueOf (call s c .answer)
+
+-- it is a request that is taken
+abbrev pub opens : Station → Call → Bool
+opens s (request n set) = eqb (said s (request n set)) 0
+opens s (reports r) = false
+opens s (event e) = false
+opens s (pictures p) = false
+opens s ask = false
+
 -- the station after several calls
 abbrev pub calls : Station → List Call → Station
 calls s [] = s
 calls s (c ∷ l) = calls (left s c) l
+
+-- how many sets they open
+abbrev pub setsOpened : Station → List Call → ℕ
+setsOpened s [] = 0
+setsOpened s (c ∷ l) = digit (opens s c) + setsOpened (left s c) l
 
 -- where it begins: the start, or an image of 64 bits that was taken
 pub data Begins : Station → Type 0 where

@@ -4,6 +4,7 @@ use garage::Outcome;
 use garage::Picture;
 use garage::Report;
 use garage::Station;
+use std::num::wrapping_sub_u16;
 
 // The start's shuttles and lift. Row 1 has cars in cells 2-3, 6-7, 14-15 and 18-19, row 2 in 20, 22, 25 and 29, row 3 in 31 and 36.
 const FLOOR: u64 = 0x9_1B10_A25C_C0CC;
@@ -99,6 +100,7 @@ fn acted(r: Course, act: u8) -> Course {
         b'0'..=b'7' => {
             let i = act - b'0';
             let report = Report {
+                issue: wrapping_sub_u16(s.next, 1),
                 number: i,
                 done: reported(i),
             };

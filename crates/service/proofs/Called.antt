@@ -19,7 +19,7 @@ use Rattle.garage.specs.Turns.{turnOf}
 use Rattle.garage.proofs.Turns.{Kept, kept-refused, kept-requested, kept-evented, kept-resulted, kept-imaged}
 use Rattle.garage_laws.specs.Runs as run
 use Rattle.garage_laws.specs.Runs.{Call}
-use Rattle.garage_laws.proofs.Calls.{unfit-is}
+use Rattle.garage_laws.proofs.EachCall.{unfit-is}
 use Rattle.garage_laws.proofs.Demands.{fit-stays}
 use Rattle.wire.specs.declared.What.{What}
 use Rattle.wire.specs.declared.What.the-variants.{Request, Event, Result, Image, Ask, Answer, Held}
@@ -32,10 +32,10 @@ pub each-called : (P : Outcome → Type 0) (s : Station) → ((c : Call) → P (
     → (makesCall w ≡ false → P (refused s UnknownKind)) → P (called w s n set)
 each-called P s f Request n set g = f (run.request n set)
 each-called P s f (Event way) n set g = f (run.event way)
-each-called P s f (Result number done) n set g = f (run.result number done)
+each-called P s f (Result issue number done) n set g = f (run.result issue number done)
 each-called P s f (Image r) n set g = f (run.image r)
 each-called P s f Ask n set g = f run.ask
-each-called P s f (Answer number place) n set g = g refl
+each-called P s f (Answer number place issue) n set g = g refl
 each-called P s f (Held r) n set g = g refl
 
 -- ---- fitness stays
@@ -75,8 +75,8 @@ pub called-kept : (w : What) (s : Station) (n : ℕ) (set : List ℕ) → set �
 unfolding request event result takeImage ask
 called-kept Request s n set e = kept-on-fit s set (kept-requested s set n set e)
 called-kept (Event way) s n set e = kept-on-fit s set (kept-evented s set way)
-called-kept (Result number done) s n set e = kept-on-fit s set (kept-resulted s set _)
+called-kept (Result issue number done) s n set e = kept-on-fit s set (kept-resulted s set _)
 called-kept (Image r) s n set e = kept-on-fit s set (kept-imaged s set _)
 called-kept Ask s n set e = kept-on-fit s set (kept-refused s set Taken)
-called-kept (Answer number place) s n set e = kept-refused s set UnknownKind
+called-kept (Answer number place issue) s n set e = kept-refused s set UnknownKind
 called-kept (Held r) s n set e = kept-refused s set UnknownKind

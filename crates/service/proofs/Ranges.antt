@@ -15,7 +15,7 @@ use Rattle.answers.proofs.Promises.{answer-in}
 use Rattle.garage.specs.declared.Station.{Station}
 use Rattle.garage.specs.declared.Outcome.{Outcome}
 use Rattle.garage_laws.specs.Runs.{call}
-use Rattle.garage_laws.proofs.Calls.{not-seventeen}
+use Rattle.garage_laws.proofs.EachCall.{not-seventeen}
 use Rattle.garage_laws.proofs.Demands.{refused-untouched, places-in-range}
 use Rattle.wire.specs.declared.What.{What}
 use Rattle.wire.specs.declared.What.the-variants.{Request, Event, Result, Image, Ask, Held}
@@ -36,8 +36,8 @@ record Outcome-fine (s : Station) (o : Outcome) : Type 0 where
 record Reply-fine (s : Station) (r : Reply) : Type 0 where
   written : inRange (r .answer) ≡ true
   answers : Answers (r .answer)
-  kept : (number place : ℕ) → r .answer ≡ What.Answer number place → (number ≡ 0 → ⊥) → r .station ≡ s
-  never : (place : ℕ) → r .answer ≡ What.Answer 17 place → ⊥
+  kept : (number place issue : ℕ) → r .answer ≡ What.Answer number place issue → (number ≡ 0 → ⊥) → r .station ≡ s
+  never : (place issue : ℕ) → r .answer ≡ What.Answer 17 place issue → ⊥
 
 -- ---- the call
 
@@ -56,11 +56,11 @@ called-fine s w count set =
 
 -- the number that a message answers with
 abbrev numberIn : What → ℕ
-numberIn (What.Answer number place) = number
+numberIn (What.Answer number place issue) = number
 numberIn (Held r) = 0
 numberIn Request = 0
 numberIn (Event way) = 0
-numberIn (Result number done) = 0
+numberIn (Result issue number done) = 0
 numberIn (Image r) = 0
 numberIn Ask = 0
 
@@ -77,8 +77,8 @@ module _ (s : Station) where
   shown = record {
     written = refl;
     answers = tt;
-    kept = λ number place e n. absurd (n (sym (ap numberIn e)));
-    never = λ place e. let z = ap numberIn e in omega arith;
+    kept = λ number place issue e n. absurd (n (sym (ap numberIn e)));
+    never = λ place issue e. let z = ap numberIn e in omega arith;
   }
 
   -- an answer
@@ -88,17 +88,17 @@ module _ (s : Station) where
       record {
         written = r;
         answers = ((a, refl), placed a e);
-        kept = λ number place f z. k (λ o. z (sym (ap numberIn f) ∙ o));
-        never = λ place f. eqb-false (numberOf a) 17 (not-true _ n) (ap numberIn f);
+        kept = λ number place issue f z. k (λ o. z (sym (ap numberIn f) ∙ o));
+        never = λ place issue f. eqb-false (numberOf a) 17 (not-true _ n) (ap numberIn f);
       }
 
   reply-fine : (w : What) (o : Outcome) → Outcome-fine s o → Reply-fine s (replyOf w o)
   reply-fine Request o f = told (o .station) (o .answer) (f .outcome) (f .kept)
   reply-fine (Event way) o f = told (o .station) (o .answer) (f .outcome) (f .kept)
-  reply-fine (Result number done) o f = told (o .station) (o .answer) (f .outcome) (f .kept)
+  reply-fine (Result issue number done) o f = told (o .station) (o .answer) (f .outcome) (f .kept)
   reply-fine (Image r) o f = told (o .station) (o .answer) (f .outcome) (f .kept)
   reply-fine Ask o f = split (eqb (numberOf (o .answer)) 0) (λ t. rw t shown) (λ t. rw t (told (o .station) (o .answer) (f .outcome) (f .kept)))
-  reply-fine (What.Answer number place) o f = told (o .station) (o .answer) (f .outcome) (f .kept)
+  reply-fine (What.Answer number place issue) o f = told (o .station) (o .answer) (f .outcome) (f .kept)
   reply-fine (Held r) o f = told (o .station) (o .answer) (f .outcome) (f .kept)
 
   replied : (bytes : List ℕ) → Reply-fine s (respond s bytes)

@@ -29,20 +29,20 @@ use Rattle.service.specs.Runs.{enough, finishing}
 pub not-asked : (w : What) (o : Outcome) → OneOf (0 ∷ 1 ∷ 2 ∷ 3 ∷ 5 ∷ 6 ∷ []) (tagOf what.the-type w) → replyMessage w o ≡ answerMessage (o .answer)
 not-asked Request o h = refl
 not-asked (Event way) o h = refl
-not-asked (Result number done) o h = refl
+not-asked (Result issue number done) o h = refl
 not-asked (Image r) o h = refl
 not-asked Ask o h = absurd (miss (0 ∷ 1 ∷ 2 ∷ 3 ∷ 5 ∷ 6 ∷ []) 4 tt h)
-not-asked (What.Answer number place) o h = refl
+not-asked (What.Answer number place issue) o h = refl
 not-asked (Held r) o h = refl
 
 -- what is neither of kind 128 nor of 129 makes a call
 pub makes-call : (w : What) → OneOf (0 ∷ 1 ∷ 2 ∷ 3 ∷ 4 ∷ []) (tagOf what.the-type w) → true ≡ makesCall w
 makes-call Request h = refl
 makes-call (Event way) h = refl
-makes-call (Result number done) h = refl
+makes-call (Result issue number done) h = refl
 makes-call (Image r) h = refl
 makes-call Ask h = refl
-makes-call (What.Answer number place) h = absurd (miss (0 ∷ 1 ∷ 2 ∷ 3 ∷ 4 ∷ []) 5 tt h)
+makes-call (What.Answer number place issue) h = absurd (miss (0 ∷ 1 ∷ 2 ∷ 3 ∷ 4 ∷ []) 5 tt h)
 makes-call (Held r) h = absurd (miss (0 ∷ 1 ∷ 2 ∷ 3 ∷ 4 ∷ []) 6 tt h)
 
 -- ---- writing
@@ -52,10 +52,10 @@ pub plain-written : (w : What) (room : List ℕ) → inRange w ≡ true → writ
 unfolding answerBytes writing least
 plain-written Request room e = refl
 plain-written (Event way) room e = ranged (plain (Event way)) room (Event way) refl refl e
-plain-written (Result number done) room e = ranged (plain (Result number done)) room (Result number done) refl refl e
+plain-written (Result issue number done) room e = ranged (plain (Result issue number done)) room (Result issue number done) refl refl e
 plain-written (Image r) room e = refl
 plain-written Ask room e = refl
-plain-written (What.Answer number place) room e = ranged (plain (What.Answer number place)) room (What.Answer number place) refl refl e
+plain-written (What.Answer number place issue) room e = ranged (plain (What.Answer number place issue)) room (What.Answer number place issue) refl refl e
 plain-written (Held r) room e = refl
 
 -- and room that is long enough for it
@@ -72,10 +72,10 @@ pub answer-bytes-length : (w : What) → length (answerBytes w) ≤ 12
 unfolding answerBytes
 answer-bytes-length Request = omega arith
 answer-bytes-length (Event way) = omega arith
-answer-bytes-length (Result number done) = omega arith
+answer-bytes-length (Result issue number done) = omega arith
 answer-bytes-length (Image r) = omega arith
 answer-bytes-length Ask = omega arith
-answer-bytes-length (What.Answer number place) = omega arith
+answer-bytes-length (What.Answer number place issue) = omega arith
 answer-bytes-length (Held r) = omega arith
 
 -- a third of what is left beside the last answer

@@ -7,8 +7,8 @@ use Rattle.wire.specs.declared.What.the-variants.{Request, Event, Result, Image
 abbrev pub makesCall : What → Bool
 makesCall Request = true
 makesCall (Event way) = true
-makesCall (Result number done) = true
+makesCall (Result issue number done) = true
 makesCall (Image r) = true
 makesCall Ask = true
-makesCall (Answer number place) = false
+makesCall (Answer number place issue) = false
 makesCall (Held r) = false

@@ -7,7 +7,7 @@ use lib.Dec.{eqb}
 use lib.ListN.{length, drop}
 use Rattle.answers.specs.declared.Answer.{Answer}
 use Rattle.answers.specs.declared.Answer.the-variants.{UnknownKind}
-use Rattle.answers.specs.Answers.{numberOf, placeOf}
+use Rattle.answers.specs.Answers.{numberOf, placeOf, issueOf}
 use Rattle.garage.specs.declared.Station.{Station}
 use Rattle.garage.specs.declared.Outcome.{Outcome}
 use Rattle.garage.specs.Station.{startOf}
@@ -25,24 +25,24 @@ use Rattle.service.specs.declared.Reply.{Reply}
 abbrev pub called : What → Station → ℕ → List ℕ → Outcome
 called Request s count set = request s count set
 called (Event way) s count set = event s way
-called (Result number done) s count set = result s (record { number = number; done = done })
+called (Result issue number done) s count set = result s (record { issue = issue; number = number; done = done })
 called (Image r) s count set = takeImage s (record { bits = r })
 called Ask s count set = ask s
-called (What.Answer number place) s count set = refused s UnknownKind
+called (What.Answer number place issue) s count set = refused s UnknownKind
 called (Held r) s count set = refused s UnknownKind
 
 -- an answer as a message
 abbrev pub answerMessage : Answer → What
-answerMessage a = What.Answer (numberOf a) (placeOf a)
+answerMessage a = What.Answer (numberOf a) (placeOf a) (issueOf a)
 
 -- a call's answer as a message: the image after an ask that was taken
 abbrev pub replyMessage : What → Outcome → What
 replyMessage Request o = answerMessage (o .answer)
 replyMessage (Event way) o = answerMessage (o .answer)
-replyMessage (Result number done) o = answerMessage (o .answer)
+replyMessage (Result issue number done) o = answerMessage (o .answer)
 replyMessage (Image r) o = answerMessage (o .answer)
 replyMessage Ask o = cond (eqb (numberOf (o .answer)) 0) (Held (o .station .bits)) (answerMessage (o .answer))
-replyMessage (What.Answer number place) o = answerMessage (o .answer)
+replyMessage (What.Answer number place issue) o = answerMessage (o .answer)
 replyMessage (Held r) o = answerMessage (o .answer)
 
 -- the reply to a call

@@ -27,11 +27,11 @@ RepliesInRange = (s : Station) (bytes : List ℕ) → inRange (respond s bytes .
 
 -- an image, or an answer: its number one of the table's, its place 0 to 7 or none
 abbrev pub Answers : What → Type 0
-Answers (What.Answer number place) = OfTable number × ((place ≤ 7) ⊎ (place ≡ nowhere))
+Answers (What.Answer number place issue) = OfTable number × ((place ≤ 7) ⊎ (place ≡ nowhere))
 Answers (Held r) = Unit {0}
 Answers Request = ⊥
 Answers (Event way) = ⊥
-Answers (Result number done) = ⊥
+Answers (Result issue number done) = ⊥
 Answers (Image r) = ⊥
 Answers Ask = ⊥
 
@@ -41,9 +41,9 @@ AlwaysAnswered = (s : Station) (bytes : List ℕ) → Answers (respond s bytes .
 
 -- a message that is refused leaves the station as it was
 abbrev pub RefusedKeeps : Type 0
-RefusedKeeps = (s : Station) (bytes : List ℕ) (number place : ℕ)
-    → respond s bytes .answer ≡ What.Answer number place → (number ≡ 0 → ⊥) → respond s bytes .station ≡ s
+RefusedKeeps = (s : Station) (bytes : List ℕ) (number place issue : ℕ)
+    → respond s bytes .answer ≡ What.Answer number place issue → (number ≡ 0 → ⊥) → respond s bytes .station ≡ s
 
 -- no message is answered with 17, which is for lent room
 abbrev pub NeverSeventeen : Type 0
-NeverSeventeen = (s : Station) (bytes : List ℕ) (place : ℕ) → respond s bytes .answer ≡ What.Answer 17 place → ⊥
+NeverSeventeen = (s : Station) (bytes : List ℕ) (place issue : ℕ) → respond s bytes .answer ≡ What.Answer 17 place issue → ⊥

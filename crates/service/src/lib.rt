@@ -51,6 +51,7 @@ fn makes_call(what: What) -> bool
         What::Answer {
             number: _,
             place: _,
+            issue: _,
         } => false,
         What::Held(_) => false,
         _ => true,
@@ -66,6 +67,7 @@ fn unmoved(s: Station, answer: Answer) -> Turn
         bits: s.bits,
         count: s.count,
         answered: s.answered,
+        next: s.next,
     }
 }
 
@@ -80,12 +82,21 @@ fn turn(known: bool, what: What, s: Station, count: u8, set: [u8; 40]) -> Turn
     match what {
         What::Request => s.requested(count, set),
         What::Event { way } => s.evented(way),
-        What::Result { number, done } => s.resulted(Report { number, done }),
+        What::Result {
+            issue,
+            number,
+            done,
+        } => s.resulted(Report {
+            issue,
+            number,
+            done,
+        }),
         What::Image(r) => s.imaged(Picture { bits: r }),
         What::Ask => unmoved(s, Answer::Taken),
         What::Answer {
             number: _,
             place: _,
+            issue: _,
         } => unmoved(s, Answer::UnknownKind),
         What::Held(_) => unmoved(s, Answer::UnknownKind),
     }
@@ -107,6 +118,7 @@ fn answer_message(answer: Answer) -> What
     What::Answer {
         number: answer.number(),
         place: answer.place(),
+        issue: answer.issue(),
     }
 }
 

@@ -12,13 +12,13 @@ use Rattle.bits.specs.Bits.{bit}
 use Rattle.bits.specs.Places.{share}
 use Rattle.bits.specs.Search.{some}
 use Rattle.rules.specs.declared.Code.{Code}
-use Rattle.answers.specs.declared.Answer.the-variants.{TooFewBytes, TooMany, SetOutstanding, EmptySet, BadField, Overlap}
+use Rattle.answers.specs.declared.Answer.the-variants.{TooFewBytes, TooMany, SetOutstanding, EmptySet, BadField, Overlap, Opened}
 use Rattle.rules.specs.Verdicts.{codeVerdict, answerFor}
 use Rattle.garage.specs.declared.Station.{Station}
 use Rattle.garage.specs.declared.Outcome.{Outcome}
 use Rattle.garage.specs.Held.{codeAt, isGood, heldArea, heldAllowed, overlapsEarlier}
 use Rattle.garage.specs.Station.{opened}
-use Rattle.garage.specs.Calls.{refused, taken, onFit, unlessAny, accepted, requested, request}
+use Rattle.garage.specs.Calls.{refused, onFit, unlessAny, accepted, requested, request}
 use Rattle.garage.proofs.Padding.{padded-code}
 use Rattle.wire.specs.Kinds.{setOf}
 use Rattle.wire.proofs.Parts.{set-short}
@@ -44,7 +44,7 @@ module _ (s : Station) (n : ℕ) where
       (unlessAny n (λ i. not (isGood (code i))) s BadField
       (unlessAny n (λ i. some i (λ j. share (heldArea (code i)) (heldArea (code j)))) s Overlap
       (unlessAny n (λ i. not (heldAllowed (code i) (bit (s .bits)))) s (λ i. answerFor (codeVerdict (code i) (s .bits)) i)
-      (taken made)))))))
+      (record { station = made; answer = Opened (s .next) })))))))
 
   as-form : (set : List ℕ) → request s n set ≡ form (codeAt set) (opened s n set)
   unfolding request requested accepted form overlapsEarlier

@@ -13,7 +13,7 @@ use Rattle.rules.specs.Codes.{readBytes, most}
 use Rattle.rules.specs.Verdicts.{onCode, movedOf}
 use Rattle.answers.specs.declared.Answer.{Answer}
 use Rattle.answers.specs.declared.Answer.the-variants.{Taken, TooFewBytes, BadField, NotAllowed, NoRoom}
-use Rattle.answers.specs.Answers.{numberOf, placeOf, nowhere}
+use Rattle.answers.specs.Answers.{numberOf, placeOf, issueOf, nowhere}
 use Rattle.garage.specs.declared.Station.{Station}
 use Rattle.garage.specs.declared.Outcome.{Outcome}
 use Rattle.garage.specs.Calls.{refused, request, ask}
@@ -27,21 +27,28 @@ use Rattle.service.specs.Service.{respond}
 
 -- how many bytes a station takes
 abbrev pub stationSize : ℕ
-stationSize = 50
+stationSize = 52
 
--- its record, how many instructions the outstanding set has, their marks, and the set
+-- its record, how many instructions the outstanding set has, their marks, the set, and the issue of the next one
 unfoldable pub stationBytes : Station → List ℕ
-stationBytes s = littleEndian 8 (s .bits) ++ (s .count ∷ s .answered ∷ s .set)
+stationBytes s = littleEndian 8 (s .bits) ++ (s .count ∷ s .answered ∷ (s .set ++ littleEndian 2 (s .next)))
 
--- the station that the first 50 bytes hold
+-- the station that the first 52 bytes hold
 unfoldable pub stationOf : List ℕ → Station
-stationOf m = record { bits = fromLittleEndian 8 0 m; count = getD m 8 0; answered = getD m 9 0; set = take 40 (drop 10 m) }
+stationOf m =
+    record {
+      bits = fromLittleEndian 8 0 m;
+      count = getD m 8 0;
+      answered = getD m 9 0;
+      set = take 40 (drop 10 m);
+      next = fromLittleEndian 2 50 m;
+    }
 
 -- ---- what an entry does
 
--- an answer as one number: that of the table, and 256 times its place
+-- an answer as one number: that of the table, 256 times its place, and 65536 times the issue that it carries
 abbrev pub returned : Answer → ℕ
-returned a = numberOf a + 256 * placeOf a
+returned a = numberOf a + 256 * placeOf a + 65536 * issueOf a
 
 -- what an entry answers, and what it leaves in the room that it may write
 pub record Entry : Type 0 where
@@ -78,13 +85,13 @@ asking room image =
 
 -- ---- a message on a lent station
 
--- what is returned besides a message that answers: its number and place, or 0 with the image after an ask
+-- what is returned besides a message that answers: its number, place and issue, or 0 with the image after an ask
 abbrev pub returnedOf : What → ℕ
-returnedOf (What.Answer number place) = number + 256 * place
+returnedOf (What.Answer number place issue) = number + 256 * place + 65536 * issue
 returnedOf (Held r) = returned Taken
 returnedOf Request = returned Taken
 returnedOf (Event way) = returned Taken
-returnedOf (Result number done) = returned Taken
+returnedOf (Result issue number done) = returned Taken
 returnedOf (Image r) = returned Taken
 returnedOf Ask = returned Taken
 

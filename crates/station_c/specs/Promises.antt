@@ -4,18 +4,19 @@ use mathlib.Core.List.{List, _++_}
 use Prim.Native.Nat.{ℕ, _/_, _%_, _^_, _≤_, _<_}
 use lib.ListN.{length, take}
 use Rattle.answers.specs.declared.Answer.{Answer}
-use Rattle.answers.specs.Answers.{numberOf, OfTable, placeOf}
+use Rattle.answers.specs.Answers.{numberOf, OfTable, placeOf, issueOf}
 use Rattle.garage.specs.declared.Station.{Station}
 use Rattle.garage.specs.declared.Outcome.{Outcome}
 use Rattle.wire_laws.specs.Statements.{Bytes}
 use Rattle.station_c.specs.Entries.{stationSize, stationBytes, stationOf, returned, entry, asking, exchange, judgement, nexting}
 
--- a station as code holds it: the record is a number of 64 bits, the set has forty places
+-- a station as code holds it: the record is a number of 64 bits, the set has forty places, the next issue 16 bits
 pub record Typed (s : Station) : Type 0 where
   pub image : s .bits < 2 ^ 64
   pub places : length (s .set) ≡ 40
+  pub issue : s .next < 2 ^ 16
 
--- it takes 50 bytes
+-- it takes 52 bytes
 abbrev pub StationFits : Type 0
 StationFits = (s : Station) → Typed s → length (stationBytes s) ≡ stationSize
 
@@ -27,9 +28,12 @@ StationReadsBack = (s : Station) (past : List ℕ) → Typed s → stationOf (st
 abbrev pub StationOneForm : Type 0
 StationOneForm = (room : List ℕ) → Bytes room → stationSize ≤ length room → stationBytes (stationOf room) ≡ take stationSize room
 
--- an answer's number and place read back from what an entry says
+-- an answer's number reads back from what an entry says; where its place is a byte, so do the place and the issue
 abbrev pub ReturnedReadsBack : Type 0
-ReturnedReadsBack = (a : Answer) → (returned a % 256 ≡ numberOf a) × (returned a / 256 ≡ placeOf a)
+ReturnedReadsBack =
+    (a : Answer)
+    → (returned a % 256 ≡ numberOf a)
+    × (placeOf a < 256 → (returned a / 256 % 256 ≡ placeOf a) × (returned a / 65536 ≡ issueOf a))
 
 -- an entry that refuses leaves the room as it was
 abbrev pub RefusedUntouched : Type 0

@@ -1,5 +1,5 @@
-// The entries for a planner in C or Rust: numbers and runs of bytes alone. A station is lent as 50 bytes, an answer is its number plus
-// 256 times its place, and a refused call writes nothing. What each answers and leaves stands in specs/Entries.antt.
+// The entries for a planner in C or Rust: numbers and runs of bytes alone. A station is lent as 52 bytes, an answer is its number plus
+// 256 times its place plus 65536 times its issue, and a refused call writes nothing. What each answers and leaves stands in specs/Entries.antt.
 ghost use mathlib.Core.Path.{_≡_};
 ghost use Prim.Native.Nat.{_≤_};
 ghost use lib.ListN.{length};
@@ -22,7 +22,10 @@ use rules::Reading;
 use wire::What;
 
 // The bytes of a lent station, of a record, and of an instruction.
-const STATION: usize = 50;
+const STATION: usize = 52;
+
+// Where the issue of the next set stands in it.
+const NEXT: usize = 50;
 
 const RECORD: usize = 8;
 
@@ -30,26 +33,29 @@ const CODE: usize = 5;
 
 // ---- stations and answers in bytes and numbers
 
-// The station that the first 50 bytes hold.
+// The station that the first 52 bytes hold.
 fn load(room: &[u8]) -> Station
     requires { ⌜ stationSize ≤ length (now room) ⌝ }
     ensures { λ s. ⌜ s ≡ stationOf (now (room .entry)) ⌝ }
 {
-    let set = wire::set_of(&room[10..STATION]);
+    let set = wire::set_of(&room[10..NEXT]);
     Station {
         bits: wire::image_of(room),
         count: room[8],
         answered: room[9],
         set,
+        next: wire::word(room[NEXT], room[NEXT + 1]),
     }
 }
 
-// A station as 50 bytes, by its fields.
-fn stored(bits: u64, count: u8, answered: u8, set: [u8; 40]) -> [u8; STATION]
-    ensures { λ b. ⌜ b ≡ stationBytes (record { bits = bits; count = count; answered = answered; set = set }) ⌝ }
+// A station as 52 bytes, by its fields.
+fn stored(bits: u64, count: u8, answered: u8, set: [u8; 40], next: u16) -> [u8; STATION]
+    ensures { λ b. ⌜ b ≡ stationBytes (record { bits = bits; count = count; answered = answered; set = set; next = next }) ⌝ }
 {
     let mut b = [0u8; STATION];
-    bytes::copy(&set, &mut b[10..]);
+    b[NEXT] = (next % 256) as u8;
+    b[NEXT + 1] = (next / 256) as u8;
+    bytes::copy(&set, &mut b[10..NEXT]);
     let image = wire::image_bytes(bits);
     bytes::copy(&image, &mut b[..8]);
     b[8] = count;
@@ -61,7 +67,7 @@ fn stored(bits: u64, count: u8, answered: u8, set: [u8; 40]) -> [u8; STATION]
 fn say(a: Answer) -> u32
     ensures { λ r. ⌜ r ≡ returned a ⌝ }
 {
-    a.number() as u32 + 256 * (a.place() as u32)
+    a.number() as u32 + 256 * (a.place() as u32) + 65536 * (a.issue() as u32)
 }
 
 // Answers, and writes src to room if that is "taken".
@@ -69,11 +75,12 @@ fn answer(a: Answer, src: &[u8], room: &mut [u8]) -> u32
     requires { ⌜ length (now src) ≤ length (now room) ⌝ }
     ensures { λ r. ⌜ Leaves (writes a (now (src .entry)) (now (room .entry))) r (now (room .exit)) ⌝ }
 {
-    if a.number() != 0 {
-        return say(a);
+    let said = say(a);
+    if said % 256 != 0 {
+        return said;
     }
     bytes::copy(src, room);
-    say(a)
+    said
 }
 
 // The same of a call's outcome.
@@ -83,7 +90,7 @@ fn keep(o: Outcome, room: &mut [u8]) -> u32
 {
     let s = o.station;
     let set = s.set;
-    let b = stored(s.bits, s.count, s.answered, set);
+    let b = stored(s.bits, s.count, s.answered, set, s.next);
     let a = o.answer;
     answer(a, &b, room)
 }
@@ -157,16 +164,20 @@ pub extern "C" fn station_event(room: &mut [u8], way: u8) -> u32
     keep(o, room)
 }
 
-// The result of an instruction, by its number from 0: 0 failed, 1 done.
+// The result of an instruction, by the issue of its set and its number from 0: 0 failed, 1 done.
 #[no_mangle]
-pub extern "C" fn station_result(room: &mut [u8], number: u8, done: u8) -> u32
-    ensures { λ r. ⌜ Leaves (entry (λ s. result s (record { number = number; done = done })) (now (room .entry))) r (now (room .exit)) ⌝ }
+pub extern "C" fn station_result(room: &mut [u8], issue: u16, number: u8, done: u8) -> u32
+    ensures { λ r. ⌜ Leaves (entry (λ s. result s (record { issue = issue; number = number; done = done })) (now (room .entry))) r (now (room .exit)) ⌝ }
 {
     if room.len() < STATION {
         return say(Answer::NoRoom);
     }
     let s = load(room);
-    let o = s.result(Report { number, done });
+    let o = s.result(Report {
+        issue,
+        number,
+        done,
+    });
     keep(o, room)
 }
 
@@ -208,7 +219,11 @@ fn returned_of(what: What) -> u32
     ensures { λ r. ⌜ r ≡ returnedOf what ⌝ }
 {
     match what {
-        What::Answer { number, place } => number as u32 + 256 * (place as u32),
+        What::Answer {
+            number,
+            place,
+            issue,
+        } => number as u32 + 256 * (place as u32) + 65536 * (issue as u32),
         _ => say(Answer::Taken),
     }
 }
@@ -235,7 +250,7 @@ pub extern "C" fn station_message(room: &mut [u8], message: &[u8], reply: &mut [
     }
     let s = o.station;
     let set = s.set;
-    let b = stored(s.bits, s.count, s.answered, set);
+    let b = stored(s.bits, s.count, s.answered, set, s.next);
     bytes::copy(&b, room);
     r
 }

@@ -38,9 +38,9 @@ request = 1
 abbrev pub event : Kind
 event = record { number = 2; size = 1; says = λ m. Event (getD m 4 0) }
 
--- 3: a result, the number of the instruction and 0 failed or 1 done
+-- 3: a result, the issue of its set, the number of the instruction and 0 failed or 1 done
 abbrev pub result : Kind
-result = record { number = 3; size = 2; says = λ m. Result (getD m 4 0) (getD m 5 0) }
+result = record { number = 3; size = 4; says = λ m. Result (fromLittleEndian 2 4 m) (getD m 6 0) (getD m 7 0) }
 
 -- 4: an image to take
 abbrev pub image : Kind
@@ -50,9 +50,9 @@ image = record { number = 4; size = 8; says = λ m. Image (fromLittleEndian 8 4 
 abbrev pub ask : Kind
 ask = record { number = 5; size = 0; says = λ m. Ask }
 
--- 128: an answer, its number and its place
+-- 128: an answer, its number, its place and the issue of the set that it opens
 abbrev pub answer : Kind
-answer = record { number = 128; size = 2; says = λ m. Answer (getD m 4 0) (getD m 5 0) }
+answer = record { number = 128; size = 4; says = λ m. Answer (getD m 4 0) (getD m 5 0) (fromLittleEndian 2 6 m) }
 
 -- 129: the image that was asked for
 abbrev pub held : Kind
@@ -70,30 +70,31 @@ known = answer ∷ held ∷ asked
 abbrev pub kindOf : What → ℕ
 kindOf Request = request
 kindOf (Event way) = event .number
-kindOf (Result number done) = result .number
+kindOf (Result issue number done) = result .number
 kindOf (Image x) = image .number
 kindOf Ask = ask .number
-kindOf (Answer number place) = answer .number
+kindOf (Answer number place issue) = answer .number
 kindOf (Held x) = held .number
 
 -- the body that says this: of a request, a count and the bytes of so many instructions
 abbrev pub bodyOf : What → ℕ → List ℕ → List ℕ
 bodyOf Request count set = count ∷ take (5 * count) set
 bodyOf (Event way) count set = way ∷ []
-bodyOf (Result number done) count set = number ∷ done ∷ []
+bodyOf (Result issue number done) count set = littleEndian 2 issue ++ number ∷ done ∷ []
 bodyOf (Image x) count set = littleEndian 8 x
 bodyOf Ask count set = []
-bodyOf (Answer number place) count set = number ∷ place ∷ []
+bodyOf (Answer number place issue) count set = number ∷ place ∷ littleEndian 2 issue
 bodyOf (Held x) count set = littleEndian 8 x
 
--- the fields are in their ranges, the number of an answer one of the table's; a request's instructions have ranges of their own
+-- the fields are in their ranges, the number of an answer one of the table's, an issue any; a request's instructions have ranges of their
+-- own
 abbrev pub inRange : What → Bool
 inRange Request = true
 inRange (Event way) = leb 1 way && leb way 2
-inRange (Result number done) = leb done 1
+inRange (Result issue number done) = leb done 1
 inRange (Image x) = true
 inRange Ask = true
-inRange (Answer number place) = inTable number && (leb place 7 || eqb place nowhere)
+inRange (Answer number place issue) = inTable number && (leb place 7 || eqb place nowhere)
 inRange (Held x) = true
 
 -- a run of bytes as the forty places of a set: zeros where it ends before, and what goes past them is not looked at

@@ -3,7 +3,7 @@ use answers::Answer;
 use rules::Reading;
 ghost use mathlib.Core.Path.{_≡_};
 ghost use mathlib.Core.List.{[], _∷_, _++_};
-ghost use Prim.Native.Nat.{_≤_, _+_, _-_, _*_, _%_};
+ghost use Prim.Native.Nat.{_≤_, _<_, _+_, _-_, _*_, _%_};
 ghost use lib.ListN.{getD, length, drop, replicate};
 ghost use Rattle.bits.specs.Search.{least};
 ghost use Rattle.wire.specs.Kinds.{littleEndian, fromLittleEndian, first, event, result, answer, known, asked, inRange, plain, setOf};
@@ -15,10 +15,10 @@ pub mod writing;
 pub enum What {
     Request,
     Event { way: u8 },
-    Result { number: u8, done: u8 },
+    Result { issue: u16, number: u8, done: u8 },
     Image(u64),
     Ask,
-    Answer { number: u8, place: u8 },
+    Answer { number: u8, place: u8, issue: u16 },
     Held(u64),
 }
 
@@ -52,10 +52,10 @@ pub enum Frame {
 // ---- bytes and numbers
 
 // Two bytes as a number, the lower first.
-fn word(low: u8, high: u8) -> usize
+pub fn word(low: u8, high: u8) -> u16
     ensures { λ r. ⌜ r ≡ fromLittleEndian 2 0 (low ∷ high ∷ []) ⌝ }
 {
-    low as usize + 256 * (high as usize)
+    low as u16 + 256 * (high as u16)
 }
 
 // A byte of a run, or zero past its end.
@@ -66,6 +66,16 @@ fn byte(s: &[u8], i: usize) -> u8
         return s[i];
     }
     0
+}
+
+// The issue that stands in a message from place i on; bytes that are not there count as zero.
+fn issue_at(m: &[u8], i: usize) -> u16
+    requires { ⌜ i < 45 ⌝ }
+    ensures { λ r. ⌜ r ≡ fromLittleEndian 2 i (now (m .entry)) ⌝ }
+{
+    let low = byte(m, i);
+    let high = byte(m, i + 1);
+    word(low, high)
 }
 
 // The number that the first eight bytes say, the lowest first; bytes that are not there count as zero.
@@ -103,6 +113,14 @@ fn low(x: u64) -> u8
     ensures { λ r. ⌜ r ≡ x % 256 ⌝ }
 {
     (x % 256) as u8
+}
+
+// The two bytes that say an issue, the lower first.
+fn issue_bytes(issue: u16) -> [u8; 2]
+    ensures { λ r. ⌜ r ≡ littleEndian 2 issue ⌝ }
+{
+    let wide = issue as u64;
+    [low(wide), low(wide / 256)]
 }
 
 // The eight bytes that say a number, the lowest first.
@@ -157,7 +175,7 @@ pub fn framed(s: &[u8]) -> Frame
     if s.len() < 2 {
         return Frame::Cut;
     }
-    let n = word(s[0], s[1]);
+    let n = word(s[0], s[1]) as usize;
     if n < 2 {
         return Frame::Wrong;
     }
@@ -199,11 +217,18 @@ fn in_range(what: What) -> bool
     match what {
         What::Request => true,
         What::Event { way } => (1 <= way) & (way <= 2),
-        What::Result { number: _, done } => done <= 1,
+        What::Result {
+            issue: _,
+            number: _,
+            done,
+        } => done <= 1,
         What::Image(_) => true,
         What::Ask => true,
-        What::Answer { number, place } => answers::in_table(number)
-            & ((place <= 7) | (place == answers::NOWHERE)),
+        What::Answer {
+            number,
+            place,
+            issue: _,
+        } => answers::in_table(number) & ((place <= 7) | (place == answers::NOWHERE)),
         What::Held(_) => true,
     }
 }
@@ -295,10 +320,11 @@ fn read_result(m: &[u8]) -> Received
 {
     sized(
         m,
-        6,
+        8,
         What::Result {
-            number: byte(m, 4),
-            done: byte(m, 5),
+            issue: issue_at(m, 4),
+            number: byte(m, 6),
+            done: byte(m, 7),
         },
     )
 }
@@ -308,10 +334,11 @@ fn read_answer(m: &[u8]) -> Received
 {
     sized(
         m,
-        6,
+        8,
         What::Answer {
             number: byte(m, 4),
             place: byte(m, 5),
+            issue: issue_at(m, 6),
         },
     )
 }

@@ -4,6 +4,7 @@ use super::What;
 use super::Written;
 use super::image_bytes;
 use super::in_range;
+use super::issue_bytes;
 use super::least_bad;
 use super::plain;
 use answers::Answer;
@@ -102,10 +103,24 @@ pub fn write(m: Message, room: &mut [u8]) -> Written
                 write_request(m.count, set, room)
             }
             What::Event { way } => put(&[3, 0, 2, 0, way], room),
-            What::Result { number, done } => put(&[4, 0, 3, 0, number, done], room),
+            What::Result {
+                issue,
+                number,
+                done,
+            } => {
+                let b = issue_bytes(issue);
+                put(&[6, 0, 3, 0, b[0], b[1], number, done], room)
+            }
             What::Image(x) => put_image(4, x, room),
             What::Ask => put(&[2, 0, 5, 0], room),
-            What::Answer { number, place } => put(&[4, 0, 128, 0, number, place], room),
+            What::Answer {
+                number,
+                place,
+                issue,
+            } => {
+                let b = issue_bytes(issue);
+                put(&[6, 0, 128, 0, number, place, b[0], b[1]], room)
+            }
             What::Held(x) => put_image(129, x, room),
         }
     } else {

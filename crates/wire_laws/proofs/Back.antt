@@ -21,7 +21,7 @@ use Rattle.wire.specs.Reads.{badIn, taken, readRequest, readWhole, readMessage}
 use Rattle.wire.specs.Writes.{Writing, messageBytes, kept, isRequest, writing, oneForm}
 use Rattle.wire.proofs.Room.{asking}
 use Rattle.wire_laws.specs.Statements.{Typed, ReadsBack}
-use Rattle.wire_laws.proofs.Numbers.{image-reads-back, two-bytes}
+use Rattle.wire_laws.proofs.Numbers.{number-back, image-reads-back, two-bytes}
 use Rattle.wire_laws.proofs.Instructions.{bad-same}
 use Rattle.wire_laws.proofs.Messages.{read-back}
 
@@ -68,12 +68,16 @@ plain-back : (w : What) (count : ℕ) (set t : List ℕ) → Typed (record { wha
 unfolding readWhole
 plain-back Request count set t p g r = clash refl r
 plain-back (Event way) count set t p g r = read-back (3 ∷ 0 ∷ 2 ∷ 0 ∷ way ∷ []) t refl (omega arith) (omega arith) ∙ rw (g .ranged)
-plain-back (Result number done) count set t p g r = read-back (4 ∷ 0 ∷ 3 ∷ 0 ∷ number ∷ done ∷ []) t refl (omega arith) (omega arith) ∙ rw (g .ranged)
+plain-back (Result issue number done) count set t p g r =
+    read-back (6 ∷ 0 ∷ 3 ∷ 0 ∷ littleEndian 2 issue ++ number ∷ done ∷ []) t refl (omega arith) (omega arith)
+    ∙ rw (g .ranged) (ap (λ (i : ℕ). taken (plain (Result i number done)) 8) (number-back 2 issue [] (p .issue)))
 plain-back (Image x) count set t p g r =
     read-back (10 ∷ 0 ∷ 4 ∷ 0 ∷ littleEndian 8 x) t refl (omega arith) (omega arith)
     ∙ ap (λ (n : ℕ). taken (plain (Image n)) 12) (image-reads-back x [] (p .image))
 plain-back Ask count set t p g r = read-back (2 ∷ 0 ∷ 5 ∷ 0 ∷ []) t refl (omega arith) (omega arith)
-plain-back (AnswerOf number place) count set t p g r = read-back (4 ∷ 0 ∷ 128 ∷ 0 ∷ number ∷ place ∷ []) t refl (omega arith) (omega arith) ∙ rw (g .ranged)
+plain-back (AnswerOf number place issue) count set t p g r =
+    read-back (6 ∷ 0 ∷ 128 ∷ 0 ∷ number ∷ place ∷ littleEndian 2 issue) t refl (omega arith) (omega arith)
+    ∙ rw (g .ranged) (ap (λ (i : ℕ). taken (plain (AnswerOf number place i)) 8) (number-back 2 issue [] (p .issue)))
 plain-back (Held x) count set t p g r =
     read-back (10 ∷ 0 ∷ 129 ∷ 0 ∷ littleEndian 8 x) t refl (omega arith) (omega arith)
     ∙ ap (λ (n : ℕ). taken (plain (Held n)) 12) (image-reads-back x [] (p .image))
@@ -107,10 +111,10 @@ module _ (n : ℕ) (set : List ℕ) (few : n ≤ 8) (places : length set ≡ 40)
 pub only-request : (w : What) → eqb (kindOf w) request ≡ true → w ≡ Request
 only-request Request e = refl
 only-request (Event way) e = clash e refl
-only-request (Result number done) e = clash e refl
+only-request (Result issue number done) e = clash e refl
 only-request (Image x) e = clash e refl
 only-request Ask e = clash e refl
-only-request (AnswerOf number place) e = clash e refl
+only-request (AnswerOf number place issue) e = clash e refl
 only-request (Held x) e = clash e refl
 
 -- ---- every message

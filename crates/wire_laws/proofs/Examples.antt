@@ -5,7 +5,7 @@ use lib.ListN.{replicate}
 use Rattle.bits.specs.Search.{least}
 use Rattle.answers.specs.declared.Answer.the-variants.{TooFewBytes, BadLength, UnknownKind, BadField, TooMany}
 use Rattle.rules.specs.Codes.{readCode, readBytes}
-use Rattle.wire.specs.declared.What.the-variants.{Event, Ask, Answer, Held}
+use Rattle.wire.specs.declared.What.the-variants.{Event, Result, Ask, Answer, Held}
 use Rattle.wire.specs.Kinds.{plain}
 use Rattle.wire.specs.Reads.{refused, taken, readRequest, readWhole, readMessage, readAsked}
 use Rattle.wire.specs.Writes.{messageBytes}
@@ -20,11 +20,23 @@ unfolding readAsked readWhole
 then-ask = refl
 
 -- out: taken, then the image
-answered : messageBytes (plain (Answer 0 255)) ≡ 4 ∷ 0 ∷ 0x80 ∷ 0 ∷ 0 ∷ 0xFF ∷ []
+answered : messageBytes (plain (Answer 0 255 0)) ≡ 6 ∷ 0 ∷ 0x80 ∷ 0 ∷ 0 ∷ 0xFF ∷ 0 ∷ 0 ∷ []
 answered = refl
 
 image-sent : messageBytes (plain (Held 0x00191B0000000000)) ≡ 0x0A ∷ 0 ∷ 0x81 ∷ 0 ∷ 0 ∷ 0 ∷ 0 ∷ 0 ∷ 0 ∷ 0x1B ∷ 0x19 ∷ 0 ∷ []
 image-sent = refl
+
+-- a set of issue 258 is opened, and its instruction 5 is done; a result without an issue is too short
+set-opened : messageBytes (plain (Answer 0 255 258)) ≡ 6 ∷ 0 ∷ 0x80 ∷ 0 ∷ 0 ∷ 0xFF ∷ 2 ∷ 1 ∷ []
+set-opened = refl
+
+result-of-it : readAsked (6 ∷ 0 ∷ 3 ∷ 0 ∷ 2 ∷ 1 ∷ 5 ∷ 1 ∷ []) ≡ taken (plain (Result 258 5 1)) 8
+unfolding readAsked readWhole
+result-of-it = refl
+
+no-issue : readAsked (4 ∷ 0 ∷ 3 ∷ 0 ∷ 5 ∷ 1 ∷ []) ≡ refused BadLength 6
+unfolding readAsked readWhole
+no-issue = refl
 
 -- a count of nine: 5 at length 43, 2 at length 48
 nine-at-43 : readAsked (43 ∷ 0 ∷ 1 ∷ 0 ∷ 9 ∷ replicate 40 0) ≡ refused TooMany 45

@@ -18,7 +18,7 @@ use Rattle.wire.specs.Reads.{kindAt, badIn, taken, sized, readRequest, readAmon
 use Rattle.wire.specs.Writes.{messageBytes, put, isRequest, writing, oneForm}
 use Rattle.wire.proofs.Frames.{when}
 use Rattle.wire_laws.specs.Statements.{Bytes, Form, OneForm}
-use Rattle.wire_laws.proofs.Numbers.{bytes-take, number-form}
+use Rattle.wire_laws.proofs.Numbers.{bytes-take, number-form, word-form}
 use Rattle.wire_laws.proofs.Instructions.{bad-same}
 use Rattle.wire_laws.proofs.Messages.{no, taken-message, taken-used, cut-out, read-whole, parts}
 use Rattle.wire_laws.proofs.Back.{Good}
@@ -43,15 +43,26 @@ abbrev Each : List Kind → Type 0
 Each [] = Unit {0}
 Each (k ∷ ks) = Lawful k × Each ks
 
--- a body of no, one, two and eight bytes
+-- a body of no, one, four and eight bytes
 none : (m : List ℕ) → length m ≡ 4 → [] ≡ drop 4 m
 none m l = sym (drop-of-length-le m {i = 4} (omega arith))
 
 one : (m : List ℕ) → length m ≡ 5 → getD m 4 0 ∷ [] ≡ drop 4 m
 one m l = sym (drop-cons m 4 0 (omega arith) ∙ rw (drop-of-length-le m {i = 5} (omega arith)))
 
-two : (m : List ℕ) → length m ≡ 6 → getD m 4 0 ∷ getD m 5 0 ∷ [] ≡ drop 4 m
-two m l = sym (drop-cons m 4 0 (omega arith) ∙ rw (drop-cons m 5 0 (omega arith), drop-of-length-le m {i = 6} (omega arith)))
+four : (m : List ℕ) → length m ≡ 8 → getD m 4 0 ∷ getD m 5 0 ∷ getD m 6 0 ∷ getD m 7 0 ∷ [] ≡ drop 4 m
+four m l =
+    sym
+    (drop-cons m 4 0 (omega arith)
+    ∙ rw (drop-cons m 5 0 (omega arith), drop-cons m 6 0 (omega arith), drop-cons m 7 0 (omega arith), drop-of-length-le m {i = 8} (omega arith)))
+
+-- four that begin with an issue, and four that end with one
+issue-first : (m : List ℕ) → Bytes m → length m ≡ 8 → littleEndian 2 (fromLittleEndian 2 4 m) ++ getD m 6 0 ∷ getD m 7 0 ∷ [] ≡ drop 4 m
+issue-first m b l =
+    ap (λ (i : List ℕ). i ++ getD m 6 0 ∷ getD m 7 0 ∷ []) (word-form (getD m 4 0) (getD m 5 0) (b 4) (b 5)) ∙ four m l
+
+issue-last : (m : List ℕ) → Bytes m → length m ≡ 8 → getD m 4 0 ∷ getD m 5 0 ∷ littleEndian 2 (fromLittleEndian 2 6 m) ≡ drop 4 m
+issue-last m b l = ap (λ (i : List ℕ). getD m 4 0 ∷ getD m 5 0 ∷ i) (word-form (getD m 6 0) (getD m 7 0) (b 6) (b 7)) ∙ four m l
 
 eight : (m : List ℕ) → Bytes m → length m ≡ 12 → littleEndian 8 (fromLittleEndian 8 4 m) ≡ drop 4 m
 eight m b l =
@@ -63,13 +74,13 @@ eight m b l =
 
 lawful : Each known
 lawful = (
-  record { other = refl; kind = λ m. refl; body = λ m count set b l. two m l },
+  record { other = refl; kind = λ m. refl; body = λ m count set b l. issue-last m b l },
   (
     record { other = refl; kind = λ m. refl; body = λ m count set b l. eight m b l },
     (
       record { other = refl; kind = λ m. refl; body = λ m count set b l. one m l },
       (
-        record { other = refl; kind = λ m. refl; body = λ m count set b l. two m l },
+        record { other = refl; kind = λ m. refl; body = λ m count set b l. issue-first m b l },
         (
           record { other = refl; kind = λ m. refl; body = λ m count set b l. eight m b l },
           (

@@ -42,6 +42,14 @@ two-bytes x h =
     let high : x / 256 % 256 ≡ 0 = omega arith in
     rw (low, high)
 
+-- two bytes are those of the number that they say
+pub word-form : (a b : ℕ) → a < 256 → b < 256 → littleEndian 2 (a + 256 * (b + 256 * 0)) ≡ a ∷ b ∷ []
+word-form a b p q =
+    let low : (a + 256 * (b + 256 * 0)) % 256 ≡ a = omega arith in
+    let high : (a + 256 * (b + 256 * 0)) / 256 ≡ b = omega arith in
+    let small : b % 256 ≡ b = omega arith in
+    rw (low, high, small)
+
 -- ---- images
 
 pub image-reads-back : ImageReadsBack

@@ -31,15 +31,26 @@ Bytes s = (i : ℕ) → getD s i 0 < 256
 abbrev pub carried : What → ℕ
 carried Request = 0
 carried (Event way) = 0
-carried (Result number done) = 0
+carried (Result issue number done) = 0
 carried (Image x) = x
 carried Ask = 0
-carried (Answer number place) = 0
+carried (Answer number place issue) = 0
 carried (Held x) = x
 
--- a message as code holds it: the image is one of 64 bits, the set has forty places
+-- the issue that it carries, or zero
+abbrev pub issueIn : What → ℕ
+issueIn Request = 0
+issueIn (Event way) = 0
+issueIn (Result issue number done) = issue
+issueIn (Image x) = 0
+issueIn Ask = 0
+issueIn (Answer number place issue) = issue
+issueIn (Held x) = 0
+
+-- a message as code holds it: the image is one of 64 bits, the issue one of 16, the set has forty places
 pub record Typed (m : Message) : Type 0 where
   pub image : carried (m .what) < 2 ^ 64
+  pub issue : issueIn (m .what) < 2 ^ 16
   pub places : length (m .set) ≡ 40
 
 -- an image written in eight bytes reads back, whatever follows it

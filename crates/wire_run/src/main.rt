@@ -2,10 +2,12 @@
 // then each kind with each length from 2 to 43, one digit a length, on a body of zeros.
 //
 // What it must write, the file stdout, was worked out by hand. Under two bytes is 1, and a length above 43 is 2; a length of 3 wants
-// three bytes after it, so with two 1 comes before the unknown kind, and with three that kind is 3. The kinds' own lengths are 3 for an
-// event, 4 for a result and an answer, 10 for an image in either direction and 2 for the question; all others are 2. On a body of zeros
-// the event is 4, since it is neither in nor out, and the rest are 0. A request has no count at length 2 and is 2; else its count is
-// zero, so its own length is 3. To the station every message of kinds 128 and 129 is 3, since the kind is looked at before its length.
+// three bytes after it, so with two 1 comes before the unknown kind, and with three that kind is 3. A result or an answer without an
+// issue has length 4 and is 2 to a reader that knows its kind; with one, here the last, it has length 6 and is 0. The kinds' own lengths
+// are 3 for an event, 6 for a result and an answer, 10 for an image in either direction and 2 for the question; all others are 2. On a
+// body of zeros the event is 4, since it is neither in nor out, and the rest are 0. A request has no count at length 2 and is 2; else its
+// count is zero, so its own length is 3. To the station every message of kinds 128 and 129 is 3, since the kind is looked at before its
+// length.
 
 fn text(t: &[u8]) {
     io::write_all(1, t);
@@ -40,6 +42,13 @@ fn odd_inputs() {
     odd(b"FF FF", &[0xFF, 0xFF]);
     odd(b"03 00 63 00", &[3, 0, 0x63, 0]);
     odd(b"03 00 63 00 00", &[3, 0, 0x63, 0, 0]);
+    odd(b"04 00 03 00 07 01", &[4, 0, 3, 0, 7, 1]);
+    odd(b"06 00 03 00 FF FF 07 01", &[6, 0, 3, 0, 0xFF, 0xFF, 7, 1]);
+    odd(b"04 00 80 00 00 FF", &[4, 0, 0x80, 0, 0, 0xFF]);
+    odd(
+        b"06 00 80 00 00 FF FF FF",
+        &[6, 0, 0x80, 0, 0, 0xFF, 0xFF, 0xFF],
+    );
 }
 
 // A message of this kind and length, to the station or to the library.

@@ -1,8 +1,8 @@
--- `station_c::load` meets its contract: field by field. Assumes nothing.
-use denote.Ref.{now}
-use borrow.Author.Needs.{needs}
-use Rattle.station_c.specs.Entries.{stationOf}
 use Rattle.station_c.proofs.Rooms.{set-in}
+use Rattle.station_c.specs.Entries.{stationOf}
+use denote.Ref.{now}
+use mathlib.Core.Path.{_∙_}
+use borrow.Author.Needs.{needs}
 use Rattle.station_c.proofs.load.Statement.{statement}
 use Rattle.station_c.proofs.load.Tie as tie
 
@@ -27,9 +27,21 @@ shared-slice-read-t9 c = search needs
 shared-slice-read-t11 : tie.Need-shared-slice-read-t11
 shared-slice-read-t11 c = search needs
 
+shared-slice-read-word : tie.Need-shared-slice-read-word
+shared-slice-read-word c = search needs
+
+add-word : tie.Need-add-word
+add-word c = search needs
+
+shared-slice-read-word-2 : tie.Need-shared-slice-read-word-2
+shared-slice-read-word-2 c = search needs
+
+word-requires : tie.Need-word-requires
+word-requires c κs = search needs
+
 returns : tie.Need-returns
 unfolding stationOf
-returns c = rw (c .before .before .image-of .ensures, set-in (now (c .before .before .before .before .before .before .args .room)) _ (c .before .before .before .before .before .before .pre) (c .before .before .before .set-of .ensures))
+returns c = rw (c .before .before .before .before .before .image-of .ensures, set-in (now (c .before .before .before .before .before .before .before .before .before .args .room)) _ (c .before .before .before .before .before .before .before .before .before .pre) (c .before .before .before .before .before .before .set-of .ensures), c .word .ensures)
 
 pub load-spec : {M : Type 1} → statement M
 load-spec =
@@ -42,4 +54,8 @@ load-spec =
     image-of-requires
     shared-slice-read-t9
     shared-slice-read-t11
+    shared-slice-read-word
+    add-word
+    shared-slice-read-word-2
+    word-requires
     returns)

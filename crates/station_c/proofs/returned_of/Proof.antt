@@ -1,7 +1,6 @@
--- `station_c::returned_of` meets its contract: an answer by its fields, anything else is not one. Assumes nothing.
+use Rattle.station_c.proofs.Exchanging.{not-an-answer}
 use mathlib.Core.Path.{_∙_}
 use borrow.Author.Needs.{needs}
-use Rattle.station_c.proofs.Exchanging.{not-an-answer}
 use Rattle.station_c.proofs.returned_of.Statement.{statement}
 use Rattle.station_c.proofs.returned_of.Tie as tie
 
@@ -19,6 +18,15 @@ mul-result c = search needs
 
 add-result : tie.Need-add-result
 add-result c = search needs
+
+cast-result-3 : tie.Need-cast-result-3
+cast-result-3 c = search needs
+
+mul-result-2 : tie.Need-mul-result-2
+mul-result-2 c = search needs
+
+add-result-2 : tie.Need-add-result-2
+add-result-2 c = search needs
 
 say-requires : tie.Need-say-requires
 say-requires c κs = search needs
@@ -38,6 +46,9 @@ returned-of-spec =
     cast-result-2
     mul-result
     add-result
+    cast-result-3
+    mul-result-2
+    add-result-2
     say-requires
     returns
     returns-2)

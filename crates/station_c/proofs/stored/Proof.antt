@@ -1,10 +1,24 @@
--- `station_c::stored` meets its contract: the bytes as they were put. Assumes nothing.
+use Rattle.station_c.proofs.Rooms.{laid-out}
+use Rattle.wire.proofs.Parts.{set-filled}
 use native.Mathlib.Omega.{arith}
 use borrow.Author.Needs.{needs}
-use Rattle.wire.proofs.Parts.{set-filled}
-use Rattle.station_c.proofs.Rooms.{laid-out}
 use Rattle.station_c.proofs.stored.Statement.{statement}
 use Rattle.station_c.proofs.stored.Tie as tie
+
+cast-b : tie.Need-cast-b
+cast-b c = search needs
+
+array-write-b : tie.Need-array-write-b
+array-write-b c = search needs
+
+cast-b-2 : tie.Need-cast-b-2
+cast-b-2 c = search needs
+
+add-b : tie.Need-add-b
+add-b c = search needs
+
+array-write-b-2 : tie.Need-array-write-b-2
+array-write-b-2 c = search needs
 
 slice-aggregate-copy : tie.Need-slice-aggregate-copy
 slice-aggregate-copy c = search needs
@@ -36,20 +50,24 @@ slice-aggregate-copy-3 c = search needs
 copy-requires-2 : tie.Need-copy-requires-2
 copy-requires-2 c κs = search needs
 
-array-write-b : tie.Need-array-write-b
-array-write-b c = search needs
+array-write-b-3 : tie.Need-array-write-b-3
+array-write-b-3 c = search needs
 
-array-write-b-2 : tie.Need-array-write-b-2
-array-write-b-2 c = search needs
+array-write-b-4 : tie.Need-array-write-b-4
+array-write-b-4 c = search needs
 
 returns : tie.Need-returns
-returns c = let a = c .before .before .before .before .before .before .before .before .before .args in
-    laid-out (record { bits = a .bits; count = a .count; answered = a .answered; set = a .t4 }) _ _ (c .before .before .before .before .before .before .copy .last .1 .0) (c .before .before .before .before .image-bytes .ensures) (c .before .copy2 .ensures .1) (set-filled (a .t4) _ (omega arith) (c .before .before .before .before .before .before .copy .ensures .1))
+returns c = let a = c .before .before .before .before .before .before .before .before .before .args in laid-out (record { bits = a .bits; count = a .count; answered = a .answered; set = a .t4; next = a .next }) _ _ (c .before .before .before .before .before .before .copy .last .1 .0) (search needs) (c .before .before .before .before .image-bytes .ensures) (c .before .copy2 .ensures .1) (set-filled (a .t4) _ (omega arith) (c .before .before .before .before .before .before .copy .ensures .1))
 
 pub stored-spec : {M : Type 1} → statement M
 stored-spec =
     tie.close
     (tie.spec
+    cast-b
+    array-write-b
+    cast-b-2
+    add-b
+    array-write-b-2
     slice-aggregate-copy
     sub-copy
     part-b-start
@@ -60,6 +78,6 @@ stored-spec =
     array-borrow-prefix-b
     slice-aggregate-copy-3
     copy-requires-2
-    array-write-b
-    array-write-b-2
+    array-write-b-3
+    array-write-b-4
     returns)

@@ -15,6 +15,9 @@ shared-slice-read-word-2 c = search needs
 word-requires : tie.Need-word-requires
 word-requires c κs = search needs
 
+cast-n : tie.Need-cast-n
+cast-n c = search needs
+
 returns-2 : tie.Need-returns-2
 returns-2 c = simp (le-ltb _ _ (c .before .before .before .before .if1 .left), lt-ltb _ _ (rw (c .before .word .ensures) at (c .if2 .taken)))
 
@@ -44,6 +47,7 @@ framed-spec =
     shared-slice-read-word
     shared-slice-read-word-2
     word-requires
+    cast-n
     returns-2
     returns-3
     add-if4

@@ -30,14 +30,14 @@ enum-told-8 c = search needs
 enum-told-9 : tie.Need-enum-told-9
 enum-told-9 c = search needs
 
+enum-told-10 : tie.Need-enum-told-10
+enum-told-10 c = search needs
+
 enum-known-self : tie.Need-enum-known-self
 enum-known-self c = search needs
 
 number-requires : tie.Need-number-requires
 number-requires c κs = search needs
-
-enum-told-10 : tie.Need-enum-told-10
-enum-told-10 c = search needs
 
 enum-told-11 : tie.Need-enum-told-11
 enum-told-11 c = search needs
@@ -59,6 +59,15 @@ enum-told-16 c = search needs
 
 enum-told-17 : tie.Need-enum-told-17
 enum-told-17 c = search needs
+
+enum-told-18 : tie.Need-enum-told-18
+enum-told-18 c = search needs
+
+enum-told-19 : tie.Need-enum-told-19
+enum-told-19 c = search needs
+
+enum-told-20 : tie.Need-enum-told-20
+enum-told-20 c = search needs
 
 returns : tie.Need-returns
 returns c = rw (c .enum-told .given .1)
@@ -88,10 +97,10 @@ returns-9 : tie.Need-returns-9
 returns-9 c = rw (c .enum-told9 .given .1)
 
 returns-10 : tie.Need-returns-10
-returns-10 c = rw (c .before .before .self .given .1) (c .number .ensures)
+returns-10 c = rw (c .enum-told10 .given .1)
 
 returns-11 : tie.Need-returns-11
-returns-11 c = rw (c .enum-told10 .given .1)
+returns-11 c = rw (c .before .before .self .given .1) (c .number .ensures)
 
 returns-12 : tie.Need-returns-12
 returns-12 c = rw (c .enum-told11 .given .1)
@@ -114,6 +123,15 @@ returns-17 c = rw (c .enum-told16 .given .1)
 returns-18 : tie.Need-returns-18
 returns-18 c = rw (c .enum-told17 .given .1)
 
+returns-19 : tie.Need-returns-19
+returns-19 c = rw (c .enum-told18 .given .1)
+
+returns-20 : tie.Need-returns-20
+returns-20 c = rw (c .enum-told19 .given .1)
+
+returns-21 : tie.Need-returns-21
+returns-21 c = rw (c .enum-told20 .given .1)
+
 pub number-spec : {M : Type 1} → statement M
 number-spec =
     tie.close
@@ -127,9 +145,9 @@ number-spec =
     enum-told-7
     enum-told-8
     enum-told-9
+    enum-told-10
     enum-known-self
     number-requires
-    enum-told-10
     enum-told-11
     enum-told-12
     enum-told-13
@@ -137,6 +155,9 @@ number-spec =
     enum-told-15
     enum-told-16
     enum-told-17
+    enum-told-18
+    enum-told-19
+    enum-told-20
     returns
     returns-2
     returns-3
@@ -154,4 +175,7 @@ number-spec =
     returns-15
     returns-16
     returns-17
-    returns-18)
+    returns-18
+    returns-19
+    returns-20
+    returns-21)

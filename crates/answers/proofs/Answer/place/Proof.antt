@@ -15,11 +15,11 @@ enum-told-3 c = search needs
 enum-told-4 : tie.Need-enum-told-4
 enum-told-4 c = search needs
 
-enum-known-self : tie.Need-enum-known-self
-enum-known-self c = search needs
-
 enum-told-5 : tie.Need-enum-told-5
 enum-told-5 c = search needs
+
+enum-known-self : tie.Need-enum-known-self
+enum-known-self c = search needs
 
 enum-told-6 : tie.Need-enum-told-6
 enum-told-6 c = search needs
@@ -27,14 +27,14 @@ enum-told-6 c = search needs
 enum-told-7 : tie.Need-enum-told-7
 enum-told-7 c = search needs
 
+enum-told-8 : tie.Need-enum-told-8
+enum-told-8 c = search needs
+
 enum-known-self-2 : tie.Need-enum-known-self-2
 enum-known-self-2 c = search needs
 
 enum-known-self-3 : tie.Need-enum-known-self-3
 enum-known-self-3 c = search needs
-
-enum-told-8 : tie.Need-enum-told-8
-enum-told-8 c = search needs
 
 enum-told-9 : tie.Need-enum-told-9
 enum-told-9 c = search needs
@@ -57,6 +57,15 @@ enum-told-14 c = search needs
 enum-told-15 : tie.Need-enum-told-15
 enum-told-15 c = search needs
 
+enum-told-16 : tie.Need-enum-told-16
+enum-told-16 c = search needs
+
+enum-told-17 : tie.Need-enum-told-17
+enum-told-17 c = search needs
+
+enum-told-18 : tie.Need-enum-told-18
+enum-told-18 c = search needs
+
 returns : tie.Need-returns
 returns c = rw (c .enum-told .given .1)
 
@@ -70,10 +79,10 @@ returns-4 : tie.Need-returns-4
 returns-4 c = rw (c .enum-told4 .given .1)
 
 returns-5 : tie.Need-returns-5
-returns-5 c = rw (c .before .self .given .1)
+returns-5 c = rw (c .enum-told5 .given .1)
 
 returns-6 : tie.Need-returns-6
-returns-6 c = rw (c .enum-told5 .given .1)
+returns-6 c = rw (c .before .self .given .1)
 
 returns-7 : tie.Need-returns-7
 returns-7 c = rw (c .enum-told6 .given .1)
@@ -82,13 +91,13 @@ returns-8 : tie.Need-returns-8
 returns-8 c = rw (c .enum-told7 .given .1)
 
 returns-9 : tie.Need-returns-9
-returns-9 c = rw (c .before .self2 .given .1)
+returns-9 c = rw (c .enum-told8 .given .1)
 
 returns-10 : tie.Need-returns-10
-returns-10 c = rw (c .before .self3 .given .1)
+returns-10 c = rw (c .before .self2 .given .1)
 
 returns-11 : tie.Need-returns-11
-returns-11 c = rw (c .enum-told8 .given .1)
+returns-11 c = rw (c .before .self3 .given .1)
 
 returns-12 : tie.Need-returns-12
 returns-12 c = rw (c .enum-told9 .given .1)
@@ -111,6 +120,15 @@ returns-17 c = rw (c .enum-told14 .given .1)
 returns-18 : tie.Need-returns-18
 returns-18 c = rw (c .enum-told15 .given .1)
 
+returns-19 : tie.Need-returns-19
+returns-19 c = rw (c .enum-told16 .given .1)
+
+returns-20 : tie.Need-returns-20
+returns-20 c = rw (c .enum-told17 .given .1)
+
+returns-21 : tie.Need-returns-21
+returns-21 c = rw (c .enum-told18 .given .1)
+
 pub place-spec : {M : Type 1} → statement M
 place-spec =
     tie.close
@@ -119,13 +137,13 @@ place-spec =
     enum-told-2
     enum-told-3
     enum-told-4
-    enum-known-self
     enum-told-5
+    enum-known-self
     enum-told-6
     enum-told-7
+    enum-told-8
     enum-known-self-2
     enum-known-self-3
-    enum-told-8
     enum-told-9
     enum-told-10
     enum-told-11
@@ -133,6 +151,9 @@ place-spec =
     enum-told-13
     enum-told-14
     enum-told-15
+    enum-told-16
+    enum-told-17
+    enum-told-18
     returns
     returns-2
     returns-3
@@ -150,4 +171,7 @@ place-spec =
     returns-15
     returns-16
     returns-17
-    returns-18)
+    returns-18
+    returns-19
+    returns-20
+    returns-21)

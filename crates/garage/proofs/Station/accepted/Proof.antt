@@ -28,9 +28,12 @@ returns-2 : tie.Need-returns-2
 unfolding accepted
 returns-2 c = c .unmoved2 .ensures ∙ rw (← c .before .before .before .before .before .before .before .before .before .pre .0, le-ltb _ _ (c .before .before .before .before .before .before .before .if1 .left), ← c .before .before .before .before .before .before .before .before .before .pre .1, lt-ltb _ _ (c .before .before .before .before .before .if2 .taken), c .before .answer .ensures, c .before .before .code-verdict .ensures, c .before .before .before .code-at .ensures)
 
+wrapping-add-u16-requires : tie.Need-wrapping-add-u16-requires
+wrapping-add-u16-requires c κs = search needs
+
 returns-3 : tie.Need-returns-3
 unfolding accepted
-returns-3 c = rw (← c .before .before .before .before .pre .0, le-ltb _ _ (c .before .before .if1 .left), ← c .before .before .before .before .pre .1, le-ltb _ _ (c .if2 .left))
+returns-3 c = rw (c .wrapping-add-u16 .ensures, ← c .before .before .before .before .before .pre .0, le-ltb _ _ (c .before .before .before .if1 .left), ← c .before .before .before .before .before .pre .1, le-ltb _ _ (c .before .if2 .left))
 
 pub accepted-spec : {M : Type 1} → statement M
 accepted-spec =
@@ -43,4 +46,5 @@ accepted-spec =
     answer-requires
     unmoved-requires-2
     returns-2
+    wrapping-add-u16-requires
     returns-3)

@@ -20,14 +20,14 @@ returns-2 : tie.Need-returns-2
 unfolding resulted
 returns-2 c = c .unmoved2 .ensures ∙ rw (le-ltb _ _ (c .before .before .before .if1 .left), eq-eqb _ _ (c .before .if2 .taken))
 
-numbered-requires : tie.Need-numbered-requires
-numbered-requires c κs = search needs
+timely-requires : tie.Need-timely-requires
+timely-requires c κs = search needs
 
 returns-3 : tie.Need-returns-3
 unfolding resulted
-returns-3 c = c .numbered .ensures ∙ rw (le-ltb _ _ (c .before .before .before .if1 .left), ne-eqb _ _ (c .before .if2 .left))
+returns-3 c = c .timely .ensures ∙ rw (le-ltb _ _ (c .before .before .before .if1 .left), ne-eqb _ _ (c .before .if2 .left))
 
 pub resulted-spec : {M : Type 1} → statement M
 resulted-spec =
     tie.close
-    (tie.spec unmoved-requires returns unmoved-requires-2 returns-2 numbered-requires returns-3)
+    (tie.spec unmoved-requires returns unmoved-requires-2 returns-2 timely-requires returns-3)

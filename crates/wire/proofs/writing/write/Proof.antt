@@ -27,6 +27,15 @@ put-requires c κs = search needs
 enum-known-what-2 : tie.Need-enum-known-what-2
 enum-known-what-2 c = search needs
 
+issue-bytes-requires : tie.Need-issue-bytes-requires
+issue-bytes-requires c κs = search needs
+
+array-read-t31 : tie.Need-array-read-t31
+array-read-t31 c = search needs
+
+array-read-t34 : tie.Need-array-read-t34
+array-read-t34 c = search needs
+
 slice-aggregate-put-2 : tie.Need-slice-aggregate-put-2
 slice-aggregate-put-2 c = search needs
 
@@ -50,6 +59,15 @@ put-requires-3 c κs = search needs
 
 enum-known-what-4 : tie.Need-enum-known-what-4
 enum-known-what-4 c = search needs
+
+issue-bytes-requires-2 : tie.Need-issue-bytes-requires-2
+issue-bytes-requires-2 c κs = search needs
+
+array-read-t49 : tie.Need-array-read-t49
+array-read-t49 c = search needs
+
+array-read-t52 : tie.Need-array-read-t52
+array-read-t52 c = search needs
 
 slice-aggregate-put-4 : tie.Need-slice-aggregate-put-4
 slice-aggregate-put-4 c = search needs
@@ -84,10 +102,11 @@ same-length-3 : tie.Need-same-length-3
 same-length-3 c = search needs
 
 returns-3 : tie.Need-returns-3
-returns-3 c = let w = c .before .before .before .before .before .before .what2 .given .1 in
-    let s = ranged (c .before .before .before .before .before .before .before .before .before .before .before .args .m) (now (c .before .before .before .before .before .before .before .before .before .before .before .args .room)) _ w refl (rw w at (sym (c .before .before .before .before .before .before .before .before .before .in-range .ensures) ∙ c .before .before .before .before .before .before .before .before .if1 .taken)) in
+returns-3 c = let w = c .before .before .before .before .before .before .before .what2 .given .1 in
+    let s = ranged (c .before .before .before .before .before .before .before .before .before .before .before .before .args .m) (now (c .before .before .before .before .before .before .before .before .before .before .before .before .args .room)) _ w refl (rw w at (sym (c .before .before .before .before .before .before .before .before .before .before .in-range .ensures) ∙ c .before .before .before .before .before .before .before .before .before .if1 .taken)) in
+    let b = c .before .before .before .before .before .issue-bytes .ensures in
     let e = c .before .before .put2 .ensures in
-    (e .0 ∙ rw s, e .1 ∙ rw s)
+    (e .0 ∙ rw (s, b), e .1 ∙ rw (s, b))
 
 same-length-4 : tie.Need-same-length-4
 same-length-4 c = search needs
@@ -109,10 +128,11 @@ same-length-6 : tie.Need-same-length-6
 same-length-6 c = search needs
 
 returns-6 : tie.Need-returns-6
-returns-6 c = let w = c .before .before .before .before .before .before .what4 .given .1 in
-    let s = ranged (c .before .before .before .before .before .before .before .before .before .before .before .args .m) (now (c .before .before .before .before .before .before .before .before .before .before .before .args .room)) _ w refl (rw w at (sym (c .before .before .before .before .before .before .before .before .before .in-range .ensures) ∙ c .before .before .before .before .before .before .before .before .if1 .taken)) in
+returns-6 c = let w = c .before .before .before .before .before .before .before .what4 .given .1 in
+    let s = ranged (c .before .before .before .before .before .before .before .before .before .before .before .before .args .m) (now (c .before .before .before .before .before .before .before .before .before .before .before .before .args .room)) _ w refl (rw w at (sym (c .before .before .before .before .before .before .before .before .before .before .in-range .ensures) ∙ c .before .before .before .before .before .before .before .before .before .if1 .taken)) in
+    let b = c .before .before .before .before .before .issue-bytes2 .ensures in
     let e = c .before .before .put4 .ensures in
-    (e .0 ∙ rw s, e .1 ∙ rw s)
+    (e .0 ∙ rw (s, b), e .1 ∙ rw (s, b))
 
 same-length-7 : tie.Need-same-length-7
 same-length-7 c = search needs
@@ -137,6 +157,9 @@ write-spec =
     slice-aggregate-put
     put-requires
     enum-known-what-2
+    issue-bytes-requires
+    array-read-t31
+    array-read-t34
     slice-aggregate-put-2
     put-requires-2
     enum-known-what-3
@@ -145,6 +168,9 @@ write-spec =
     slice-aggregate-put-3
     put-requires-3
     enum-known-what-4
+    issue-bytes-requires-2
+    array-read-t49
+    array-read-t52
     slice-aggregate-put-4
     put-requires-4
     enum-known-what-5

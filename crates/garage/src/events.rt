@@ -1,0 +1,59 @@
+// Car events.
+ghost use mathlib.Core.Path.{_≡_};
+ghost use Rattle.garage.specs.Calls.{occurred, driven, evented, event};
+ghost use Rattle.garage.specs.Turns.{turnOf};
+use super::Outcome;
+use super::Station;
+use super::Turn;
+use super::refused;
+use super::sets;
+use answers::Answer;
+use answers::NOWHERE;
+use rules::Driven;
+use rules::Event;
+use rules::EventReading;
+
+impl Station {
+    // The end of a car event: the record after it, if it is possible.
+    fn occurred(self, e: Event) -> Turn
+        ensures { λ t. ⌜ t ≡ turnOf (occurred self e) ⌝ }
+    {
+        match engine::driven(e, self.bits) {
+            Driven::Record(r) => self.holding(r),
+            Driven::Impossible => self.unmoved(Answer::EventImpossible),
+        }
+    }
+
+    // A car event that is known, beside the set that is outstanding.
+    fn driven(self, e: Event) -> Turn
+        ensures { λ t. ⌜ t ≡ turnOf (driven self e) ⌝ }
+    {
+        let set = self.set;
+        if sets::lift_in(set, self.count) {
+            return self.unmoved(Answer::SetOutstanding);
+        }
+        self.occurred(e)
+    }
+
+    // A car event past the test of fitness, by its number: 1 in, 2 out.
+    pub fn evented(self, e: u8) -> Turn
+        ensures { λ t. ⌜ t ≡ turnOf (evented self e) ⌝ }
+    {
+        match rules::event_of(e) {
+            EventReading::Good(known) => self.driven(known),
+            EventReading::Bad => self.unmoved(Answer::BadField(NOWHERE)),
+        }
+    }
+
+    // A car event.
+    pub fn event(self, e: u8) -> Outcome
+        ensures { λ o. ⌜ o ≡ event self e ⌝ }
+    {
+        if !self.fit() {
+            return refused(self, Answer::Unfit);
+        }
+        let t = self.evented(e);
+        let held = self.set;
+        self.after(t, held)
+    }
+}

@@ -1,0 +1,68 @@
+// A request: a set of instructions, taken if no set is outstanding, no two overlap and each is allowed.
+ghost use mathlib.Core.Path.{_≡_};
+ghost use Rattle.bits.specs.Search.{least};
+ghost use Rattle.garage.specs.Held.{overlapsEarlier, barred};
+ghost use Rattle.garage.specs.Calls.{accepted, requested, request};
+ghost use Rattle.garage.specs.Turns.{turnOf};
+use super::Outcome;
+use super::Station;
+use super::Turn;
+use super::refused;
+use super::sets;
+use super::sets::Faults;
+use answers::Answer;
+use std::num::wrapping_add_u16;
+
+impl Station {
+    // The end of a request, by what a search of its set has found: no overlap, each instruction allowed.
+    fn accepted(self, count: u8, set: [u8; 40], found: Faults) -> Turn
+        requires { ⌜ (found .overlap ≡ least count (overlapsEarlier set)) × (found .barred ≡ least count (barred set (self .bits))) ⌝ }
+        ensures { λ t. ⌜ t ≡ turnOf (accepted self count set) ⌝ }
+    {
+        if found.overlap < count {
+            return self.unmoved(Answer::Overlap(found.overlap));
+        }
+        if found.barred < count {
+            let verdict = engine::code_verdict(sets::code_at(&set, found.barred), self.bits);
+            return self.unmoved(verdict.answer(found.barred));
+        }
+        Turn {
+            answer: Answer::Opened(self.next),
+            bits: self.bits,
+            count,
+            answered: 0,
+            next: wrapping_add_u16(self.next, 1),
+        }
+    }
+
+    // A request of `count` instructions, five bytes each, past the test of fitness; bytes past them are not looked at.
+    pub fn requested(self, count: u8, set: [u8; 40]) -> Turn
+        ensures { λ t. ⌜ t ≡ turnOf (requested self count set) ⌝ }
+    {
+        if 0 < self.count {
+            return self.unmoved(Answer::SetOutstanding);
+        }
+        if Station::MOST < count {
+            return self.unmoved(Answer::TooMany);
+        }
+        if count == 0 {
+            return self.unmoved(Answer::EmptySet);
+        }
+        let found = sets::search(set, count, self.bits);
+        if found.bad < count {
+            return self.unmoved(Answer::BadField(found.bad));
+        }
+        self.accepted(count, set, found)
+    }
+
+    // A request.
+    pub fn request(self, count: u8, set: [u8; 40]) -> Outcome
+        ensures { λ o. ⌜ o ≡ request self count set ⌝ }
+    {
+        if !self.fit() {
+            return refused(self, Answer::Unfit);
+        }
+        let t = self.requested(count, set);
+        self.after(t, sets::only(set, count))
+    }
+}

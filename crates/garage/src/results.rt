@@ -1,0 +1,131 @@
+// Results of the outstanding set's instructions.
+ghost use mathlib.Core.Path.{_≡_};
+ghost use Prim.Native.Nat.{_≤_, _<_};
+ghost use Rattle.garage.specs.Station.{inSet, behind, answering};
+ghost use Rattle.garage.specs.Calls.{taken, succeeded, ended, numbered, timely, resulted, result};
+ghost use Rattle.garage.specs.Turns.{turnOf};
+use super::Outcome;
+use super::Report;
+use super::Station;
+use super::Turn;
+use super::all_marks;
+use super::refused;
+use super::sets;
+use answers::Answer;
+use answers::NOWHERE;
+use rules::Moved;
+use std::num::wrapping_sub_u16;
+
+impl Station {
+    // Instruction i answered, the record now r.
+    fn answering(self, i: u8, r: u64) -> Turn
+        requires { ⌜ (self .count ≤ 8) × (i < self .count) ⌝ }
+        ensures { λ t. ⌜ t ≡ turnOf (taken (answering self i r)) ⌝ }
+    {
+        let marks = self.answered | (1u8 << i);
+        let all = all_marks(self.count);
+        if marks & all == all {
+            return Turn {
+                answer: Answer::Taken,
+                bits: r,
+                count: 0,
+                answered: 0,
+                next: self.next,
+            };
+        }
+        Turn {
+            answer: Answer::Taken,
+            bits: r,
+            count: self.count,
+            answered: marks,
+            next: self.next,
+        }
+    }
+
+    // Success of instruction i, which has no result yet.
+    fn succeeded(self, i: u8) -> Turn
+        requires { ⌜ (self .count ≤ 8) × (i < self .count) ⌝ }
+        ensures { λ t. ⌜ t ≡ turnOf (succeeded self i) ⌝ }
+    {
+        let set = self.set;
+        match engine::code_moved(sets::code_at(&set, i), self.bits) {
+            Moved::Record(r) => self.answering(i, r),
+            Moved::NotAllowed(_) => self.unmoved(Answer::NowNotAllowed),
+            Moved::IllFormed => self.unmoved(Answer::NowNotAllowed),
+        }
+    }
+
+    // The end of a result: 0 failed, else done.
+    fn ended(self, i: u8, done: u8) -> Turn
+        requires { ⌜ (self .count ≤ 8) × (i < self .count) ⌝ }
+        ensures { λ t. ⌜ t ≡ turnOf (ended self i done) ⌝ }
+    {
+        if done == 0 {
+            return self.answering(i, self.bits);
+        }
+        self.succeeded(i)
+    }
+
+    // Whether the set has an instruction of this number.
+    fn in_set(self, i: u8) -> bool
+        ensures { λ b. ⌜ b ≡ inSet self i ⌝ }
+    {
+        (self.count <= Station::MOST) & (i < self.count)
+    }
+
+    // A result by its instruction's number.
+    fn numbered(self, i: u8, done: u8) -> Turn
+        ensures { λ t. ⌜ t ≡ turnOf (numbered self i done) ⌝ }
+    {
+        if !self.in_set(i) {
+            return self.unmoved(Answer::NotInSet);
+        }
+        if (self.answered >> i) % 2 == 1 {
+            return self.unmoved(Answer::AlreadyAnswered);
+        }
+        self.ended(i, done)
+    }
+
+    // How far an issue is behind the present set's, counted round the end.
+    fn behind(self, issue: u16) -> u16
+        ensures { λ n. ⌜ n ≡ behind self issue ⌝ }
+    {
+        wrapping_sub_u16(wrapping_sub_u16(self.next, 1), issue)
+    }
+
+    // A result by the issue of its set.
+    fn timely(self, report: Report) -> Turn
+        ensures { λ t. ⌜ t ≡ turnOf (timely self report) ⌝ }
+    {
+        match self.behind(report.issue) {
+            0 => self.numbered(report.number, report.done),
+            1..=32767 => self.unmoved(Answer::Late),
+            _ => self.unmoved(Answer::NotIssued),
+        }
+    }
+
+    // A result past the test of fitness.
+    pub fn resulted(self, report: Report) -> Turn
+        ensures { λ t. ⌜ t ≡ turnOf (resulted self report) ⌝ }
+    {
+        if 1 < report.done {
+            return self.unmoved(Answer::BadField(NOWHERE));
+        }
+        if self.count == 0 {
+            return self.unmoved(Answer::NoSet);
+        }
+        self.timely(report)
+    }
+
+    // A result.
+    pub fn result(self, report: Report) -> Outcome
+        ensures { λ o. ⌜ o ≡ result self report ⌝ }
+    {
+        if !self.fit() {
+            return refused(self, Answer::Unfit);
+        }
+        let t = self.resulted(report);
+        let held = self.set;
+        self.after(t, held)
+    }
+}
