@@ -89,7 +89,7 @@ overlapping set i {seen} {m} {x} e d a =
     ∙ rw (a, d, e)
 
 -- the lift's bits, 52 to 54
-abbrev liftMask : ℕ
+abbrev pub liftMask : ℕ
 liftMask = 0x70000000000000
 
 held-lift : (x : Code) → share (heldArea x) lift ≡ not (eqb (bitAnd liftMask (heldMask x)) 0)

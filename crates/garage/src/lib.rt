@@ -108,6 +108,7 @@ impl Station {
             & (marks <= all)
             & sets::rest_zero(set, n)
             & ((n == 0) | (marks & all != all))
+            & !sets::crosses_drive(self.bits, set, n)
     }
 
     // The station as it was, and the answer.
