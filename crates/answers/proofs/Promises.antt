@@ -27,6 +27,17 @@ reason-from SameHeight = omega arith
 reason-from NotAtRotation = omega arith
 reason-from CellsNotFree = omega arith
 
+pub reason-to : (why : Reason) → reasonNumber why ≤ 28
+reason-to NothingNamed = omega arith
+reason-to Gap = omega arith
+reason-to NotAvailable = omega arith
+reason-to NotFree = omega arith
+reason-to OddCount = omega arith
+reason-to HalfMove = omega arith
+reason-to SameHeight = omega arith
+reason-to NotAtRotation = omega arith
+reason-to CellsNotFree = omega arith
+
 -- it is no other's
 numbered : ℕ → Reason
 numbered n =

@@ -19,7 +19,7 @@ use Rattle.rules.specs.declared.Event.{Event}
 use Rattle.rules.specs.declared.Event.the-variants.{BeginIn, BeginOut, EndDone, EndNotDone}
 use Rattle.rules.specs.Rules.{wellFormed, areaOf, area, Clause, _else_, test, clauses, conditions, changes, allowed, next}
 use Rattle.rules.specs.Verdicts.{judged, verdictOf}
-use Rattle.rules.specs.Events.{eventConditions, eventChanges, possible, after}
+use Rattle.rules.specs.Events.{turn, beginConditions, eventConditions, eventChanges, inTurn, possible, after}
 use Rattle.rules.proofs.Every.{everywhere, each}
 
 -- each condition reads only the area, and each change stands in it and reads only it
@@ -107,6 +107,10 @@ module _ (e : Event) where
   pub same-possible : (f g : Bits) → ((k : ℕ) → T (elem k driven) → f k ≡ g k) → possible e f ≡ possible e g
   unfolding possible
   same-possible f g a = all-agree driven f g a (eventConditions e) (event-framed .0)
+
+  pub same-turn : (f g : Bits) → ((k : ℕ) → T (elem k driven) → f k ≡ g k) → inTurn e f ≡ inTurn e g
+  unfolding inTurn
+  same-turn f g a = holds-agree driven f g a (turn e) (and-l (readsIn driven (turn e)) (allReadIn driven (beginConditions e)) (event-framed .0))
 
   pub same-after : (f g : Bits) → ((k : ℕ) → T (elem k driven) → f k ≡ g k) → (k : ℕ) → T (elem k driven) → after e f k ≡ after e g k
   unfolding after

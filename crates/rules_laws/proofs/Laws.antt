@@ -48,6 +48,7 @@ kept-outside i w f k o = frame.kept-outside i (true→T w) f k o
 pub events-local : EventsLocal
 events-local = record {
   sameVerdict = λ e f g a. frame.same-possible e f g (λ k m. a k (T→true (elem k (lift ++ drives)) m));
+  sameTurn = λ e f g a. frame.same-turn e f g (λ k m. a k (T→true (elem k (lift ++ drives)) m));
   sameBits = λ e f g a k m. frame.same-after e f g (λ j n. a j (T→true (elem j (lift ++ drives)) n)) k (true→T m);
   keptOutside = frame.after-outside;
 }

@@ -15,7 +15,7 @@ use Rattle.rules.specs.declared.Instruction.{Instruction}
 use Rattle.rules.specs.declared.Event.{Event}
 use Rattle.rules.specs.declared.Event.the-variants.{BeginIn, BeginOut, EndDone, EndNotDone}
 use Rattle.rules.specs.Rules.{wellFormed, areaOf, area, allowed, next}
-use Rattle.rules.specs.Events.{possible, after}
+use Rattle.rules.specs.Events.{inTurn, possible, after}
 use Rattle.rules.specs.Verdicts.{verdictOf}
 
 -- ---- areas
@@ -44,9 +44,10 @@ KeptOutside = (i : Instruction) → wellFormed i ≡ true → (f : Bits) (k : �
 abbrev pub liftArea : Bits
 liftArea k = elem k (lift ++ drives)
 
--- a car event reads and writes these bits only: the same three laws, with the lift for its area
+-- a car event reads and writes these bits only: the same three laws, with the lift for its area; and they say whether it comes in turn
 pub record EventsLocal : Type 0 where
   pub sameVerdict : (e : Event) (f g : Bits) → Agree liftArea f g → possible e f ≡ possible e g
+  pub sameTurn : (e : Event) (f g : Bits) → Agree liftArea f g → inTurn e f ≡ inTurn e g
   pub sameBits : (e : Event) (f g : Bits) → Agree liftArea f g → Agree liftArea (after e f) (after e g)
   pub keptOutside : (e : Event) (f : Bits) (k : ℕ) → liftArea k ≡ false → after e f k ≡ f k
 
