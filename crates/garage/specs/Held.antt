@@ -50,6 +50,9 @@ whyNot set r i = answerFor (codeVerdict (codeAt set i) r) i
 unfoldable pub liftIn : List ℕ → ℕ → Bool
 liftIn set n = some n (λ j. share (heldArea (codeAt set j)) lift)
 
--- and a drive is under way on the record with this image
+-- and a drive is under way on the record with this image; the same of one instruction alone
 unfoldable pub crossesDrive : ℕ → List ℕ → ℕ → Bool
 crossesDrive r set n = holds underWay (bit r) && liftIn set n
+
+unfoldable pub crosses : Code → ℕ → Bool
+crosses x r = holds underWay (bit r) && share (heldArea x) lift

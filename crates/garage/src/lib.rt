@@ -2,10 +2,13 @@
 // back with an answer; a refused call hands it back as it was.
 ghost use mathlib.Core.Path.{_≡_};
 ghost use Prim.Native.Nat.{_-_, _^_, _≤_};
+ghost use Rattle.garage.specs.Held.{crosses};
 ghost use Rattle.garage.specs.Station.{startOf, fit, holding};
 ghost use Rattle.garage.specs.Calls.{refused, taken, imaged, takeImage, ask};
 ghost use Rattle.garage.specs.Turns.{turnOf, afterTurn};
 use answers::Answer;
+use floor::masks::LIFT;
+use rules::Code;
 
 mod events;
 mod held;
@@ -71,6 +74,16 @@ fn taken(station: Station) -> Outcome
         station,
         answer: Answer::Taken,
     }
+}
+
+// A drive is under way on the record, and the instruction that these bytes say has the lift in its area.
+pub fn crosses(x: Code, bits: u64) -> bool
+    ensures { λ b. ⌜ b ≡ crosses x bits ⌝ }
+{
+    if !floor::under_way(bits) {
+        return false;
+    }
+    held::area(x) & LIFT != 0
 }
 
 impl Station {

@@ -27,7 +27,7 @@ use Rattle.answers.specs.declared.Answer.the-variants.{OutOfTurn}
 use Rattle.answers.specs.Answers.{numberOf}
 use Rattle.garage.specs.declared.Station.{Station}
 use Rattle.garage.specs.declared.Outcome.{Outcome}
-use Rattle.garage.specs.Held.{codeAt, heldArea, heldNext, bad, overlapsEarlier, barred, whyNot, liftIn, crossesDrive}
+use Rattle.garage.specs.Held.{codeAt, heldArea, heldNext, bad, overlapsEarlier, barred, whyNot, liftIn, crossesDrive, crosses}
 use Rattle.garage.specs.Station.{fit, holding}
 use Rattle.garage.specs.Calls as station
 use Rattle.garage_laws.specs.Runs as run
@@ -214,7 +214,7 @@ module _ (before : Station) (way : ℕ) (w : (way ≡ 1) ⊎ (way ≡ 2)) where
   agrees s r a d S = ((λ k m. a k m ∙ S .0 k m), d ∙ S .1)
 
   still-step : (s t : Station) (c : Call) → Step s c t → ((c ≡ run.event 3) ⊎ (c ≡ run.event 4) → said s c ≡ 0 → ⊥) → Still s → Still t
-  unfolding inTurn
+  unfolding inTurn crosses
   still-step s t c (refuses x) q S = S
   still-step s t c (opens A) q S = S
   still-step s t c (fails {i} x) q S = rw (answering-bits s i (s .bits)) S

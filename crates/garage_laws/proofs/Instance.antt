@@ -34,8 +34,8 @@ use Rattle.rules_laws.specs.Laws.{Clear}
 use Rattle.rules_laws.proofs.Laws.{same-verdict, same-bits, kept-outside, events-local, image-sound, image-cars, event-image-sound}
 use Rattle.sets.proofs.Rules.{Rules, Agree, Local, LocalRules, Framed, blind}
 use Rattle.sets.proofs.Frames.{local-framed}
-use Rattle.garage.specs.Held.{heldArea, heldAllowed, heldNext}
-use Rattle.garage_laws.proofs.Reach.{reach, in-area, in-drives, outside-area, held-outside, crosses}
+use Rattle.garage.specs.Held.{heldArea, heldAllowed, heldNext, crosses}
+use Rattle.garage_laws.proofs.Reach.{reach, in-area, in-drives, outside-area, held-outside}
 
 -- what an event's number says, and what is said of a number that is no event's
 abbrev pub onEvent : {A : Type 0} → (Event → A) → A → EventReading → A
@@ -102,6 +102,7 @@ read-local Bad w = record { reads = λ f g e. refl; writes = λ f g e t. clash t
 
 -- whether it crosses a drive, on two records that agree on its reach
 crosses-same : (x : Code) (f g : ℕ) → Agree 64 bit (λ k. elem k (reach x)) f g → crosses x f ≡ crosses x g
+unfolding crosses
 crosses-same x f g e = split (share (heldArea x) lift)
     (λ u. rw u (ap (λ (b : Bool). b && true)
     (holds-agree drives (bit f) (bit g) (λ k m. let n = T→true (elem k drives) m in e k (are-small drives tt k n) (in-drives x k u n)) underWay tt)))
@@ -143,7 +144,7 @@ local = record { instruction = reach-local; event = λ e. event-local (readEvent
 -- ---- and keeps records sound
 
 pub next-sound : (x : Code) (r : ℕ) → sound r ≡ true → heldAllowed x (bit r) ≡ true → crosses x r ≡ false → sound (image (heldNext x (bit r))) ≡ true
-unfolding heldAllowed heldNext heldArea
+unfolding heldAllowed heldNext heldArea crosses
 next-sound x r s = go (readCode x)
   where
     go : (v : Reading) → onCode (λ i. allowed i (bit r)) false v ≡ true → holds underWay (bit r) && share (onCode areaOf [] v) lift ≡ false

@@ -28,7 +28,7 @@ use Rattle.rules.specs.Verdicts.{onCode}
 use Rattle.rules.proofs.Every.{everywhere, each}
 use Rattle.rules.proofs.CodeLaws.{one-form}
 use Rattle.rules_laws.proofs.Laws.{kept-outside}
-use Rattle.garage.specs.Held.{codeAt, heldArea, heldNext, liftIn, crossesDrive}
+use Rattle.garage.specs.Held.{codeAt, heldArea, heldNext, liftIn, crossesDrive, crosses}
 use Rattle.garage.proofs.Areas.{held-small}
 
 -- ---- areas and drives
@@ -138,13 +138,9 @@ reach-lift x = alike (share (reach x) (lift ++ drives)) (share (heldArea x) lift
 
 -- ---- a drive under way, and the lift in an area
 
--- of one instruction
-abbrev pub crosses : Code → ℕ → Bool
-crosses x r = holds underWay (bit r) && share (heldArea x) lift
-
 -- where a set does not cross a drive, none of its instructions does
 pub crosses-none : (r : ℕ) (set : List ℕ) (n : ℕ) → crossesDrive r set n ≡ false → (i : ℕ) → i < n → crosses (codeAt set i) r ≡ false
-unfolding crossesDrive liftIn
+unfolding crosses crossesDrive liftIn
 crosses-none r set n o i h = split (holds underWay (bit r))
     (λ u. rw u (none-at n _ (rw u at o) i h))
     (λ u. rw u)
