@@ -1,7 +1,6 @@
 -- `engine::driven` meets its contract: out of turn, not possible, or the record after it. Assumes nothing.
 use Rattle.engine.proofs.Answers.{event-untimely, event-refused, event-taken}
 use Rattle.bits.proofs.Cases.{failed, passed}
-use mathlib.Core.Path.{sym, _∙_}
 use borrow.Author.Needs.{needs}
 use Rattle.engine.proofs.driven.Statement.{statement}
 use Rattle.engine.proofs.driven.Tie as tie
