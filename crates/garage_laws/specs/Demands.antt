@@ -41,6 +41,10 @@ CallsInTable = (s : Station) (c : Call) → OfTable (said s c)
 
 -- ---- 2. It answers right
 
+-- no drive is under way, or the lift is in no area of these instructions
+abbrev pub ClearOfDrives : Station → ℕ → List ℕ → Type 0
+ClearOfDrives s n set = (holds underWay (bit (s .bits)) ≡ false) ⊎ (liftIn set n ≡ false)
+
 -- what a request must have: no set outstanding, 1 to 8 instructions, all well formed, no drive under way or the lift in no area, no two
 -- overlapping, each allowed on the present record
 pub record Acceptable (s : Station) (n : ℕ) (set : List ℕ) : Type 0 where
@@ -49,7 +53,7 @@ pub record Acceptable (s : Station) (n : ℕ) (set : List ℕ) : Type 0 where
   pub some : 1 ≤ n
   pub few : n ≤ most
   pub good : (i : ℕ) → i < n → isGood (codeAt set i) ≡ true
-  pub clear : (holds underWay (bit (s .bits)) ≡ false) ⊎ (liftIn set n ≡ false)
+  pub clear : ClearOfDrives s n set
   pub apart : (i j : ℕ) → i < n → j < i → share (heldArea (codeAt set i)) (heldArea (codeAt set j)) ≡ false
   pub allowed : (i : ℕ) → i < n → heldAllowed (codeAt set i) (bit (s .bits)) ≡ true
 
@@ -66,7 +70,7 @@ pub record Orderly (s : Station) (n : ℕ) (set : List ℕ) : Type 0 where
   pub some : 1 ≤ n
   pub few : n ≤ most
   pub good : (i : ℕ) → i < n → bad set i ≡ false
-  pub clear : (holds underWay (bit (s .bits)) ≡ false) ⊎ (liftIn set n ≡ false)
+  pub clear : ClearOfDrives s n set
   pub apart : (i : ℕ) → i < n → overlapsEarlier set i ≡ false
 
 -- of the conditions of the instruction at p the first that fails has this reason
