@@ -1,6 +1,6 @@
--- The floor of document 01, with document 02's drives: which bit of the record stands for what. Definitions elsewhere go by these names. Numbers are written again
--- only for the ends of the rows, where cars are laid out; in whole images, as the start record's; and in masks that are
--- cited by private functions alone. Assumes nothing.
+-- The floor of document 01, with document 02's drives: which bit of the record stands for what. Definitions elsewhere go by these names.
+-- Numbers are written again only for the ends of the rows, where cars are laid out; in whole images, as the start record's; and in masks
+-- that are cited by private functions alone. Assumes nothing.
 use mathlib.Core.Bool.{cond}
 use mathlib.Core.List.{List, [], _∷_, _++_}
 use Prim.Native.Nat.{ℕ, _+_, _*_}

@@ -19,6 +19,7 @@ use Rattle.garage.specs.Calls.{ask}
 use Rattle.rules.specs.declared.Moved.{Moved}
 use Rattle.wire.specs.Kinds.{littleEndian, fromLittleEndian, setOf}
 use Rattle.wire.proofs.Parts.{set-short}
+use Rattle.station_c.proofs.Judging.{crossed-says, clear-says}
 use Rattle.station_c.specs.Entries.{stationBytes, stationOf, returned, Leaves, writes, entry, asking, moved, answerTo, judgement, recordIn, nexting}
 
 -- ---- a station in bytes
@@ -80,11 +81,11 @@ few x five room h l e = rw (le-ltb _ _ h, lt-ltb _ _ l) (e, refl)
 -- with the lift in its area under a driver there is none
 pub hindered : (x : ℕ) (five room : List ℕ) {r : ℕ} → 8 ≤ length room → 5 ≤ length five → crosses (codeFrom five) x ≡ true → r ≡ returned OutOfTurn
     → Leaves (nexting x five room) r room
-unfolding nexting judgement writes
-hindered x five room h l c e = rw (le-ltb _ _ h, le-ltb _ _ l, c) (e, refl)
+unfolding nexting writes
+hindered x five room h l c e = rw (le-ltb _ _ h, crossed-says x five l c) (e, refl)
 
 -- or it is there
 pub followed : (x : ℕ) (five room : List ℕ) {m : Moved} {a : Answer} {y : ℕ} {b : List ℕ} {r : ℕ} {last : List ℕ} → 8 ≤ length room → 5 ≤ length five
     → crosses (codeFrom five) x ≡ false → m ≡ moved x five → a ≡ answerTo m → y ≡ recordIn m → b ≡ littleEndian 8 y → Leaves (writes a b room) r last → Leaves (nexting x five room) r last
-unfolding nexting judgement
-followed x five room h l c e f g k w = rw (le-ltb _ _ h, le-ltb _ _ l, c, ← e, ← f, ← g, ← k) w
+unfolding nexting
+followed x five room h l c e f g k w = rw (le-ltb _ _ h, clear-says x five l c, ← e, ← f, ← g, ← k) w
