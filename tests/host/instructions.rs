@@ -121,6 +121,9 @@ impl Instruction {
         }
     }
 
+    /// Whether the lift is in its area.
+    pub fn takes_lift(&self) -> bool { self.area() & LIFT != 0 }
+
     /// Whether the instruction is allowed on this record. (Ill-formed: never.)
     pub fn allowed(&self, image: u64) -> bool { self.judge(image).is_ok() }
 
