@@ -2,7 +2,7 @@
 //! What is plausible next is judged by the reference station, which takes each message as it is made.
 #![allow(dead_code)] // each driver uses its own part of this module
 
-use crate::reference::{drive_under_way, Instruction, Station, END_DONE, END_NOT_DONE, REASONS};
+use crate::reference::{drive_under_way, Instruction, Station, BEGIN_IN, BEGIN_OUT, END_DONE, END_NOT_DONE, REASONS};
 use std::collections::BTreeSet;
 
 /// A seeded generator of numbers (splitmix64).
@@ -148,11 +148,13 @@ fn some_result(numbers: &mut Numbers, station: &Station) -> Vec<u8> {
 
 /// An event: mostly one whose turn it is, else any of the four, or a byte that is none.
 fn some_event(numbers: &mut Numbers, record: u64) -> Vec<u8> {
+    let begin = if record >> 52 & 1 == 0 { BEGIN_IN } else { BEGIN_OUT };
     let event = match numbers.below(8) {
         0 => numbers.below(6) as u8,
         1 | 2 if drive_under_way(record) => END_NOT_DONE,
         _ if drive_under_way(record) => END_DONE,
-        _ => 1 + numbers.below(2) as u8,
+        1..=3 => BEGIN_IN + numbers.below(2) as u8,
+        _ => begin,
     };
     message(2, &[event])
 }
