@@ -46,7 +46,7 @@
  * that a drive-in is under way, bit 56 a drive-out. A begin while any drive is under way, an end while none is, and a set with the lift
  * in the area of any of its instructions while one is, are refused with STATION_OUT_OF_TURN. The lift is in the area of GARAGE_LIFT, of
  * GARAGE_ROTATE, and of GARAGE_BELTS in row 1 with the lift's belt. Everything else goes on meanwhile. An end that is done moves the car
- * on or off the raised lift (bit 52); one that isn't leaves it where it was. An image in the middle of a drive takes its place.
+ * on or off the raised lift (bit 52); one that isn't leaves it where it was. An image in the middle of a drive replaces it.
  *
  * Reasons. An instruction that the record doesn't allow is refused for the first of its conditions that fails, in this order; a request,
  * for its least instruction that isn't allowed, whatever a later one has:
@@ -182,7 +182,8 @@ uint32_t station_event(uint8_t *room, size_t room_length, uint8_t way);
  * 14. */
 uint32_t station_result(uint8_t *room, size_t room_length, uint16_t issue, uint8_t number, uint8_t done);
 
-/* Takes an image as the record, as after somebody looked for themselves. 17, 16, then 6, 15. */
+/* Takes an image as the record, as after somebody looked for themselves; whoever looks must see too whether a driver is in the lift, since
+ * a drive is under way from now on only if the image says so. 17, 16, then 6, 15. */
 uint32_t station_image(uint8_t *room, size_t room_length, uint64_t image);
 
 /* Writes the record's eight bytes to `image`; the station stays. 17 where either room is too short, 16. */
