@@ -10,7 +10,7 @@ mod floor;
 #[allow(dead_code)]
 mod reduced;
 mod reference;
-use reference::{drive_under_way, sound, Instruction, Station, START};
+use reference::{drive_under_way, sound, Instruction, Station, BEGIN_IN, BEGIN_OUT, END_DONE, END_NOT_DONE, START};
 
 extern "C" {
     fn garage_sound(image: u64) -> bool;
@@ -56,23 +56,27 @@ impl Hasher for Spread {
 
 type Records = HashSet<u64, BuildHasherDefault<Spread>>;
 
-/// The records that the reduced floor comes to from the start, and the steps from them: every instruction that is allowed, by its
-/// opcode, and every event that is taken. The paper's steps are those from records with no drive under way, where a car's coming or going
+/// Steps by their kind: the five opcodes; then begins of drives, ends that are done, ends that are not.
+type Steps = [u64; 8];
+
+/// The records that the reduced floor comes to from the start, and the steps from them: every instruction that is allowed and, during a
+/// drive, leaves the lift alone; and every event that is taken. The paper's steps are those from records with no drive under way, where a car's coming or going
 /// is one step: here it is the begin, whose done end leads to where the paper's step does.
-fn reduced_floor() -> (Records, Counts<[u64; 6]>) {
+fn reduced_floor() -> (Records, Counts<Steps>) {
     let bytes = (1..=5u8).flat_map(|op| (0..4u8).flat_map(move |a| (0..32u8).flat_map(move |b| (0..4u8).map(move |cd| [op, a, b, cd >> 1, cd & 1]))));
     let instructions: Vec<_> = bytes.filter_map(|five| Some((usize::from(five[0]) - 1, Instruction::read(five)?))).collect();
     assert_eq!(instructions.len(), 272);
     let mut seen = Records::from_iter([START]);
-    let (mut waiting, mut steps) = (vec![START], [[0; 6]; 2]);
+    let (mut waiting, mut steps) = (vec![START], [[0; 8]; 2]);
     while let Some(record) = waiting.pop() {
         assert!(sound(record));
         let drive = drive_under_way(record);
         let may = |one: &Instruction| !(drive && one.takes_lift()) && one.allowed(record);
         let moved = instructions.iter().filter(|(_, one)| may(one)).map(|(kind, one)| (*kind, one.next(record)));
-        let driven = (1..=4).filter_map(|event| {
+        let events = [(5, BEGIN_IN), (5, BEGIN_OUT), (6, END_DONE), (7, END_NOT_DONE)];
+        let driven = events.into_iter().filter_map(|(kind, event)| {
             let mut station = Station { record, ..Station::start() };
-            (station.event(event).number == 0).then_some((5, station.record))
+            (station.event(event).number == 0).then_some((kind, station.record))
         });
         for (kind, next) in moved.chain(driven) {
             steps[usize::from(drive)][kind] += 1;
@@ -95,8 +99,12 @@ fn main() {
     let all_steps = steps.map(|kinds| kinds.iter().sum::<u64>());
     println!("counts: {states:?} states of the reduced floor without and with a drive, of {sound_ones:?} sound ones; {all_steps:?} steps");
     assert_eq!((sound_ones, states), ([3_300_864, 860_672], [3_300_863, 860_672]));
-    assert_eq!(steps[0], [71_457_408, 16_781_824, 3_544_064, 5_164_032, 61_952, 860_672]);
-    assert_eq!(steps[1], [14_925_824, 4_366_336, 923_648, 0, 0, 1_721_344]);
+    assert_eq!(steps[0], [71_457_408, 16_781_824, 3_544_064, 5_164_032, 61_952, 860_672, 0, 0]);
+    assert_eq!(steps[1], [14_925_824, 4_366_336, 923_648, 0, 0, 0, 860_672, 860_672]);
+    let with_drives: Vec<u64> = steps[0].iter().zip(steps[1]).map(|(without, with)| without + with).collect();
+    println!("counts: with drives {} states, and steps by kind {with_drives:?}", reached.len());
+    assert_eq!((reached.len(), with_drives.iter().sum::<u64>()), (4_161_535, 119_807_104));
+    assert_eq!(with_drives, [86_383_232, 21_148_160, 4_467_712, 5_164_032, 61_952, 860_672, 860_672, 860_672]);
 
     // every cell occupied, all shuttles lowered, the lift in the basement: the one that isn't reached
     let cells = [reduced::ROW_1].into_iter().chain(reduced::OTHER_ROWS).flatten().fold(0, |record, cell| record | 1u64 << cell);
