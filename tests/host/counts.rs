@@ -60,8 +60,8 @@ type Records = HashSet<u64, BuildHasherDefault<Spread>>;
 type Steps = [u64; 8];
 
 /// The records that the reduced floor comes to from the start, and the steps from them: every instruction that is allowed and, during a
-/// drive, leaves the lift alone; and every event that is taken. The paper's steps are those from records with no drive under way, where a car's coming or going
-/// is one step: here it is the begin, whose done end leads to where the paper's step does.
+/// drive, leaves the lift alone; and every event that is taken. The paper's steps are those from records with no drive under way, where a
+/// car's coming or going is one step: here it is the begin, whose done end leads to where the paper's step does.
 fn reduced_floor() -> (Records, Counts<Steps>) {
     let bytes = (1..=5u8).flat_map(|op| (0..4u8).flat_map(move |a| (0..32u8).flat_map(move |b| (0..4u8).map(move |cd| [op, a, b, cd >> 1, cd & 1]))));
     let instructions: Vec<_> = bytes.filter_map(|five| Some((usize::from(five[0]) - 1, Instruction::read(five)?))).collect();
