@@ -66,13 +66,14 @@ fn reduced_floor() -> (Records, Counts<Steps>) {
     let bytes = (1..=5u8).flat_map(|op| (0..4u8).flat_map(move |a| (0..32u8).flat_map(move |b| (0..4u8).map(move |cd| [op, a, b, cd >> 1, cd & 1]))));
     let instructions: Vec<_> = bytes.filter_map(|five| Some((usize::from(five[0]) - 1, Instruction::read(five)?))).collect();
     assert_eq!(instructions.len(), 272);
+    let beside_a_drive: Vec<_> = instructions.iter().copied().filter(|(_, one)| !one.takes_lift()).collect();
     let mut seen = Records::from_iter([START]);
     let (mut waiting, mut steps) = (vec![START], [[0; 8]; 2]);
     while let Some(record) = waiting.pop() {
         assert!(sound(record));
         let drive = drive_under_way(record);
-        let may = |one: &Instruction| !(drive && one.takes_lift()) && one.allowed(record);
-        let moved = instructions.iter().filter(|(_, one)| may(one)).map(|(kind, one)| (*kind, one.next(record)));
+        let may = if drive { &beside_a_drive } else { &instructions };
+        let moved = may.iter().filter(|(_, one)| one.allowed(record)).map(|(kind, one)| (*kind, one.next(record)));
         let events = [(5, BEGIN_IN), (5, BEGIN_OUT), (6, END_DONE), (7, END_NOT_DONE)];
         let driven = events.into_iter().filter_map(|(kind, event)| {
             let mut station = Station { record, ..Station::start() };
