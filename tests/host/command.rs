@@ -1,9 +1,7 @@
 //! What each entry for C must return and leave, by the reference. command.h makes the same calls on the entries.
 #![allow(dead_code)] // each driver uses its own part of this module
 
-use crate::reference::{
-    answer, answer_message, cars, drive_under_way, lent, read_call, sound, Answer, Call, Instruction, Station, REASON_NUMBERS,
-};
+use crate::reference::{answer, answer_message, cars, lent, read_call, sound, Answer, Call, Instruction, Station, REASON_NUMBERS};
 
 /// The entries in the order of their numbers, each with the answer numbers that it can give: no others, and a long run gives them
 /// all. (What garage_cars returns is not of the table.)
@@ -103,8 +101,7 @@ fn message(room: &mut [u8], message: &[u8], output: &mut [u8]) -> Answer {
 /// What a request of the one instruction of these bytes would be told on an image, and the record after it if that is taken.
 fn verdict(image: u64, five: &[u8]) -> (Answer, Option<u64>) {
     let Some(instruction) = five.first_chunk().and_then(|&five| Instruction::read(five)) else { return (answer(4), None) };
-    if drive_under_way(image) && instruction.takes_lift() { return (answer(31), None); }
-    match instruction.judge(image) {
+    match instruction.asked(image) {
         Ok(()) => (answer(0), Some(instruction.next(image))),
         Err(number) => (answer(number), None),
     }
