@@ -53,7 +53,7 @@ has-fit s F = rw (F .sound, le-leb (s .count) most (F .few), F .good, F .marks, 
 
 -- ---- no set
 
-fit-closed : (r next : ℕ) → sound r ≡ true → fit (closed r next) ≡ true
+pub fit-closed : (r next : ℕ) → sound r ≡ true → fit (closed r next) ≡ true
 unfolding fit every some liftIn crossesDrive
 fit-closed r next e = rw (e, and-false (holds underWay (bit r)))
 
