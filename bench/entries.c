@@ -30,7 +30,7 @@ static const uint8_t request[10] = {8, 0, STATION_KIND_REQUEST, 0, 1, GARAGE_BEL
 CALL(start) { station_start(room, STATION_SIZE); }
 CALL(request) { memcpy(room, start, STATION_SIZE); station_request(room, STATION_SIZE, 1, left_belt, sizeof left_belt); }
 CALL(eight) { memcpy(room, start, STATION_SIZE); station_request(room, STATION_SIZE, STATION_MOST, eight, sizeof eight); }
-CALL(event) { memcpy(room, start, STATION_SIZE); station_event(room, STATION_SIZE, STATION_CAR_IN); }
+CALL(event) { memcpy(room, start, STATION_SIZE); station_event(room, STATION_SIZE, STATION_BEGIN_IN); }
 CALL(result) { memcpy(room, outstanding, STATION_SIZE); station_result(room, STATION_SIZE, issue, 0, STATION_DONE); }
 CALL(image) { memcpy(room, start, STATION_SIZE); station_image(room, STATION_SIZE, STATION_START_IMAGE); }
 CALL(ask) { station_ask(start, STATION_SIZE, image, sizeof image); }

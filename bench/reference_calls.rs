@@ -37,7 +37,7 @@ fn lent(room: &[u8; Station::SIZE], call: impl FnOnce(&mut Station) -> Answer) {
 /// The record after an instruction that is allowed.
 fn next(name: &str, five: [u8; 5]) {
     assert!(Instruction::read(five).is_some_and(|one| one.allowed(START)), "{name} is allowed");
-    time(name, || { black_box(Instruction::read(black_box(five)).filter(|one| one.allowed(black_box(START))).map(|one| one.next(black_box(START)))); });
+    time(name, || { black_box(Instruction::read(black_box(five)).filter(|one| one.asked(black_box(START)).is_ok()).map(|one| one.next(black_box(START)))); });
 }
 
 fn main() {
@@ -58,7 +58,7 @@ fn main() {
     }));
     time("garage_sound", || { black_box(reference::sound(black_box(START))); });
     time("garage_cars", || { black_box(reference::cars(black_box(START))); });
-    time("garage_allowed", || { black_box(Instruction::read(black_box(LEFT_BELT)).map(|belts| belts.judge(black_box(START)))); });
+    time("garage_allowed", || { black_box(Instruction::read(black_box(LEFT_BELT)).map(|belts| belts.asked(black_box(START)))); });
     let eight = EIGHT.concat();
     time("request_of_eight", || lent(&start, |station| station.request(black_box(8), black_box(&eight))));
     next("next_by_belt", LEFT_BELT);

@@ -2,7 +2,8 @@
  *
  * The station keeps the record of one garage: which cells are occupied, where the shuttles stand, the lift's height. A planner
  * sends it sets of up to eight instructions; the station accepts a set or says why not, and changes its record only when an
- * instruction is reported done. The entries below are proved to answer what the definitions in crates/station_c/specs/Entries.antt
+ * instruction is reported done. It is told when a driver begins to drive in or out and how that ended; in between nothing may move the
+ * lift. The entries below are proved to answer what the definitions in crates/station_c/specs/Entries.antt
  * say, on every input; nothing proves this header or its caller right, so:
  *
  * What the caller must see to
@@ -14,7 +15,8 @@
  * them. No entry allocates, prints, or waits; none takes more stack than STATION_STACK_MOST.
  *
  * What may stand in a station's room: any bytes.
- *   - Bytes that are no station are refused with STATION_UNFIT.
+ *   - Bytes that are no station are refused with STATION_UNFIT. A drive under way and a set with the lift in an area are no station
+ *     together.
  *   - Bytes that station_start wrote, and after it these entries alone, are a station with all that is promised: each call answers by
  *     the rules, an accepted set is safe in any order of its results, and the record is what the results and events since the start,
  *     or since the last image that was taken, have made of it. They may be copied, kept, and put back as they are; the record and the
@@ -39,6 +41,12 @@
  * which set it is, so that one that comes after its set has closed is not taken for the next set's. Of one that isn't of the
  * outstanding set the distance is told, counted backward from that set's issue and round the end: up to 32767 it is STATION_LATE,
  * beyond that STATION_NOT_ISSUED. A result that comes 65536 sets late, or a multiple of that, can't be told from one in time.
+ *
+ * Drives. A car's coming or going has a begin and an end (station_event). In between a driver is in the lift: bit 55 of the record says
+ * that a drive-in is under way, bit 56 a drive-out. A begin while any drive is under way, an end while none is, and a set with the lift
+ * in the area of any of its instructions while one is, are refused with STATION_OUT_OF_TURN. The lift is in the area of GARAGE_LIFT, of
+ * GARAGE_ROTATE, and of GARAGE_BELTS in row 1 with the lift's belt. Everything else goes on meanwhile. An end that is done moves the car
+ * on or off the raised lift (bit 52); one that isn't leaves it where it was. An image in the middle of a drive replaces it.
  *
  * Reasons. An instruction that the record doesn't allow is refused for the first of its conditions that fails, in this order; a request,
  * for its least instruction that isn't allowed, whatever a later one has:
@@ -72,10 +80,10 @@ enum {
     STATION_UNKNOWN_KIND = 3,       /* a message of a kind that the station doesn't read */
     STATION_BAD_FIELD = 4,          /* a field out of range, or a spare byte that isn't zero */
     STATION_TOO_MANY = 5,           /* more than eight instructions */
-    STATION_SET_OUTSTANDING = 6,    /* a set still waits for results */
+    STATION_SET_OUTSTANDING = 6,    /* a set still waits for results; for an event, one with the lift in an area */
     STATION_EMPTY_SET = 7,          /* no instruction */
     STATION_OVERLAP = 8,            /* an instruction touches what an earlier one of the set touches */
-    STATION_EVENT_IMPOSSIBLE = 10,  /* no car can come in, or none can leave */
+    STATION_EVENT_IMPOSSIBLE = 10,  /* no drive can begin: the lift isn't at street height, or is occupied (in) or empty (out) */
     STATION_NO_SET = 11,            /* a result, and no set is outstanding */
     STATION_NOT_IN_SET = 12,        /* a result for an instruction that the set doesn't have */
     STATION_ALREADY_ANSWERED = 13,  /* a second result for one instruction */
@@ -93,7 +101,8 @@ enum {
     STATION_NOT_AT_ROTATION = 27,   /* the lift isn't at rotation height */
     STATION_CELLS_NOT_FREE = 28,    /* cells that must be free for the tilt or the rotation aren't */
     STATION_LATE = 29,              /* a result of a set 1 to 32767 before the outstanding one */
-    STATION_NOT_ISSUED = 30         /* a result of a set that is neither that nor the outstanding one */
+    STATION_NOT_ISSUED = 30,        /* a result of a set that is neither that nor the outstanding one */
+    STATION_OUT_OF_TURN = 31        /* a drive is under way, for a begin or a set with the lift in an area; none is, for an end */
 };
 
 /* The place where an answer names no instruction. */
@@ -131,8 +140,13 @@ enum { GARAGE_LEFT = 0, GARAGE_RIGHT = 1 };                          /* sides */
 enum { GARAGE_LOWERED = 0, GARAGE_TILTED = 1 };                      /* how a shuttle stands */
 enum { GARAGE_STREET = 0, GARAGE_ROTATION = 1, GARAGE_BASEMENT = 2 }; /* the lift's heights */
 
-/* Car events and results. */
-enum { STATION_CAR_IN = 1, STATION_CAR_OUT = 2 };
+/* Events and results. */
+enum {
+    STATION_BEGIN_IN = 1,    /* a drive into the lift begins */
+    STATION_BEGIN_OUT = 2,   /* a drive out of it begins */
+    STATION_END_DONE = 3,    /* the drive has ended, and the car did come or go */
+    STATION_END_NOT_DONE = 4 /* it has ended, and the car did not */
+};
 enum { STATION_FAILED = 0, STATION_DONE = 1 };
 
 /* Kinds of messages: those that a station reads, and the two that it answers with. */
@@ -155,11 +169,12 @@ enum {
 uint32_t station_start(uint8_t *room, size_t room_length);
 
 /* Requests a set of `count` instructions: the first 5 * count bytes of `set`, and none past them. 17; 1 if count is at most eight and
- * `set` is shorter than that; 16; then 6, 5, 7, 4, 8, 20 to 28. Taken, the set is outstanding, the record is as it was, and the
+ * `set` is shorter than that; 16; then 6, 5, 7, 4, 31, 8, 20 to 28. Taken, the set is outstanding, the record is as it was, and the
  * answer has the set's issue: STATION_SET. */
 uint32_t station_request(uint8_t *room, size_t room_length, uint8_t count, const uint8_t *set, size_t set_length);
 
-/* A car came in (STATION_CAR_IN) or left (STATION_CAR_OUT). 17, 16, then 4, 6, 10. */
+/* A drive begins (STATION_BEGIN_IN, STATION_BEGIN_OUT) or ends (STATION_END_DONE, STATION_END_NOT_DONE). A begin leaves cars as they are;
+ * with an end the drive is no longer under way. 17, 16, then 4, 6, 31 and, of a begin, 10. */
 uint32_t station_event(uint8_t *room, size_t room_length, uint8_t way);
 
 /* The result of instruction `number`, counted from 0, of the set that was given `issue`: STATION_DONE applies it to the record,
@@ -167,7 +182,8 @@ uint32_t station_event(uint8_t *room, size_t room_length, uint8_t way);
  * 14. */
 uint32_t station_result(uint8_t *room, size_t room_length, uint16_t issue, uint8_t number, uint8_t done);
 
-/* Takes an image as the record, as after somebody looked for themselves. 17, 16, then 6, 15. */
+/* Takes an image as the record, as after somebody looked for themselves; whoever looks must see too whether a driver is in the lift, since
+ * a drive is under way from now on only if the image says so. 17, 16, then 6, 15. */
 uint32_t station_image(uint8_t *room, size_t room_length, uint64_t image);
 
 /* Writes the record's eight bytes to `image`; the station stays. 17 where either room is too short, 16. */
@@ -189,12 +205,13 @@ bool garage_sound(uint64_t image);
 /* The number of cars of a sound record, at most 30; 255 if the image isn't sound. */
 uint32_t garage_cars(uint64_t image);
 
-/* Whether the record allows the instruction that the first five bytes of `five` say, or why not: 1 where there are fewer, 4 where they
- * say no instruction, then the reason, 20 to 28, or 0. The place is always STATION_NOWHERE. The image is not tested for soundness. */
+/* What a request of the one instruction that the first five bytes of `five` say would be told on the record: 1 where there are fewer
+ * bytes, 4 where they say no instruction, 31 where a drive is under way and the lift is in its area, then the reason, 20 to 28, or 0. The
+ * place is always STATION_NOWHERE. The image is not tested for soundness. */
 uint32_t garage_allowed(uint64_t image, const uint8_t *five, size_t five_length);
 
-/* The same, and if it is allowed the eight bytes of the record after it are written to `next`. 17 where that is too short, then 1, 4, 20
- * to 28. */
+/* The same, and if it is 0 the eight bytes of the record after the instruction are written to `next`. 17 where that is too short, then 1,
+ * 4, 31, 20 to 28. */
 uint32_t garage_next(uint64_t image, const uint8_t *five, size_t five_length, uint8_t *next, size_t next_length);
 
 #ifdef __cplusplus

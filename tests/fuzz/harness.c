@@ -25,10 +25,10 @@ int LLVMFuzzerTestOneInput(const uint8_t *data, size_t size);
 #define ASTRAY 0
 #endif
 
-/* Where the record has the lift's car and height, and the shuttles' slots. */
+/* Where the record has the lift's car, height and drives, and the shuttles' slots. */
 enum { LIFT_AT = 52, SLOTS_AT = 40 };
 
-enum { NUMBERS = STATION_NOT_ISSUED + 1, OPCODES = GARAGE_ROTATE + 1, RUNS = 3 };
+enum { NUMBERS = STATION_OUT_OF_TURN + 1, OPCODES = GARAGE_ROTATE + 1, RUNS = 3 };
 
 static struct page pages[RUNS];
 static size_t page_size;
@@ -43,7 +43,7 @@ static struct {
     uint8_t answers[ENTRIES][32];
     uint8_t reasons[OPCODES][NUMBERS];
     uint8_t cars[32];
-    uint8_t lift[8];
+    uint8_t lift[32];
     uint8_t shuttles[2][64];
     uint8_t outstanding[STATION_MOST + 1][STATION_MOST + 1];
 } reached __attribute__((section("__libfuzzer_extra_counters")));
@@ -176,7 +176,7 @@ static void one_call(uint8_t entry, unsigned places, bool unusual) {
         command.in.size = STATION_CODE_SIZE * (size_t)command.first;
         break;
     case EVENT:
-        command.first = (uint8_t)(STATION_CAR_IN + take() % 2);
+        command.first = (uint8_t)(STATION_BEGIN_IN + take() % 4);
         break;
     case RESULT: {
         uint8_t byte = take();
@@ -262,7 +262,7 @@ static void tell_station(void) {
     for (uint8_t left = kept[MARKS_AT]; left != 0; left &= (uint8_t)(left - 1))
         marks++;
     reached.cars[garage_cars(record) % 32] = 1;
-    reached.lift[record >> LIFT_AT & 7] = 1;
+    reached.lift[record >> LIFT_AT & 31] = 1;
     for (int side = 0; side < 2; side++)
         reached.shuttles[side][(record >> (SLOTS_AT + 3 * side) & 7) | (record >> (SLOTS_AT + 6 + 3 * side) & 7) << 3] = 1;
     if (kept[SET_AT] <= STATION_MOST)

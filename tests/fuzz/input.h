@@ -16,6 +16,10 @@ enum { SET_AT = 8, MARKS_AT = 9, CODES_AT = 10, ISSUE_AT = 50 };
 #define ROW_1 UINT64_C(0xFFFFF)
 #define MIDDLES (UINT64_C(0xFF) << 21 | UINT64_C(0xFF) << 31)
 
+/* Where it has the car on the raised lift, and the drives under way. */
+#define RAISED (UINT64_C(1) << 52)
+enum { DRIVES_AT = 55 };
+
 static const uint8_t *input;
 static size_t input_left;
 
@@ -59,14 +63,14 @@ static void put_number(uint8_t *eight, uint64_t image) {
         eight[at] = (uint8_t)(image >> (8 * at));
 }
 
-/* An image: mostly the station's record, with one thing changed or many cars more. */
+/* An image: mostly the station's record, with one thing changed; or many cars more, other drives under way and another raised car. */
 static uint64_t take_image(void) {
     uint64_t record = number_of(kept);
     uint8_t eight[STATION_IMAGE_SIZE], pick = take();
     switch (pick >> 6) {
     case 0: return record ^ UINT64_C(3) << pick % 19; /* a car of row 1 */
     case 1: return record ^ UINT64_C(1) << pick % 64;
-    case 2: return record | (pick & 1 ? ROW_1 : 0) | (pick & 2 ? MIDDLES : 0);
+    case 2: return (record | (pick & 1 ? ROW_1 : 0) | (pick & 2 ? MIDDLES : 0)) ^ (pick & 4 ? RAISED : 0) ^ (uint64_t)(pick >> 3 & 3) << DRIVES_AT;
     default: take_run(eight, sizeof eight); return number_of(eight);
     }
 }
@@ -122,7 +126,7 @@ static size_t take_message(uint8_t *message) {
         size = 1 + STATION_CODE_SIZE * (size_t)body[0];
         break;
     case STATION_KIND_EVENT:
-        body[size++] = take() % 4;
+        body[size++] = take() % (STATION_END_NOT_DONE + 2);
         break;
     case STATION_KIND_RESULT: {
         uint8_t byte = take();

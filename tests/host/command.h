@@ -13,7 +13,7 @@ struct lent {
 /* What an entry doesn't take is not looked at. */
 struct command {
     uint8_t entry;
-    uint8_t first, second; /* its byte arguments: a count, a way, or a number and an outcome */
+    uint8_t first, second; /* its byte arguments: a count, an event, or a number and an outcome */
     uint16_t issue;        /* the set that a result is of */
     uint64_t image;
     struct lent room, in, out; /* the station; a run of bytes to read; a run to write */

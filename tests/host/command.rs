@@ -7,22 +7,22 @@ use crate::reference::{answer, answer_message, cars, lent, read_call, sound, Ans
 /// all. (What garage_cars returns is not of the table.)
 pub const ENTRIES: [(&str, &[u8]); 11] = [
     ("station_start", &[0, 17]),
-    ("station_request", &[0, 1, 4, 5, 6, 7, 8, 16, 17, 20, 21, 22, 23, 24, 25, 26, 27, 28]),
-    ("station_event", &[0, 4, 6, 10, 16, 17]),
+    ("station_request", &[0, 1, 4, 5, 6, 7, 8, 16, 17, 20, 21, 22, 23, 24, 25, 26, 27, 28, 31]),
+    ("station_event", &[0, 4, 6, 10, 16, 17, 31]),
     ("station_result", &[0, 4, 11, 12, 13, 14, 16, 17, 29, 30]),
     ("station_image", &[0, 6, 15, 16, 17]),
     ("station_ask", &[0, 16, 17]),
-    ("station_message", &[0, 1, 2, 3, 4, 5, 6, 7, 8, 10, 11, 12, 13, 14, 15, 16, 17, 20, 21, 22, 23, 24, 25, 26, 27, 28, 29, 30]),
+    ("station_message", &[0, 1, 2, 3, 4, 5, 6, 7, 8, 10, 11, 12, 13, 14, 15, 16, 17, 20, 21, 22, 23, 24, 25, 26, 27, 28, 29, 30, 31]),
     ("garage_sound", &[0, 1]),
     ("garage_cars", &[]),
-    ("garage_allowed", &[0, 1, 4, 20, 21, 22, 23, 24, 25, 26, 27, 28]),
-    ("garage_next", &[0, 1, 4, 17, 20, 21, 22, 23, 24, 25, 26, 27, 28]),
+    ("garage_allowed", &[0, 1, 4, 20, 21, 22, 23, 24, 25, 26, 27, 28, 31]),
+    ("garage_next", &[0, 1, 4, 17, 20, 21, 22, 23, 24, 25, 26, 27, 28, 31]),
 ];
 
 /// One call with all that it is given; what an entry doesn't take is not looked at.
 pub struct Command<'a> {
     pub entry: u8,
-    /// Its byte arguments: a count, a way, or a number and an outcome.
+    /// Its byte arguments: a count, an event, or a number and an outcome.
     pub first: u8,
     pub second: u8,
     /// The set that a result is of.
@@ -98,10 +98,10 @@ fn message(room: &mut [u8], message: &[u8], output: &mut [u8]) -> Answer {
     })
 }
 
-/// Whether an image allows the instruction of these bytes or why not, and the record after it.
+/// What a request of the one instruction of these bytes would be told on an image, and the record after it if that is taken.
 fn verdict(image: u64, five: &[u8]) -> (Answer, Option<u64>) {
     let Some(instruction) = five.first_chunk().and_then(|&five| Instruction::read(five)) else { return (answer(4), None) };
-    match instruction.judge(image) {
+    match instruction.asked(image) {
         Ok(()) => (answer(0), Some(instruction.next(image))),
         Err(number) => (answer(number), None),
     }

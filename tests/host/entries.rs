@@ -1,18 +1,22 @@
 //! Every entry for C against the reference: `entries COMMANDS STACK PROGRAM..`, where the program is entries.c. Seeded commands on
 //! stations as they come by calls and on damaged ones, in rooms long and short: what an entry returns and what it leaves in every room
 //! must be what the reference says, and no call may take more than so many bytes of stack. Each entry must have given every number that
-//! it can give, and no other; those that say why an instruction isn't allowed, every reason of each opcode on sound records.
+//! it can give, and no other; those that say why an instruction isn't allowed, every reason of each opcode on sound records. Each call
+//! must have been made on stations that are unfit for one thing only: a drive under way beside a set with the lift.
 
 mod command;
 mod reference;
 mod traffic;
 
 use command::{Command, ENTRIES};
-use reference::{Station, REASONS};
+use reference::{sound, Instruction, Station, REASONS};
 use std::collections::BTreeSet;
 use std::io::{BufReader, Read, Write};
 use std::process::{exit, Stdio};
 use traffic::Numbers;
+
+/// Bytes that are no station.
+const UNFIT: u8 = 16;
 
 /// What a command is made of.
 #[derive(Default)]
@@ -27,13 +31,14 @@ struct Given {
     output: Vec<u8>,
 }
 
-/// A command in bytes, what it must return and leave, and the reason that this gives for an opcode.
+/// A command in bytes, what it must return and leave, the reason that this gives for an opcode, and whether its station has both.
 struct Trial {
     entry: u8,
     sent: Vec<u8>,
     answer: u32,
     left: Vec<u8>,
     reason: Option<(u8, u8)>,
+    both: Option<bool>,
 }
 
 impl Given {
@@ -45,13 +50,23 @@ impl Given {
             sent.push(run.len() as u8);
             sent.extend(run);
         }
+        let both = self.room.first_chunk().and_then(|room| both(&Station::from_bytes(room)));
         let Given { entry, first, second, issue, image, .. } = self;
         let (room, input, output) = (&mut self.room[..], &self.input[..], &mut self.output[..]);
         let mut command = Command { entry, first, second, issue, image, room, input, output };
         let answer = command::call(&mut command);
         let reason = command::reason_told(&command, answer);
-        Trial { entry, sent, answer, left: [self.room, self.output].concat(), reason }
+        Trial { entry, sent, answer, left: [self.room, self.output].concat(), reason, both }
     }
+}
+
+/// Of a station that has a drive under way and a set with the lift in an area, and is fit but for that: whether an instruction with the
+/// lift still waits for its result.
+fn both(station: &Station) -> Option<bool> {
+    let alone = Station { record: station.record & !(3 << 55), ..*station };
+    if station.fit() || !sound(station.record) || !alone.fit() { return None; }
+    let lift = |five: &[u8]| five.first_chunk().and_then(|&five| Instruction::read(five)).is_some_and(|one| one.takes_lift());
+    Some(station.set.chunks(5).take(station.count.into()).enumerate().any(|(at, five)| lift(five) && station.answered >> at & 1 == 0))
 }
 
 /// Bytes that stand for room: any at all.
@@ -75,9 +90,11 @@ fn damaged(numbers: &mut Numbers, station: &Station) -> Station {
     match numbers.below(7) {
         0 => other.record = traffic::near_record(numbers, station.record),
         1 => {
-            // a fit station whose instructions need not be allowed
+            // instructions that need not be allowed, some of them answered; a drive beside them makes it unfit, or is left out
             other.count = 1 + numbers.below(8) as u8;
-            other.answered = 0;
+            let waits = numbers.below(other.count.into());
+            other.answered = if numbers.one_in(2) { 0 } else { numbers.byte() & 0xFF >> (8 - other.count) & !(1 << waits) };
+            if numbers.one_in(2) { other.record &= !(3 << 55); }
             other.set = [0; 40];
             for at in 0..usize::from(other.count) {
                 other.set[5 * at..5 * at + 5].copy_from_slice(&traffic::good_five(numbers));
@@ -104,8 +121,8 @@ fn station_call(numbers: &mut Numbers, station: &Station) -> Given {
             Given { entry: 1, first: count, room, input: set, ..Given::default() }
         }
         3 => {
-            let way = if numbers.one_in(8) { numbers.byte() } else { 1 + numbers.below(2) as u8 };
-            Given { entry: 2, first: way, room, ..Given::default() }
+            let event = if numbers.one_in(8) { numbers.byte() } else { 1 + numbers.below(4) as u8 };
+            Given { entry: 2, first: event, room, ..Given::default() }
         }
         4 | 5 => {
             let number = if numbers.one_in(8) { numbers.byte() } else { numbers.below(4) as u8 };
@@ -179,6 +196,7 @@ fn main() {
     let mut answers = BufReader::new(child.stdout.take().expect("a pipe"));
     let mut seen = vec![BTreeSet::new(); ENTRIES.len()];
     let mut reasons = vec![BTreeSet::new(); ENTRIES.len()];
+    let mut both = vec![BTreeSet::new(); ENTRIES.len()];
     let mut stacks = [0; ENTRIES.len()];
     for (at, trial) in trials.iter().enumerate() {
         let (mut answer, mut stack, mut left) = ([0; 4], [0; 4], vec![0; trial.left.len()]);
@@ -193,6 +211,7 @@ fn main() {
         }
         seen[entry].insert(answer as u8);
         reasons[entry].extend(trial.reason);
+        if answer as u8 == UNFIT { both[entry].extend(trial.both); }
         stacks[entry] = stack.max(stacks[entry]);
     }
     sender.join().expect("the sender ends");
@@ -214,6 +233,12 @@ fn main() {
     for ((entry, _), reasons) in telling {
         if !traffic::every_reason(entry, reasons) { exit(1); }
         println!("entries: {entry} gave {} pairs of opcode and reason on sound records, all that can come", reasons.len());
+    }
+    for ((entry, _), both) in ENTRIES.iter().zip(&both).filter(|((_, numbers), _)| numbers.contains(&UNFIT)) {
+        if both.len() != 2 {
+            eprintln!("{entry} was not called on stations that have both a drive under way and the lift in a set, answered and not");
+            exit(1);
+        }
     }
     println!("entries: at most {limit} bytes of stack, of {stacks:?}");
     println!("entries: {} commands, each answer and room as the reference's; every number that each entry can give came", trials.len());

@@ -25,6 +25,7 @@ const HALF_MOVE: u8 = 25; // in row 2 or 3
 const SAME_HEIGHT: u8 = 26;
 const NOT_AT_ROTATION: u8 = 27;
 const CELLS_TAKEN: u8 = 28; // those of a tilt or a rotation
+const OUT_OF_TURN: u8 = 31; // the lift, while a drive is under way
 
 /// What each opcode is refused for where a sound record doesn't allow it: all pairs of opcode and number that there are.
 pub const REASONS: [(u8, u8); 18] = [
@@ -121,6 +122,9 @@ impl Instruction {
         }
     }
 
+    /// Whether the lift is in its area.
+    pub fn takes_lift(&self) -> bool { self.area() & LIFT != 0 }
+
     /// Whether the instruction is allowed on this record. (Ill-formed: never.)
     pub fn allowed(&self, image: u64) -> bool { self.judge(image).is_ok() }
 
@@ -181,6 +185,13 @@ impl Instruction {
                 holds(ROTATION_CELLS.into_iter().all(|cells| free(image, cells)), CELLS_TAKEN)
             }
         }
+    }
+
+    /// What a request of this instruction alone would be told for it on this record: nothing takes the lift from a driver, and then
+    /// it must be allowed.
+    pub fn asked(&self, image: u64) -> Result<(), u8> {
+        holds(!(drive_under_way(image) && self.takes_lift()), OUT_OF_TURN)?;
+        self.judge(image)
     }
 
     /// The record after the instruction, meant for an allowed one. (Ill-formed: unchanged.)

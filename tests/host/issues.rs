@@ -30,7 +30,7 @@ fn between(numbers: &mut Numbers) -> Vec<u8> {
     match numbers.below(4) {
         0 => request(&[]),
         1 => request(&[SET[0], SET[0]].concat()),
-        2 => message(2, &[1 + numbers.below(2) as u8]),
+        2 => message(2, &[1 + numbers.below(4) as u8]),
         _ => message(4, &START.to_le_bytes()),
     }
 }

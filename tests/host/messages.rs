@@ -1,5 +1,5 @@
 //! The reference's messages and its program: what bytes say, the bytes of a message, and a whole session answered.
-use super::{answer, answer_at, read_set, Answer, Call, Station, NO_PLACE};
+use super::{answer, answer_at, read_set, Answer, Call, Station, BEGIN_IN, BEGIN_OUT, END_DONE, END_NOT_DONE, NO_PLACE};
 use std::io::{self, ErrorKind, Read, Write};
 
 // ---- Messages ----------------------------------------------------------------------------------
@@ -40,7 +40,7 @@ fn call_body(kind: u16, body: &[u8]) -> Result<Call<'_>, Answer> {
             Ok(_) => Ok(Call::Request { count, bytes }),
             Err(place) => Err(answer_at(4, place)),
         },
-        (2, &[event @ (1 | 2)]) => Ok(Call::Event(event)),
+        (2, &[event @ (BEGIN_IN | BEGIN_OUT | END_DONE | END_NOT_DONE)]) => Ok(Call::Event(event)),
         (3, &[low, high, number, outcome @ (0 | 1)]) => Ok(Call::Result { issue: u16::from_le_bytes([low, high]), number, outcome }),
         (2, [_]) | (3, [_, _, _, _]) => Err(answer(4)),
         (4, &[a, b, c, d, e, f, g, h]) => Ok(Call::Image(u64::from_le_bytes([a, b, c, d, e, f, g, h]))),
@@ -53,7 +53,7 @@ fn call_body(kind: u16, body: &[u8]) -> Result<Call<'_>, Answer> {
 /// The same for every kind. An answer has a number of the table, an instruction's place or none, and any issue.
 fn message_body(kind: u16, body: &[u8]) -> Result<Message<'_>, Answer> {
     match (kind, body) {
-        (128, &[number @ (0..=8 | 10..=17 | 20..=30), place @ (0..=7 | NO_PLACE), low, high]) => {
+        (128, &[number @ (0..=8 | 10..=17 | 20..=31), place @ (0..=7 | NO_PLACE), low, high]) => {
             Ok(Message::Answer(Answer { number, place, issue: u16::from_le_bytes([low, high]) }))
         }
         (128, [_, _, _, _]) => Err(answer(4)),

@@ -1,8 +1,9 @@
-/* A small planner over station.h. It drives one car in, parks it on row 2, fetches it again and drives it out. Before each set it
+/* A small planner over station.h. It lets one car in, parks it on row 2, fetches it again and lets it out. Before each set it
  * works out the record that must follow; after the motors' results (here every one succeeds at once) it holds the station's record
- * against that. How far a car goes along a row it learns from the reason why the next move is not allowed. A slow motor board says its
- * result once more when the next set has begun, which must be late. Every answer is checked: the first refusal that it doesn't count on
- * ends the run with a message. */
+ * against that. How far a car goes along a row it learns from the reason why the next move is not allowed. Drivers take their time, and
+ * the first of them gives up: while one is in the lift the planner may run a belt, but not the lift. A slow motor board says its result
+ * once more when the next set has begun, which must be late. Every answer is checked: the first refusal that it doesn't count on ends
+ * the run with a message. */
 #include "station.h"
 
 #include <inttypes.h>
@@ -65,6 +66,7 @@ static const char *const numbers[] = {
     [STATION_CELLS_NOT_FREE] = "cells not free for the tilt or the rotation",
     [STATION_LATE] = "late: of a set before the present one",
     [STATION_NOT_ISSUED] = "of a set that was not issued",
+    [STATION_OUT_OF_TURN] = "out of turn",
 };
 
 static const char *words(unsigned number) {
@@ -138,7 +140,8 @@ static void show_row(uint64_t image, unsigned row) {
 
 static void show(uint64_t image) {
     for (unsigned row = 1; row <= 3; row++) show_row(image, row);
-    printf("  lift  %s%s\n", heights[image >> 53 & 3u], bit(image, 52) ? ", with a car" : "");
+    printf("  lift  %s%s", heights[image >> 53 & 3u], bit(image, 52) ? ", with a car" : "");
+    printf("%s%s\n", bit(image, 55) ? ", a drive in under way" : "", bit(image, 56) ? ", a drive out under way" : "");
     printf("  cars  %" PRIu32 "\n", garage_cars(image));
 }
 
@@ -171,11 +174,24 @@ static bool allows(Instruction i, unsigned reason) {
     return false;
 }
 
+/* The planner counts on it that a set of this instruction would be refused: the question must say so, and so must the request, which
+ * names no instruction and changes nothing. */
+static void must_refuse(Instruction i, unsigned number) {
+    uint64_t before = record_now();
+    uint32_t asked = garage_allowed(before, i.five, sizeof i.five), answer = station_request(room, sizeof room, 1, i.five, sizeof i.five);
+    if (STATION_NUMBER(asked) != number || answer != asked || STATION_PLACE(answer) != STATION_NOWHERE || record_now() != before) {
+        printf("stopped: %u was asked about and %u answered, not %u\n", STATION_NUMBER(asked), STATION_NUMBER(answer), number);
+        exit(1);
+    }
+    printf("refused with %u (%s): ", number, words(number));
+    say_instruction(&i);
+}
+
 static void headline(const char *what) { printf("step %u: %s\n", ++steps, what); }
 
-static void drive(const char *what, uint8_t way) {
+static void drive(const char *what, uint8_t event) {
     headline(what);
-    must("event", station_event(room, sizeof room, way));
+    must("event", station_event(room, sizeof room, event));
     printf("  answer 0 (taken)\n");
     show(record_now());
 }
@@ -244,7 +260,12 @@ static void along_row_1(int toward) {
 }
 
 static void park(void) {
-    drive("a car drives in", STATION_CAR_IN);
+    drive("a driver begins to drive in", STATION_BEGIN_IN);
+    must_refuse(lift(GARAGE_BASEMENT), STATION_OUT_OF_TURN);
+    drive("and gives up", STATION_END_NOT_DONE);
+    drive("the next one begins", STATION_BEGIN_IN);
+    one("meanwhile a belt of row 2", belts(2, MIDDLE_2, GARAGE_HIGHER, GARAGE_FULL));
+    drive("the car is in", STATION_END_DONE);
     one("down with the lift", lift(GARAGE_BASEMENT));
     along_row_1(GARAGE_HIGHER);
     /* rows 1 and 2 go together, since row 2 has a shuttle of its own; row 3's is tilted and out of the way */
@@ -261,7 +282,8 @@ static void fetch(void) {
     one("by the shuttle to row 1", shuttles(GARAGE_RIGHT, ROWS_2_3, GARAGE_LOWER));
     along_row_1(GARAGE_LOWER);
     one("up with the lift", lift(GARAGE_STREET));
-    drive("the car drives out", STATION_CAR_OUT);
+    drive("the driver begins to drive out", STATION_BEGIN_OUT);
+    drive("the car is out", STATION_END_DONE);
 }
 
 int main(void) {

@@ -3,14 +3,18 @@
 //! what the papers say of their examples.
 //! Every number that can come through the program must have come, and no other: 14 (a station that was reached by calls never
 //! gives it), 16 (the program's station is always fit) and 17 (its room is always enough) can't. So must every reason that each
-//! opcode can be refused for.
+//! opcode can be refused for, and all that calls can meet of drives.
 
+mod drives;
 mod pipes;
 mod reference;
 mod traffic;
 
 use pipes::{answer_in, answers, messages_in};
-use reference::{answer, answer_at, read_message, write_message, Answer, Instruction, Message, Station, REASON_NUMBERS, START};
+use reference::{
+    answer, answer_at, cars, read_message, sound, write_message, Answer, Instruction, Message, Station, BEGIN_IN, BEGIN_OUT, END_DONE,
+    END_NOT_DONE, REASON_NUMBERS, START,
+};
 use std::collections::BTreeSet;
 use std::process::exit;
 
@@ -38,7 +42,7 @@ fn examples() {
     assert_eq!(Station::start().request(2, &[half, gap].concat()), answer_at(25, 0));
     assert_eq!(Station::start().request(3, &[[1, 1, 2, 0, 1], gap, half].concat()), answer_at(21, 1));
     for number in 0..=255 {
-        let known = !matches!(number, 9 | 18 | 19 | 31..);
+        let known = !matches!(number, 9 | 18 | 19 | 32..);
         assert_eq!(read_message(&[6, 0, 128, 0, number, 255, 1, 2]).err().map(|refused| refused.answer), (!known).then_some(answer(4)));
     }
 }
@@ -48,7 +52,7 @@ fn issues() {
     let belt = [1, 1, 2, 0, 1];
     let with_issue = |issue| Answer { issue, ..answer(0) };
     let session = reference::serve(&[3, 0, 2, 0, 1, 2, 0, 5, 0]);
-    assert_eq!(session, [6, 0, 128, 0, 0, 255, 0, 0, 10, 0, 129, 0, 0, 0, 0, 0, 0, 0x1B, 0x19, 0]);
+    assert_eq!(session, [6, 0, 128, 0, 0, 255, 0, 0, 10, 0, 129, 0, 0, 0, 0, 0, 0, 0x1B, 0x89, 0]);
     // the first set has 0; with it present the numbers from 65535 down to 32769 are late, though none was issued
     let mut station = Station::start();
     assert_eq!((station.result(0, 0, 1), station.request(1, &belt)), (answer(11), with_issue(0)));
@@ -72,6 +76,61 @@ fn issues() {
     assert_eq!(read_message(&[4, 0, 3, 0, 7, 1]).err().map(|refused| refused.answer), Some(answer(2)));
 }
 
+/// The same of drives, each with its begin and its end.
+fn driving() {
+    const COMING: u64 = START | 1 << 55;
+    const PARKED: u64 = START | 1 << 52;
+    const GOING: u64 = PARKED | 1 << 56;
+    let [lift_down, rotate, lift_belt, belt] = [[4, 2, 0, 0, 0], [5, 0, 0, 0, 0], [1, 1, 4, 0, 1], [1, 1, 2, 0, 1]];
+    let taken = |events: &[u8], station: &mut Station| events.iter().for_each(|&event| assert_eq!(station.event(event), answer(0)));
+    // P2 to P4: a car in, and in again; out of an empty lift; down
+    let mut station = Station::start();
+    assert_eq!(station.event(BEGIN_OUT), answer(10));
+    taken(&[BEGIN_IN, END_DONE], &mut station);
+    assert_eq!((station.event(BEGIN_IN), station.record), (answer(10), PARKED));
+    assert_eq!((station.request(1, &lift_down).number, station.result(0, 0, 1), station.record), (0, answer(0), 0x0049_1B00_0000_1800));
+    // a driver who gives up leaves the record as it was, coming or going; a car counts from the end that is done, and until it
+    let mut station = Station::start();
+    taken(&[BEGIN_IN], &mut station);
+    assert_eq!((station.record, cars(station.record)), (COMING, Some(0)));
+    taken(&[END_NOT_DONE, BEGIN_IN, END_DONE, BEGIN_OUT], &mut station);
+    assert_eq!((station.record, cars(station.record)), (GOING, Some(1)));
+    taken(&[END_NOT_DONE, BEGIN_OUT, END_DONE], &mut station);
+    assert_eq!(station, Station::start());
+    // out of turn: an end with no begin, and any begin during a drive, before that it is impossible
+    assert_eq!([END_DONE, END_NOT_DONE].map(|event| station.event(event)), [answer(31); 2]);
+    for record in [COMING, GOING] {
+        let mut station = Station { record, ..Station::start() };
+        assert_eq!([BEGIN_IN, BEGIN_OUT, 0, 5].map(|event| station.event(event).number), [31, 31, 4, 4]);
+        // nor does anything take the lift: allowed or not, at any place, overlapping or not; but a bad field is told before
+        for set in [&[lift_down][..], &[rotate], &[lift_belt], &[belt, rotate], &[belt, belt, lift_down]] {
+            assert_eq!(station.request(set.len() as u8, &set.concat()), answer(31), "{set:?}");
+        }
+        assert_eq!(station.request(2, &[lift_down, [4, 3, 0, 0, 0]].concat()), answer_at(4, 1));
+        // all else goes on, and the drive ends beside it
+        assert_eq!(station.request(2, &[belt, belt].concat()), answer_at(8, 1));
+        assert_eq!((station.request(1, &belt).number, station.event(BEGIN_IN).number, station.result(0, 0, 1)), (0, 31, answer(0)));
+        assert_eq!((station.request(1, &belt).number, station.event(END_NOT_DONE), station.record), (0, answer(0), record & !(3 << 55)));
+    }
+    // beside a set with the lift, 6 for all four; a station with both is unfit, whether that instruction is answered or not
+    let mut station = Station::start();
+    assert_eq!((station.request(2, &[lift_down, [1, 2, 2, 0, 1]].concat()).number, station.result(0, 0, 0)), (0, answer(0)));
+    assert_eq!([BEGIN_IN, BEGIN_OUT, END_DONE, END_NOT_DONE].map(|event| station.event(event).number), [6; 4]);
+    for answered in [0, 1] {
+        let mut both = Station { record: COMING, answered, ..station };
+        assert_eq!((both.result(0, 1, 0), both.event(END_DONE), both.ask()), (answer(16), answer(16), answer(16)));
+    }
+    // which images are sound, and that they replace a drive
+    let (turned, down) = (START | 1 << 53, START | 2 << 53);
+    assert!([COMING, GOING].into_iter().all(sound));
+    let unsound = [PARKED | 1 << 55, START | 1 << 56, START | 3 << 55, PARKED | 3 << 55, turned | 1 << 55, down | 1 << 55, START | 1 << 57];
+    assert!(!unsound.into_iter().chain([turned | 1 << 52 | 1 << 56, GOING | 1 << 63]).any(sound));
+    let mut station = Station::start();
+    for image in [COMING, GOING, PARKED] {
+        assert_eq!((station.image(image), station.record), (answer(0), image));
+    }
+}
+
 /// What the instructions were refused for that the record didn't allow, each with its opcode: each message has one answer.
 fn reasons_in<'a>(input: &'a [u8], output: &'a [u8]) -> impl Iterator<Item = (u8, u8)> + 'a {
     messages_in(input).zip(messages_in(output)).filter_map(|(message, answer)| {
@@ -87,8 +146,9 @@ fn main() {
     let sessions: u64 = sessions.parse().expect("a number");
     examples();
     issues();
-    let (mut seen, mut reasons) = (BTreeSet::new(), BTreeSet::new());
-    let long = (0..2).map(|seed| (seed, traffic::input(seed, messages)));
+    driving();
+    let (mut seen, mut reasons, mut met) = (BTreeSet::new(), BTreeSet::new(), BTreeSet::new());
+    let long = (0..2).map(|seed| (seed, traffic::input(seed, messages))).inspect(|(_, input)| met.extend(drives::met_in(input)));
     let short = (0..sessions).map(|seed| (seed, traffic::damaged_input(1000 + seed, (seed % 40) as usize)));
     let mut compared = 0;
     for (seed, input) in long.chain(short) {
@@ -103,12 +163,13 @@ fn main() {
         reasons.extend(reasons_in(&input, &got));
         compared += 1;
     }
-    let wanted: BTreeSet<u8> = (0..=8).chain(10..=13).chain([15]).chain(20..=30).collect();
+    let wanted: BTreeSet<u8> = (0..=8).chain(10..=13).chain([15]).chain(20..=31).collect();
     if seen != wanted {
         eprintln!("the numbers that came are {seen:?}, expected {wanted:?}");
         exit(1);
     }
-    if !traffic::every_reason("program", &reasons) { exit(1); }
+    if !traffic::every_reason("program", &reasons) || !drives::every_drive("program", &met) { exit(1); }
     println!("program: {compared} inputs, {} messages in the long ones, each answer as the reference's; numbers {seen:?}", 2 * messages);
     println!("program: {} pairs of opcode and reason, all that can come", reasons.len());
+    println!("program: {} ways to meet a drive, all that there are", met.len());
 }

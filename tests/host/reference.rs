@@ -45,6 +45,8 @@ const HIGHER: u8 = 1; // d
 const FULL: u8 = 1; // size
 const LIFT_CAR: u32 = 52;
 const LIFT: u64 = 0b111 << LIFT_CAR; // its car and its height
+const DRIVE_IN: u32 = 55; // under way
+const DRIVE_OUT: u32 = 56;
 
 fn bit(image: u64, at: u32) -> bool { image >> at & 1 == 1 }
 fn with(image: u64, at: u32, value: bool) -> u64 { image & !(1 << at) | u64::from(value) << at }
@@ -54,6 +56,8 @@ fn occupied(image: u64, cells: Range<u32>) -> u32 { cells.map(|cell| u32::from(b
 fn free(image: u64, mut cells: Range<u32>) -> bool { cells.all(|cell| !bit(image, cell)) }
 fn even(image: u64, cells: Range<u32>) -> bool { occupied(image, cells) % 2 == 0 }
 fn height(image: u64) -> u8 { (image >> 53 & 3) as u8 }
+/// Whether a driver is still in the lift, coming or going.
+pub fn drive_under_way(image: u64) -> bool { bit(image, DRIVE_IN) || bit(image, DRIVE_OUT) }
 
 /// The cells of a belt, counted from the left: five belts in row 1, three in rows 2 and 3.
 fn belt_cells(row: u8, belt: u32) -> Range<u32> {
@@ -124,7 +128,15 @@ pub fn cars(image: u64) -> Option<u32> {
         BASEMENT => !bit(image, LIFT_CAR),
         _ => false,
     };
-    (shuttles && lift && image >> 55 == 0).then_some(cars)
+    // A drive is under way at street alone: into an empty lift or out of an occupied one, not both.
+    let at_street = |car| height(image) == STREET && bit(image, LIFT_CAR) == car;
+    let drives = match (bit(image, DRIVE_IN), bit(image, DRIVE_OUT)) {
+        (false, false) => true,
+        (true, false) => at_street(false),
+        (false, true) => at_street(true),
+        (true, true) => false,
+    };
+    (shuttles && lift && drives && image >> 57 == 0).then_some(cars)
 }
 
 // ---- The station -------------------------------------------------------------------------------
@@ -138,6 +150,12 @@ pub enum Call<'a> {
     Image(u64),
     Ask,
 }
+
+// The events: a drive begins, into the lift or out of it, and ends.
+pub const BEGIN_IN: u8 = 1;
+pub const BEGIN_OUT: u8 = 2;
+pub const END_DONE: u8 = 3;
+pub const END_NOT_DONE: u8 = 4;
 
 /// The record; the outstanding set: its size, a bit for each answered one, five bytes for each; and the issue of the set that is taken
 /// next, any at all.
@@ -159,7 +177,7 @@ impl Station {
     pub fn start() -> Self { Station { record: START, count: 0, answered: 0, set: [0; 40], next_issue: 0 } }
 
     /// Record sound; up to eight instructions, all well-formed; marks on no others, and not on every
-    /// one of a set; unused places zero.
+    /// one of a set; unused places zero; not both a drive under way and a set with the lift in an area.
     pub fn fit(&self) -> bool {
         let Some((held, unused)) = self.set.split_at_checked(5 * usize::from(self.count)) else { return false };
         sound(self.record)
@@ -167,6 +185,7 @@ impl Station {
             && self.answered & !self.all_marks() == 0
             && unused.iter().all(|&byte| byte == 0)
             && (self.count == 0 || self.answered != self.all_marks())
+            && !(drive_under_way(self.record) && self.holds_lift())
     }
 
     fn all_marks(&self) -> u8 { (0..8).filter(|&at| at < self.count).fold(0, |marks, at| marks | 1 << at) }
@@ -174,6 +193,9 @@ impl Station {
     fn held(&self) -> impl Iterator<Item = Instruction> + '_ {
         self.set.chunks_exact(5).take(self.count.into()).filter_map(|five| Instruction::read(*five.first_chunk()?))
     }
+
+    /// Whether the outstanding set has the lift in an area, answered or not.
+    fn holds_lift(&self) -> bool { self.held().any(|instruction| instruction.takes_lift()) }
 
     /// The issue of the set taken last, which is the outstanding one's.
     pub fn present_issue(&self) -> u16 { self.next_issue.checked_sub(1).unwrap_or(u16::MAX) }
@@ -215,9 +237,10 @@ impl Station {
         }
     }
 
-    /// A set is taken if none is outstanding, it has one to eight well-formed instructions, no two
-    /// share a part of their areas, and each is allowed on the record, which stays as it is; of those that
-    /// are not, the least tells why. Taken, it has the issue whose turn it is.
+    /// A set is taken if none is outstanding, it has one to eight well-formed instructions, none has the
+    /// lift in its area while a drive is under way, no two share a part of their areas, and each is allowed
+    /// on the record, which stays as it is; of those that are not, the least tells why. Taken, it has the
+    /// issue whose turn it is.
     fn take_request(&mut self, count: u8, bytes: &[u8]) -> Answer {
         if self.count != 0 { return answer(6); }
         if count > 8 { return answer(5); }
@@ -227,6 +250,7 @@ impl Station {
             Ok(set) => set,
             Err(place) => return answer_at(4, place),
         };
+        if drive_under_way(self.record) && set.iter().take(count.into()).any(Instruction::takes_lift) { return answer(31); }
         let mut earlier = 0;
         for (place, instruction) in (0..count).zip(&set) {
             let area = instruction.area();
@@ -243,14 +267,22 @@ impl Station {
         Answer { issue, ..answer(0) }
     }
 
-    /// At street a car comes into an empty lift or leaves an occupied one, unless an outstanding
-    /// set has the lift in one of its areas, answered or not.
+    /// A drive begins at street, into an empty lift or out of an occupied one, and with its end the car did
+    /// come or go, or did not. No event is taken while an outstanding set has the lift in one of its areas,
+    /// answered or not; nor a begin while a drive is under way, nor an end while none is.
     fn take_event(&mut self, event: u8) -> Answer {
-        if !matches!(event, 1 | 2) { return answer(4); }
-        if self.held().any(|instruction| instruction.area() & LIFT != 0) { return answer(6); }
-        let comes = event == 1;
-        if height(self.record) != STREET || bit(self.record, LIFT_CAR) == comes { return answer(10); }
-        self.record = with(self.record, LIFT_CAR, comes);
+        if !matches!(event, BEGIN_IN | BEGIN_OUT | END_DONE | END_NOT_DONE) { return answer(4); }
+        if self.holds_lift() { return answer(6); }
+        let begins = matches!(event, BEGIN_IN | BEGIN_OUT);
+        if begins == drive_under_way(self.record) { return answer(31); }
+        if begins {
+            let comes = event == BEGIN_IN;
+            if height(self.record) != STREET || bit(self.record, LIFT_CAR) == comes { return answer(10); }
+            self.record = with(self.record, if comes { DRIVE_IN } else { DRIVE_OUT }, true);
+        } else {
+            if event == END_DONE { self.record = with(self.record, LIFT_CAR, bit(self.record, DRIVE_IN)); }
+            self.record = with_all(self.record, DRIVE_IN..DRIVE_OUT + 1, false);
+        }
         answer(0)
     }
 

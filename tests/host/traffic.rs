@@ -2,7 +2,7 @@
 //! What is plausible next is judged by the reference station, which takes each message as it is made.
 #![allow(dead_code)] // each driver uses its own part of this module
 
-use crate::reference::{Instruction, Station, REASONS};
+use crate::reference::{drive_under_way, Instruction, Station, BEGIN_IN, BEGIN_OUT, END_DONE, END_NOT_DONE, REASONS};
 use std::collections::BTreeSet;
 
 /// A seeded generator of numbers (splitmix64).
@@ -63,15 +63,17 @@ pub fn refused_five(numbers: &mut Numbers, record: u64) -> Option<[u8; 5]> {
     (0..100).map(|_| good_five(numbers)).find(refused)
 }
 
-/// Instructions that the record allows and that overlap neither each other nor what is taken, as many as are found in some tries.
+/// Instructions that the record allows and that overlap neither each other nor what is taken, as many as are found in some tries. While a
+/// drive is under way they mostly leave the lift alone.
 fn allowed_set(numbers: &mut Numbers, record: u64, mut taken: u64, wanted: usize) -> Vec<u8> {
     let mut bytes = Vec::new();
+    let lift_too = !drive_under_way(record) || numbers.one_in(4);
     for _ in 0..40 * wanted {
         if bytes.len() == 5 * wanted { break; }
         let five = good_five(numbers);
         let instruction = Instruction::read(five).expect("good_five is well formed");
         let area = instruction.area();
-        if area & taken == 0 && instruction.allowed(record) {
+        if area & taken == 0 && instruction.allowed(record) && (lift_too || !instruction.takes_lift()) {
             taken |= area;
             bytes.extend_from_slice(&five);
         }
@@ -144,13 +146,27 @@ fn some_result(numbers: &mut Numbers, station: &Station) -> Vec<u8> {
     result(some_issue(numbers, station), number, outcome)
 }
 
-/// Some record near the present one: itself, with bits flipped, or any number.
+/// An event: mostly one whose turn it is, else any of the four, or a byte that is none.
+fn some_event(numbers: &mut Numbers, record: u64) -> Vec<u8> {
+    let begin = if record >> 52 & 1 == 0 { BEGIN_IN } else { BEGIN_OUT };
+    let event = match numbers.below(8) {
+        0 => numbers.below(6) as u8,
+        1 | 2 if drive_under_way(record) => END_NOT_DONE,
+        _ if drive_under_way(record) => END_DONE,
+        1..=3 => BEGIN_IN + numbers.below(2) as u8,
+        _ => begin,
+    };
+    message(2, &[event])
+}
+
+/// Some record near the present one: itself, with bits flipped, with other drives under way and another height, or any number.
 pub fn near_record(numbers: &mut Numbers, record: u64) -> u64 {
-    match numbers.below(5) {
+    match numbers.below(8) {
         0 => numbers.next(),
         1 => record,
         2 => record ^ 3 << numbers.below(19),
         3 => record ^ 1 << (20 + numbers.below(20)),
+        4..=6 => record ^ numbers.below(2) << 52 ^ numbers.below(3) << 53 ^ numbers.below(4) << 55,
         _ => record ^ 1 << numbers.below(64),
     }
 }
@@ -163,8 +179,7 @@ pub fn framed_message(numbers: &mut Numbers, station: &Station) -> Vec<u8> {
         0..=22 if !idle => some_result(numbers, station),
         18 => some_request(numbers, station.record),
         19 => some_result(numbers, station),
-        20..=25 => message(2, &[1 + numbers.below(2) as u8]),
-        26 => message(2, &[numbers.below(5) as u8]),
+        20..=26 => some_event(numbers, station.record),
         27 => message(4, &near_record(numbers, station.record).to_le_bytes()),
         28 => { let bytes: Vec<u8> = (0..numbers.below(9)).flat_map(|_| any_five(numbers)).collect(); request(&bytes) }
         29 => { let size = numbers.below(42) as usize; let body: Vec<u8> = (0..size).map(|_| numbers.byte()).collect(); message(numbers.below(7) as u8, &body) }

@@ -105,7 +105,7 @@ impl Station {
         Answer::of(unsafe { raw::station_request(self.0.as_mut_ptr(), self.0.len(), count, set.as_ptr(), set.len()) })
     }
 
-    /// 1 a car in, 2 a car out.
+    /// A drive: 1 begins in, 2 begins out, 3 has ended and is done, 4 has ended and is not done.
     pub fn event(&mut self, way: u8) -> Answer {
         Answer::of(unsafe { raw::station_event(self.0.as_mut_ptr(), self.0.len(), way) })
     }
@@ -188,7 +188,7 @@ mod tests {
     fn a_car_goes_down_and_to_the_left() {
         let mut s = Station::start();
         assert_eq!(s.ask(), Ok(START));
-        assert_eq!((s.event(1), s.event(1)), (TAKEN, refusal(EventImpossible)));
+        assert_eq!((s.event(1), s.event(3), s.event(1)), (TAKEN, TAKEN, refusal(EventImpossible)));
         assert_eq!(s.request(1, &LIFT_DOWN), taken_as(0));
         assert_eq!(s.ask(), Ok(START | 1 << 52), "acceptance leaves the record");
         assert_eq!((s.event(2), s.image(START)), (refusal(SetOutstanding), refusal(SetOutstanding)));
@@ -207,13 +207,38 @@ mod tests {
         assert_eq!(s.request(0, &[]), refusal(EmptySet));
         assert_eq!(s.request(2, &[LIFT_DOWN, [4, 3, 0, 0, 0]].concat()), refusal_at(BadField, 1));
         assert_eq!(s.request(2, &[LIFT_DOWN, LIFT_DOWN].concat()), refusal_at(Overlap, 1));
-        assert_eq!((s.result(0, 0, 1), s.result(0, 0, 2), s.event(3)), (refusal(NoSet), refusal(BadField), refusal(BadField)));
+        assert_eq!((s.result(0, 0, 1), s.result(0, 0, 2), s.event(5)), (refusal(NoSet), refusal(BadField), refusal(BadField)));
         assert_eq!(s.image(1), refusal(Unsound));
         assert_eq!(s, Station::start());
         let mut damaged = Station::from_bytes([0xEE; SIZE]);
         assert_eq!((damaged.event(1), damaged.ask()), (refusal(Unfit), Err(refusal(Unfit))));
         assert_eq!(damaged.request(1, &[]), refusal(TooFewBytes), "before 16");
         assert_eq!(damaged.bytes(), &[0xEE; SIZE]);
+    }
+
+    /// While a driver is in the lift nothing moves it, and a driver who gives up has changed nothing.
+    #[test]
+    fn drivers_take_their_time() {
+        let (coming, parked, leaving) = (START | 1 << 55, START | 1 << 52, START | 1 << 52 | 1 << 56);
+        let mut s = Station::start();
+        assert_eq!((s.event(4), s.event(2), s.event(1), s.ask()), (refusal(OutOfTurn), refusal(EventImpossible), TAKEN, Ok(coming)));
+        assert_eq!((s.event(1), s.event(2)), (refusal(OutOfTurn), refusal(OutOfTurn)), "before 10");
+        // by a request at any place, and by the questions, whose room is left as it was
+        let belt = [1, 1, 2, 0, 1];
+        assert_eq!((s.request(1, &LIFT_DOWN), s.request(2, &[belt, [5, 0, 0, 0, 0]].concat())), (refusal(OutOfTurn), refusal(OutOfTurn)));
+        assert_eq!((allowed(coming, &LIFT_DOWN), next(coming, &LIFT_DOWN)), (refusal(OutOfTurn), Err(refusal(OutOfTurn))));
+        assert_eq!((allowed(coming, &belt), next(coming, &belt)), (TAKEN, Ok(coming)));
+        // a belt beside the driver, who gives up before it is done
+        assert_eq!((s.request(1, &belt), s.event(4), s.result(0, 0, 1), s.ask()), (taken_as(0), TAKEN, TAKEN, Ok(START)));
+        assert_eq!((s.event(1), s.event(3), s.event(2), s.ask(), cars(leaving)), (TAKEN, TAKEN, TAKEN, Ok(leaving), Some(1)));
+        assert_eq!((s.image(parked), s.event(4), s.event(2), s.event(3), s.ask()), (TAKEN, refusal(OutOfTurn), TAKEN, TAKEN, Ok(START)));
+        // a lift on its way keeps drivers out; a station that has both is none
+        assert_eq!((s.request(1, &LIFT_DOWN), s.event(1), s.event(3)), (taken_as(1), refusal(SetOutstanding), refusal(SetOutstanding)));
+        let mut room = *s.bytes();
+        room[6] |= 0x80;
+        let mut both = Station::from_bytes(room);
+        assert_eq!((both.result(1, 0, 1), both.event(3), both.ask()), (refusal(Unfit), refusal(Unfit), Err(refusal(Unfit))));
+        assert_eq!([coming, leaving, parked | 1 << 55, START | 3 << 55, coming | 1 << 53].map(sound), [true, true, false, false, false]);
     }
 
     /// A result that comes when its set has closed and the next has begun is not taken for the next set's.
@@ -314,7 +339,8 @@ mod tests {
     fn the_session_of_the_rules() {
         let mut s = Station::start();
         assert_eq!(s.message(&[3, 0, 2, 0, 1, 2, 0, 5, 0]), (TAKEN, vec![6, 0, 128, 0, 0, 255, 0, 0]));
-        assert_eq!(s.message(&[2, 0, 5, 0]), (TAKEN, vec![10, 0, 129, 0, 0, 0, 0, 0, 0, 0x1B, 0x19, 0]));
+        assert_eq!(s.message(&[2, 0, 5, 0]), (TAKEN, vec![10, 0, 129, 0, 0, 0, 0, 0, 0, 0x1B, 0x89, 0]));
+        assert_eq!(s.message(&[3, 0, 2, 0, 3]), (TAKEN, vec![6, 0, 128, 0, 0, 255, 0, 0]));
         let before = s.clone();
         assert_eq!(s.message(&[]), (refusal(TooFewBytes), vec![6, 0, 128, 0, 1, 255, 0, 0]));
         assert_eq!(s.message(&[8, 0, 1, 0, 1, 4, 0, 0, 0, 0]), (refusal_at(SameHeight, 0), vec![6, 0, 128, 0, 26, 0, 0, 0]));
@@ -333,6 +359,7 @@ mod tests {
         assert_eq!(refusal_at(OddCount, 2).to_string(), "24 (odd count: a car would be torn) at 2");
         assert_eq!(refusal(Late).to_string(), "29 (late: of a set before the present one)");
         assert_eq!(refusal(NotIssued).to_string(), "30 (of a set that was not issued)");
+        assert_eq!(refusal(OutOfTurn).to_string(), "31 (out of turn)");
     }
 
     /// Every reason of each opcode: the first condition that fails hides the ones behind it.

@@ -1,7 +1,7 @@
 -- The promise of specs/Promises.antt: each answer's number passes the test, and each number that passes it is one's. Assumes nothing.
 use mathlib.Core.Path.{_≡_, refl, sym, ap, _∙_}
 use mathlib.Core.Bool.{true, cond, _&&_, _||_}
-use mathlib.Core.Logic.{_↔_, _⊎_, inl, inr}
+use mathlib.Core.Logic.{_⊎_, inl, inr}
 use Prim.Native.Nat.{ℕ, _≤_, _<_}
 use native.Mathlib.Nat.{eq-or-lt-of-le}
 use native.Mathlib.Omega.{arith}
@@ -11,7 +11,7 @@ use Rattle.bits.proofs.Cases.{both, one-of}
 use Rattle.answers.specs.declared.Reason.{Reason}
 use Rattle.answers.specs.declared.Reason.the-variants.{NothingNamed, Gap, NotAvailable, NotFree, OddCount, HalfMove, SameHeight, NotAtRotation, CellsNotFree}
 use Rattle.answers.specs.declared.Answer.{Answer}
-use Rattle.answers.specs.declared.Answer.the-variants.{Taken, Opened, TooFewBytes, BadLength, UnknownKind, BadField, TooMany, SetOutstanding, EmptySet, Overlap, NotAllowed, EventImpossible, NoSet, NotInSet, AlreadyAnswered, NowNotAllowed, Unsound, Unfit, NoRoom, Late, NotIssued}
+use Rattle.answers.specs.declared.Answer.the-variants.{Taken, Opened, TooFewBytes, BadLength, UnknownKind, BadField, TooMany, SetOutstanding, EmptySet, Overlap, NotAllowed, EventImpossible, NoSet, NotInSet, AlreadyAnswered, NowNotAllowed, Unsound, Unfit, NoRoom, Late, NotIssued, OutOfTurn}
 use Rattle.answers.specs.Answers.{reasonNumber, numberOf, OfTable, inTable}
 use Rattle.answers.specs.Promises.{TableExactly}
 
@@ -26,6 +26,17 @@ reason-from HalfMove = omega arith
 reason-from SameHeight = omega arith
 reason-from NotAtRotation = omega arith
 reason-from CellsNotFree = omega arith
+
+pub reason-to : (why : Reason) → reasonNumber why ≤ 28
+reason-to NothingNamed = omega arith
+reason-to Gap = omega arith
+reason-to NotAvailable = omega arith
+reason-to NotFree = omega arith
+reason-to OddCount = omega arith
+reason-to HalfMove = omega arith
+reason-to SameHeight = omega arith
+reason-to NotAtRotation = omega arith
+reason-to CellsNotFree = omega arith
 
 -- it is no other's
 numbered : ℕ → Reason
@@ -81,24 +92,25 @@ answer-in Unfit = refl
 answer-in NoRoom = refl
 answer-in Late = refl
 answer-in NotIssued = refl
+answer-in OutOfTurn = refl
 
 -- where the numbers of the table lie
 abbrev Ranges : ℕ → Type 0
-Ranges n = (n ≤ 8) ⊎ (((10 ≤ n) × (n ≤ 17)) ⊎ ((20 ≤ n) × (n ≤ 30)))
+Ranges n = (n ≤ 8) ⊎ (((10 ≤ n) × (n ≤ 17)) ⊎ ((20 ≤ n) × (n ≤ 31)))
 
 ranges : (n : ℕ) → inTable n ≡ true → Ranges n
-ranges n e = first (one-of (leb n 8) (leb 10 n && leb n 17 || leb 20 n && leb n 30) e)
+ranges n e = first (one-of (leb n 8) (leb 10 n && leb n 17 || leb 20 n && leb n 31) e)
   where
     inside : (low high : ℕ) → leb low n && leb n high ≡ true → (low ≤ n) × (n ≤ high)
     inside low high e = let (p, q) = both (leb low n) (leb n high) e in (leb-true low n p, leb-true n high q)
 
-    second : (leb 10 n && leb n 17 ≡ true) ⊎ (leb 20 n && leb n 30 ≡ true) → Ranges n
+    second : (leb 10 n && leb n 17 ≡ true) ⊎ (leb 20 n && leb n 31 ≡ true) → Ranges n
     second (inl e) = inr (inl (inside 10 17 e))
-    second (inr e) = inr (inr (inside 20 30 e))
+    second (inr e) = inr (inr (inside 20 31 e))
 
-    first : (leb n 8 ≡ true) ⊎ (leb 10 n && leb n 17 || leb 20 n && leb n 30 ≡ true) → Ranges n
+    first : (leb n 8 ≡ true) ⊎ (leb 10 n && leb n 17 || leb 20 n && leb n 31 ≡ true) → Ranges n
     first (inl e) = inl (leb-true n 8 e)
-    first (inr e) = second (one-of (leb 10 n && leb n 17) (leb 20 n && leb n 30) e)
+    first (inr e) = second (one-of (leb 10 n && leb n 17) (leb 20 n && leb n 31) e)
 
 -- a number of the table is a byte
 pub number-byte : (a : Answer) → numberOf a < 256
@@ -127,7 +139,7 @@ found n (inr (inl h)) =
     (from Unsound n (from Unfit n (from NoRoom n (λ l. absurd (omega (arith, h .1)))))))))) (h .0)
 found n (inr (inr h)) =
     why NothingNamed (why Gap (why NotAvailable (why NotFree (why OddCount (why HalfMove
-    (why SameHeight (why NotAtRotation (why CellsNotFree (from Late n (from NotIssued n (λ l. absurd (omega (arith, h .1))))))))))))) (h .0)
+    (why SameHeight (why NotAtRotation (why CellsNotFree (from Late n (from NotIssued n (from OutOfTurn n (λ l. absurd (omega (arith, h .1)))))))))))))) (h .0)
   where
     why : (w : Reason) → (reasonNumber w < n → OfTable n) → reasonNumber w ≤ n → OfTable n
     why w = from (NotAllowed w 0) n

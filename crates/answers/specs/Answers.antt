@@ -1,5 +1,5 @@
--- The table of numbers of document 01, with document 02's reasons and late results: the number and the place of each answer, and the
--- issue that it carries. Assumes nothing.
+-- The table of numbers of document 01, with document 02's reasons, late results and drives: the number and the place of each answer, and
+-- the issue that it carries. Assumes nothing.
 use mathlib.Core.Path.{_≡_}
 use mathlib.Core.Bool.{Bool, _&&_, _||_}
 use Prim.Native.Nat.{ℕ}
@@ -7,7 +7,7 @@ use lib.Dec.{leb}
 use Rattle.answers.specs.declared.Reason.{Reason}
 use Rattle.answers.specs.declared.Reason.the-variants.{NothingNamed, Gap, NotAvailable, NotFree, OddCount, HalfMove, SameHeight, NotAtRotation, CellsNotFree}
 use Rattle.answers.specs.declared.Answer.{Answer}
-use Rattle.answers.specs.declared.Answer.the-variants.{Taken, Opened, TooFewBytes, BadLength, UnknownKind, BadField, TooMany, SetOutstanding, EmptySet, Overlap, NotAllowed, EventImpossible, NoSet, NotInSet, AlreadyAnswered, NowNotAllowed, Unsound, Unfit, NoRoom, Late, NotIssued}
+use Rattle.answers.specs.declared.Answer.the-variants.{Taken, Opened, TooFewBytes, BadLength, UnknownKind, BadField, TooMany, SetOutstanding, EmptySet, Overlap, NotAllowed, EventImpossible, NoSet, NotInSet, AlreadyAnswered, NowNotAllowed, Unsound, Unfit, NoRoom, Late, NotIssued, OutOfTurn}
 
 -- the number of a reason
 abbrev pub reasonNumber : Reason → ℕ
@@ -44,14 +44,15 @@ numberOf Unfit = 16
 numberOf NoRoom = 17
 numberOf Late = 29
 numberOf NotIssued = 30
+numberOf OutOfTurn = 31
 
 -- a number of the table: some answer has it
 abbrev pub OfTable : ℕ → Type 0
 OfTable n = (a : Answer) × (n ≡ numberOf a)
 
--- the same as a test: 0 to 8, 10 to 17, 20 to 30
+-- the same as a test: 0 to 8, 10 to 17, 20 to 31
 abbrev pub inTable : ℕ → Bool
-inTable n = leb n 8 || (leb 10 n && leb n 17 || leb 20 n && leb n 30)
+inTable n = leb n 8 || (leb 10 n && leb n 17 || leb 20 n && leb n 31)
 
 -- the place where an answer names no instruction
 abbrev pub nowhere : ℕ
@@ -80,6 +81,7 @@ placeOf Unfit = nowhere
 placeOf NoRoom = nowhere
 placeOf Late = nowhere
 placeOf NotIssued = nowhere
+placeOf OutOfTurn = nowhere
 
 -- the issue that an answer carries: the number of the set that it opens, zero unless a request was taken
 abbrev pub issueOf : Answer → ℕ
@@ -104,3 +106,4 @@ issueOf Unfit = 0
 issueOf NoRoom = 0
 issueOf Late = 0
 issueOf NotIssued = 0
+issueOf OutOfTurn = 0

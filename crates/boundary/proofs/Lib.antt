@@ -4,3 +4,4 @@ pub mod Reaching
 pub mod Sent
 pub mod Lent
 pub mod Places
+pub mod Questions

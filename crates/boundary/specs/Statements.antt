@@ -8,12 +8,12 @@ use Prim.Native.Nat.{ℕ, _/_, _%_, _≤_}
 use lib.ListN.{length, drop}
 use Rattle.bits.specs.Bits.{bit}
 use Rattle.bits.specs.Places.{join}
-use Rattle.floor.specs.Sound.{Sound}
+use Rattle.floor.specs.Sound.{Sound, sound}
 use Rattle.answers.specs.declared.Answer.the-variants.{Taken}
-use Rattle.answers.specs.Answers.{nowhere}
+use Rattle.answers.specs.Answers.{numberOf, nowhere}
 use Rattle.garage.specs.declared.Station.{Station}
-use Rattle.garage.specs.Station.{startOf, fit}
-use Rattle.garage_laws.specs.Runs.{Call, calls, Reached}
+use Rattle.garage.specs.Station.{closed, startOf, fit}
+use Rattle.garage_laws.specs.Runs.{Call, request, said, calls, Reached}
 use Rattle.wire.specs.declared.What.{What}
 use Rattle.wire.specs.declared.Message.{Message}
 use Rattle.wire.specs.Kinds.{littleEndian, kindOf}
@@ -21,7 +21,7 @@ use Rattle.wire.specs.Writes.{writing, oneForm}
 use Rattle.wire_laws.specs.Statements.{Bytes, Typed}
 use Rattle.service.specs.Service.{respond, answerBytes, answersOn}
 use Rattle.service.specs.Runs.{run, fed}
-use Rattle.station_c.specs.Entries.{stationSize, stationOf, asking, returnedOf, exchange}
+use Rattle.station_c.specs.Entries.{stationSize, stationOf, asking, returnedOf, exchange, judgement}
 use Rattle.boundary.specs.Calls.{heardAs, heard, reply, heardIn, callsIn, repliesTo, inBytes, fedStation, Sized}
 use Rattle.boundary.specs.Uses.{Use, used, uses, meant, AsPassed, AllPassed, Roomy, Begun}
 
@@ -52,6 +52,11 @@ abbrev pub WrittenIsHeard : Type 0
 WrittenIsHeard =
     (m : Message) (room : List ℕ) → Typed m → kindOf (m .what) ≤ 5 → writing m room .says .answer ≡ Taken
     → let f = oneForm m in heard (writing m room .leaves) ≡ heardAs (f .what) (f .count) (f .set)
+
+-- a question says the number that a request of its one instruction would be told, by a station that holds that sound record and no set
+abbrev pub QuestionIsRequest : Type 0
+QuestionIsRequest =
+    (r next : ℕ) (five : List ℕ) → sound r ≡ true → 5 ≤ length five → numberOf (judgement r five) ≡ said (closed r next) (request 1 five)
 
 -- an entry leaves in the room the station that its call leaves, and returns that call's number and place
 abbrev pub EntryIsCall : Type 0

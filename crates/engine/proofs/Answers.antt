@@ -16,7 +16,7 @@ use Rattle.rules.specs.declared.Moved.{Moved}
 use Rattle.rules.specs.declared.Driven.{Driven}
 use Rattle.rules.specs.declared.Verdict.{Verdict}
 use Rattle.rules.specs.Rules.{wellFormed, clauses, allowed, next}
-use Rattle.rules.specs.Events.{possible, after}
+use Rattle.rules.specs.Events.{inTurn, possible, after}
 use Rattle.rules.specs.Verdicts.{judged, verdictOf, movedBy, movedOf, drivenOf}
 use Rattle.rules.proofs.Answering as answering
 use Rattle.rules.proofs.Answering.{is-verdict, not-moved, has-moved, is-allowed}
@@ -62,11 +62,15 @@ rotated r h = sym (image-bit r h)
 
 -- ---- events
 
-module _ (e : Event) (r : ℕ) (b : Bool) (p : b ≡ possible e (bit r)) where
-  pub event-taken : (x : ℕ) → b ≡ true → x ≡ image (after e (bit r)) → Driven.Record x ≡ drivenOf e r
+module _ (e : Event) (r : ℕ) where
+  pub event-untimely : inTurn e (bit r) ≡ false → Driven.OutOfTurn ≡ drivenOf e r
   unfolding drivenOf
-  event-taken x q h = rw (sym p ∙ q) (ap Driven.Record h)
+  event-untimely t = rw t
 
-  pub event-refused : b ≡ false → Driven.Impossible ≡ drivenOf e r
+  pub event-refused : inTurn e (bit r) ≡ true → possible e (bit r) ≡ false → Driven.Impossible ≡ drivenOf e r
   unfolding drivenOf
-  event-refused q = rw (sym p ∙ q)
+  event-refused t p = rw (t, p)
+
+  pub event-taken : inTurn e (bit r) ≡ true → possible e (bit r) ≡ true → (x : ℕ) → x ≡ image (after e (bit r)) → Driven.Record x ≡ drivenOf e r
+  unfolding drivenOf
+  event-taken t p x h = rw (t, p) (ap Driven.Record h)

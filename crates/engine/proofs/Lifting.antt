@@ -1,7 +1,6 @@
 -- The lift in code: the conditions of its moves, of rotating and of the car events, and the next records. Assumes nothing.
 use mathlib.Core.Path.{_≡_, refl, sym, ap, ap₂, _∙_}
 use mathlib.Core.Bool.{Bool, true, false, cond, not, _&&_, _||_, and-true}
-use mathlib.Core.List.{[], _∷_}
 use Prim.Native.Nat.{ℕ, _+_, _*_, _%_, _^_, _<_}
 use native.Mathlib.Omega.{arith}
 use lib.Dec.{T, eqb, leb→le}
@@ -10,19 +9,20 @@ use Rattle.bits.specs.Places.{places}
 use Rattle.bits.specs.Search.{every}
 use Rattle.bits.proofs.Cases.{and-l, and-r}
 use Rattle.bits.proofs.Search.{each}
-use Rattle.floor.specs.Floor.{raisedCar}
+use Rattle.floor.specs.Floor.{driveIn}
 use Rattle.floor.specs.Tests.{holds, heightIs, atBasement}
 use Rattle.answers.specs.declared.Reason.the-variants.{OddCount, SameHeight, NotAtRotation, CellsNotFree}
 use Rattle.rules.specs.declared.Instruction.the-variants.{Lift, Rotate}
-use Rattle.rules.specs.declared.Event.the-variants.{CarIn, CarOut}
+use Rattle.rules.specs.declared.Event.{Event}
+use Rattle.rules.specs.declared.Event.the-variants.{BeginIn, BeginOut, EndDone, EndNotDone}
 use Rattle.rules.specs.declared.Verdict.the-variants.{Allowed, NotAllowed}
 use Rattle.rules.specs.Rules.{wellFormed, clauses, next}
 use Rattle.rules.specs.Verdicts.{judged}
-use Rattle.rules.specs.Events.{possible, after}
+use Rattle.rules.specs.Events.{inTurn, possible, after}
 use Rattle.engine.specs.Private.{liftBits}
 use Rattle.bits.proofs.Lists.{same, same-eq, bit-list}
 use Rattle.engine.proofs.Settings.{laid-right}
-use Rattle.engine.proofs.Nexts.{liftTouched, liftCar, lift-right, event-right}
+use Rattle.engine.proofs.Nexts.{liftTouched, liftCar, lift-right, eventTouched, eventNew, event-right}
 
 -- a well-formed height
 pub height-below : (height : ℕ) → T (wellFormed (Lift height)) → height < 3
@@ -49,13 +49,23 @@ pub rotate-law : (f : Bits) (there clear : Bool) → holds (heightIs 1) f ≡ th
 unfolding places
 rotate-law f there clear p q = ap₂ (λ (x y : Bool). cond x (cond y Allowed (NotAllowed CellsNotFree)) (NotAllowed NotAtRotation)) (sym p) (sym q)
 
-pub in-law : (f : Bits) → (holds (heightIs 0) f && noneOf 0x10000000000000 f) ≡ possible CarIn f
-unfolding possible places
-in-law f = ap (λ (b : Bool). holds (heightIs 0) f && b) (sym (and-true (noneOf 0x10000000000000 f)))
+-- an event that comes in turn, with its own conditions
+pub in-law : (f : Bits) {due : Bool} → due ≡ inTurn BeginIn f → due && (holds (heightIs 0) f && noneOf 0x10000000000000 f) ≡ possible BeginIn f
+unfolding inTurn possible places
+in-law f p = ap₂ _&&_ p (ap (λ (b : Bool). holds (heightIs 0) f && b) (sym (and-true (noneOf 0x10000000000000 f))))
 
-pub out-law : (f : Bits) → (holds (heightIs 0) f && allSet (places 0x10000000000000) f) ≡ possible CarOut f
-unfolding possible places
-out-law f = ap (λ (b : Bool). holds (heightIs 0) f && b) (sym (and-true (allSet (places 0x10000000000000) f)))
+pub out-law : (f : Bits) {due : Bool} → due ≡ inTurn BeginOut f → due && (holds (heightIs 0) f && allSet (places 0x10000000000000) f) ≡ possible BeginOut f
+unfolding inTurn possible places
+out-law f p = ap₂ _&&_ p (ap (λ (b : Bool). holds (heightIs 0) f && b) (sym (and-true (allSet (places 0x10000000000000) f))))
+
+-- an end has none of its own
+pub done-law : (f : Bits) {due : Bool} → due ≡ inTurn EndDone f → due ≡ possible EndDone f
+unfolding inTurn possible
+done-law f {due} p = p ∙ sym (and-true (inTurn EndDone f))
+
+pub not-done-law : (f : Bits) {due : Bool} → due ≡ inTurn EndNotDone f → due ≡ possible EndNotDone f
+unfolding inTurn possible
+not-done-law f {due} p = p ∙ sym (and-true (inTurn EndNotDone f))
 
 -- ---- next records
 
@@ -94,15 +104,30 @@ lift-laid r height t n car w ht hn q p e =
     laid-right r t n (liftTouched height (bit r)) (liftBits height (liftCar height (bit r))) (next (Lift height) (bit r))
     (bit-list t (liftTouched height (bit r)) ht p) (bit-list n (liftBits height (liftCar height (bit r))) hn (q ∙ ap (liftBits height) e)) (lift-right height w (bit r))
 
--- the same for the two events
-pub in-laid : (r : ℕ) → image (laid r 0x10000000000000 0x10000000000000) ≡ image (after CarIn (bit r))
-unfolding places
-in-laid r =
-    laid-right r 0x10000000000000 0x10000000000000 (raisedCar ∷ []) (raisedCar ∷ []) (after CarIn (bit r))
-    (bit-list 0x10000000000000 (raisedCar ∷ []) (omega arith) refl) (bit-list 0x10000000000000 (raisedCar ∷ []) (omega arith) refl) (event-right CarIn (bit r))
+-- the same for the events
+module _ (r : ℕ) where
+  event-laid : (e : Event) (t n : ℕ) → t < 2 ^ 64 → n < 2 ^ 64 → places t ≡ eventTouched e → places n ≡ eventNew e (bit r) → image (laid r t n) ≡ image (after e (bit r))
+  event-laid e t n ht hn p q =
+      laid-right r t n (eventTouched e) (eventNew e (bit r)) (after e (bit r))
+      (bit-list t (eventTouched e) ht p) (bit-list n (eventNew e (bit r)) hn q) (event-right e (bit r))
 
-pub out-laid : (r : ℕ) → image (laid r 0x10000000000000 0) ≡ image (after CarOut (bit r))
-unfolding places
-out-laid r =
-    laid-right r 0x10000000000000 0 (raisedCar ∷ []) [] (after CarOut (bit r))
-    (bit-list 0x10000000000000 (raisedCar ∷ []) (omega arith) refl) (bit-list 0 [] (omega arith) refl) (event-right CarOut (bit r))
+  pub in-laid : image (laid r 0x80000000000000 0x80000000000000) ≡ image (after BeginIn (bit r))
+  unfolding places
+  in-laid = event-laid BeginIn 0x80000000000000 0x80000000000000 (omega arith) (omega arith) refl refl
+
+  pub out-laid : image (laid r 0x100000000000000 0x100000000000000) ≡ image (after BeginOut (bit r))
+  unfolding places
+  out-laid = event-laid BeginOut 0x100000000000000 0x100000000000000 (omega arith) (omega arith) refl refl
+
+  -- done: the car that was driven in is there, or none is
+  pub there-laid : allSet (places 0x80000000000000) (bit r) ≡ true → image (laid r 0x190000000000000 0x10000000000000) ≡ image (after EndDone (bit r))
+  unfolding places
+  there-laid s = event-laid EndDone 0x190000000000000 0x10000000000000 (omega arith) (omega arith) refl (rw (sym (and-true (bit r driveIn)) ∙ s))
+
+  pub gone-laid : allSet (places 0x80000000000000) (bit r) ≡ false → image (laid r 0x190000000000000 0) ≡ image (after EndDone (bit r))
+  unfolding places
+  gone-laid s = event-laid EndDone 0x190000000000000 0 (omega arith) (omega arith) refl (rw (sym (and-true (bit r driveIn)) ∙ s))
+
+  pub stopped-laid : image (laid r 0x180000000000000 0) ≡ image (after EndNotDone (bit r))
+  unfolding places
+  stopped-laid = event-laid EndNotDone 0x180000000000000 0 (omega arith) (omega arith) refl refl

@@ -1,5 +1,5 @@
 -- The bits that the code makes anew are those of the next record: tried for every shuttle move, tilt and lift move at every setting
--- of the bits that it rests on, and for both events. Assumes nothing.
+-- of the bits that it rests on, and for the events. Assumes nothing.
 use mathlib.Core.Path.{_≡_, refl, ap, ap₂}
 use mathlib.Core.Bool.{Bool, true, false, cond, _&&_, _||_}
 use mathlib.Core.List.{List, [], _∷_, _++_}
@@ -11,14 +11,14 @@ use Rattle.bits.specs.Places.{elem}
 use Rattle.bits.specs.Search.{every}
 use Rattle.bits.proofs.Cases.{both}
 use Rattle.bits.proofs.Counts.{set-agree}
-use Rattle.floor.specs.Floor.{lowered, slot, place, lift, liftCells, raisedCar, heightLow, heightHigh, basement}
+use Rattle.floor.specs.Floor.{lowered, slot, place, lift, liftCells, raisedCar, heightLow, heightHigh, basement, driveIn, driveOut, drives}
 use Rattle.floor.specs.Tests.{holds, allHold, atBasement}
 use Rattle.floor.specs.Sound.{slots}
 use Rattle.floor.proofs.Reading.{holds-agree}
 use Rattle.rules.specs.declared.Instruction.{Instruction}
 use Rattle.rules.specs.declared.Instruction.the-variants.{Belts, Shuttles, Tilt, Lift, Rotate}
 use Rattle.rules.specs.declared.Event.{Event}
-use Rattle.rules.specs.declared.Event.the-variants.{CarIn, CarOut}
+use Rattle.rules.specs.declared.Event.the-variants.{BeginIn, BeginOut, EndDone, EndNotDone}
 use Rattle.rules.specs.Events.{eventChanges, after}
 use Rattle.rules.specs.Rules.{wellFormed, conditions, changes, allowed, next}
 use Rattle.rules.proofs.Every.{everywhere, each}
@@ -78,12 +78,24 @@ liftTouched height f = cond (eqb height basement || holds atBasement f) liftAll 
 abbrev pub liftCar : ℕ → Bits → Bool
 liftCar height f = cond (eqb height basement) (f raisedCar) (holds atBasement f && allSet liftCells f)
 
--- ---- events: whether there is a car then
+-- ---- events
 
--- the raised lift, where there is
-abbrev pub driven : Event → List ℕ
-driven CarIn = raisedCar ∷ []
-driven CarOut = []
+-- the bits that an event rests on, and those of them that it touches
+abbrev eventBits : List ℕ
+eventBits = raisedCar ∷ drives
+
+abbrev pub eventTouched : Event → List ℕ
+eventTouched BeginIn = driveIn ∷ []
+eventTouched BeginOut = driveOut ∷ []
+eventTouched EndDone = eventBits
+eventTouched EndNotDone = drives
+
+-- the places that become 1
+abbrev pub eventNew : Event → Bits → List ℕ
+eventNew BeginIn f = driveIn ∷ []
+eventNew BeginOut f = driveOut ∷ []
+eventNew EndDone f = cond (f driveIn) (raisedCar ∷ []) []
+eventNew EndNotDone f = []
 
 -- ---- all instructions in one test
 
@@ -153,11 +165,19 @@ lift-right height w f =
     ))
     (each rightOf all-right (Lift height) w) f refl
 
--- an event makes the bit of the raised lift anew
-pub event-right : (e : Event) (f : Bits) (k : ℕ) → renewed (raisedCar ∷ []) (driven e) f k ≡ after e f k
+-- an event makes these bits anew
+pub event-right : (e : Event) (f : Bits) (k : ℕ) → renewed (eventTouched e) (eventNew e f) f k ≡ after e f k
 unfolding after
-event-right e f = renewed-right (raisedCar ∷ []) [] (eventChanges e) (λ f. raisedCar ∷ []) (λ f. driven e) (λ f g e. (refl, refl)) (tried e) f refl
+event-right e f = renewed-right eventBits [] (eventChanges e) (λ f. eventTouched e) (eventNew e) (λ f g a. (refl, new-same e f g a)) (tried e) f refl
   where
-    tried : (e : Event) → T (right (raisedCar ∷ []) [] (eventChanges e) (λ f. raisedCar ∷ []) (λ f. driven e))
-    tried CarIn = tt
-    tried CarOut = tt
+    new-same : (e : Event) (f g : Bits) → ((k : ℕ) → T (elem k eventBits) → f k ≡ g k) → eventNew e f ≡ eventNew e g
+    new-same BeginIn f g a = refl
+    new-same BeginOut f g a = refl
+    new-same EndDone f g a = ap (λ (b : Bool). cond {A = List ℕ} b (raisedCar ∷ []) []) (a driveIn tt)
+    new-same EndNotDone f g a = refl
+
+    tried : (e : Event) → T (right eventBits [] (eventChanges e) (λ f. eventTouched e) (eventNew e))
+    tried BeginIn = tt
+    tried BeginOut = tt
+    tried EndDone = tt
+    tried EndNotDone = tt

@@ -2,7 +2,8 @@
 ghost use mathlib.Core.Path.{_≡_};
 ghost use Rattle.bits.specs.Bits.{bit, image};
 ghost use Rattle.rules.specs.declared.Instruction.{Instruction};
-ghost use Rattle.rules.specs.Events.{possible, after};
+ghost use Rattle.rules.specs.declared.Event.the-variants.{EndDone};
+ghost use Rattle.rules.specs.Events.{inTurn, possible, after};
 ghost use Rattle.rules.specs.Verdicts.{verdictOf, movedOf, drivenOf, codeVerdict, codeMoved};
 ghost use Rattle.engine.specs.Private.{told};
 use rules::Code;
@@ -18,7 +19,11 @@ mod masks;
 mod shuttles;
 mod tilts;
 
+use floor::masks::DRIVE_IN;
+use floor::masks::DRIVE_OUT;
+use floor::masks::DRIVES;
 use floor::masks::RAISED_CAR;
+use floor::masks::RAISED_CAR_AND_DRIVES;
 use lifts::lift_moved;
 use lifts::rotate_moved;
 use masks::height_is;
@@ -107,32 +112,63 @@ pub fn code_verdict(x: Code, r: u64) -> Verdict
 
 // ---- car events
 
-// A car can be driven in at street height if the lift is empty, and out if it is not.
-pub fn possible(e: Event, r: u64) -> bool
-    ensures { λ b. ⌜ b ≡ possible e (bit r) ⌝ }
+// A begin comes in turn while no drive is under way, an end while one is.
+fn in_turn(e: Event, r: u64) -> bool
+    ensures { λ b. ⌜ b ≡ inTurn e (bit r) ⌝ }
 {
+    let driving = floor::under_way(r);
     match e {
-        Event::CarIn => height_is(r, 0) & bits::free(r, RAISED_CAR),
-        Event::CarOut => height_is(r, 0) & bits::all(r, RAISED_CAR),
+        Event::BeginIn => !driving,
+        Event::BeginOut => !driving,
+        Event::EndDone => driving,
+        Event::EndNotDone => driving,
     }
 }
 
-// Then the raised lift has a car, or none.
+// In its turn, a drive-in can begin at street height if the lift is empty, a drive-out if it is not; an end always comes.
+pub fn possible(e: Event, r: u64) -> bool
+    ensures { λ b. ⌜ b ≡ possible e (bit r) ⌝ }
+{
+    let due = in_turn(e, r);
+    match e {
+        Event::BeginIn => due & (height_is(r, 0) & bits::free(r, RAISED_CAR)),
+        Event::BeginOut => due & (height_is(r, 0) & bits::all(r, RAISED_CAR)),
+        Event::EndDone => due,
+        Event::EndNotDone => due,
+    }
+}
+
+// A drive that is done: the car that was driven in is on the raised lift, one that was driven out is not.
+fn arrived(r: u64) -> u64
+    ensures { λ x. ⌜ x ≡ image (after EndDone (bit r)) ⌝ }
+{
+    if bits::all(r, DRIVE_IN) {
+        return bits::laid(r, RAISED_CAR_AND_DRIVES, RAISED_CAR);
+    }
+    bits::laid(r, RAISED_CAR_AND_DRIVES, 0)
+}
+
+// The drive is under way, or at its end no more; where it is done, the raised lift has the car that was driven in, or none.
 fn after(e: Event, r: u64) -> u64
     ensures { λ x. ⌜ x ≡ image (after e (bit r)) ⌝ }
 {
     match e {
-        Event::CarIn => bits::laid(r, RAISED_CAR, RAISED_CAR),
-        Event::CarOut => bits::laid(r, RAISED_CAR, 0),
+        Event::BeginIn => bits::laid(r, DRIVE_IN, DRIVE_IN),
+        Event::BeginOut => bits::laid(r, DRIVE_OUT, DRIVE_OUT),
+        Event::EndDone => arrived(r),
+        Event::EndNotDone => bits::laid(r, DRIVES, 0),
     }
 }
 
-// The record after a car event, where it is possible.
+// The record after a car event, where it comes in turn and is possible.
 pub fn driven(e: Event, r: u64) -> Driven
     ensures { λ d. ⌜ d ≡ drivenOf e r ⌝ }
 {
-    if possible(e, r) {
-        return Driven::Record(after(e, r));
+    if !in_turn(e, r) {
+        return Driven::OutOfTurn;
     }
-    Driven::Impossible
+    if !possible(e, r) {
+        return Driven::Impossible;
+    }
+    Driven::Record(after(e, r))
 }

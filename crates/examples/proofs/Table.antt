@@ -5,15 +5,15 @@ use Rattle.bits.specs.Search.{some, every, least}
 use Rattle.floor.specs.Cars.{cars}
 use Rattle.floor.specs.Sound.{paired, sound, total}
 use Rattle.rules.specs.Rules.{allowed, next}
-use Rattle.rules.specs.Events.{possible, after}
+use Rattle.rules.specs.Events.{inTurn, possible, after}
 use Rattle.rules.specs.Codes.{codeOf, readCode}
 use Rattle.rules.specs.Verdicts.{verdictOf, codeVerdict}
-use Rattle.garage.specs.Held.{codeAt, isGood, heldArea, heldAllowed, heldNext, overlapsEarlier, liftIn}
+use Rattle.garage.specs.Held.{codeAt, isGood, heldArea, heldAllowed, heldNext, overlapsEarlier, liftIn, crossesDrive}
 use Rattle.garage.specs.Station.{fit, answering}
-use Rattle.garage.specs.Calls.{accepted, requested, request, occurred, driven, evented, event, succeeded, ended, numbered, timely, resulted, result, imaged, takeImage}
+use Rattle.garage.specs.Calls.{accepted, cleared, requested, request, occurred, driven, evented, event, succeeded, ended, numbered, timely, resulted, result, imaged, takeImage}
 
 pub right : Right
-unfolding allRight stepsRight cars paired sound total packed some every least codeOf readCode allowed next verdictOf codeVerdict possible after
-    codeAt isGood heldArea heldAllowed heldNext overlapsEarlier liftIn fit answering
-    accepted requested request occurred driven evented event succeeded ended numbered timely resulted result imaged takeImage
+unfolding allRight stepsRight cars paired sound total packed some every least codeOf readCode allowed next verdictOf codeVerdict inTurn possible after
+    codeAt isGood heldArea heldAllowed heldNext overlapsEarlier liftIn crossesDrive fit answering
+    accepted cleared requested request occurred driven evented event succeeded ended numbered timely resulted result imaged takeImage
 right = tt

@@ -58,12 +58,18 @@ taken c = answers c 0 nowhere
 abbrev pub refused : Call → ℕ → Step
 refused c number = answers c number nowhere
 
--- a car in, a car out
-abbrev pub carIn : Call
-carIn = event 1
+-- a drive begins, in or out; the one under way ends, done or not done
+abbrev pub beginIn : Call
+beginIn = event 1
 
-abbrev pub carOut : Call
-carOut = event 2
+abbrev pub beginOut : Call
+beginOut = event 2
+
+abbrev pub endDone : Call
+endDone = event 3
+
+abbrev pub endNotDone : Call
+endNotDone = event 4
 
 -- the request of a set of instructions
 abbrev pub asking : List Instruction → Call
@@ -91,11 +97,15 @@ S = 0x00091B0000000000
 abbrev pub lowers : ℕ → Instruction
 lowers side = Tilt side 3 tilted
 
--- ---- the table, with the paper's images: its bytes are written there lowest first, here as one number
+-- ---- the table, with the papers' images: its bytes are written there lowest first, here as one number
 
 -- after P2 a car is on the lift; P4 brings it to the basement, P5 half onto the left belt
 abbrev pub p2 : List Step
-p2 = taken carIn ∷ refused carIn 10 ∷ []
+p2 = taken beginIn ∷ taken endDone ∷ refused beginIn 10 ∷ []
+
+-- a drive-in is under way
+abbrev pub p2Begun : List Step
+p2Begun = taken beginIn ∷ cars 0 ∷ holds 0x00891B0000000000 ∷ []
 
 abbrev pub p4 : List Step
 p4 = p2 ++ makes 0 (Lift basement) 0x00491B0000001800
@@ -108,10 +118,10 @@ abbrev pub table : List (List Step)
 table =
     -- P1: S is sound, 0 cars
     (holds S ∷ cars 0 ∷ [])
-    -- P2: car in on S, then car in again
+    -- P2: car in on S, as its begin and done end, then car in again
     ∷ p2
     -- P3: car out on S
-    ∷ (refused carOut 10 ∷ [])
+    ∷ (refused beginOut 10 ∷ [])
     -- P4: after P2, lift to basement
     ∷ p4
     -- P5: then row 1 mask 6, lower, half; lift to street now
@@ -130,6 +140,13 @@ table =
     ∷ (taken (image 0x00291B00000000C0) ∷ makes 0 Rotate 0x00291B00000000C0 ++ taken (image 0x00291B0000000180) ∷ barred Rotate 28 ∷ [])
     -- P12: same tilt twice
     ∷ (answers (asking (lowers left ∷ lowers left ∷ [])) 8 1 ∷ [])
+    -- while a driver is in the lift: a second begin, a set with the lift at any place, and one without; the driver gives up, and the lift goes
+    ∷ (p2Begun ++ refused beginOut 31 ∷ refused (asking (lowers left ∷ Lift basement ∷ [])) 31 ∷ makes 0 (lowers left) 0x00881F0000000000
+    ++ taken endNotDone ∷ refused endDone 31 ∷ makes 1 (Lift basement) 0x00481F0000000000)
+    -- a set with the lift, outstanding: no drive begins
+    ∷ (taken (asking (Lift rotation ∷ [])) ∷ refused beginIn 6 ∷ taken (failed 0 0) ∷ p2Begun)
+    -- a car is driven out: it counts until its done end
+    ∷ (p2 ++ taken beginOut ∷ cars 1 ∷ holds 0x01191B0000000000 ∷ taken endDone ∷ cars 0 ∷ holds S ∷ [])
     ∷ []
 
 -- ---- the claim

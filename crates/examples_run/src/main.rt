@@ -136,15 +136,16 @@ fn p1() {
 
 fn p2() -> Station {
     text(b"P2");
-    let s = told(b"car in", Station::start().event(1));
-    let t = told(b"car in", s.event(1));
+    let s = told(b"begin in", Station::start().event(1));
+    let t = told(b"done", s.event(3));
+    let u = told(b"begin in", t.event(1));
     text(b"\n");
-    t
+    u
 }
 
 fn p3() {
     text(b"P3");
-    told(b"car out", Station::start().event(2));
+    told(b"begin out", Station::start().event(2));
     text(b"\n");
 }
 

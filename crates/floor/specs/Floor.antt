@@ -1,6 +1,6 @@
--- The floor of document 01: which bit of the record stands for what. Definitions elsewhere go by these names. Numbers are written again
--- only for the ends of the rows, where cars are laid out; in whole images, as the start record's; and in masks that are
--- cited by private functions alone. Assumes nothing.
+-- The floor of document 01, with document 02's drives: which bit of the record stands for what. Definitions elsewhere go by these names.
+-- Numbers are written again only for the ends of the rows, where cars are laid out; in whole images, as the start record's; and in masks
+-- that are cited by private functions alone. Assumes nothing.
 use mathlib.Core.Bool.{cond}
 use mathlib.Core.List.{List, [], _∷_, _++_}
 use Prim.Native.Nat.{ℕ, _+_, _*_}
@@ -112,6 +112,18 @@ rightOfLift = from 13 7
 abbrev pub turningCells : List ℕ
 turningCells = from 8 3 ++ from 13 3
 
--- ---- the bits 55 to 63, which stand for nothing
+-- ---- drives: the bits 55 and 56
+
+-- a car is being driven into the lift, or out of it
+abbrev pub driveIn : ℕ
+driveIn = 55
+
+abbrev pub driveOut : ℕ
+driveOut = 56
+
+abbrev pub drives : List ℕ
+drives = driveIn ∷ driveOut ∷ []
+
+-- ---- the bits 57 to 63, which stand for nothing
 abbrev pub spare : List ℕ
-spare = from 55 9
+spare = from 57 7

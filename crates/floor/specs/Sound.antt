@@ -1,10 +1,10 @@
--- When a record is sound, clause by clause as document 01 has it, and the test that decides it. Assumes nothing.
+-- When a record is sound, clause by clause as documents 01 and 02 have it, and the test that decides it. Assumes nothing.
 use mathlib.Core.Path.{_≡_}
 use mathlib.Core.Bool.{Bool, true, false, not, cond, _&&_}
 use mathlib.Core.List.{List, [], _∷_, _++_}
 use Prim.Native.Nat.{ℕ, zero, suc}
 use Rattle.bits.specs.Bits.{Bits, bit}
-use Rattle.floor.specs.Floor.{left, right, lowered, tilted, slot, place, raisedCar, liftCells, spare}
+use Rattle.floor.specs.Floor.{left, right, lowered, tilted, slot, place, raisedCar, street, liftCells, driveIn, driveOut, drives, spare}
 use Rattle.floor.specs.Tests.{Test, set, free, exactly, no, both, either, allHold, heightIs, atBasement}
 use Rattle.floor.specs.Cars.{Car, Layout, cars}
 use Rattle.floor.specs.declared.Total.{Total}
@@ -31,7 +31,17 @@ threeShuttles side =
     both (exactly 3 (slots side lowered ++ slots side tilted))
     (either (free (slots side tilted)) (exactly 1 (slots side tilted)))
 
--- what a sound record keeps besides its layout
+-- a drive is under way at street height only; in only with the raised lift empty, out only with a car on it
+abbrev pub drivesAtStreet : Test
+drivesAtStreet = either (free drives) (heightIs street)
+
+abbrev pub drivesIntoEmpty : Test
+drivesIntoEmpty = either (free (driveIn ∷ [])) (free (raisedCar ∷ []))
+
+abbrev pub drivesOutOfFull : Test
+drivesOutOfFull = either (free (driveOut ∷ [])) (set (raisedCar ∷ []))
+
+-- what a sound record keeps besides its layout; of drives, at most one is under way
 abbrev pub soundRules : List Test
 soundRules =
     carried left 1 ∷ carried left 2 ∷ carried left 3 ∷ carried right 1 ∷ carried right 2 ∷ carried right 3
@@ -39,6 +49,7 @@ soundRules =
     ∷ threeShuttles left ∷ threeShuttles right
     ∷ no (heightIs 3)
     ∷ free spare
+    ∷ no (set drives) ∷ drivesAtStreet ∷ drivesIntoEmpty ∷ drivesOutOfFull
     ∷ []
 
 -- a record is sound if a layout of cars exists and these rules hold

@@ -5,7 +5,7 @@ use mathlib.Core.List.{List, [], _∷_}
 use Prim.Native.Nat.{ℕ, _%_}
 use lib.Dec.{eqb}
 use Rattle.bits.specs.Bits.{Bits, bit, count, allSet}
-use Rattle.floor.specs.Floor.{heightLow, heightHigh, basement}
+use Rattle.floor.specs.Floor.{heightLow, heightHigh, basement, drives}
 
 -- what is asked: what needs no record; each bit at these places is 1; n of them are; an even number of them is; and their combinations
 pub data Test : Type 0 where
@@ -51,6 +51,10 @@ heightIs h =
 
 abbrev pub atBasement : Test
 atBasement = heightIs basement
+
+-- a drive is under way
+abbrev pub underWay : Test
+underWay = no (free drives)
 
 -- one bit of the next record: its place, and the test of the present record that gives it
 pub data Change : Type 0 where

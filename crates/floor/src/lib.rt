@@ -4,13 +4,16 @@ ghost use mathlib.Core.Bool.{false};
 ghost use mathlib.Core.List.{[], _∷_};
 ghost use Rattle.bits.specs.Bits.{bit};
 ghost use Rattle.bits.specs.Places.{places};
-ghost use Rattle.floor.specs.Floor.{beltOf, left, right};
-ghost use Rattle.floor.specs.Tests.{set, exactly, free, both, either, holds, allHold};
+ghost use Rattle.floor.specs.Floor.{beltOf, left, right, drives};
+ghost use Rattle.floor.specs.Tests.{set, exactly, free, no, both, either, holds, allHold, underWay};
 ghost use Rattle.floor.specs.Cars.{cars};
-ghost use Rattle.floor.specs.Sound.{carried, onLift, onRaisedLift, soundRules, paired, sound, total};
+ghost use Rattle.floor.specs.Sound.{carried, onLift, onRaisedLift, drivesAtStreet, drivesIntoEmpty, drivesOutOfFull, soundRules, paired, sound, total};
 
 pub mod masks;
 
+use masks::DRIVE_IN;
+use masks::DRIVE_OUT;
+use masks::DRIVES;
 use masks::HEIGHT_HIGH;
 use masks::HEIGHT_LOW;
 use masks::LEFT_CELLS_1;
@@ -115,6 +118,23 @@ fn three(r: u64, slots: u64, tilted: u64) -> bool
     (bits::count(r, slots) == 3) & (bits::free(r, tilted) | (bits::count(r, tilted) == 1))
 }
 
+// A drive is under way: a driver may be in the lift.
+pub fn under_way(r: u64) -> bool
+    ensures { λ b. ⌜ b ≡ holds underWay (bit r) ⌝ }
+{
+    !bits::free(r, DRIVES)
+}
+
+// At most one drive is under way, at street height only, in only where the raised lift is empty, out only where a car is on it.
+fn drives_fit(r: u64) -> bool
+    ensures { λ b. ⌜ b ≡ allHold (no (set drives) ∷ drivesAtStreet ∷ drivesIntoEmpty ∷ drivesOutOfFull ∷ []) (bit r) ⌝ }
+{
+    !bits::all(r, DRIVES)
+        & (bits::free(r, DRIVES) | bits::free(r, HEIGHT_LOW) & bits::free(r, HEIGHT_HIGH))
+        & (bits::free(r, DRIVE_IN) | bits::free(r, RAISED_CAR))
+        & (bits::free(r, DRIVE_OUT) | bits::all(r, RAISED_CAR))
+}
+
 // What a sound record keeps besides its layout.
 fn rules_kept(r: u64) -> bool
     ensures { λ b. ⌜ b ≡ allHold soundRules (bit r) ⌝ }
@@ -125,6 +145,7 @@ fn rules_kept(r: u64) -> bool
         & three(r, RIGHT_SLOTS, RIGHT_TILTED)
         & !(bits::all(r, HEIGHT_LOW) & bits::all(r, HEIGHT_HIGH))
         & bits::free(r, SPARE)
+        & drives_fit(r)
 }
 
 // Whether the image is a sound record.

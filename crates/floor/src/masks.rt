@@ -105,5 +105,14 @@ pub const RIGHT_2: u64 = 0x1000_2000_0000;
 
 pub const RIGHT_3: u64 = 0x2080_0000_0000;
 
+// A drive-in, a drive-out, and either of them, is under way; the bits that an event may change.
+pub const DRIVE_IN: u64 = 0x80_0000_0000_0000;
+
+pub const DRIVE_OUT: u64 = 0x100_0000_0000_0000;
+
+pub const DRIVES: u64 = 0x180_0000_0000_0000;
+
+pub const RAISED_CAR_AND_DRIVES: u64 = 0x190_0000_0000_0000;
+
 // What stands for nothing.
-pub const SPARE: u64 = 0xFF80_0000_0000_0000;
+pub const SPARE: u64 = 0xFE00_0000_0000_0000;

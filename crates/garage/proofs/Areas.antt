@@ -89,18 +89,18 @@ overlapping set i {seen} {m} {x} e d a =
     ∙ rw (a, d, e)
 
 -- the lift's bits, 52 to 54
-abbrev liftMask : ℕ
+abbrev pub liftMask : ℕ
 liftMask = 0x70000000000000
 
-held-lift : (x : Code) → share (heldArea x) lift ≡ not (eqb (bitAnd liftMask (heldMask x)) 0)
+pub held-lift : (x : Code) → share (heldArea x) lift ≡ not (eqb (bitAnd (heldMask x) liftMask) 0)
 unfolding heldMask packed
-held-lift x = rw (and-comm liftMask (heldMask x)) (share-masks (heldArea x) lift (held-small x))
+held-lift x = share-masks (heldArea x) lift (held-small x)
 
 -- the code's test of all areas
 pub lift-in : (set : List ℕ) (n : ℕ) {m : ℕ} → m ≡ areas set n → not (eqb (bitAnd m liftMask) 0) ≡ liftIn set n
 unfolding liftIn
 lift-in set n {m} e = sym
     (some-same n (λ j. share (heldArea (codeAt set j)) lift) (λ j. not (eqb (bitAnd liftMask (heldMask (codeAt set j))) 0))
-    (λ j l. held-lift (codeAt set j))
+    (λ j l. held-lift (codeAt set j) ∙ rw (and-comm (heldMask (codeAt set j)) liftMask))
     ∙ meets-areas liftMask set n (omega arith)
     ∙ rw (and-comm liftMask (areas set n), e))

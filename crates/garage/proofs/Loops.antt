@@ -16,9 +16,9 @@ use Rattle.bits.proofs.Cases.{split, alike, both, and-intro}
 use Rattle.bits.proofs.Search.{every-is}
 use Rattle.bits.proofs.Least.{Sought, sought-start, sought-turn, sought-end}
 use Rattle.rules.specs.declared.Code.{Code}
-use Rattle.garage.specs.Held.{codeAt, isGood, heldAllowed, bad, overlapsEarlier, barred}
+use Rattle.garage.specs.Held.{codeAt, isGood, heldAllowed, bad, overlapsEarlier, barred, liftIn}
 use Rattle.garage.specs.Private.{heldMask, areas, firstOf}
-use Rattle.garage.proofs.Areas.{areas-start, areas-turn, overlapping}
+use Rattle.garage.proofs.Areas.{areas-start, areas-turn, overlapping, liftMask, lift-in}
 use Rattle.garage.proofs.Padding.{five-at}
 
 -- what code found of the instruction that it read
@@ -57,7 +57,10 @@ searches {set} {n} {r} {seen} {worst} {overlap} {closed} {i} {m} {p} {q} {u} v h
 
 pub search-ends : {set : List ℕ} {n r seen worst overlap closed i : ℕ} → Searched set n r seen worst overlap closed i → n ≤ i
     → (worst ≡ least n (bad set)) × (overlap ≡ least n (overlapsEarlier set)) × (closed ≡ least n (barred set r))
-search-ends v h = (sought-end (v .worse) h, sought-end (v .over) h, sought-end (v .shut) h)
+    × (not (eqb (bitAnd seen liftMask) 0) ≡ liftIn set n)
+search-ends {set} {n} {seen = seen} {i = i} v h =
+    let end : i ≡ n = omega (arith, v .worse .within) in
+    (sought-end (v .worse) h, sought-end (v .over) h, sought-end (v .shut) h, lift-in set n (v .gathered ∙ ap (areas set) end))
 
 -- ---- the places past the first n instructions
 

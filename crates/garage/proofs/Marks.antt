@@ -18,7 +18,7 @@ use Rattle.bits.proofs.Operations.{bit-and, bit-low}
 use Rattle.bits.proofs.Least.{every-least}
 use Rattle.floor.specs.Sound.{sound}
 use Rattle.garage.specs.declared.Station.{Station}
-use Rattle.garage.specs.Held.{bad}
+use Rattle.garage.specs.Held.{bad, crossesDrive}
 use Rattle.garage.specs.Station.{closed, inSet, used, fit, noting, answering}
 
 -- n marks are a byte
@@ -94,29 +94,31 @@ one-answer s i r m a e = rw (all-marked (s .count) (bitOr (s .answered) (2 ^ i))
 -- ---- a fit station
 
 -- the code's conjunction, grouped as the definition's
-and-assoc-5 : (a b c d e : Bool) → a && b && c && d && e ≡ a && (b && (c && (d && e)))
-and-assoc-5 false b c d e = refl
-and-assoc-5 true false c d e = refl
-and-assoc-5 true true c d e = and-assoc c d e
+and-assoc-6 : (a b c d e f : Bool) → a && b && c && d && e && f ≡ a && (b && (c && (d && (e && f))))
+and-assoc-6 false b c d e f = refl
+and-assoc-6 true false c d e f = refl
+and-assoc-6 true true false d e f = refl
+and-assoc-6 true true true d e f = and-assoc d e f
 
 -- none below n is bad
 all-good : (n : ℕ) (p : ℕ → Bool) → eqb (least n p) n ≡ every n (λ i. not (p i))
 all-good n p = rw (← ap (λ (q : ℕ → Bool). least n q) (fun-ext (λ i. Bool·not-not (p i)))) (every-least n (λ i. not (p i)))
 
 -- what the code tests
-pub fit-is : (s : Station) {fine rest : Bool} {worst all : ℕ} → s .count ≤ 8 → s .answered < 2 ^ 8
+pub fit-is : (s : Station) {fine rest crosses : Bool} {worst all : ℕ} → s .count ≤ 8 → s .answered < 2 ^ 8
     → fine ≡ sound (s .bits) → worst ≡ least (s .count) (bad (s .set)) → all ≡ 2 ^ s .count - 1
-    → rest ≡ every 40 (λ k. used s k || eqb (getD (s .set) k 0) 0)
-    → fine && eqb worst (s .count) && leb (s .answered) all && rest && (eqb (s .count) 0 || not (eqb (bitAnd (s .answered) all) all)) ≡ fit s
+    → rest ≡ every 40 (λ k. used s k || eqb (getD (s .set) k 0) 0) → crosses ≡ crossesDrive (s .bits) (s .set) (s .count)
+    → fine && eqb worst (s .count) && leb (s .answered) all && rest && (eqb (s .count) 0 || not (eqb (bitAnd (s .answered) all) all)) && not crosses ≡ fit s
 unfolding fit
-fit-is s {fine} {rest} {worst} {all} h l e₁ e₂ e₃ e₄ =
-    and-assoc-5 fine (eqb worst (s .count)) (leb (s .answered) all) rest (eqb (s .count) 0 || not (eqb (bitAnd (s .answered) all) all))
+fit-is s {fine} {rest} {crosses} {worst} {all} h l e₁ e₂ e₃ e₄ e₅ =
+    and-assoc-6 fine (eqb worst (s .count)) (leb (s .answered) all) rest (eqb (s .count) 0 || not (eqb (bitAnd (s .answered) all) all)) (not crosses)
     ∙ rw (
       e₁,
       e₂,
       all-good (s .count) (bad (s .set)),
       e₃,
       e₄,
+      e₅,
       le-leb _ _ h,
       only-marked (s .count) (s .answered) l,
       some-not (s .count) (bit (s .answered)),

@@ -19,12 +19,12 @@ use Rattle.rules.specs.declared.Driven.{Driven}
 use Rattle.rules.specs.declared.Reading.{Reading}
 use Rattle.rules.specs.declared.Reading.the-variants.{Good, Bad}
 use Rattle.rules.specs.Rules.{areaOf, area, allowed, next}
-use Rattle.rules.specs.Events.{possible}
+use Rattle.rules.specs.Events.{inTurn, possible}
 use Rattle.rules.specs.Codes.{readCode, readEvent}
 use Rattle.rules.specs.Verdicts.{onCode, maskOf, codeMask, verdictOf, codeVerdict, isAllowed, movedBy, movedOf, codeMoved, drivenOf}
 use Rattle.rules.proofs.CodeLaws.{one-form}
 use Rattle.rules.proofs.Reasons.{allows-is}
-use Rattle.answers.specs.declared.Answer.the-variants.{BadField, EventImpossible, NowNotAllowed}
+use Rattle.answers.specs.declared.Answer.the-variants.{BadField, EventImpossible, NowNotAllowed, OutOfTurn}
 use Rattle.answers.specs.Answers.{nowhere}
 use Rattle.garage.specs.declared.Station.{Station}
 use Rattle.garage.specs.Held.{codeAt, isGood, heldArea, heldAllowed, heldNext}
@@ -104,16 +104,18 @@ pub success : (s : Station) (i : ℕ) {x : Code} {m : Moved} → x ≡ codeAt (s
 unfolding succeeded
 success s i d e = rw (e, d) (held-moved (λ r. taken (answering s i r)) (refused s NowNotAllowed) (codeAt (s .set) i) (s .bits))
 
--- one answer where a car event is possible, another where it isn't
-abbrev pub onDriven : {A : Type 0} → (ℕ → A) → A → Driven → A
-onDriven made unmade (Driven.Record r) = made r
-onDriven made unmade Driven.Impossible = unmade
+-- one answer where a car event is possible, others where it doesn't come in turn and where it isn't possible
+abbrev pub onDriven : {A : Type 0} → (ℕ → A) → A → A → Driven → A
+onDriven made untimely unmade (Driven.Record r) = made r
+onDriven made untimely unmade Driven.OutOfTurn = untimely
+onDriven made untimely unmade Driven.Impossible = unmade
 
 -- a car event
 pub moved-event : (s : Station) (e : Event) {d : Driven} → d ≡ drivenOf e (s .bits)
-    → onDriven (λ r. taken (holding s r)) (refused s EventImpossible) d ≡ occurred s e
+    → onDriven (λ r. taken (holding s r)) (refused s OutOfTurn) (refused s EventImpossible) d ≡ occurred s e
 unfolding drivenOf occurred
-moved-event s e d = rw d (split (possible e (bit (s .bits))) (λ t. rw t) (λ t. rw t))
+moved-event s e d =
+    rw d (split (inTurn e (bit (s .bits))) (λ t. rw t (split (possible e (bit (s .bits))) (λ u. rw u) (λ u. rw u))) (λ t. rw t))
 
 -- ---- an event's byte
 
@@ -126,4 +128,7 @@ onEvent known bad EventReading.Bad = bad
 pub event-read : (s : Station) (b : ℕ) {g : EventReading} → g ≡ readEvent b → onEvent (driven s) (refused s (BadField nowhere)) g ≡ evented s b
 unfolding evented readEvent
 event-read s b d =
-    rw d (split (eqb b 1) (λ t. rw t) (λ t. split (eqb b 2) (λ u. rw (t, u)) (λ u. rw (t, u))))
+    rw d (split (eqb b 1) (λ t. rw t)
+    (λ t. rw t (split (eqb b 2) (λ u. rw u)
+    (λ u. rw u (split (eqb b 3) (λ v. rw v)
+    (λ v. rw v (split (eqb b 4) (λ w. rw w) (λ w. rw w))))))))

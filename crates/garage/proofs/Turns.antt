@@ -13,8 +13,8 @@ use Rattle.bits.specs.Search.{every, least}
 use Rattle.bits.proofs.Cases.{split}
 use Rattle.floor.specs.Sound.{sound}
 use Rattle.rules.specs.declared.Event.{Event}
-use Rattle.rules.specs.declared.Event.the-variants.{CarIn, CarOut}
-use Rattle.rules.specs.Events.{possible}
+use Rattle.rules.specs.declared.Event.the-variants.{BeginIn, BeginOut, EndDone, EndNotDone}
+use Rattle.rules.specs.Events.{inTurn, possible}
 use Rattle.rules.specs.Codes.{most}
 use Rattle.answers.specs.declared.Answer.{Answer}
 use Rattle.garage.specs.declared.Station.{Station}
@@ -22,9 +22,9 @@ use Rattle.garage.specs.declared.Outcome.{Outcome}
 use Rattle.garage.specs.declared.Report.{Report}
 use Rattle.garage.specs.declared.Picture.{Picture}
 use Rattle.garage.specs.declared.Turn.{Turn}
-use Rattle.garage.specs.Held.{codeAt, heldAllowed, bad, overlapsEarlier, barred, liftIn}
+use Rattle.garage.specs.Held.{codeAt, heldAllowed, bad, overlapsEarlier, barred, liftIn, crossesDrive}
 use Rattle.garage.specs.Station.{inSet, marked, present, late, holding, answering}
-use Rattle.garage.specs.Calls.{refused, taken, accepted, requested, occurred, driven, evented, succeeded, ended, numbered, timely, resulted, imaged}
+use Rattle.garage.specs.Calls.{refused, taken, accepted, cleared, requested, occurred, driven, evented, succeeded, ended, numbered, timely, resulted, imaged}
 use Rattle.garage.specs.Turns.{turnOf, keptSet, afterTurn}
 use Rattle.garage.proofs.Marks.{in-set}
 
@@ -64,7 +64,7 @@ module _ (s : Station) (fresh : List ℕ) where
       (λ b. record { kept = rw (lt-ltb (s .count) n h) (sym e) }))
 
   pub kept-requested : (n : ℕ) (set : List ℕ) → fresh ≡ take (5 * n) set ++ replicate (40 - 5 * n) 0 → Kept (requested s n set)
-  unfolding requested
+  unfolding requested cleared
   kept-requested n set e =
       unless (ltb 0 (s .count)) _
       (λ a. let h = ltb-false 0 (s .count) a in
@@ -72,13 +72,17 @@ module _ (s : Station) (fresh : List ℕ) where
       (λ b. unless (eqb n 0) _
       (λ c. let ne : n ≡ 0 → ⊥ = eqb-false n 0 c in
       unless (ltb (least n (bad set)) n) _
-      (λ d. kept-accepted n set e (omega arith)))))
+      (λ d. unless (crossesDrive (s .bits) set n) _
+      (λ f. kept-accepted n set e (omega arith))))))
 
   -- ---- a car event
 
   kept-occurred : (e : Event) → Kept (occurred s e)
   unfolding occurred
-  kept-occurred e = either (possible e (bit (s .bits))) (λ a. kept-holding _) (λ a. kept-refused _)
+  kept-occurred e =
+      either (inTurn e (bit (s .bits)))
+      (λ t. either (possible e (bit (s .bits))) (λ a. kept-holding _) (λ a. kept-refused _))
+      (λ t. kept-refused _)
 
   kept-driven : (e : Event) → Kept (driven s e)
   unfolding driven
@@ -86,7 +90,11 @@ module _ (s : Station) (fresh : List ℕ) where
 
   pub kept-evented : (e : ℕ) → Kept (evented s e)
   unfolding evented
-  kept-evented e = either (eqb e 1) (λ a. kept-driven CarIn) (λ a. either (eqb e 2) (λ b. kept-driven CarOut) (λ b. kept-refused _))
+  kept-evented e =
+      either (eqb e 1) (λ a. kept-driven BeginIn)
+      (λ a. either (eqb e 2) (λ b. kept-driven BeginOut)
+      (λ b. either (eqb e 3) (λ c. kept-driven EndDone)
+      (λ c. either (eqb e 4) (λ d. kept-driven EndNotDone) (λ d. kept-refused _))))
 
   -- ---- a result
 

@@ -1,4 +1,4 @@
--- The five calls, each a chain of tests in document 01's order of refusals, in parts, the last of them first. What stands past the test
+-- The five calls, each a chain of tests in the documents' order of refusals, in parts, the last of them first. What stands past the test
 -- of fitness is said of unfit stations too. Assumes nothing.
 use mathlib.Core.Bool.{Bool, not, cond}
 use mathlib.Core.List.{List}
@@ -8,17 +8,17 @@ use Rattle.bits.specs.Bits.{bit, image}
 use Rattle.bits.specs.Search.{least}
 use Rattle.floor.specs.Sound.{sound}
 use Rattle.rules.specs.declared.Event.{Event}
-use Rattle.rules.specs.declared.Event.the-variants.{CarIn, CarOut}
-use Rattle.rules.specs.Events.{possible, after}
+use Rattle.rules.specs.declared.Event.the-variants.{BeginIn, BeginOut, EndDone, EndNotDone}
+use Rattle.rules.specs.Events.{inTurn, possible, after}
 use Rattle.rules.specs.Codes.{most}
 use Rattle.answers.specs.declared.Answer.{Answer}
-use Rattle.answers.specs.declared.Answer.the-variants.{Taken, Opened, BadField, TooMany, SetOutstanding, EmptySet, Overlap, EventImpossible, NoSet, NotInSet, AlreadyAnswered, NowNotAllowed, Unsound, Unfit, Late, NotIssued}
+use Rattle.answers.specs.declared.Answer.the-variants.{Taken, Opened, BadField, TooMany, SetOutstanding, EmptySet, Overlap, EventImpossible, NoSet, NotInSet, AlreadyAnswered, NowNotAllowed, Unsound, Unfit, Late, NotIssued, OutOfTurn}
 use Rattle.answers.specs.Answers.{nowhere}
 use Rattle.garage.specs.declared.Station.{Station}
 use Rattle.garage.specs.declared.Outcome.{Outcome}
 use Rattle.garage.specs.declared.Report.{Report}
 use Rattle.garage.specs.declared.Picture.{Picture}
-use Rattle.garage.specs.Held.{codeAt, heldAllowed, heldNext, bad, overlapsEarlier, barred, whyNot, liftIn}
+use Rattle.garage.specs.Held.{codeAt, heldAllowed, heldNext, bad, overlapsEarlier, barred, whyNot, liftIn, crossesDrive}
 use Rattle.garage.specs.Station.{inSet, marked, present, late, fit, holding, opened, answering}
 
 -- the station as it was, and why; the next station, taken
@@ -47,6 +47,10 @@ accepted s n set =
     (unlessAny n (barred set (s .bits)) s (whyNot set (s .bits))
     (opening s n set))
 
+-- a request of n well-formed instructions: while a drive is under way, none has the lift in its area
+unfoldable pub cleared : Station → ℕ → List ℕ → Outcome
+cleared s n set = cond (crossesDrive (s .bits) set n) (refused s OutOfTurn) (accepted s n set)
+
 -- a request past the test of fitness: no set is outstanding, and 1 to 8 instructions, five bytes each, are well formed
 unfoldable pub requested : Station → ℕ → List ℕ → Outcome
 requested s n set =
@@ -54,23 +58,31 @@ requested s n set =
     (cond (ltb most n) (refused s TooMany)
     (cond (eqb n 0) (refused s EmptySet)
     (unlessAny n (bad set) s BadField
-    (accepted s n set))))
+    (cleared s n set))))
 
 -- a request
 unfoldable pub request : Station → ℕ → List ℕ → Outcome
 request s n set = onFit s (requested s n set)
 
--- the end of a car event: it is possible on the present record, which becomes the one after it
+-- the end of a car event: it comes in turn and is possible on the present record, which becomes the one after it
 unfoldable pub occurred : Station → Event → Outcome
-occurred s e = cond (possible e (bit (s .bits))) (taken (holding s (image (after e (bit (s .bits)))))) (refused s EventImpossible)
+occurred s e =
+    cond (inTurn e (bit (s .bits)))
+    (cond (possible e (bit (s .bits))) (taken (holding s (image (after e (bit (s .bits)))))) (refused s EventImpossible))
+    (refused s OutOfTurn)
 
 -- a car event that is known: no set is outstanding with the lift in any of its areas
 unfoldable pub driven : Station → Event → Outcome
 driven s e = cond (liftIn (s .set) (s .count)) (refused s SetOutstanding) (occurred s e)
 
--- a car event past the test of fitness, by its number: 1 a car in, 2 a car out
+-- a car event past the test of fitness, by its number: a drive begins, 1 in, 2 out; the one under way ends, 3 done, 4 not done
 unfoldable pub evented : Station → ℕ → Outcome
-evented s e = cond (eqb e 1) (driven s CarIn) (cond (eqb e 2) (driven s CarOut) (refused s (BadField nowhere)))
+evented s e =
+    cond (eqb e 1) (driven s BeginIn)
+    (cond (eqb e 2) (driven s BeginOut)
+    (cond (eqb e 3) (driven s EndDone)
+    (cond (eqb e 4) (driven s EndNotDone)
+    (refused s (BadField nowhere)))))
 
 -- a car event
 unfoldable pub event : Station → ℕ → Outcome

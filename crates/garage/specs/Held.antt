@@ -1,6 +1,6 @@
 -- Instructions as a station holds them: the request's own five bytes each. Bytes that say no instruction have an empty area, are
 -- never allowed and change nothing. Assumes nothing.
-use mathlib.Core.Bool.{Bool, true, false, not}
+use mathlib.Core.Bool.{Bool, true, false, not, _&&_}
 use mathlib.Core.List.{List, []}
 use Prim.Native.Nat.{ℕ, _*_}
 use lib.ListN.{drop}
@@ -8,6 +8,7 @@ use Rattle.bits.specs.Bits.{Bits, bit}
 use Rattle.bits.specs.Places.{share}
 use Rattle.bits.specs.Search.{some}
 use Rattle.floor.specs.Floor.{lift}
+use Rattle.floor.specs.Tests.{holds, underWay}
 use Rattle.answers.specs.declared.Answer.{Answer}
 use Rattle.rules.specs.declared.Code.{Code}
 use Rattle.rules.specs.Rules.{areaOf, allowed, next}
@@ -48,3 +49,10 @@ whyNot set r i = answerFor (codeVerdict (codeAt set i) r) i
 -- one of the first n instructions of a set has the lift in its area
 unfoldable pub liftIn : List ℕ → ℕ → Bool
 liftIn set n = some n (λ j. share (heldArea (codeAt set j)) lift)
+
+-- and a drive is under way on the record with this image; the same of one instruction alone
+unfoldable pub crossesDrive : ℕ → List ℕ → ℕ → Bool
+crossesDrive r set n = holds underWay (bit r) && liftIn set n
+
+unfoldable pub crosses : Code → ℕ → Bool
+crosses x r = holds underWay (bit r) && share (heldArea x) lift

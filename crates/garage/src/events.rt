@@ -14,12 +14,13 @@ use rules::Event;
 use rules::EventReading;
 
 impl Station {
-    // The end of a car event: the record after it, if it is possible.
+    // The end of a car event: the record after it, if it comes in turn and is possible.
     fn occurred(self, e: Event) -> Turn
         ensures { λ t. ⌜ t ≡ turnOf (occurred self e) ⌝ }
     {
         match engine::driven(e, self.bits) {
             Driven::Record(r) => self.holding(r),
+            Driven::OutOfTurn => self.unmoved(Answer::OutOfTurn),
             Driven::Impossible => self.unmoved(Answer::EventImpossible),
         }
     }
@@ -35,7 +36,7 @@ impl Station {
         self.occurred(e)
     }
 
-    // A car event past the test of fitness, by its number: 1 in, 2 out.
+    // A car event past the test of fitness, by its number: 1 begins in, 2 out, 3 ends done, 4 not done.
     pub fn evented(self, e: u8) -> Turn
         ensures { λ t. ⌜ t ≡ turnOf (evented self e) ⌝ }
     {

@@ -2,10 +2,13 @@
 // back with an answer; a refused call hands it back as it was.
 ghost use mathlib.Core.Path.{_≡_};
 ghost use Prim.Native.Nat.{_-_, _^_, _≤_};
+ghost use Rattle.garage.specs.Held.{crosses};
 ghost use Rattle.garage.specs.Station.{startOf, fit, holding};
 ghost use Rattle.garage.specs.Calls.{refused, taken, imaged, takeImage, ask};
 ghost use Rattle.garage.specs.Turns.{turnOf, afterTurn};
 use answers::Answer;
+use floor::masks::LIFT;
+use rules::Code;
 
 mod events;
 mod held;
@@ -73,6 +76,16 @@ fn taken(station: Station) -> Outcome
     }
 }
 
+// A drive is under way on the record, and the instruction that these bytes say has the lift in its area.
+pub fn crosses(x: Code, bits: u64) -> bool
+    ensures { λ b. ⌜ b ≡ crosses x bits ⌝ }
+{
+    if !floor::under_way(bits) {
+        return false;
+    }
+    held::area(x) & LIFT != 0
+}
+
 impl Station {
     // The start record: no cars, rows 1 and 2 lowered and row 3 tilted on both sides, lift at street.
     pub const START: u64 = 0x9_1B00_0000_0000;
@@ -108,6 +121,7 @@ impl Station {
             & (marks <= all)
             & sets::rest_zero(set, n)
             & ((n == 0) | (marks & all != all))
+            & !sets::crosses_drive(self.bits, set, n)
     }
 
     // The station as it was, and the answer.

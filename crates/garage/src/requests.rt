@@ -1,8 +1,8 @@
-// A request: a set of instructions, taken if no set is outstanding, no two overlap and each is allowed.
+// A request: a set of instructions, taken if no set is outstanding, none moves the lift under a driver, no two overlap and each is allowed.
 ghost use mathlib.Core.Path.{_≡_};
 ghost use Rattle.bits.specs.Search.{least};
-ghost use Rattle.garage.specs.Held.{overlapsEarlier, barred};
-ghost use Rattle.garage.specs.Calls.{accepted, requested, request};
+ghost use Rattle.garage.specs.Held.{overlapsEarlier, barred, liftIn};
+ghost use Rattle.garage.specs.Calls.{accepted, cleared, requested, request};
 ghost use Rattle.garage.specs.Turns.{turnOf};
 use super::Outcome;
 use super::Station;
@@ -35,6 +35,17 @@ impl Station {
         }
     }
 
+    // A request of well-formed instructions: while a drive is under way, none has the lift in its area.
+    fn cleared(self, count: u8, set: [u8; 40], found: Faults) -> Turn
+        requires { ⌜ (found .overlap ≡ least count (overlapsEarlier set)) × (found .barred ≡ least count (barred set (self .bits))) × (found .lift ≡ liftIn set count) ⌝ }
+        ensures { λ t. ⌜ t ≡ turnOf (cleared self count set) ⌝ }
+    {
+        if floor::under_way(self.bits) & found.lift {
+            return self.unmoved(Answer::OutOfTurn);
+        }
+        self.accepted(count, set, found)
+    }
+
     // A request of `count` instructions, five bytes each, past the test of fitness; bytes past them are not looked at.
     pub fn requested(self, count: u8, set: [u8; 40]) -> Turn
         ensures { λ t. ⌜ t ≡ turnOf (requested self count set) ⌝ }
@@ -52,7 +63,7 @@ impl Station {
         if found.bad < count {
             return self.unmoved(Answer::BadField(found.bad));
         }
-        self.accepted(count, set, found)
+        self.cleared(count, set, found)
     }
 
     // A request.

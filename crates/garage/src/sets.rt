@@ -6,7 +6,7 @@ ghost use Prim.Native.Nat.{_*_, _-_};
 ghost use lib.Dec.{eqb, ltb};
 ghost use lib.ListN.{length, getD, take, replicate};
 ghost use Rattle.bits.specs.Search.{every, least};
-ghost use Rattle.garage.specs.Held.{codeAt, bad, overlapsEarlier, barred, liftIn};
+ghost use Rattle.garage.specs.Held.{codeAt, bad, overlapsEarlier, barred, liftIn, crossesDrive};
 ghost use Rattle.garage.specs.Turns.{keptSet};
 ghost use Rattle.garage.specs.Private.{areas, firstOf};
 use crate::held;
@@ -63,15 +63,16 @@ fn first(found: u8, n: u8, here: bool, i: u8) -> u8
 }
 
 // Of the first n instructions the least that is bad, the least that overlaps an earlier one and the least that is not allowed on the
-// record r, or n: each is read once.
+// record r, or n; and whether one has the lift in its area. Each is read once.
 pub struct Faults {
     pub bad: u8,
     pub overlap: u8,
     pub barred: u8,
+    pub lift: bool,
 }
 
 pub fn search(set: [u8; 40], n: u8, r: u64) -> Faults
-    ensures { λ f. ⌜ (f .bad ≡ least n (bad set)) × (f .overlap ≡ least n (overlapsEarlier set)) × (f .barred ≡ least n (barred set r)) ⌝ }
+    ensures { λ f. ⌜ (f .bad ≡ least n (bad set)) × (f .overlap ≡ least n (overlapsEarlier set)) × (f .barred ≡ least n (barred set r)) × (f .lift ≡ liftIn set n) ⌝ }
 {
     let mut seen: u64 = 0;
     let mut bad = n;
@@ -90,6 +91,7 @@ pub fn search(set: [u8; 40], n: u8, r: u64) -> Faults
         bad,
         overlap,
         barred,
+        lift: seen & LIFT != 0,
     }
 }
 
@@ -113,6 +115,16 @@ pub fn lift_in(set: [u8; 40], n: u8) -> bool
     ensures { λ b. ⌜ b ≡ liftIn set n ⌝ }
 {
     areas(set, n) & LIFT != 0
+}
+
+// A drive is under way on the record r, and one of the first n instructions has the lift in its area.
+pub fn crosses_drive(r: u64, set: [u8; 40], n: u8) -> bool
+    ensures { λ b. ⌜ b ≡ crossesDrive r set n ⌝ }
+{
+    if !floor::under_way(r) {
+        return false;
+    }
+    lift_in(set, n)
 }
 
 // The places past the first n instructions are zero.

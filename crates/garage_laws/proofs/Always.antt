@@ -1,28 +1,35 @@
 -- What holds after any calls: the station is fit, so its record is sound; images apart, the record is a number of 64 bits and the cars
 -- are counted. Assumes nothing.
 use mathlib.Core.Path.{_∙_, _≡_, refl, sym, ap}
-use mathlib.Core.Bool.{Bool, _&&_, true, cond, and-false, and-true}
+use mathlib.Core.Logic.{inr}
+use mathlib.Core.Bool.{Bool, _&&_, true, false, and-false}
 use mathlib.Core.List.{List, [], _∷_}
 use Prim.Native.Nat.{ℕ, _+_, _^_, _<_}
 use native.Mathlib.Omega.{arith}
 use lib.Dec.{eqb}
 use borrow.Author.Tests.{ne-eqb, eqb-true, eqb-false}
-use Rattle.bits.specs.Bits.{bit}
+use Rattle.bits.specs.Bits.{bit, image, digit}
+use Rattle.bits.specs.Search.{some}
 use Rattle.bits.proofs.Cases.{split, clash}
 use Rattle.bits.proofs.Digits.{packed-lt}
+use Rattle.floor.specs.Floor.{driveIn, driveOut}
 use Rattle.floor.specs.Cars.{cars}
+use Rattle.floor.specs.Sound.{sound}
 use Rattle.floor.proofs.Promises.{layout-cars, sound-exactly}
-use Rattle.rules.specs.declared.Event.the-variants.{CarIn, CarOut}
+use Rattle.rules.specs.declared.Event.the-variants.{BeginIn, BeginOut, EndDone, EndNotDone}
 use Rattle.rules.specs.declared.EventReading.{EventReading}
 use Rattle.rules.specs.declared.EventReading.the-variants.{Good as Told, Bad as Untold}
+use Rattle.rules.specs.declared.Code.{Code}
 use Rattle.rules.specs.Codes.{readEvent}
 use Rattle.rules.proofs.CodeLaws.{event-one-form}
 use Rattle.rules_laws.proofs.Laws.{event-image-cars}
 use Rattle.garage.specs.declared.Station.{Station}
+use Rattle.garage.specs.Held.{codeAt, heldNext, liftIn, crossesDrive}
 use Rattle.garage.specs.Station.{fit, holding}
 use Rattle.garage_laws.specs.Runs as run
-use Rattle.garage_laws.specs.Runs.{Call, said, left, calls, Begins, atStart, byImage, NoImages, drove, driven}
+use Rattle.garage_laws.specs.Runs.{Call, said, left, calls, Begins, atStart, byImage, NoImages, driveAt, drove, driven}
 use Rattle.garage_laws.specs.Demands.{AlwaysLaidOut, CarsCounted, FitStays, NeverUnfit}
+use Rattle.garage_laws.proofs.Reach.{under-way-kept, crosses-none, clear-is}
 use Rattle.garage_laws.proofs.Instance.{possibleAs, afterAs, next-sound, after-sound, next-cars}
 use Rattle.garage_laws.proofs.Fits.{fit-has, fit-start, fit-holding, fit-opened, fit-answering}
 use Rattle.garage_laws.proofs.Calls.{following, answering-bits, event-is, image-has, image-is}
@@ -31,12 +38,27 @@ use Rattle.garage_laws.proofs.Steps.{Step, refuses, opens, fails, succe
 
 -- ---- fit
 
+-- no success begins a drive
+still-clear : (s : Station) (x : Code) → crossesDrive (s .bits) (s .set) (s .count) ≡ false → crossesDrive (image (heldNext x (bit (s .bits)))) (s .set) (s .count) ≡ false
+unfolding crossesDrive
+still-clear s x o = ap (λ (b : Bool). b && liftIn (s .set) (s .count)) (under-way-kept x (s .bits)) ∙ o
+
+-- no set, no lift in an area
+none-clear : (s : Station) (r : ℕ) → s .count ≡ 0 → crossesDrive r (s .set) (s .count) ≡ false
+unfolding liftIn some
+none-clear s r e = clear-is r (s .set) (s .count) (inr (rw e))
+
 pub fit-step : (s t : Station) (c : Call) → Step s c t → fit s ≡ true → fit t ≡ true
 fit-step s t c (refuses n) f = f
 fit-step s t c (opens {n} {set} A) f = fit-opened s n set A
-fit-step s t c (fails {i} w) f = fit-answering s i (s .bits) f (w .1) (fit-has s f .sound)
-fit-step s t c (succeeds {i} p w a) f = fit-answering s i (following s i) f (w .1) (next-sound _ (s .bits) (fit-has s f .sound) a)
-fit-step s t c (drives {e} d) f = fit-holding s _ f (after-sound (readEvent e) (s .bits) (fit-has s f .sound) (d .2))
+fit-step s t c (fails {i} w) f = let F = fit-has s f in fit-answering s i (s .bits) f (w .1) (F .sound) (F .clear)
+fit-step s t c (succeeds {i} p w a) f =
+    let F = fit-has s f in
+    let x = codeAt (s .set) i in
+    fit-answering s i (following s i) f (w .1) (next-sound x (s .bits) (F .sound) a (crosses-none (s .bits) (s .set) (s .count) (F .clear) i (w .1)))
+    (still-clear s x (F .clear))
+fit-step s t c (drives {e} d) f =
+    fit-holding s _ f (after-sound (readEvent e) (s .bits) (fit-has s f .sound) (d .2)) (clear-is _ (s .set) (s .count) (inr (d .1)))
 fit-step s t c tells f = f
 
 -- where it begins, it holds no set, and a record of 64 bits
@@ -45,7 +67,7 @@ begins-has s atStart = (fit-start, refl, (omega arith))
 begins-has s (byImage before r h e) =
     let w = image-has before r e in
     let l : left before (run.image r) ≡ holding before r = ap (λ o. o .station) (image-is before r w) in
-    rw l (fit-holding before r (w .0) (w .2), w .1, h)
+    rw l (fit-holding before r (w .0) (w .2) (none-clear before r (w .1)), w .1, h)
 
 -- every call keeps a station fit, an image too
 fit-kept : (s : Station) (c : Call) → fit s ≡ true → fit (left s c) ≡ true
@@ -55,10 +77,10 @@ fit-kept s (run.event e) f = fit-step s _ _ (steps s (run.event e) tt) f
 fit-kept s run.ask f = fit-step s _ _ (steps s run.ask tt) f
 fit-kept s (run.pictures p) f = split (eqb (said s (run.pictures p)) 0)
     (λ t. let w = image-has s (p .bits) (eqb-true _ 0 t) in
-    rw (ap (λ o. o .station) (image-is s (p .bits) w)) (fit-holding s (p .bits) f (w .2)))
+    rw (ap (λ o. o .station) (image-is s (p .bits) w)) (fit-holding s (p .bits) f (w .2) (none-clear s (p .bits) (w .1))))
     (λ t. rw (untouched s (run.pictures p) (eqb-false _ 0 t)) f)
 
-fit-always : (l : List Call) (s : Station) → fit s ≡ true → fit (calls s l) ≡ true
+pub fit-always : (l : List Call) (s : Station) → fit s ≡ true → fit (calls s l) ≡ true
 fit-always [] s f = f
 fit-always (c ∷ l) s f = fit-always l (left s c) (fit-kept s c f)
 
@@ -101,19 +123,22 @@ carsOf s = cars (bit (s .bits))
 drove-none : (way : ℕ) (s : Station) (c : Call) → (said s c ≡ 0 → ⊥) → drove way s c ≡ 0
 drove-none way s (run.request n set) r = refl
 drove-none way s (run.reports x) r = refl
-drove-none way s (run.event e) r = ap (λ (b : Bool). cond {A = ℕ} b 1 0) (ap (λ (b : Bool). eqb e way && b) (ne-eqb (said s (run.event e)) 0 r) ∙ and-false (eqb e way))
+drove-none way s (run.event e) r =
+    ap (λ (b : Bool). digit (eqb e 3 && (b && bit (s .bits) (driveAt way)))) (ne-eqb (said s (run.event e)) 0 r) ∙ ap digit (and-false (eqb e 3))
 drove-none way s (run.pictures p) r = refl
 drove-none way s run.ask r = refl
 
--- an event that is taken drives one, in or out
-drove-one : (way : ℕ) (s : Station) (e : ℕ) → said s (run.event e) ≡ 0 → drove way s (run.event e) ≡ cond (eqb e way) 1 0
-drove-one way s e z = rw (z, and-true (eqb e way))
+-- an event that is taken drives one, where it says that the drive under way is done
+drove-one : (way : ℕ) (s : Station) (e : ℕ) → said s (run.event e) ≡ 0 → drove way s (run.event e) ≡ digit (eqb e 3 && bit (s .bits) (driveAt way))
+drove-one way s e z = rw z
 
-event-counted : (e r : ℕ) (v : EventReading) → readEvent e ≡ v → possibleAs v r ≡ true
-    → cars (bit (afterAs v r)) + cond (eqb e 2) 1 0 ≡ cars (bit r) + cond (eqb e 1) 1 0
-event-counted e r (Told CarIn) p t = let c = event-image-cars CarIn r t in rw (event-one-form e CarIn p) (omega arith)
-event-counted e r (Told CarOut) p t = let c = event-image-cars CarOut r t in rw (event-one-form e CarOut p) (omega arith)
-event-counted e r Untold p t = clash t refl
+event-counted : (e r : ℕ) (v : EventReading) → readEvent e ≡ v → sound r ≡ true → possibleAs v r ≡ true
+    → cars (bit (afterAs v r)) + digit (eqb e 3 && bit r driveOut) ≡ cars (bit r) + digit (eqb e 3 && bit r driveIn)
+event-counted e r (Told BeginIn) p s t = rw (event-one-form e BeginIn p) (ap (λ (n : ℕ). n + 0) (event-image-cars BeginIn r s t))
+event-counted e r (Told BeginOut) p s t = rw (event-one-form e BeginOut p) (ap (λ (n : ℕ). n + 0) (event-image-cars BeginOut r s t))
+event-counted e r (Told EndDone) p s t = rw (event-one-form e EndDone p) (event-image-cars EndDone r s t)
+event-counted e r (Told EndNotDone) p s t = rw (event-one-form e EndNotDone p) (ap (λ (n : ℕ). n + 0) (event-image-cars EndNotDone r s t))
+event-counted e r Untold p s t = clash t refl
 
 counted-step : (s t : Station) (c : Call) → Step s c t → carsOf t + drove 2 s c ≡ carsOf s + drove 1 s c
 counted-step s t c (refuses n) = rw (drove-none 2 s c n, drove-none 1 s c n)
@@ -122,7 +147,7 @@ counted-step s t c (fails {i} w) = rw (answering-bits s i (s .bits))
 counted-step s t c (succeeds {i} p w a) = rw (answering-bits s i (following s i)) (ap (λ (n : ℕ). n + 0) (next-cars _ (s .bits) (fit-has s (w .0) .sound) a))
 counted-step s t c (drives {e} d) =
     let z : said s (run.event e) ≡ 0 = rw (event-is s e d) in
-    rw (drove-one 2 s e z, drove-one 1 s e z) (event-counted e (s .bits) (readEvent e) refl (d .2))
+    rw (drove-one 2 s e z, drove-one 1 s e z) (event-counted e (s .bits) (readEvent e) refl (fit-has s (d .0) .sound) (d .2))
 counted-step s t c tells = refl
 
 counted : (l : List Call) → NoImages l → (s : Station) → carsOf (calls s l) + driven 2 s l ≡ carsOf s + driven 1 s l

@@ -1,7 +1,6 @@
 -- Asks and refused calls leave the station as it was: whatever they are put between meets the same stations. Assumes nothing.
 use mathlib.Core.Path.{_≡_, refl, sym, ap, subst, _∙_}
 use mathlib.Core.Bool.{false}
-use mathlib.Core.Logic.{⊎-elim}
 use mathlib.Core.List.{List, [], _∷_, _++_}
 use Prim.Native.Nat.{ℕ}
 use native.Mathlib.Omega.{arith}
@@ -78,7 +77,7 @@ any-order-amid s R n set e chosen events l m P Q l' m' a b = alike-amid a b (any
 -- ---- such lists
 
 no-such-event : (s : Station) → said s (run.event 0) ≡ 0 → ⊥
-no-such-event s e = ⊎-elim (λ z. omega arith) (λ z. omega arith) (event-taken s 0 e)
+no-such-event s e = omega (arith, event-taken s 0 e .0)
 
 pub amid-exists : AmidExists
 amid-exists s [] = ends

@@ -8,23 +8,25 @@ use Prim.Native.Nat.{ℕ, _≤_, _<_}
 use native.Mathlib.Omega.{arith}
 use lib.Dec.{eqb, ltb}
 use borrow.Author.Tests.{ltb-false, lt-ltb, le-ltb, le-leb, eqb-true, eqb-false, eq-eqb, ne-eqb, not-false}
-use Rattle.bits.specs.Bits.{bit, image}
+use Rattle.bits.specs.Bits.{Bits, bit, image}
 use Rattle.bits.specs.Search.{least}
-use Rattle.bits.proofs.Cases.{split, clash, and-intro}
+use Rattle.bits.proofs.Cases.{split, clash, both, and-intro}
 use Rattle.bits.proofs.Search.{none-at, none-is}
 use Rattle.bits.proofs.Least.{least-none, least-below}
+use Rattle.floor.specs.Tests.{holds, allHold}
 use Rattle.floor.specs.Sound.{sound}
+use Rattle.rules.specs.declared.Event.{Event}
 use Rattle.rules.specs.declared.EventReading.{EventReading}
 use Rattle.rules.specs.declared.EventReading.the-variants.{Good as Told, Bad as Untold}
-use Rattle.rules.specs.Events.{possible, after}
+use Rattle.rules.specs.Events.{turn, beginConditions, inTurn, possible, after}
 use Rattle.rules.specs.Codes.{readEvent, most}
 use Rattle.answers.specs.declared.Answer.{Answer}
-use Rattle.answers.specs.declared.Answer.the-variants.{BadField, TooMany, SetOutstanding, EmptySet, Overlap, EventImpossible, NoSet, NotInSet, AlreadyAnswered, NowNotAllowed, Unsound, Unfit, Late, NotIssued}
+use Rattle.answers.specs.declared.Answer.the-variants.{BadField, TooMany, SetOutstanding, EmptySet, Overlap, EventImpossible, NoSet, NotInSet, AlreadyAnswered, NowNotAllowed, Unsound, Unfit, Late, NotIssued, OutOfTurn}
 use Rattle.answers.specs.Answers.{numberOf, nowhere}
 use Rattle.garage.specs.declared.Station.{Station}
 use Rattle.garage.specs.declared.Outcome.{Outcome}
 use Rattle.garage.specs.declared.Report.{Report}
-use Rattle.garage.specs.Held.{codeAt, heldAllowed, heldNext, bad, overlapsEarlier, barred, whyNot, liftIn}
+use Rattle.garage.specs.Held.{codeAt, heldAllowed, heldNext, bad, overlapsEarlier, barred, whyNot, liftIn, crossesDrive}
 use Rattle.garage.specs.Station.{inSet, marked, present, behind, late, fit, holding, answering}
 use Rattle.garage.specs.Calls as station
 use Rattle.garage.specs.Calls.{refused, taken, onFit, opening}
@@ -33,6 +35,7 @@ use Rattle.garage_laws.specs.Runs as run
 use Rattle.garage_laws.specs.Runs.{call, said}
 use Rattle.garage_laws.specs.Demands.{Acceptable, Orderly, Waiting}
 use Rattle.garage_laws.proofs.Instance.{onEvent, possibleAs, afterAs, heldAs, replyAs}
+use Rattle.garage_laws.proofs.Reach.{clear-has, clear-is}
 use Rattle.garage_laws.proofs.Reasons.{why-number, least-fault}
 use Rattle.garage_laws.proofs.Fits.{fit-has, after-result}
 
@@ -64,7 +67,7 @@ met false s a o other e = absurd (other e)
 pub faultless : (n : ℕ) (fault : ℕ → Bool) → ltb (least n fault) n ≡ false → (i : ℕ) → i < n → fault i ≡ false
 faultless n fault e i h = let l = ltb-false (least n fault) n e in least-below n fault i (omega arith)
 
-no-fault : (n : ℕ) (fault : ℕ → Bool) → ((i : ℕ) → i < n → fault i ≡ false) → ltb (least n fault) n ≡ false
+pub no-fault : (n : ℕ) (fault : ℕ → Bool) → ((i : ℕ) → i < n → fault i ≡ false) → ltb (least n fault) n ≡ false
 no-fault n fault none = let e = least-none n fault none in le-ltb (least n fault) n (omega arith)
 
 -- a refusal other than 14, 16 and 17
@@ -75,9 +78,9 @@ Other a = (numberOf a ≡ 0 → ⊥) × (numberOf a ≡ 14 → ⊥) × (numberOf
 pub barred-other : (s : Station) (n : ℕ) (set : List ℕ) → ltb (least n (barred set (s .bits))) n ≡ true → Other (whyNot set (s .bits) (least n (barred set (s .bits))))
 barred-other s n set t = go (why-number set (s .bits) (least n (barred set (s .bits))) (least-fault n (barred set (s .bits)) t .passes))
   where
-    go : {k : ℕ} → (k ≡ 4) ⊎ (20 ≤ k) → (k ≡ 0 → ⊥) × (k ≡ 14 → ⊥) × (k ≡ 16 → ⊥) × (k ≡ 17 → ⊥)
+    go : {k : ℕ} → (k ≡ 4) ⊎ ((20 ≤ k) × (k ≤ 28)) → (k ≡ 0 → ⊥) × (k ≡ 14 → ⊥) × (k ≡ 16 → ⊥) × (k ≡ 17 → ⊥)
     go (inl h) = omega arith
-    go (inr h) = omega arith
+    go (inr h) = let l = h .0 in omega arith
 
 -- ---- a request, part by part
 
@@ -91,25 +94,28 @@ module _ (s : Station) (n : ℕ) (set : List ℕ) where
       (a, b)
 
   requested-has : Zero (station.requested s n set)
-      → (ltb 0 (s .count) ≡ false) × (ltb most n ≡ false) × (eqb n 0 ≡ false) × (ltb (least n (bad set)) n ≡ false) × Zero (station.accepted s n set)
-  unfolding station.requested
+      → (ltb 0 (s .count) ≡ false) × (ltb most n ≡ false) × (eqb n 0 ≡ false) × (ltb (least n (bad set)) n ≡ false)
+      × (crossesDrive (s .bits) set n ≡ false) × Zero (station.accepted s n set)
+  unfolding station.requested station.cleared
   requested-has e =
       let (a, e₁) = passed (ltb 0 (s .count)) s SetOutstanding _ (λ z. omega arith) e in
       let (b, e₂) = passed (ltb most n) s TooMany _ (λ z. omega arith) e₁ in
       let (c, e₃) = passed (eqb n 0) s EmptySet _ (λ z. omega arith) e₂ in
       let (d, e₄) = passed (ltb (least n (bad set)) n) s (BadField (least n (bad set))) _ (λ z. omega arith) e₃ in
-      (a, b, c, d, e₄)
+      let (f, e₅) = passed (crossesDrive (s .bits) set n) s OutOfTurn _ (λ z. omega arith) e₄ in
+      (a, b, c, d, f, e₅)
 
   -- past each test but the last it is orderly
   pub orderly-of : fit s ≡ true → ltb 0 (s .count) ≡ false → ltb most n ≡ false → eqb n 0 ≡ false
-      → ltb (least n (bad set)) n ≡ false → ltb (least n (overlapsEarlier set)) n ≡ false → Orderly s n set
-  orderly-of a b c d f g =
+      → ltb (least n (bad set)) n ≡ false → crossesDrive (s .bits) set n ≡ false → ltb (least n (overlapsEarlier set)) n ≡ false → Orderly s n set
+  orderly-of a b c d f x g =
       record {
         fits = a;
         idle = (let l = ltb-false 0 (s .count) b in omega arith);
         some = (let l = eqb-false n 0 d in omega arith);
         few = ltb-false most n c;
         good = faultless n (bad set) f;
+        clear = clear-has (s .bits) set n x;
         apart = faultless n (overlapsEarlier set) g;
       }
 
@@ -117,15 +123,16 @@ module _ (s : Station) (n : ℕ) (set : List ℕ) where
   unfolding station.request overlapsEarlier
   request-has e =
       let (a, e₁) = met (fit s) s Unfit (station.requested s n set) (λ z. omega arith) e in
-      let (b, c, d, f, e₂) = requested-has e₁ in
+      let (b, c, d, f, x, e₂) = requested-has e₁ in
       let (g, h) = accepted-has e₂ in
-      let O = orderly-of a b c d f g in
+      let O = orderly-of a b c d f x g in
       record {
         fits = O .fits;
         idle = O .idle;
         some = O .some;
         few = O .few;
         good = λ i l. not-false _ (O .good i l);
+        clear = O .clear;
         apart = λ i j l m. none-at i _ (O .apart i l) j (omega arith);
         allowed = λ i l. not-false _ (faultless n (barred set (s .bits)) h i l);
       }
@@ -133,12 +140,13 @@ module _ (s : Station) (n : ℕ) (set : List ℕ) where
   -- an orderly one comes to its last test
   module _ (O : Orderly s n set) where
     requested-is : station.requested s n set ≡ station.accepted s n set
-    unfolding station.requested
+    unfolding station.requested station.cleared
     requested-is = rw (
       le-ltb 0 (s .count) (let z = O .idle in omega arith),
       le-ltb most n (O .few),
       ne-eqb n 0 (λ z. (let l = O .some in omega arith)),
       no-fault n (bad set) (O .good),
+      clear-is (s .bits) set n (O .clear),
     )
 
     pub orderly-is : station.request s n set ≡ station.unlessAny n (barred set (s .bits)) s (whyNot set (s .bits)) (opening s n set)
@@ -156,6 +164,7 @@ module _ (s : Station) (n : ℕ) (set : List ℕ) where
         some = A .some;
         few = A .few;
         good = λ i h. rw (A .good i h);
+        clear = A .clear;
         apart = λ i h. none-is i _ (λ j l. A .apart i j h l);
       }
 
@@ -257,6 +266,11 @@ module _ (s : Station) (k i : ℕ) where
 
 -- ---- a car event, by what its number says
 
+-- one that is possible comes in turn
+pub possible-turn : (e : Event) (f : Bits) → possible e f ≡ true → inTurn e f ≡ true
+unfolding possible inTurn
+possible-turn e f p = both (holds (turn e) f) (allHold (beginConditions e) f) p .0
+
 module _ (s : Station) where
   -- what the station makes of it
   abbrev pub drivenAs : EventReading → Outcome
@@ -264,7 +278,11 @@ module _ (s : Station) where
 
   pub event-as : (e : ℕ) → station.event s e ≡ drivenAs (readEvent e)
   unfolding station.event station.evented readEvent
-  event-as e = split (eqb e 1) (λ t. rw t) (λ t. split (eqb e 2) (λ u. rw (t, u)) (λ u. rw (t, u)))
+  event-as e =
+      split (eqb e 1) (λ t. rw t)
+      (λ t. rw t (split (eqb e 2) (λ u. rw u)
+      (λ u. rw u (split (eqb e 3) (λ v. rw v)
+      (λ v. rw v (split (eqb e 4) (λ w. rw w) (λ w. rw w)))))))
 
   -- what a car event must have
   abbrev pub Drivable : EventReading → Type 0
@@ -275,18 +293,21 @@ module _ (s : Station) where
   driven-has (Told e) z =
       let (a, z₁) = met (fit s) s Unfit (station.driven s e) (λ z. omega arith) z in
       let (b, z₂) = passed (liftIn (s .set) (s .count)) s SetOutstanding _ (λ z. omega arith) z₁ in
-      let (c, z₃) = met (possible e (bit (s .bits))) s EventImpossible (taken (holding s (image (after e (bit (s .bits)))))) (λ z. omega arith) z₂ in
+      let (t, z₃) = met (inTurn e (bit (s .bits))) s OutOfTurn _ (λ z. omega arith) z₂ in
+      let (c, z₄) = met (possible e (bit (s .bits))) s EventImpossible (taken (holding s (image (after e (bit (s .bits)))))) (λ z. omega arith) z₃ in
       (a, b, c)
   driven-has Untold z = let (a, z₁) = met (fit s) s Unfit (refused s (BadField nowhere)) (λ z. omega arith) z in absurd (omega arith)
 
   driven-is : (v : EventReading) → Drivable v → drivenAs v ≡ taken (holding s (afterAs v (s .bits)))
   unfolding station.driven station.occurred
-  driven-is (Told e) d = rw (d .0, d .1, d .2)
+  driven-is (Told e) d = rw (d .0, d .1, possible-turn e (bit (s .bits)) (d .2), d .2)
   driven-is Untold d = clash (d .2) refl
 
   driven-number : (v : EventReading) → fit s ≡ true → numberOf (drivenAs v .answer) ≡ cond (liftIn (s .set) (s .count)) (heldAs v) (replyAs v (s .bits))
   unfolding station.driven station.occurred
-  driven-number (Told e) f = rw f (split (liftIn (s .set) (s .count)) (λ t. rw t) (λ t. rw t (split (possible e (bit (s .bits))) (λ u. rw u) (λ u. rw u))))
+  driven-number (Told e) f =
+      rw f (split (liftIn (s .set) (s .count)) (λ t. rw t)
+      (λ t. rw t (split (inTurn e (bit (s .bits))) (λ v. rw v (split (possible e (bit (s .bits))) (λ u. rw u) (λ u. rw u))) (λ v. rw v))))
   driven-number Untold f = rw f (split (liftIn (s .set) (s .count)) (λ t. rw t) (λ t. rw t))
 
   module _ (e : ℕ) where

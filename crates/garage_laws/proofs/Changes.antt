@@ -2,12 +2,12 @@
 use mathlib.Core.Path.{_≡_, refl, ap}
 use mathlib.Core.Bool.{true}
 use mathlib.Core.Logic.{_⊎_, inl, inr}
-use Prim.Native.Nat.{zero, suc}
+use Prim.Native.Nat.{zero, suc, _≤_}
 use native.Mathlib.Omega.{arith}
 use lib.Dec.{eqb}
 use borrow.Author.Tests.{eqb-true, eqb-false}
 use Rattle.bits.proofs.Cases.{split, clash}
-use Rattle.rules.specs.declared.Event.the-variants.{CarIn, CarOut}
+use Rattle.rules.specs.declared.Event.the-variants.{BeginIn, BeginOut, EndDone, EndNotDone}
 use Rattle.rules.specs.declared.EventReading.{EventReading}
 use Rattle.rules.specs.declared.EventReading.the-variants.{Good as Told, Bad as Untold}
 use Rattle.rules.specs.Codes.{readEvent}
@@ -29,9 +29,11 @@ result-taken s k i (suc (suc done)) e = absurd (omega (arith, done-has s (record
 pub event-taken : EventTaken
 event-taken s e z = go (readEvent e) refl (event-has s e z .2)
   where
-    go : (v : EventReading) → readEvent e ≡ v → possibleAs v (s .bits) ≡ true → (e ≡ 1) ⊎ (e ≡ 2)
-    go (Told CarIn) p t = inl (event-one-form e CarIn p)
-    go (Told CarOut) p t = inr (event-one-form e CarOut p)
+    go : (v : EventReading) → readEvent e ≡ v → possibleAs v (s .bits) ≡ true → (1 ≤ e) × (e ≤ 4)
+    go (Told BeginIn) p t = rw (event-one-form e BeginIn p) (omega arith)
+    go (Told BeginOut) p t = rw (event-one-form e BeginOut p) (omega arith)
+    go (Told EndDone) p t = rw (event-one-form e EndDone p) (omega arith)
+    go (Told EndNotDone) p t = rw (event-one-form e EndNotDone p) (omega arith)
     go Untold p t = clash t refl
 
 -- ---- the record

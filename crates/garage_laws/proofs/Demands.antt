@@ -1,26 +1,22 @@
 -- The three demands of specs/Demands.antt, kept. Assumes nothing.
-use mathlib.Core.Path.{refl, ap, subst, _∙_}
+use mathlib.Core.Path.{refl, ap, _∙_}
 use Prim.Native.Nat.{ℕ}
-use Rattle.rules.specs.declared.EventReading.{EventReading}
-use Rattle.rules.specs.Codes.{eventCode}
-use Rattle.rules.proofs.CodeLaws.{event-reads-back}
 use Rattle.floor.proofs.Promises.{sound-exactly}
 use Rattle.answers.specs.Answers.{numberOf}
 use Rattle.garage.specs.declared.Station.{Station}
 use Rattle.garage.specs.declared.Outcome.{Outcome}
-use Rattle.garage.specs.Station.{holding}
 use Rattle.garage_laws.specs.Runs as run
 use Rattle.garage_laws.specs.Runs.{call}
-use Rattle.garage_laws.specs.Demands.{RefusedUntouched, CallsInTable, AcceptedExactly, ReasonExactly, ResultRecord, FailureKeeps, LateExactly, IssuesInTurn, FirstIsZero, ImageKeepsCount, BehindCounts, EventRecord, ImageTaken, AskKeeps, ResultTaken, EventTaken, OnlySuccessChanges, PlacesRight, PlacesElse, PlacesInRange, AlwaysLaidOut, CarsCounted, AnyOrder, OrdersExist, AnyOrderAmid, AmidUnmoved, AmidExists, AmidCovers, NeverFourteen, FitStays, NeverUnfit}
-use Rattle.garage_laws.proofs.Instance.{afterAs}
+use Rattle.garage_laws.specs.Demands.{RefusedUntouched, CallsInTable, AcceptedExactly, ReasonExactly, ResultRecord, FailureKeeps, LateExactly, IssuesInTurn, FirstIsZero, ImageKeepsCount, BehindCounts, EventRecord, ImageTaken, AskKeeps, ResultTaken, EventTaken, EventRefused, LiftRefused, EndTaken, NobodyMovesTheLift, OnlySuccessChanges, PlacesRight, PlacesElse, PlacesInRange, AlwaysLaidOut, CarsCounted, AnyOrder, OrdersExist, AnyOrderAmid, AmidUnmoved, AmidExists, AmidCovers, NeverFourteen, FitStays, NeverUnfit}
 use Rattle.garage_laws.proofs.EachCall as each
-use Rattle.garage_laws.proofs.Calls.{Drivable, request-has, request-is, success-has, success-is, failure-has, failure-is, answering-bits, event-has, event-is, image-has, image-is, ask-has, ask-is}
+use Rattle.garage_laws.proofs.Calls.{request-has, request-is, success-has, success-is, failure-has, failure-is, answering-bits, image-has, image-is, ask-has, ask-is}
 use Rattle.garage_laws.proofs.Places as places
 use Rattle.garage_laws.proofs.Refusals as refusals
 use Rattle.garage_laws.proofs.Issues as issues
 use Rattle.garage_laws.proofs.Steps.{asked}
 use Rattle.garage_laws.proofs.Changes as changes
 use Rattle.garage_laws.proofs.Always as always
+use Rattle.garage_laws.proofs.Drivers as drivers
 use Rattle.garage_laws.proofs.Link as link
 use Rattle.garage_laws.proofs.Lists as lists
 use Rattle.garage_laws.proofs.AnyOrder as orders
@@ -77,11 +73,19 @@ pub behind-counts : BehindCounts
 behind-counts = issues.behind-counts
 
 pub event-record : EventRecord
-event-record s e =
-    let r = event-reads-back e in (
-      (λ z. subst (Drivable s) r (event-has s (eventCode e) z), λ d. ap number (event-is s (eventCode e) (rw r d))),
-      λ z. ap rest (event-is s (eventCode e) (event-has s (eventCode e) z)) ∙ ap (λ (v : EventReading). holding s (afterAs v (s .bits))) r,
-    )
+event-record = drivers.event-record
+
+pub event-refused : EventRefused
+event-refused = drivers.event-refused
+
+pub lift-refused : LiftRefused
+lift-refused = drivers.lift-refused
+
+pub end-taken : EndTaken
+end-taken = drivers.end-taken
+
+pub nobody-moves-the-lift : NobodyMovesTheLift
+nobody-moves-the-lift = drivers.nobody-moves-the-lift
 
 pub image-taken : ImageTaken
 image-taken s r = (

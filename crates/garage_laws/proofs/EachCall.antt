@@ -13,15 +13,15 @@ use Rattle.bits.proofs.Cases.{clash}
 use Rattle.floor.specs.Sound.{sound}
 use Rattle.rules.specs.declared.EventReading.{EventReading}
 use Rattle.rules.specs.declared.EventReading.the-variants.{Good as Told, Bad as Untold}
-use Rattle.rules.specs.Events.{possible}
+use Rattle.rules.specs.Events.{inTurn, possible}
 use Rattle.rules.specs.Codes.{readEvent, most}
 use Rattle.answers.specs.declared.Answer.{Answer}
-use Rattle.answers.specs.declared.Answer.the-variants.{BadField, TooMany, SetOutstanding, EmptySet, Overlap, EventImpossible, NoSet, NotInSet, AlreadyAnswered, Unsound, Unfit, Late, NotIssued}
+use Rattle.answers.specs.declared.Answer.the-variants.{BadField, TooMany, SetOutstanding, EmptySet, Overlap, EventImpossible, NoSet, NotInSet, AlreadyAnswered, Unsound, Unfit, Late, NotIssued, OutOfTurn}
 use Rattle.answers.specs.Answers.{numberOf, nowhere}
 use Rattle.garage.specs.declared.Station.{Station}
 use Rattle.garage.specs.declared.Outcome.{Outcome}
 use Rattle.garage.specs.declared.Report.{Report}
-use Rattle.garage.specs.Held.{bad, overlapsEarlier, barred, liftIn}
+use Rattle.garage.specs.Held.{bad, overlapsEarlier, barred, liftIn, crossesDrive}
 use Rattle.garage.specs.Station.{inSet, marked, present, late, fit, holding, answering}
 use Rattle.garage.specs.Calls as station
 use Rattle.garage.specs.Calls.{refused, taken, onFit, opening}
@@ -46,13 +46,14 @@ module _ (P : Outcome → Type 0) (s : Station) (unfit : fit s ≡ false → P (
       (λ b. begun n set))
 
   requesting : (n : ℕ) (set : List ℕ) → P (station.requested s n set)
-  unfolding station.requested
+  unfolding station.requested station.cleared
   requesting n set =
       unless (ltb 0 (s .count)) SetOutstanding (omega arith)
       (λ a. unless (ltb most n) TooMany (omega arith)
       (λ b. unless (eqb n 0) EmptySet (omega arith)
       (λ c. unless (ltb (least n (bad set)) n) (BadField (least n (bad set))) (omega arith)
-      (λ d. accepting n set))))
+      (λ d. unless (crossesDrive (s .bits) set n) OutOfTurn (omega arith)
+      (λ f. accepting n set)))))
 
   numbering : (i d : ℕ) → fit s ≡ true → P (station.numbered s i d)
   unfolding station.numbered station.ended
@@ -73,7 +74,11 @@ module _ (P : Outcome → Type 0) (s : Station) (unfit : fit s ≡ false → P (
 
   driving : (v : EventReading) → P (drivenAs s v)
   unfolding station.driven station.occurred
-  driving (Told e) = fitting (λ f. unless (liftIn (s .set) (s .count)) SetOutstanding (omega arith) (λ a. either P (possible e (bit (s .bits))) (λ b. done _) (λ b. no EventImpossible (omega arith))))
+  driving (Told e) =
+      fitting (λ f. unless (liftIn (s .set) (s .count)) SetOutstanding (omega arith)
+      (λ a. either P (inTurn e (bit (s .bits)))
+      (λ t. either P (possible e (bit (s .bits))) (λ b. done _) (λ b. no EventImpossible (omega arith)))
+      (λ t. no OutOfTurn (omega arith))))
   driving Untold = fitting (λ f. no (BadField nowhere) (omega arith))
 
   pub each-call : (c : Call) → P (call s c)

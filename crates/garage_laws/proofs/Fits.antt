@@ -1,26 +1,31 @@
 -- What a fit station has, and that every call that is taken leaves one: the start, another record, a set opened, a result noted.
 -- Assumes nothing.
-use mathlib.Core.Path.{_≡_, refl, ap}
-use mathlib.Core.Bool.{Bool, true, false, not, _||_, or-true}
+use mathlib.Core.Path.{_≡_, refl, ap, _∙_}
+use mathlib.Core.Bool.{Bool, true, false, not, _&&_, _||_, and-false, or-true}
 use mathlib.Core.List.{List}
 use Prim.Native.Nat.{ℕ, zero, suc, _*_, _-_, _^_, _≤_, _<_}
 use lib.Bits.{bitOr}
 use lib.Dec.{eqb, ltb}
 use lib.ListN.{getD}
-use borrow.Author.Tests.{leb-true, le-leb, lt-ltb, ltb-false, eqb-true}
+use borrow.Author.Tests.{leb-true, le-leb, lt-ltb, ltb-false, eqb-true, not-true}
 use Rattle.bits.specs.Bits.{bit}
+use Rattle.bits.specs.Places.{share}
 use Rattle.bits.specs.Search.{some, every}
 use Rattle.bits.proofs.Cases.{split, both}
 use Rattle.bits.proofs.Digits.{bit-none}
-use Rattle.bits.proofs.Search.{every-at, every-is, some-at}
+use Rattle.bits.proofs.Search.{every-at, every-is, some-at, some-same}
+use Rattle.floor.specs.Floor.{lift}
+use Rattle.floor.specs.Tests.{holds, underWay}
 use Rattle.floor.specs.Sound.{paired, sound}
+use Rattle.rules.specs.declared.Code.{Code}
 use Rattle.rules.specs.Codes.{most}
 use Rattle.garage.specs.declared.Station.{Station}
-use Rattle.garage.specs.Held.{bad}
+use Rattle.garage.specs.Held.{heldArea, bad, liftIn, crossesDrive}
 use Rattle.garage.specs.Station.{fit, marked, used, closed, startOf, noting, holding, opened, answering}
 use Rattle.sets.proofs.Marks.{marks}
 use Rattle.garage_laws.specs.Demands.{Acceptable}
 use Rattle.garage.proofs.Padding.{kept-code, zero-past}
+use Rattle.garage_laws.proofs.Reach.{clear-is}
 
 pub record Fit (s : Station) : Type 0 where
   pub sound : sound (s .bits) ≡ true
@@ -29,6 +34,7 @@ pub record Fit (s : Station) : Type 0 where
   pub marks : every 8 (λ i. not (marked s i) || ltb i (s .count)) ≡ true
   pub blank : every 40 (λ k. used s k || eqb (getD (s .set) k 0) 0) ≡ true
   pub owed : eqb (s .count) 0 || some (s .count) (λ i. not (marked s i)) ≡ true
+  pub clear : crossesDrive (s .bits) (s .set) (s .count) ≡ false
 
 pub fit-has : (s : Station) → fit s ≡ true → Fit s
 unfolding fit
@@ -37,18 +43,19 @@ fit-has s e =
     let (b, e₂) = both _ _ e₁ in
     let (c, e₃) = both _ _ e₂ in
     let (d, e₄) = both _ _ e₃ in
-    let (f, g) = both _ _ e₄ in
-    record { sound = a; few = leb-true (s .count) most b; good = c; marks = d; blank = f; owed = g }
+    let (f, e₅) = both _ _ e₄ in
+    let (g, h) = both _ _ e₅ in
+    record { sound = a; few = leb-true (s .count) most b; good = c; marks = d; blank = f; owed = g; clear = not-true _ h }
 
 has-fit : (s : Station) → Fit s → fit s ≡ true
 unfolding fit
-has-fit s F = rw (F .sound, le-leb (s .count) most (F .few), F .good, F .marks, F .blank, F .owed)
+has-fit s F = rw (F .sound, le-leb (s .count) most (F .few), F .good, F .marks, F .blank, F .owed, F .clear)
 
 -- ---- no set
 
-fit-closed : (r next : ℕ) → sound r ≡ true → fit (closed r next) ≡ true
-unfolding fit every
-fit-closed r next e = rw e
+pub fit-closed : (r next : ℕ) → sound r ≡ true → fit (closed r next) ≡ true
+unfolding fit every some liftIn crossesDrive
+fit-closed r next e = rw (e, and-false (holds underWay (bit r)))
 
 pub fit-start : fit startOf ≡ true
 unfolding sound paired
@@ -56,12 +63,20 @@ fit-start = fit-closed (startOf .bits) 0 refl
 
 -- ---- another record
 
-pub fit-holding : (s : Station) (r : ℕ) → fit s ≡ true → sound r ≡ true → fit (holding s r) ≡ true
-fit-holding s r f e =
+pub fit-holding : (s : Station) (r : ℕ) → fit s ≡ true → sound r ≡ true → crossesDrive r (s .set) (s .count) ≡ false → fit (holding s r) ≡ true
+fit-holding s r f e c =
     let F = fit-has s f in
-    has-fit (holding s r) (record { sound = e; few = F .few; good = F .good; marks = F .marks; blank = F .blank; owed = F .owed })
+    has-fit (holding s r) (record { sound = e; few = F .few; good = F .good; marks = F .marks; blank = F .blank; owed = F .owed; clear = c })
 
 -- ---- a set
+
+-- the set as it is kept crosses a drive exactly if it did
+kept-clear : (s : Station) (n : ℕ) (set : List ℕ) → crossesDrive (s .bits) set n ≡ false → crossesDrive (s .bits) (opened s n set .set) n ≡ false
+unfolding crossesDrive liftIn
+kept-clear s n set o =
+    ap (λ (b : Bool). holds underWay (bit (s .bits)) && b)
+    (some-same n _ _ (λ i h. ap (λ (x : Code). share (heldArea x) lift) (kept-code n (40 - 5 * n) set i h)))
+    ∙ o
 
 pub fit-opened : (s : Station) (n : ℕ) (set : List ℕ) → Acceptable s n set → fit (opened s n set) ≡ true
 fit-opened s n set A = has-fit (opened s n set) (record {
@@ -71,6 +86,7 @@ fit-opened s n set A = has-fit (opened s n set) (record {
   marks = every-is 8 _ (λ i h. rw (bit-none i));
   blank = every-is 40 _ (λ k h. split (ltb k (5 * n)) (λ t. rw t) (λ t. rw (t, zero-past (5 * n) (40 - 5 * n) set k (ltb-false k (5 * n) t))));
   owed = rw (some-at n (λ i. not (bit 0 i)) 0 (A .some) refl) (or-true (eqb n 0));
+  clear = kept-clear s n set (clear-is (s .bits) set n (A .clear));
 })
 
 -- ---- a result
@@ -94,8 +110,8 @@ pub after-result : (P : Station → Type 0) (s : Station) (i r : ℕ)
 unfolding answering
 after-result P s i r last more = split (every (s .count) (bit (marksWith s i))) (λ t. rw t (last t)) (λ t. rw t (more t))
 
-pub fit-answering : (s : Station) (i r : ℕ) → fit s ≡ true → i < s .count → sound r ≡ true → fit (answering s i r) ≡ true
-fit-answering s i r f h e = after-result (λ t. fit t ≡ true) s i r (λ t. fit-closed r (s .next) e) more
+pub fit-answering : (s : Station) (i r : ℕ) → fit s ≡ true → i < s .count → sound r ≡ true → crossesDrive r (s .set) (s .count) ≡ false → fit (answering s i r) ≡ true
+fit-answering s i r f h e c = after-result (λ t. fit t ≡ true) s i r (λ t. fit-closed r (s .next) e) more
   where
     F : Fit s
     F = fit-has s f
@@ -114,4 +130,5 @@ fit-answering s i r f h e = after-result (λ t. fit t ≡ true) s i r (λ t. fit
       marks = every-is 8 _ within;
       blank = F .blank;
       owed = rw (some-every (s .count) (bit (marksWith s i)), t) (or-true (eqb (s .count) 0));
+      clear = c;
     })

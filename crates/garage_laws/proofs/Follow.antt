@@ -22,7 +22,7 @@ use Rattle.garage_laws.specs.Runs as run
 use Rattle.garage_laws.specs.Runs.{call, said, left, calls}
 use Rattle.garage_laws.specs.Orders.{Fair, replies}
 use Rattle.garage_laws.specs.Demands.{Waiting}
-use Rattle.garage_laws.proofs.Instance.{rules, possibleAs}
+use Rattle.garage_laws.proofs.Instance.{rules, possibleAs, allowed-has}
 use Rattle.garage_laws.proofs.Calls.{success-is, failure-is, event-has, event-is, event-number}
 use Rattle.garage_laws.proofs.EachCall.{untouched}
 use Rattle.garage_laws.proofs.Steps.{steps}
@@ -92,12 +92,15 @@ module _ (s : Station) (f : fit s ≡ true) (k : ℕ) (p : k ≡ present s) (i :
   waits : Waiting s i
   waits = let (h, m) = both (ltb i (s .count)) (not (marked s i)) (F .0) in (f, ltb-true i (s .count) h, not-true (marked s i) m)
 
+  allowed-now : moves o ≡ true → heldAllowed (codeAt (s .set) i) (bit (s .bits)) ≡ true
+  allowed-now m = allowed-has (codeAt (s .set) i) (s .bits) (F .1 m) .0
+
   -- the station after it
   abbrev now : Station
   now = answering s i (resulting s i o)
 
   now-is : left s (run.result k i (told o)) ≡ now
-  now-is = ap (λ o. o .station) (result-is s k i o p u waits (F .1))
+  now-is = ap (λ o. o .station) (result-is s k i o p u waits allowed-now)
 
   now-fit : fit now ≡ true
   now-fit = subst (λ (t : Station). fit t ≡ true) now-is (fit-step s _ _ (steps s (run.result k i (told o)) tt) f)
@@ -108,7 +111,7 @@ module _ (s : Station) (f : fit s ≡ true) (k : ℕ) (p : k ≡ present s) (i :
   with-result : Followed k l now (view now) → Followed k (result i o ∷ l) s (view s)
   with-result N =
       let M : Followed k l (left s (run.result k i (told o))) (machine.step rules (view s) (result i o)) = subst₂ (Followed k l) (sym now-is) now-view N in
-      record { fair = (rw (result-is s k i o p u waits (F .1)), (λ d. F .1 (told-moves o d)), M .fair); replied = M .replied; shows = M .shows }
+      record { fair = (rw (result-is s k i o p u waits allowed-now), (λ d. allowed-now (told-moves o d)), M .fair); replied = M .replied; shows = M .shows }
 
 pub follows : (k : ℕ) (l : List (Act ℕ)) → Unstuck l → (s : Station) → fit s ≡ true → k ≡ present s → machine-orders.Fair rules (view s) l → Followed k l s (view s)
 follows k [] u s f p F = record { fair = tt; replied = refl; shows = refl }

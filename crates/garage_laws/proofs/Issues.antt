@@ -10,7 +10,7 @@ use borrow.Author.Tests.{eqb-true, eqb-false, eq-eqb, ne-eqb, ltb-false, le-ltb}
 use Rattle.bits.specs.Bits.{digit}
 use Rattle.bits.proofs.Cases.{split}
 use Rattle.answers.specs.declared.Answer.{Answer}
-use Rattle.answers.specs.declared.Answer.the-variants.{Taken, Opened, TooFewBytes, BadLength, UnknownKind, BadField, TooMany, SetOutstanding, EmptySet, Overlap, NotAllowed, EventImpossible, NoSet, NotInSet, AlreadyAnswered, NowNotAllowed, Unsound, Unfit, NoRoom, Late, NotIssued}
+use Rattle.answers.specs.declared.Answer.the-variants.{Taken, Opened, TooFewBytes, BadLength, UnknownKind, BadField, TooMany, SetOutstanding, EmptySet, Overlap, NotAllowed, EventImpossible, NoSet, NotInSet, AlreadyAnswered, NowNotAllowed, Unsound, Unfit, NoRoom, Late, NotIssued, OutOfTurn}
 use Rattle.answers.specs.Answers.{numberOf, issueOf}
 use Rattle.garage.specs.declared.Station.{Station}
 use Rattle.garage.specs.declared.Outcome.{Outcome}
@@ -50,6 +50,7 @@ refusal-none Unfit h = refl
 refusal-none NoRoom h = refl
 refusal-none Late h = refl
 refusal-none NotIssued h = refl
+refusal-none OutOfTurn h = refl
 
 module _ (s : Station) where
   -- a call that opens no set carries none and keeps the next

@@ -1,3 +1,4 @@
+pub mod Reach
 pub mod Instance
 pub mod Fits
 pub mod Reasons
@@ -9,6 +10,7 @@ pub mod Steps
 pub mod Issues
 pub mod Changes
 pub mod Always
+pub mod Drivers
 pub mod Link
 pub mod Lists
 pub mod Follow

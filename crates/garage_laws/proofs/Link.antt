@@ -12,12 +12,11 @@ use Rattle.bits.specs.Bits.{bit}
 use Rattle.bits.specs.Search.{some}
 use Rattle.bits.proofs.Cases.{split, clash}
 use Rattle.bits.proofs.Search.{some-same}
-use Rattle.floor.specs.Floor.{lift}
+use Rattle.floor.specs.Floor.{lift, drives as drivePlaces}
 use Rattle.floor.specs.Sound.{sound}
 use Rattle.rules.specs.declared.Code.{Code}
 use Rattle.rules.specs.Codes.{readEvent}
 use Rattle.bits.proofs.Sharing.{share-some}
-use Rattle.garage.proofs.Areas.{held-small}
 use Rattle.answers.specs.Answers.{numberOf}
 use Rattle.sets.proofs.Machine as machine
 use Rattle.sets.proofs.Machine.{Batch, Outcome, failed, finished, stuck, moves, sticks, result, event, request, act, nowhere, mark, outstanding, blocks, blocked, accepted, released, empty, idle, takes, does}
@@ -32,7 +31,8 @@ use Rattle.garage.specs.Held.{codeAt, heldArea, liftIn}
 use Rattle.garage.specs.Station.{fit, closed, opened, answering}
 use Rattle.garage_laws.specs.Runs.{Call, Begins}
 use Rattle.garage_laws.specs.Demands.{Acceptable, Waiting, NeverFourteen}
-use Rattle.garage_laws.proofs.Instance.{rules, framed, blank, possibleAs}
+use Rattle.garage_laws.proofs.Reach.{reach, reach-small, reach-apart, reach-lift, crosses-none, clear-is}
+use Rattle.garage_laws.proofs.Instance.{rules, framed, blank, possibleAs, allowed-has}
 use Rattle.garage.proofs.Padding.{five-at, zeros-at, kept-code}
 use Rattle.garage_laws.proofs.Fits.{fit-has, some-every, marksWith, after-result}
 use Rattle.garage_laws.proofs.Calls.{following, success-either}
@@ -54,7 +54,7 @@ view s = record { bits = s .bits; set = batchOf (s .count) (s .set); answered = 
 
 pub blocks-lift : (n : ℕ) (set : List ℕ) → blocks rules (batchOf n set) ≡ liftIn set n
 unfolding liftIn
-blocks-lift n set = some-same n _ _ (λ j h. sym (share-some (heldArea (codeAt set j)) lift (held-small (codeAt set j))))
+blocks-lift n set = some-same n _ _ (λ j h. let x = codeAt set j in sym (share-some (reach x) (lift ++ drivePlaces) (reach-small x)) ∙ reach-lift x)
 
 -- ---- a request
 
@@ -68,8 +68,8 @@ module _ (s : Station) (n : ℕ) (set : List ℕ) (A : Acceptable s n set) where
 
   pub request-accepted : accepted rules kept (s .bits) nowhere ≡ true
   request-accepted = is-accepted rules kept (s .bits) nowhere (A .some) (A .few) (λ j h. meets-nowhere rules (rules .area (kept .at j)))
-      (λ i h j l. rw (same i h, same j (omega arith)) (sym (share-some (heldArea (codeAt set i)) (heldArea (codeAt set j)) (held-small (codeAt set i))) ∙ A .apart i j h l))
-      (λ i h. rw (same i h) (A .allowed i h))
+      (λ i h j l. rw (same i h, same j (omega arith)) (let x = codeAt set i in let y = codeAt set j in sym (share-some (reach x) (reach y) (reach-small x)) ∙ reach-apart x y (A .apart i j h l)))
+      (λ i h. rw (same i h) (rw (A .allowed i h, crosses-none (s .bits) set n (clear-is (s .bits) set n (A .clear)) i h)))
 
   pub request-view : view (opened s n set) ≡ machine.opened kept (s .bits) nowhere
   request-view = ap (λ (g : ℕ → Bool). record { bits = s .bits; set = kept; answered = g; away = nowhere }) unmarked
@@ -157,4 +157,4 @@ pub never-fourteen : NeverFourteen
 never-fourteen s R =
     let G = reached Sane (λ t u c p g. good-step t g u c p) begins-good s R in
     each-call (λ o. numberOf (o .answer) ≡ 14 → ⊥) s (λ e z. omega arith) (λ a h. h .1) (λ t z. omega arith) (λ n set z. omega arith)
-    (λ i w. success-either s i (λ o. numberOf (o .answer) ≡ 14 → ⊥) (λ t z. omega arith) (λ t. clash (G .allowed i (w .1, w .2)) t))
+    (λ i w. success-either s i (λ o. numberOf (o .answer) ≡ 14 → ⊥) (λ t z. omega arith) (λ t. clash (allowed-has _ (s .bits) (G .allowed i (w .1, w .2)) .0) t))

@@ -12,18 +12,18 @@ use Rattle.bits.specs.Search.{least, IsLeast}
 use Rattle.floor.specs.Sound.{sound}
 use Rattle.rules.specs.declared.EventReading.{EventReading}
 use Rattle.rules.specs.declared.EventReading.the-variants.{Good as Told, Bad as Untold}
-use Rattle.rules.specs.Events.{possible}
+use Rattle.rules.specs.Events.{inTurn, possible}
 use Rattle.rules.specs.Codes.{readEvent, most}
 use Rattle.answers.specs.declared.Reason.{Reason}
 use Rattle.answers.specs.declared.Answer.{Answer}
-use Rattle.answers.specs.declared.Answer.the-variants.{Taken, Opened, TooFewBytes, BadLength, UnknownKind, BadField, TooMany, SetOutstanding, EmptySet, Overlap, NotAllowed, EventImpossible, NoSet, NotInSet, AlreadyAnswered, NowNotAllowed, Unsound, Unfit, NoRoom, Late, NotIssued}
+use Rattle.answers.specs.declared.Answer.the-variants.{Taken, Opened, TooFewBytes, BadLength, UnknownKind, BadField, TooMany, SetOutstanding, EmptySet, Overlap, NotAllowed, EventImpossible, NoSet, NotInSet, AlreadyAnswered, NowNotAllowed, Unsound, Unfit, NoRoom, Late, NotIssued, OutOfTurn}
 use Rattle.answers.specs.Answers.{reasonNumber, numberOf, placeOf, nowhere}
-use Rattle.answers.proofs.Promises.{reason-from}
+use Rattle.answers.proofs.Promises.{reason-from, reason-to}
 use Rattle.garage.specs.declared.Station.{Station}
 use Rattle.garage.specs.declared.Outcome.{Outcome}
 use Rattle.garage.specs.declared.Report.{Report}
 use Rattle.garage.specs.declared.Picture.{Picture}
-use Rattle.garage.specs.Held.{bad, overlapsEarlier, barred, whyNot, liftIn}
+use Rattle.garage.specs.Held.{bad, overlapsEarlier, barred, whyNot, liftIn, crossesDrive}
 use Rattle.garage.specs.Station.{inSet, marked, present, late, fit}
 use Rattle.garage.specs.Calls as station
 use Rattle.garage_laws.specs.Runs as run
@@ -48,13 +48,13 @@ module _ (s : Station) (n : ℕ) (set : List ℕ) where
     reason : (why : Reason) → number o ≡ reasonNumber why → IsLeast n (barred set (s .bits)) (place o)
     range : (place o < most) ⊎ (place o ≡ nowhere)
 
-  -- an answer below the reasons' is none of theirs
-  below : {k : ℕ} → k < 20 → (why : Reason) → k ≡ reasonNumber why → ⊥
-  below h why e = let l = reason-from why in omega arith
+  -- an answer below or above the reasons' is none of theirs
+  beside : {k : ℕ} → ((20 ≤ k) × (k ≤ 28) → ⊥) → (why : Reason) → k ≡ reasonNumber why → ⊥
+  beside {k} h why e = h (let l = reason-from why in omega arith, let l = reason-to why in omega arith)
 
   -- an answer that names no instruction
-  plain : (o : Outcome) → (number o ≡ 4 → ⊥) × (number o ≡ 8 → ⊥) × (number o < 20) → place o ≡ nowhere → Right o
-  plain o other e = record { four = λ z. absurd (other .0 z); eight = λ z. absurd (other .1 z); reason = λ why z. absurd (below (other .2) why z); range = inr e }
+  plain : (o : Outcome) → (number o ≡ 4 → ⊥) × (number o ≡ 8 → ⊥) × ((20 ≤ number o) × (number o ≤ 28) → ⊥) → place o ≡ nowhere → Right o
+  plain o other e = record { four = λ z. absurd (other .0 z); eight = λ z. absurd (other .1 z); reason = λ why z. absurd (beside (other .2) why z); range = inr e }
 
   -- one of at most eight
   small : (fault : ℕ → Bool) → n ≤ most → ltb (least n fault) n ≡ true → least n fault < most
@@ -78,25 +78,25 @@ module _ (s : Station) (n : ℕ) (set : List ℕ) where
   unfolding station.accepted
   accepted-right few good =
       either Right (ltb (least n (overlapsEarlier set)) n)
-      (λ t. record { four = λ z. absurd (omega arith); eight = λ z. least-fault n _ t; reason = λ why z. absurd (below (omega arith) why z); range = inl (small _ few t) }) (λ a.
+      (λ t. record { four = λ z. absurd (omega arith); eight = λ z. least-fault n _ t; reason = λ why z. absurd (beside (λ h. omega arith) why z); range = inl (small _ few t) }) (λ a.
       either Right (ltb (least n (barred set (s .bits))) n)
       (refused-right few good)
-      (λ b. plain _ (omega arith) refl))
+      (λ b. plain _ ((λ z. omega arith), (λ z. omega arith), (λ z. omega arith)) refl))
 
   requested-right : Right (station.requested s n set)
-  unfolding station.requested
+  unfolding station.requested station.cleared
   requested-right =
-      either Right (ltb 0 (s .count)) (λ t. plain _ (omega arith) refl) (λ a.
-      either Right (ltb most n) (λ t. plain _ (omega arith) refl) (λ b.
-      either Right (eqb n 0) (λ t. plain _ (omega arith) refl) (λ c.
+      either Right (ltb 0 (s .count)) (λ t. plain _ ((λ z. omega arith), (λ z. omega arith), (λ z. omega arith)) refl) (λ a.
+      either Right (ltb most n) (λ t. plain _ ((λ z. omega arith), (λ z. omega arith), (λ z. omega arith)) refl) (λ b.
+      either Right (eqb n 0) (λ t. plain _ ((λ z. omega arith), (λ z. omega arith), (λ z. omega arith)) refl) (λ c.
       let few = ltb-false most n b in
       either Right (ltb (least n (bad set)) n)
-      (λ t. record { four = λ z. least-fault n _ t; eight = λ z. absurd (omega arith); reason = λ why z. absurd (below (omega arith) why z); range = inl (small _ few t) })
-      (λ d. accepted-right few d))))
+      (λ t. record { four = λ z. least-fault n _ t; eight = λ z. absurd (omega arith); reason = λ why z. absurd (beside (λ h. omega arith) why z); range = inl (small _ few t) })
+      (λ d. either Right (crossesDrive (s .bits) set n) (λ t. plain _ ((λ z. omega arith), (λ z. omega arith), (λ z. omega arith)) refl) (λ x. accepted-right few d)))))
 
   request-right : Right (station.request s n set)
   unfolding station.request
-  request-right = either Right (fit s) (λ f. requested-right) (λ f. plain _ (omega arith) refl)
+  request-right = either Right (fit s) (λ f. requested-right) (λ f. plain _ ((λ z. omega arith), (λ z. omega arith), (λ z. omega arith)) refl)
 
 pub places-right : PlacesRight
 places-right s n set = let R = request-right s n set in (R .four, R .eight, R .reason)
@@ -125,6 +125,7 @@ answer-nowhere Unfit other = refl
 answer-nowhere NoRoom other = refl
 answer-nowhere Late other = refl
 answer-nowhere NotIssued other = refl
+answer-nowhere OutOfTurn other = refl
 
 record Flat (o : Outcome) : Type 0 where
   flat : place o ≡ nowhere
@@ -159,7 +160,7 @@ module _ (s : Station) where
 
   driven-flat : (v : EventReading) → Flat (drivenAs s v)
   unfolding station.driven station.occurred
-  driven-flat (Told e) = fork (fit s) (fork (liftIn (s .set) (s .count)) (flatly refl) (fork (possible e (bit (s .bits))) (flatly refl) (flatly refl))) (flatly refl)
+  driven-flat (Told e) = fork (fit s) (fork (liftIn (s .set) (s .count)) (flatly refl) (fork (inTurn e (bit (s .bits))) (fork (possible e (bit (s .bits))) (flatly refl) (flatly refl)) (flatly refl))) (flatly refl)
   driven-flat Untold = fork (fit s) (flatly refl) (flatly refl)
 
   image-flat : (p : Picture) → Flat (station.takeImage s p)

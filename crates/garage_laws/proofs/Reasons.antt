@@ -13,7 +13,7 @@ use Rattle.bits.proofs.Least.{found-least}
 use Rattle.answers.specs.declared.Reason.{Reason}
 use Rattle.answers.specs.declared.Answer.the-variants.{BadField, NotAllowed}
 use Rattle.answers.specs.Answers.{numberOf, placeOf}
-use Rattle.answers.proofs.Promises.{reason-from}
+use Rattle.answers.proofs.Promises.{reason-from, reason-to}
 use Rattle.rules.specs.declared.Instruction.{Instruction}
 use Rattle.rules.specs.declared.Verdict.{Verdict}
 use Rattle.rules.specs.declared.Reading.{Reading}
@@ -62,9 +62,9 @@ module _ (set : List ℕ) (r i : ℕ) where
         go (inr h) = h
 
     -- the number is 4 or a reason's
-    pub why-number : (numberOf (whyNot set r i) ≡ 4) ⊎ (20 ≤ numberOf (whyNot set r i))
+    pub why-number : (numberOf (whyNot set r i) ≡ 4) ⊎ ((20 ≤ numberOf (whyNot set r i)) × (numberOf (whyNot set r i) ≤ 28))
     why-number = go barred-says
       where
-        go : ((isGood (codeAt set i) ≡ false) × (whyNot set r i ≡ BadField i)) ⊎ Refused → (numberOf (whyNot set r i) ≡ 4) ⊎ (20 ≤ numberOf (whyNot set r i))
+        go : ((isGood (codeAt set i) ≡ false) × (whyNot set r i ≡ BadField i)) ⊎ Refused → (numberOf (whyNot set r i) ≡ 4) ⊎ ((20 ≤ numberOf (whyNot set r i)) × (numberOf (whyNot set r i) ≤ 28))
         go (inl h) = inl (ap numberOf (h .1))
-        go (inr h) = inr (rw (h .told) (reason-from (h .why)))
+        go (inr h) = inr (rw (h .told) (reason-from (h .why), reason-to (h .why)))

@@ -19,10 +19,10 @@ use Rattle.answers.specs.declared.Reason.{Reason}
 use Rattle.answers.specs.declared.Answer.{Answer}
 use Rattle.answers.specs.declared.Answer.the-variants.{NotAllowed}
 use Rattle.answers.specs.Answers.{reasonNumber, numberOf, placeOf}
-use Rattle.answers.proofs.Promises.{reason-from, reason-same}
+use Rattle.answers.proofs.Promises.{reason-from, reason-to, reason-same}
 use Rattle.garage.specs.declared.Station.{Station}
 use Rattle.garage.specs.declared.Outcome.{Outcome}
-use Rattle.garage.specs.Held.{codeAt, bad, overlapsEarlier, barred, whyNot}
+use Rattle.garage.specs.Held.{codeAt, bad, overlapsEarlier, barred, whyNot, crossesDrive}
 use Rattle.garage.specs.Station.{fit}
 use Rattle.garage.specs.Calls as station
 use Rattle.garage_laws.specs.Demands.{Orderly, ReasonAt, ReasonExactly}
@@ -40,12 +40,12 @@ module _ (s : Station) (n : ℕ) (set : List ℕ) (why : Reason) (p : ℕ) where
   record Told (o : Outcome) : Type 0 where
     then : numberOf (o .answer) ≡ reasonNumber why → placeOf (o .answer) ≡ p → Held
 
-  -- none with a smaller number is
+  -- none with another number is
   other : {o : Outcome} → (numberOf (o .answer) ≡ reasonNumber why → ⊥) → Told o
   other unlike = record { then = λ e q. absurd (unlike e) }
 
-  below : {k : ℕ} → (20 ≤ k → ⊥) → k ≡ reasonNumber why → ⊥
-  below h e = h (subst (λ (m : ℕ). 20 ≤ m) (sym e) (reason-from why))
+  beside : {k : ℕ} → ((20 ≤ k) × (k ≤ 28) → ⊥) → k ≡ reasonNumber why → ⊥
+  beside h e = h (subst (λ (m : ℕ). (20 ≤ m) × (m ≤ 28)) (sym e) (reason-from why, reason-to why))
 
   judged : (O : Orderly s n set) → ltb (least n (barred set (s .bits))) n ≡ true → Told (station.refused s (whyNot set (s .bits) (least n (barred set (s .bits)))))
   judged O t =
@@ -64,16 +64,17 @@ module _ (s : Station) (n : ℕ) (set : List ℕ) (why : Reason) (p : ℕ) where
       }
 
   request-told : Told (station.request s n set)
-  unfolding station.request station.requested station.accepted
+  unfolding station.request station.requested station.cleared station.accepted
   request-told =
       either Told (fit s) (λ a.
-      either Told (ltb 0 (s .count)) (λ t. other (below (λ h. omega arith))) (λ b.
-      either Told (ltb most n) (λ t. other (below (λ h. omega arith))) (λ c.
-      either Told (eqb n 0) (λ t. other (below (λ h. omega arith))) (λ d.
-      either Told (ltb (least n (bad set)) n) (λ t. other (below (λ h. omega arith))) (λ f.
-      either Told (ltb (least n (overlapsEarlier set)) n) (λ t. other (below (λ h. omega arith))) (λ g.
-      either Told (ltb (least n (barred set (s .bits))) n) (judged (orderly-of s n set a b c d f g)) (λ h.
-      other (below (λ h. omega arith))))))))) (λ a. other (below (λ h. omega arith)))
+      either Told (ltb 0 (s .count)) (λ t. other (beside (λ h. omega arith))) (λ b.
+      either Told (ltb most n) (λ t. other (beside (λ h. omega arith))) (λ c.
+      either Told (eqb n 0) (λ t. other (beside (λ h. omega arith))) (λ d.
+      either Told (ltb (least n (bad set)) n) (λ t. other (beside (λ h. omega arith))) (λ f.
+      either Told (crossesDrive (s .bits) set n) (λ t. other (beside (λ h. omega arith))) (λ x.
+      either Told (ltb (least n (overlapsEarlier set)) n) (λ t. other (beside (λ h. omega arith))) (λ g.
+      either Told (ltb (least n (barred set (s .bits))) n) (judged (orderly-of s n set a b c d f x g)) (λ h.
+      other (beside (λ h. omega arith)))))))))) (λ a. other (beside (λ h. omega arith)))
 
   -- the other direction: the outcome is the refusal
   told-so : Held → station.request s n set ≡ station.refused s (NotAllowed why p)

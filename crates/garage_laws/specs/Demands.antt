@@ -7,14 +7,16 @@ use mathlib.Core.List.{List, [], _∷_, _++_}
 use Prim.Native.Nat.{ℕ, _+_, _%_, _≤_, _<_}
 use lib.ListN.{length}
 use Rattle.bits.specs.Bits.{Bits, bit, image, digit}
-use Rattle.bits.specs.Places.{share}
+use Rattle.bits.specs.Places.{elem, share}
 use Rattle.bits.specs.Search.{IsLeast}
+use Rattle.floor.specs.Floor.{lift}
+use Rattle.floor.specs.Tests.{holds, underWay}
 use Rattle.floor.specs.Cars.{Car, Layout}
 use Rattle.floor.specs.Sound.{Sound}
 use Rattle.rules.specs.declared.Instruction.{Instruction}
 use Rattle.rules.specs.declared.Reading.the-variants.{Good}
 use Rattle.rules.specs.declared.Event.{Event}
-use Rattle.rules.specs.Events.{possible, after}
+use Rattle.rules.specs.Events.{inTurn, possible, after}
 use Rattle.rules.specs.Rules.{clauses}
 use Rattle.rules.specs.Codes.{readCode, eventCode, most}
 use Rattle.rules.specs.Promises.{FirstFails}
@@ -25,7 +27,7 @@ use Rattle.garage.specs.declared.Report.{Report}
 use Rattle.garage.specs.Held.{codeAt, isGood, heldArea, heldAllowed, heldNext, bad, overlapsEarlier, barred, liftIn}
 use Rattle.garage.specs.Station.{startOf, issueAfter, present, behind, late, fit, marked, holding, opened, answering}
 use Rattle.garage_laws.specs.Runs as run
-use Rattle.garage_laws.specs.Runs.{Call, said, left, placed, carried, opens, calls, setsOpened, Begins, NoImages, Reached, driven}
+use Rattle.garage_laws.specs.Runs.{Call, said, left, placed, carried, opens, calls, setsOpened, Begins, NoImages, Reached, driveAt, driven}
 use Rattle.garage_laws.specs.Orders.{Order, Alike, Amid, interrupted, takenOf, turns, turnsAmid, AlikeAmid}
 
 -- ---- 1. It always answers: a refused call leaves the station as it was
@@ -39,13 +41,19 @@ CallsInTable = (s : Station) (c : Call) → OfTable (said s c)
 
 -- ---- 2. It answers right
 
--- what a request must have: no set outstanding, 1 to 8 instructions, all well formed, no two overlapping, each allowed on the present record
+-- no drive is under way, or the lift is in no area of these instructions
+abbrev pub ClearOfDrives : Station → ℕ → List ℕ → Type 0
+ClearOfDrives s n set = (holds underWay (bit (s .bits)) ≡ false) ⊎ (liftIn set n ≡ false)
+
+-- what a request must have: no set outstanding, 1 to 8 instructions, all well formed, no drive under way or the lift in no area, no two
+-- overlapping, each allowed on the present record
 pub record Acceptable (s : Station) (n : ℕ) (set : List ℕ) : Type 0 where
   pub fits : fit s ≡ true
   pub idle : s .count ≡ 0
   pub some : 1 ≤ n
   pub few : n ≤ most
   pub good : (i : ℕ) → i < n → isGood (codeAt set i) ≡ true
+  pub clear : ClearOfDrives s n set
   pub apart : (i j : ℕ) → i < n → j < i → share (heldArea (codeAt set i)) (heldArea (codeAt set j)) ≡ false
   pub allowed : (i : ℕ) → i < n → heldAllowed (codeAt set i) (bit (s .bits)) ≡ true
 
@@ -62,6 +70,7 @@ pub record Orderly (s : Station) (n : ℕ) (set : List ℕ) : Type 0 where
   pub some : 1 ≤ n
   pub few : n ≤ most
   pub good : (i : ℕ) → i < n → bad set i ≡ false
+  pub clear : ClearOfDrives s n set
   pub apart : (i : ℕ) → i < n → overlapsEarlier set i ≡ false
 
 -- of the conditions of the instruction at p the first that fails has this reason
@@ -131,7 +140,8 @@ ImageKeepsCount = (s : Station) (r : ℕ) → left s (run.image r) .next ≡ s .
 abbrev pub BehindCounts : Type 0
 BehindCounts = (s : Station) (l : List Call) → behind (calls s l) (present s) ≡ setsOpened s l % 65536
 
--- a car event is taken exactly if no outstanding set has the lift in an area and the event is possible; only the record changes
+-- a car event is taken exactly if no outstanding set has the lift in an area and the event is possible, its turn included; only the record
+-- changes
 abbrev pub EventRecord : Type 0
 EventRecord =
     (s : Station) (e : Event)
@@ -153,9 +163,52 @@ AskKeeps = (s : Station) → ((said s run.ask ≡ 0) ↔ (fit s ≡ true)) × (l
 abbrev pub ResultTaken : Type 0
 ResultTaken = (s : Station) (k i done : ℕ) → said s (run.result k i done) ≡ 0 → (done ≡ 0) ⊎ (done ≡ 1)
 
--- an event that is taken says 1, a car in, or 2, a car out
+-- an event that is taken says 1 to 4: a drive begins, in or out, or ends, done or not done
 abbrev pub EventTaken : Type 0
-EventTaken = (s : Station) (e : ℕ) → said s (run.event e) ≡ 0 → (e ≡ 1) ⊎ (e ≡ 2)
+EventTaken = (s : Station) (e : ℕ) → said s (run.event e) ≡ 0 → (1 ≤ e) × (e ≤ 4)
+
+-- an event is answered 31 exactly if no outstanding set has the lift in an area and it is a second begin or an end with no begin, and 10
+-- exactly if it comes in turn there and its own conditions fail
+abbrev pub EventRefused : Type 0
+EventRefused =
+    (s : Station) (e : Event)
+    → ((said s (run.event (eventCode e)) ≡ 31) ↔ ((fit s ≡ true) × (liftIn (s .set) (s .count) ≡ false) × (inTurn e (bit (s .bits)) ≡ false)))
+    × ((said s (run.event (eventCode e)) ≡ 10)
+    ↔ ((fit s ≡ true) × (liftIn (s .set) (s .count) ≡ false) × (inTurn e (bit (s .bits)) ≡ true) × (possible e (bit (s .bits)) ≡ false)))
+
+-- what a request must have for the lift to be looked for: all that is asked of an acceptable one before
+pub record Readable (s : Station) (n : ℕ) (set : List ℕ) : Type 0 where
+  pub fits : fit s ≡ true
+  pub idle : s .count ≡ 0
+  pub some : 1 ≤ n
+  pub few : n ≤ most
+  pub good : (i : ℕ) → i < n → bad set i ≡ false
+
+-- a request is answered 31 exactly if it is such a one, a drive is under way and any of its instructions has the lift in its area
+abbrev pub LiftRefused : Type 0
+LiftRefused =
+    (s : Station) (n : ℕ) (set : List ℕ)
+    → (said s (run.request n set) ≡ 31) ↔ (Readable s n set × (holds underWay (bit (s .bits)) ≡ true) × (liftIn set n ≡ true))
+
+-- whatever calls came before, images too: while a drive is under way, an end is taken, done or not
+abbrev pub EndTaken : Type 0
+EndTaken =
+    (s : Station) → Begins s → (l : List Call) → holds underWay (bit (calls s l .bits)) ≡ true
+    → (said (calls s l) (run.event 3) ≡ 0) × (said (calls s l) (run.event 4) ≡ 0)
+
+-- none of these calls is an end that is taken
+abbrev pub Unended : Station → List Call → Type 0
+Unended s [] = Unit {0}
+Unended s (c ∷ l) = ((c ≡ run.event 3) ⊎ (c ≡ run.event 4) → said s c ≡ 0 → ⊥) × Unended (left s c) l
+
+-- from a begin that is taken to its end that is, over any calls but an image, nobody moves the lift: its height and the car on it stay
+-- what they were before the begin, and the drive is under way
+abbrev pub NobodyMovesTheLift : Type 0
+NobodyMovesTheLift =
+    (s : Station) (way : ℕ) → (way ≡ 1) ⊎ (way ≡ 2) → said s (run.event way) ≡ 0
+    → (l : List Call) → NoImages l → Unended (left s (run.event way)) l
+    → ((k : ℕ) → elem k lift ≡ true → bit (calls (left s (run.event way)) l .bits) k ≡ bit (s .bits) k)
+    × (bit (calls (left s (run.event way)) l .bits) (driveAt way) ≡ true)
 
 -- the calls that may change the record: a success, an event, an image
 abbrev pub Changes : Call → Type 0

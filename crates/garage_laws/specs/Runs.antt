@@ -5,7 +5,8 @@ use mathlib.Core.Bool.{Bool, false, cond, _&&_}
 use mathlib.Core.List.{List, [], _∷_}
 use Prim.Native.Nat.{ℕ, _+_, _^_, _<_}
 use lib.Dec.{eqb}
-use Rattle.bits.specs.Bits.{digit}
+use Rattle.bits.specs.Bits.{bit, digit}
+use Rattle.floor.specs.Floor.{driveIn, driveOut}
 use Rattle.answers.specs.Answers.{numberOf, placeOf, issueOf}
 use Rattle.garage.specs.declared.Station.{Station}
 use Rattle.garage.specs.declared.Outcome.{Outcome}
@@ -92,11 +93,15 @@ pub record Reached (s : Station) : Type 0 where
   pub noImages : NoImages since
   pub here : s ≡ calls origin since
 
--- 1 for a car event of this number that is taken
+-- the bit that says that a drive in (way 1) or out (way 2) is under way
+abbrev pub driveAt : ℕ → ℕ
+driveAt way = cond (eqb way 1) driveIn driveOut
+
+-- 1 for such a drive that ends and is done
 abbrev pub drove : ℕ → Station → Call → ℕ
 drove way s (request n set) = 0
 drove way s (reports r) = 0
-drove way s (event e) = cond (eqb e way && eqb (said s (event e)) 0) 1 0
+drove way s (event e) = digit (eqb e 3 && (eqb (said s (event e)) 0 && bit (s .bits) (driveAt way)))
 drove way s (pictures p) = 0
 drove way s ask = 0
 

@@ -1,5 +1,6 @@
-// One set of eight instructions on a floor with ten cars. Its results come in several orders, with two car events among them, and the
-// last record is the same each time. The order is proved not to matter (garage_laws); here it is seen in the code.
+// One set of eight instructions on a floor with ten cars. Its results come in several orders, with the same car events among them (a car
+// is driven in, a driver who would drive out gives up, the next one drives out), and the last record is the same each time. The order is
+// proved not to matter (garage_laws); here it is seen in the code.
 use garage::Outcome;
 use garage::Picture;
 use garage::Report;
@@ -91,12 +92,14 @@ fn opened() -> Course {
     after(station.request(Station::MOST, SET), placed.taken)
 }
 
-// An act: a car in, a car out, or the result of the instruction with this digit.
+// An act: a drive begins, in or out; it ends, done or not; or the result of the instruction with this digit.
 fn acted(r: Course, act: u8) -> Course {
     let s = r.station;
     match act {
-        b'+' => after(s.event(1), r.taken),
-        b'-' => after(s.event(2), r.taken),
+        b'i' => after(s.event(1), r.taken),
+        b'o' => after(s.event(2), r.taken),
+        b'd' => after(s.event(3), r.taken),
+        b'n' => after(s.event(4), r.taken),
         b'0'..=b'7' => {
             let i = act - b'0';
             let report = Report {
@@ -139,11 +142,11 @@ fn shown(order: &[u8]) -> u64 {
 }
 
 fn main() {
-    let rising = shown(b"01+234-567");
-    let falling = shown(b"+7654321-0");
-    let odd_first = shown(b"1357+024-6");
-    let mixed = shown(b"63+-150742");
-    let late = shown(b"2705163+-4");
+    let rising = shown(b"0i1d23o4n5o6d7");
+    let falling = shown(b"i7654d3on2o1d0");
+    let odd_first = shown(b"1357id0o2no4d6");
+    let mixed = shown(b"63idonod150742");
+    let late = shown(b"2i70d5o1n6od34");
     if (rising == falling) & (rising == odd_first) & (rising == mixed) & (rising == late) {
         io::write_all(1, b"same\n");
     } else {

@@ -12,7 +12,7 @@ use Rattle.rules.specs.declared.Instruction.the-variants.{Belts, Shuttle
 use Rattle.rules.specs.declared.Code.{Code}
 use Rattle.rules.specs.declared.Reading.the-variants.{Good, Bad}
 use Rattle.rules.specs.declared.Event.{Event}
-use Rattle.rules.specs.declared.Event.the-variants.{CarIn, CarOut}
+use Rattle.rules.specs.declared.Event.the-variants.{BeginIn, BeginOut, EndDone, EndNotDone}
 use Rattle.rules.specs.declared.EventReading.{EventReading}
 use Rattle.rules.specs.Rules.{wellFormed}
 use Rattle.rules.specs.Codes.{codeOf, kept, readCode, eventCode, readEvent}
@@ -76,13 +76,22 @@ module _ (x : Code) (i : Instruction) where
 
 pub event-reads-back : (e : Event) → readEvent (eventCode e) ≡ EventReading.Good e
 unfolding readEvent
-event-reads-back CarIn = refl
-event-reads-back CarOut = refl
+event-reads-back BeginIn = refl
+event-reads-back BeginOut = refl
+event-reads-back EndDone = refl
+event-reads-back EndNotDone = refl
 
 pub event-one-form : (b : ℕ) (e : Event) → readEvent b ≡ EventReading.Good e → b ≡ eventCode e
 unfolding readEvent
 event-one-form b e r = split (eqb b 1)
-    (λ o. let h : EventReading.Good CarIn ≡ EventReading.Good e = rw o at r in let s : CarIn ≡ e = cc in eqb-true b 1 o ∙ ap eventCode s)
+    (λ o. told 1 BeginIn o (rw o at r) refl)
     (λ n. split (eqb b 2)
-    (λ o. let h : EventReading.Good CarOut ≡ EventReading.Good e = rw (n, o) at r in let s : CarOut ≡ e = cc in eqb-true b 2 o ∙ ap eventCode s)
-    (λ m. let h : EventReading.Bad ≡ EventReading.Good e = rw (n, m) at r in absurd (let z : _≡_ {A = ℕ} 0 1 = cc in omega arith)))
+    (λ o. told 2 BeginOut o (rw (n, o) at r) refl)
+    (λ m. split (eqb b 3)
+    (λ o. told 3 EndDone o (rw (n, m, o) at r) refl)
+    (λ l. split (eqb b 4)
+    (λ o. told 4 EndNotDone o (rw (n, m, l, o) at r) refl)
+    (λ k. let h : EventReading.Bad ≡ EventReading.Good e = rw (n, m, l, k) at r in absurd (let z : _≡_ {A = ℕ} 0 1 = cc in omega arith)))))
+  where
+    told : (c : ℕ) (d : Event) → eqb b c ≡ true → EventReading.Good d ≡ EventReading.Good e → eventCode d ≡ c → b ≡ eventCode e
+    told c d o h p = let s : d ≡ e = cc in eqb-true b c o ∙ sym p ∙ ap eventCode s

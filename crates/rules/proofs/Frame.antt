@@ -2,7 +2,7 @@
 -- That each test reads only the area is a test itself, computed for every well-formed instruction. Assumes nothing.
 use mathlib.Core.Path.{_≡_, refl, ap, ap₂}
 use mathlib.Core.Bool.{Bool, true, false, cond, _&&_}
-use mathlib.Core.List.{List, [], _∷_, map}
+use mathlib.Core.List.{List, [], _∷_, _++_, map}
 use Prim.Native.Nat.{ℕ}
 use lib.Dec.{T}
 use Rattle.bits.specs.Bits.{Bits, bit}
@@ -10,16 +10,16 @@ use Rattle.bits.specs.Places.{elem}
 use Rattle.bits.specs.Search.{every}
 use Rattle.bits.proofs.Cases.{and-l, and-r, split, T→true, true→T}
 use Rattle.bits.proofs.Sharing.{areBits, Small, are-small}
-use Rattle.floor.specs.Floor.{lift}
+use Rattle.floor.specs.Floor.{lift, drives}
 use Rattle.floor.proofs.Reading.{readsIn, allReadIn, changeIn, holds-agree, all-agree, changed-agree, changed-outside}
 use Rattle.rules.specs.declared.Instruction.{Instruction}
 use Rattle.rules.specs.declared.Verdict.{Verdict}
 use Rattle.rules.specs.declared.Verdict.the-variants.{NotAllowed, IllFormed}
 use Rattle.rules.specs.declared.Event.{Event}
-use Rattle.rules.specs.declared.Event.the-variants.{CarIn, CarOut}
+use Rattle.rules.specs.declared.Event.the-variants.{BeginIn, BeginOut, EndDone, EndNotDone}
 use Rattle.rules.specs.Rules.{wellFormed, areaOf, area, Clause, _else_, test, clauses, conditions, changes, allowed, next}
 use Rattle.rules.specs.Verdicts.{judged, verdictOf}
-use Rattle.rules.specs.Events.{eventConditions, eventChanges, possible, after}
+use Rattle.rules.specs.Events.{turn, beginConditions, eventConditions, eventChanges, inTurn, possible, after}
 use Rattle.rules.proofs.Every.{everywhere, each}
 
 -- each condition reads only the area, and each change stands in it and reads only it
@@ -88,24 +88,34 @@ same-reason i r q e = split (wellFormed i)
     (λ w. ap (λ (v : Verdict). cond (wellFormed i) v IllFormed) (judged-agree (areaOf i) (bit r) (bit q) (in-area i (bit r) (bit q) e) (clauses i) (conditions-in i (true→T w))))
     (λ w. rw w)
 
--- ---- events read and write the lift alone
+-- ---- events read and write the lift and the drives alone
+
+-- what an event reads and writes
+abbrev driven : List ℕ
+driven = lift ++ drives
 
 module _ (e : Event) where
-  event-framed : T (allReadIn lift (eventConditions e)) × T (changeIn lift (eventChanges e))
+  event-framed : T (allReadIn driven (eventConditions e)) × T (changeIn driven (eventChanges e))
   event-framed = go e
     where
-      go : (e : Event) → T (allReadIn lift (eventConditions e)) × T (changeIn lift (eventChanges e))
-      go CarIn = (tt, tt)
-      go CarOut = (tt, tt)
+      go : (e : Event) → T (allReadIn driven (eventConditions e)) × T (changeIn driven (eventChanges e))
+      go BeginIn = (tt, tt)
+      go BeginOut = (tt, tt)
+      go EndDone = (tt, tt)
+      go EndNotDone = (tt, tt)
 
-  pub same-possible : (f g : Bits) → ((k : ℕ) → T (elem k lift) → f k ≡ g k) → possible e f ≡ possible e g
+  pub same-possible : (f g : Bits) → ((k : ℕ) → T (elem k driven) → f k ≡ g k) → possible e f ≡ possible e g
   unfolding possible
-  same-possible f g a = all-agree lift f g a (eventConditions e) (event-framed .0)
+  same-possible f g a = all-agree driven f g a (eventConditions e) (event-framed .0)
 
-  pub same-after : (f g : Bits) → ((k : ℕ) → T (elem k lift) → f k ≡ g k) → (k : ℕ) → T (elem k lift) → after e f k ≡ after e g k
-  unfolding after
-  same-after f g a = changed-agree lift f g a (eventChanges e) (event-framed .1)
+  pub same-turn : (f g : Bits) → ((k : ℕ) → T (elem k driven) → f k ≡ g k) → inTurn e f ≡ inTurn e g
+  unfolding inTurn
+  same-turn f g a = holds-agree driven f g a (turn e) (and-l (readsIn driven (turn e)) (allReadIn driven (beginConditions e)) (event-framed .0))
 
-  pub after-outside : (f : Bits) (k : ℕ) → elem k lift ≡ false → after e f k ≡ f k
+  pub same-after : (f g : Bits) → ((k : ℕ) → T (elem k driven) → f k ≡ g k) → (k : ℕ) → T (elem k driven) → after e f k ≡ after e g k
   unfolding after
-  after-outside f k o = changed-outside lift f (eventChanges e) (event-framed .1) k o
+  same-after f g a = changed-agree driven f g a (eventChanges e) (event-framed .1)
+
+  pub after-outside : (f : Bits) (k : ℕ) → elem k driven ≡ false → after e f k ≡ f k
+  unfolding after
+  after-outside f k o = changed-outside driven f (eventChanges e) (event-framed .1) k o

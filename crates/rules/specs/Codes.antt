@@ -10,7 +10,7 @@ use Rattle.rules.specs.declared.Code.{Code}
 use Rattle.rules.specs.declared.Reading.{Reading}
 use Rattle.rules.specs.declared.Reading.the-variants.{Good, Bad}
 use Rattle.rules.specs.declared.Event.{Event}
-use Rattle.rules.specs.declared.Event.the-variants.{CarIn, CarOut}
+use Rattle.rules.specs.declared.Event.the-variants.{BeginIn, BeginOut, EndDone, EndNotDone}
 use Rattle.rules.specs.declared.EventReading.{EventReading}
 use Rattle.rules.specs.Rules.{wellFormed}
 
@@ -54,9 +54,16 @@ most = 8
 
 -- the byte of an event
 abbrev pub eventCode : Event → ℕ
-eventCode CarIn = 1
-eventCode CarOut = 2
+eventCode BeginIn = 1
+eventCode BeginOut = 2
+eventCode EndDone = 3
+eventCode EndNotDone = 4
 
 -- what an event's byte says
 unfoldable pub readEvent : ℕ → EventReading
-readEvent b = cond (eqb b 1) (EventReading.Good CarIn) (cond (eqb b 2) (EventReading.Good CarOut) EventReading.Bad)
+readEvent b =
+    cond (eqb b 1) (EventReading.Good BeginIn)
+    (cond (eqb b 2) (EventReading.Good BeginOut)
+    (cond (eqb b 3) (EventReading.Good EndDone)
+    (cond (eqb b 4) (EventReading.Good EndNotDone)
+    EventReading.Bad)))

@@ -1,21 +1,41 @@
--- The two car events of document 01: when each is possible, and the record after it. Assumes nothing.
+-- The car events of document 02, which split those of document 01 into a begin and an end: when each comes in turn, when it is possible, and
+-- the record after it. Assumes nothing.
 use mathlib.Core.Bool.{Bool, true, false}
 use mathlib.Core.List.{List, [], _∷_}
 use Rattle.bits.specs.Bits.{Bits}
-use Rattle.floor.specs.Floor.{raisedCar, street}
-use Rattle.floor.specs.Tests.{Test, fact, set, free, allHold, heightIs, Change, _≔_, changed}
+use Rattle.floor.specs.Floor.{raisedCar, street, driveIn, driveOut}
+use Rattle.floor.specs.Tests.{Test, fact, set, free, no, holds, allHold, heightIs, underWay, Change, _≔_, changed}
 use Rattle.rules.specs.declared.Event.{Event}
-use Rattle.rules.specs.declared.Event.the-variants.{CarIn, CarOut}
+use Rattle.rules.specs.declared.Event.the-variants.{BeginIn, BeginOut, EndDone, EndNotDone}
 
--- car in: lift at street and empty; car out: at street and occupied
+-- a begin comes in turn while no drive is under way, an end while one is
+abbrev pub turn : Event → Test
+turn BeginIn = no underWay
+turn BeginOut = no underWay
+turn EndDone = underWay
+turn EndNotDone = underWay
+
+-- a drive-in begins with the lift at street and empty, a drive-out at street and occupied; an end has no condition of its own
+abbrev pub beginConditions : Event → List Test
+beginConditions BeginIn = heightIs street ∷ free (raisedCar ∷ []) ∷ []
+beginConditions BeginOut = heightIs street ∷ set (raisedCar ∷ []) ∷ []
+beginConditions EndDone = []
+beginConditions EndNotDone = []
+
+-- its turn, and its own conditions
 abbrev pub eventConditions : Event → List Test
-eventConditions CarIn = heightIs street ∷ free (raisedCar ∷ []) ∷ []
-eventConditions CarOut = heightIs street ∷ set (raisedCar ∷ []) ∷ []
+eventConditions e = turn e ∷ beginConditions e
 
--- then the raised lift has a car, or none
+-- with a begin the drive is under way, with any end none is; at an end that is done the car that was driven in is there, the one that was
+-- driven out isn't
 abbrev pub eventChanges : Event → List Change
-eventChanges CarIn = raisedCar ≔ fact true ∷ []
-eventChanges CarOut = raisedCar ≔ fact false ∷ []
+eventChanges BeginIn = driveIn ≔ fact true ∷ []
+eventChanges BeginOut = driveOut ≔ fact true ∷ []
+eventChanges EndDone = raisedCar ≔ set (driveIn ∷ []) ∷ driveIn ≔ fact false ∷ driveOut ≔ fact false ∷ []
+eventChanges EndNotDone = driveIn ≔ fact false ∷ driveOut ≔ fact false ∷ []
+
+unfoldable pub inTurn : Event → Bits → Bool
+inTurn e f = holds (turn e) f
 
 unfoldable pub possible : Event → Bits → Bool
 possible e f = allHold (eventConditions e) f

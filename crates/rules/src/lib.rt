@@ -1,4 +1,4 @@
-// An instruction, the five bytes that carry it, and the two car events. What they mean stands in specs/.
+// An instruction, the five bytes that carry it, and the car events. What they mean stands in specs/.
 ghost use mathlib.Core.Path.{_≡_};
 ghost use mathlib.Core.Bool.{cond};
 ghost use Rattle.rules.specs.Rules.{wellFormed};
@@ -47,10 +47,12 @@ pub enum Reading {
     Bad,
 }
 
-// A driver brings a car into the lift, or takes one out.
+// A driver begins to bring a car into the lift, or to take one out; the drive that is under way ends, and is done or not.
 pub enum Event {
-    CarIn,
-    CarOut,
+    BeginIn,
+    BeginOut,
+    EndDone,
+    EndNotDone,
 }
 
 // What an event's byte says.
@@ -73,9 +75,10 @@ pub enum Moved {
     IllFormed,
 }
 
-// The record after a car event, where it is possible.
+// The record after a car event, where it comes in turn and is possible.
 pub enum Driven {
     Record(u64),
+    OutOfTurn,
     Impossible,
 }
 
@@ -294,8 +297,10 @@ pub fn event_of(b: u8) -> EventReading
     ensures { λ y. ⌜ y ≡ readEvent b ⌝ }
 {
     match b {
-        1 => EventReading::Good(Event::CarIn),
-        2 => EventReading::Good(Event::CarOut),
+        1 => EventReading::Good(Event::BeginIn),
+        2 => EventReading::Good(Event::BeginOut),
+        3 => EventReading::Good(Event::EndDone),
+        4 => EventReading::Good(Event::EndNotDone),
         _ => EventReading::Bad,
     }
 }

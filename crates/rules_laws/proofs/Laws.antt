@@ -1,18 +1,20 @@
 -- The laws of specs/Laws.antt, from the frame laws of the rules, the rules kept, and the moves. Assumes nothing.
-use mathlib.Core.Path.{_≡_, sym, subst, _∙_}
-use mathlib.Core.Bool.{Bool, true, false}
+use mathlib.Core.Path.{_≡_, refl, sym, subst, _∙_}
+use mathlib.Core.Logic.{inl, inr}
+use mathlib.Core.Bool.{Bool, true, false, not, _&&_, _||_}
 use mathlib.Core.List.{List, [], _∷_, _++_}
-use Prim.Native.Nat.{ℕ, suc, _+_, _/_, _<_}
+use Prim.Native.Nat.{ℕ, _+_, _/_, _<_}
 use native.Mathlib.Omega.{arith}
-use lib.Dec.{T, eqb→eq}
+use lib.Dec.{T, eqb}
+use lib.ListN.{getD}
 use borrow.Author.Tests.{ne-eqb}
 use Rattle.bits.specs.Bits.{Bits, bit, image, digit, count}
-use Rattle.bits.specs.Places.{from, elem}
-use Rattle.bits.proofs.Cases.{both, and-l, T→true, true→T}
+use Rattle.bits.specs.Places.{from, elem, share}
+use Rattle.bits.proofs.Cases.{both, split, clash, passed as passes, and-T, T→true, true→T}
 use Rattle.bits.proofs.Digits.{bit-image}
 use Rattle.bits.proofs.Counts.{count-agree, from-elem}
-use Rattle.floor.specs.Floor.{rowCells, raisedCar, heightLow, heightHigh, lift}
-use Rattle.floor.specs.Tests.{allHold}
+use Rattle.floor.specs.Floor.{rowCells, raisedCar, heightLow, heightHigh, lift, driveIn, driveOut, drives}
+use Rattle.floor.specs.Tests.{fact, set, free, holds, allHold}
 use Rattle.floor.specs.Cars.{Car, Layout, cars}
 use Rattle.floor.specs.Sound.{Sound, sound, soundRules}
 use Rattle.floor.proofs.Reading.{inside, inside-at, all-agree, nth-holds}
@@ -20,13 +22,13 @@ use Rattle.floor.proofs.Rows.{Whole, whole-iff-paired}
 use Rattle.floor.proofs.Promises.{layout-exactly, sound-exactly}
 use Rattle.rules.specs.declared.Instruction.{Instruction}
 use Rattle.rules.specs.declared.Event.{Event}
-use Rattle.rules.specs.declared.Event.the-variants.{CarIn, CarOut}
-use Rattle.rules.specs.Rules.{wellFormed, conditions, allowed, next}
+use Rattle.rules.specs.declared.Event.the-variants.{BeginIn, BeginOut, EndDone, EndNotDone}
+use Rattle.rules.specs.Rules.{wellFormed, areaOf, conditions, allowed, next}
 use Rattle.rules.specs.Events.{eventConditions, possible, after}
 use Rattle.rules.proofs.Frame as frame
-use Rattle.rules_laws.specs.Laws.{SameVerdict, SameReason, SameBits, KeptOutside, EventsLocal, StaysSound, SameCars, EventSound, Counted, EventCars}
+use Rattle.rules_laws.specs.Laws.{SameVerdict, SameReason, SameBits, KeptOutside, EventsLocal, Clear, StaysSound, SameCars, EventSound, Counted, EventCars}
 use Rattle.rules_laws.proofs.Shift.{whole-same}
-use Rattle.rules_laws.proofs.RulesKept.{instruction-rules, event-rules}
+use Rattle.rules_laws.proofs.RulesKept.{clearance, instruction-rules, event-rules}
 use Rattle.rules_laws.proofs.Moves.{Safe, safe, cars-same}
 
 -- ---- areas
@@ -45,8 +47,9 @@ kept-outside i w f k o = frame.kept-outside i (true→T w) f k o
 
 pub events-local : EventsLocal
 events-local = record {
-  sameVerdict = λ e f g a. frame.same-possible e f g (λ k m. a k (T→true (elem k lift) m));
-  sameBits = λ e f g a k m. frame.same-after e f g (λ j n. a j (T→true (elem j lift) n)) k (true→T m);
+  sameVerdict = λ e f g a. frame.same-possible e f g (λ k m. a k (T→true (elem k (lift ++ drives)) m));
+  sameTurn = λ e f g a. frame.same-turn e f g (λ k m. a k (T→true (elem k (lift ++ drives)) m));
+  sameBits = λ e f g a k m. frame.same-after e f g (λ j n. a j (T→true (elem j (lift ++ drives)) n)) k (true→T m);
   keptOutside = frame.after-outside;
 }
 
@@ -68,12 +71,18 @@ module _ (i : Instruction) (f : Bits) (s : Sound f) (ok : allowed i f ≡ true) 
   unfolding next
   moved = safe i f (true→T (passed .0)) (true→T (passed .1)) (true→T (s .rules)) (layout-whole f (s .layout))
 
-  kept : allHold soundRules (next i f) ≡ true
+  clear : Clear i f → T (allHold (clearance i) f)
+  clear (inl idle) = split (share (areaOf i) lift)
+      (λ l. rw l (and-T (holds (free drives) f) true (true→T {b = holds (free drives) f} (passes refl idle)) tt))
+      (λ l. rw l tt)
+  clear (inr elsewhere) = rw elsewhere tt
+
+  kept : Clear i f → allHold soundRules (next i f) ≡ true
   unfolding next
-  kept = T→true (allHold soundRules (next i f)) (instruction-rules i (true→T (passed .0)) f (true→T (passed .1)) (true→T (s .rules)))
+  kept c = T→true (allHold soundRules (next i f)) (instruction-rules i (true→T (passed .0)) f (clear c) (true→T (passed .1)) (true→T (s .rules)))
 
 pub stays-sound : StaysSound
-stays-sound i f s ok = record { layout = whole-layout (next i f) (moved i f s ok .whole); rules = kept i f s ok }
+stays-sound i f s c ok = record { layout = whole-layout (next i f) (moved i f s ok .whole); rules = kept i f s ok c }
 
 pub same-cars : SameCars
 same-cars i f s ok = moved i f s ok .same
@@ -85,22 +94,39 @@ unfolding possible after
 event-sound e f s ok = record { layout = whole-layout (after e f) (whole-same f (after e f) 20 row (layout-whole f (s .layout))); rules = rules }
   where
     row : (k : ℕ) → k < 20 → after e f k ≡ f k
-    row k h = frame.after-outside e f k (simp (ne-eqb raisedCar k (λ p. omega arith), ne-eqb heightLow k (λ p. omega arith), ne-eqb heightHigh k (λ p. omega arith)))
+    row k h =
+        frame.after-outside e f k
+        (simp (ne-eqb raisedCar k (λ p. omega arith), ne-eqb heightLow k (λ p. omega arith), ne-eqb heightHigh k (λ p. omega arith), ne-eqb driveIn k (λ p. omega arith), ne-eqb driveOut k (λ p. omega arith)))
 
     rules : allHold soundRules (after e f) ≡ true
     rules = T→true (allHold soundRules (after e f)) (event-rules e f (true→T ok) (true→T (s .rules)))
 
+-- after a drive that is done there is a car on the raised lift exactly if it was a drive-in, and before it exactly if it was a drive-out
+module _ (f : Bits) (s : Sound f) (ok : T (allHold (eventConditions EndDone) f)) where
+  drove : (n : ℕ) (a b c : Bool)
+      → not (eqb (digit b + (digit c + 0)) 0) && true ≡ true → not (b && (c && true)) ≡ true
+      → (eqb (digit b + 0) 0 || eqb (digit a + 0) 0) ≡ true → (eqb (digit c + 0) 0 || (a && true)) ≡ true
+      → n + digit (b && true) + digit c ≡ n + digit a + digit b
+  drove n true true c any one into out = clash into refl
+  drove n true false true any one into out = omega arith
+  drove n true false false any one into out = clash any refl
+  drove n false true true any one into out = clash one refl
+  drove n false true false any one into out = omega arith
+  drove n false false true any one into out = clash out refl
+  drove n false false false any one into out = clash any refl
+
+  rule : (n : ℕ) → holds (getD soundRules n (fact true)) f ≡ true
+  rule n = T→true (holds (getD soundRules n (fact true)) f) (nth-holds f soundRules (true→T (s .rules)) n)
+
+  pub done-cars : (n : ℕ) → n + digit (holds (set (driveIn ∷ [])) f) + digit (f driveOut) ≡ n + digit (f raisedCar) + digit (f driveIn)
+  done-cars n = drove n (f raisedCar) (f driveIn) (f driveOut) (T→true (allHold (eventConditions EndDone) f) ok) (rule 12) (rule 14) (rule 15)
+
 pub event-cars : EventCars
 unfolding possible after cars
-event-cars CarIn f ok = more (count (rowCells 1) f / 2 + count (rowCells 2 ++ rowCells 3) f) (f raisedCar) (eqb→eq (count (raisedCar ∷ []) f) 0 (nth-holds f (eventConditions CarIn) (true→T ok) 1))
-  where
-    more : (n : ℕ) (b : Bool) → digit b + 0 ≡ 0 → n + 1 ≡ suc (n + digit b)
-    more n b e = omega arith
-event-cars CarOut f ok = less (count (rowCells 1) f / 2 + count (rowCells 2 ++ rowCells 3) f) (f raisedCar) (and-l (f raisedCar) true (nth-holds f (eventConditions CarOut) (true→T ok) 1))
-  where
-    less : (n : ℕ) (b : Bool) → T b → suc (n + 0) ≡ n + digit b
-    less n true t = omega arith
-    less n false t = absurd t
+event-cars BeginIn f s ok = refl
+event-cars BeginOut f s ok = refl
+event-cars EndDone f s ok = done-cars f s (true→T ok) (count (rowCells 1) f / 2 + count (rowCells 2 ++ rowCells 3) f)
+event-cars EndNotDone f s ok = refl
 
 -- ---- the same of records as the numbers that the station keeps
 
@@ -120,16 +146,16 @@ module _ (g : Bits) where
     rules = all-agree (from 0 64) (bit (image g)) g in-image soundRules tt ∙ s .rules;
   })
 
--- an allowed instruction makes a sound image of a sound image, with the same number of cars
-pub image-sound : (i : Instruction) (r : ℕ) → sound r ≡ true → allowed i (bit r) ≡ true → sound (image (next i (bit r))) ≡ true
-image-sound i r s ok = sound-image (next i (bit r)) (stays-sound i (bit r) (sound-exactly r .0 s) ok)
+-- an allowed instruction clear of drives makes a sound image of a sound image; an allowed one keeps the number of cars
+pub image-sound : (i : Instruction) (r : ℕ) → sound r ≡ true → Clear i (bit r) → allowed i (bit r) ≡ true → sound (image (next i (bit r))) ≡ true
+image-sound i r s c ok = sound-image (next i (bit r)) (stays-sound i (bit r) (sound-exactly r .0 s) c ok)
 
 pub image-cars : (i : Instruction) (r : ℕ) → sound r ≡ true → allowed i (bit r) ≡ true → cars (bit (image (next i (bit r)))) ≡ cars (bit r)
 image-cars i r s ok = cars-image (next i (bit r)) ∙ same-cars i (bit r) (sound-exactly r .0 s) ok
 
--- a possible event too, with one car more or one less
+-- a possible event too, with as many cars as it counts
 pub event-image-sound : (e : Event) (r : ℕ) → sound r ≡ true → possible e (bit r) ≡ true → sound (image (after e (bit r))) ≡ true
 event-image-sound e r s ok = sound-image (after e (bit r)) (event-sound e (bit r) (sound-exactly r .0 s) ok)
 
-pub event-image-cars : (e : Event) (r : ℕ) → possible e (bit r) ≡ true → Counted e (cars (bit (image (after e (bit r))))) (cars (bit r))
-event-image-cars e r ok = subst (λ (n : ℕ). Counted e n (cars (bit r))) (sym (cars-image (after e (bit r)))) (event-cars e (bit r) ok)
+pub event-image-cars : (e : Event) (r : ℕ) → sound r ≡ true → possible e (bit r) ≡ true → Counted e (bit r) (cars (bit (image (after e (bit r))))) (cars (bit r))
+event-image-cars e r s ok = subst (λ (n : ℕ). Counted e (bit r) n (cars (bit r))) (sym (cars-image (after e (bit r)))) (event-cars e (bit r) (sound-exactly r .0 s) ok)

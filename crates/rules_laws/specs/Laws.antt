@@ -1,18 +1,21 @@
 -- The laws that make sets safe, in document 01's words: what an instruction reads and writes, that it keeps records sound and
 -- the number of cars, and the same of car events. A record is any bits, sound or not, unless the law says otherwise. Assumes nothing.
 use mathlib.Core.Path.{_≡_}
+use mathlib.Core.Logic.{_⊎_}
 use mathlib.Core.Bool.{true, false}
-use Prim.Native.Nat.{ℕ, suc}
-use Rattle.bits.specs.Bits.{Bits, bit}
-use Rattle.bits.specs.Places.{elem}
-use Rattle.floor.specs.Floor.{lift}
+use mathlib.Core.List.{_++_}
+use Prim.Native.Nat.{ℕ, _+_}
+use Rattle.bits.specs.Bits.{Bits, bit, digit}
+use Rattle.bits.specs.Places.{elem, share}
+use Rattle.floor.specs.Floor.{lift, driveIn, driveOut, drives}
+use Rattle.floor.specs.Tests.{holds, underWay}
 use Rattle.floor.specs.Cars.{cars}
 use Rattle.floor.specs.Sound.{Sound}
 use Rattle.rules.specs.declared.Instruction.{Instruction}
 use Rattle.rules.specs.declared.Event.{Event}
-use Rattle.rules.specs.declared.Event.the-variants.{CarIn, CarOut}
-use Rattle.rules.specs.Rules.{wellFormed, area, allowed, next}
-use Rattle.rules.specs.Events.{possible, after}
+use Rattle.rules.specs.declared.Event.the-variants.{BeginIn, BeginOut, EndDone, EndNotDone}
+use Rattle.rules.specs.Rules.{wellFormed, areaOf, area, allowed, next}
+use Rattle.rules.specs.Events.{inTurn, possible, after}
 use Rattle.rules.specs.Verdicts.{verdictOf}
 
 -- ---- areas
@@ -37,23 +40,28 @@ SameBits = (i : Instruction) → wellFormed i ≡ true → (f g : Bits) → Agre
 abbrev pub KeptOutside : Type 0
 KeptOutside = (i : Instruction) → wellFormed i ≡ true → (f : Bits) (k : ℕ) → area i k ≡ false → next i f k ≡ f k
 
--- the lift's bits
+-- the lift's bits and the drives'
 abbrev pub liftArea : Bits
-liftArea k = elem k lift
+liftArea k = elem k (lift ++ drives)
 
--- a car event reads and writes the lift's bits only: the same three laws, with the lift for its area
+-- a car event reads and writes these bits only: the same three laws, with the lift for its area; and they say whether it comes in turn
 pub record EventsLocal : Type 0 where
   pub sameVerdict : (e : Event) (f g : Bits) → Agree liftArea f g → possible e f ≡ possible e g
+  pub sameTurn : (e : Event) (f g : Bits) → Agree liftArea f g → inTurn e f ≡ inTurn e g
   pub sameBits : (e : Event) (f g : Bits) → Agree liftArea f g → Agree liftArea (after e f) (after e g)
   pub keptOutside : (e : Event) (f : Bits) (k : ℕ) → liftArea k ≡ false → after e f k ≡ f k
 
 -- ---- sound records and cars
 
--- an allowed instruction makes a sound record of a sound record
-abbrev pub StaysSound : Type 0
-StaysSound = (i : Instruction) (f : Bits) → Sound f → allowed i f ≡ true → Sound (next i f)
+-- no drive is under way, or the lift is not in the instruction's area
+abbrev pub Clear : Instruction → Bits → Type 0
+Clear i f = (holds underWay f ≡ false) ⊎ (share (areaOf i) lift ≡ false)
 
--- with the same number of cars
+-- an allowed instruction that is clear of drives makes a sound record of a sound record
+abbrev pub StaysSound : Type 0
+StaysSound = (i : Instruction) (f : Bits) → Sound f → Clear i f → allowed i f ≡ true → Sound (next i f)
+
+-- an allowed one keeps the number of cars, clear of drives or not
 abbrev pub SameCars : Type 0
 SameCars = (i : Instruction) (f : Bits) → Sound f → allowed i f ≡ true → cars (next i f) ≡ cars f
 
@@ -61,11 +69,13 @@ SameCars = (i : Instruction) (f : Bits) → Sound f → allowed i f ≡ true →
 abbrev pub EventSound : Type 0
 EventSound = (e : Event) (f : Bits) → Sound f → possible e f ≡ true → Sound (after e f)
 
--- n cars after an event, m before it: a car in makes one more, a car out one less
-abbrev pub Counted : Event → ℕ → ℕ → Type 0
-Counted CarIn n m = n ≡ suc m
-Counted CarOut n m = suc n ≡ m
+-- n cars after an event on the record f, m before it: an end that is done makes one more of a drive-in, one less of a drive-out
+abbrev pub Counted : Event → Bits → ℕ → ℕ → Type 0
+Counted BeginIn f n m = n ≡ m
+Counted BeginOut f n m = n ≡ m
+Counted EndDone f n m = n + digit (f driveOut) ≡ m + digit (f driveIn)
+Counted EndNotDone f n m = n ≡ m
 
--- after a possible event
+-- after a possible event on a sound record
 abbrev pub EventCars : Type 0
-EventCars = (e : Event) (f : Bits) → possible e f ≡ true → Counted e (cars (after e f)) (cars f)
+EventCars = (e : Event) (f : Bits) → Sound f → possible e f ≡ true → Counted e f (cars (after e f)) (cars f)

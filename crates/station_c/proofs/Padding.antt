@@ -1,6 +1,6 @@
 -- A request rests on the five bytes of its instructions alone: zeros past them change nothing. Assumes nothing.
 use mathlib.Core.Path.{_≡_, refl, sym, _∙_, ap, ap₂}
-use mathlib.Core.Bool.{true, false, not, cond}
+use mathlib.Core.Bool.{true, false, not, cond, _&&_}
 use mathlib.Core.List.{List, _++_}
 use Prim.Native.Nat.{ℕ, _*_, _-_, _≤_, _<_}
 use native.Mathlib.Omega.{arith}
@@ -11,14 +11,16 @@ use lib.Seq.{take-at, length-take-le, take-all}
 use Rattle.bits.specs.Bits.{bit}
 use Rattle.bits.specs.Places.{share}
 use Rattle.bits.specs.Search.{some}
+use Rattle.floor.specs.Floor.{lift}
+use Rattle.floor.specs.Tests.{holds, underWay}
 use Rattle.rules.specs.declared.Code.{Code}
-use Rattle.answers.specs.declared.Answer.the-variants.{TooFewBytes, TooMany, SetOutstanding, EmptySet, BadField, Overlap, Opened}
+use Rattle.answers.specs.declared.Answer.the-variants.{TooFewBytes, TooMany, SetOutstanding, EmptySet, BadField, Overlap, Opened, OutOfTurn}
 use Rattle.rules.specs.Verdicts.{codeVerdict, answerFor}
 use Rattle.garage.specs.declared.Station.{Station}
 use Rattle.garage.specs.declared.Outcome.{Outcome}
-use Rattle.garage.specs.Held.{codeAt, isGood, heldArea, heldAllowed, overlapsEarlier}
+use Rattle.garage.specs.Held.{codeAt, isGood, heldArea, heldAllowed, overlapsEarlier, liftIn, crossesDrive}
 use Rattle.garage.specs.Station.{opened}
-use Rattle.garage.specs.Calls.{refused, onFit, unlessAny, accepted, requested, request}
+use Rattle.garage.specs.Calls.{refused, onFit, unlessAny, accepted, cleared, requested, request}
 use Rattle.garage.proofs.Padding.{padded-code}
 use Rattle.wire.specs.Kinds.{setOf}
 use Rattle.wire.proofs.Parts.{set-short}
@@ -42,12 +44,13 @@ module _ (s : Station) (n : ℕ) where
       (cond (ltb 8 n) (refused s TooMany)
       (cond (eqb n 0) (refused s EmptySet)
       (unlessAny n (λ i. not (isGood (code i))) s BadField
+      (cond (holds underWay (bit (s .bits)) && some n (λ j. share (heldArea (code j)) lift)) (refused s OutOfTurn)
       (unlessAny n (λ i. some i (λ j. share (heldArea (code i)) (heldArea (code j)))) s Overlap
       (unlessAny n (λ i. not (heldAllowed (code i) (bit (s .bits)))) s (λ i. answerFor (codeVerdict (code i) (s .bits)) i)
-      (record { station = made; answer = Opened (s .next) })))))))
+      (record { station = made; answer = Opened (s .next) }))))))))
 
   as-form : (set : List ℕ) → request s n set ≡ form (codeAt set) (opened s n set)
-  unfolding request requested accepted form overlapsEarlier
+  unfolding request requested cleared accepted form overlapsEarlier liftIn crossesDrive
   as-form set = refl
 
   padded : (l : List ℕ) (m : ℕ) → length l ≡ 5 * n → request s n (l ++ replicate m 0) ≡ request s n l

@@ -1,5 +1,6 @@
 -- A station laid out in bytes, and what an entry leaves, case by case: one pair of laws serves every entry. Assumes nothing.
 use mathlib.Core.Path.{_≡_, refl, sym, ap, _∙_}
+use mathlib.Core.Bool.{true, false}
 use mathlib.Core.List.{List, [], _∷_, _++_, append-nil}
 use Prim.Native.Nat.{ℕ, _+_, _*_, _/_, _%_, _≤_, _<_}
 use native.Mathlib.Omega.{arith}
@@ -8,14 +9,17 @@ use lib.ListN as list
 use lib.ListN.{length, getD, take, drop, replicate}
 use lib.Seq.{take-length, length-take-le}
 use Rattle.answers.specs.declared.Answer.{Answer}
-use Rattle.answers.specs.declared.Answer.the-variants.{TooFewBytes, NoRoom}
+use Rattle.answers.specs.declared.Answer.the-variants.{TooFewBytes, NoRoom, OutOfTurn}
 use Rattle.answers.specs.Answers.{numberOf}
 use Rattle.garage.specs.declared.Station.{Station}
 use Rattle.garage.specs.declared.Outcome.{Outcome}
+use Rattle.rules.specs.Codes.{codeFrom}
+use Rattle.garage.specs.Held.{crosses}
 use Rattle.garage.specs.Calls.{ask}
 use Rattle.rules.specs.declared.Moved.{Moved}
 use Rattle.wire.specs.Kinds.{littleEndian, fromLittleEndian, setOf}
 use Rattle.wire.proofs.Parts.{set-short}
+use Rattle.station_c.proofs.Judging.{crossed-says, clear-says}
 use Rattle.station_c.specs.Entries.{stationBytes, stationOf, returned, Leaves, writes, entry, asking, moved, answerTo, judgement, recordIn, nexting}
 
 -- ---- a station in bytes
@@ -74,8 +78,14 @@ pub few : (x : ℕ) (five room : List ℕ) {r : ℕ} → 8 ≤ length room → l
 unfolding nexting judgement writes
 few x five room h l e = rw (le-ltb _ _ h, lt-ltb _ _ l) (e, refl)
 
+-- with the lift in its area under a driver there is none
+pub hindered : (x : ℕ) (five room : List ℕ) {r : ℕ} → 8 ≤ length room → 5 ≤ length five → crosses (codeFrom five) x ≡ true → r ≡ returned OutOfTurn
+    → Leaves (nexting x five room) r room
+unfolding nexting writes
+hindered x five room h l c e = rw (le-ltb _ _ h, crossed-says x five l c) (e, refl)
+
 -- or it is there
 pub followed : (x : ℕ) (five room : List ℕ) {m : Moved} {a : Answer} {y : ℕ} {b : List ℕ} {r : ℕ} {last : List ℕ} → 8 ≤ length room → 5 ≤ length five
-    → m ≡ moved x five → a ≡ answerTo m → y ≡ recordIn m → b ≡ littleEndian 8 y → Leaves (writes a b room) r last → Leaves (nexting x five room) r last
-unfolding nexting judgement
-followed x five room h l e f g k w = rw (le-ltb _ _ h, le-ltb _ _ l, ← e, ← f, ← g, ← k) w
+    → crosses (codeFrom five) x ≡ false → m ≡ moved x five → a ≡ answerTo m → y ≡ recordIn m → b ≡ littleEndian 8 y → Leaves (writes a b room) r last → Leaves (nexting x five room) r last
+unfolding nexting
+followed x five room h l c e f g k w = rw (le-ltb _ _ h, clear-says x five l c, ← e, ← f, ← g, ← k) w

@@ -9,13 +9,14 @@ use Rattle.floor.specs.declared.Total.{Total}
 use Rattle.floor.specs.declared.Total.the-variants.{Cars, Unsound}
 use Rattle.rules.specs.declared.Moved.{Moved}
 use Rattle.rules.specs.declared.Moved.the-variants.{Record, IllFormed}
-use Rattle.rules.specs.Codes.{readBytes, most}
+use Rattle.rules.specs.Codes.{readBytes, codeFrom, most}
 use Rattle.rules.specs.Verdicts.{onCode, movedOf}
 use Rattle.answers.specs.declared.Answer.{Answer}
-use Rattle.answers.specs.declared.Answer.the-variants.{Taken, TooFewBytes, BadField, NotAllowed, NoRoom}
+use Rattle.answers.specs.declared.Answer.the-variants.{Taken, TooFewBytes, BadField, NotAllowed, NoRoom, OutOfTurn}
 use Rattle.answers.specs.Answers.{numberOf, placeOf, issueOf, nowhere}
 use Rattle.garage.specs.declared.Station.{Station}
 use Rattle.garage.specs.declared.Outcome.{Outcome}
+use Rattle.garage.specs.Held.{crosses}
 use Rattle.garage.specs.Calls.{refused, request, ask}
 use Rattle.wire.specs.declared.What.{What}
 use Rattle.wire.specs.declared.What.the-variants.{Request, Event, Result, Image, Ask, Held}
@@ -132,9 +133,10 @@ answerTo (Record r) = Taken
 answerTo (Moved.NotAllowed why) = NotAllowed why nowhere
 answerTo IllFormed = BadField nowhere
 
--- whether the record r allows the instruction that the first five bytes say: 1 where they are fewer
+-- what a request of the one instruction that the first five bytes say is told on the record r: 1 where they are fewer, 31 where it has the
+-- lift in its area while a drive is under way, and whether it is allowed
 unfoldable pub judgement : ℕ → List ℕ → Answer
-judgement r five = cond (ltb (length five) 5) TooFewBytes (answerTo (moved r five))
+judgement r five = cond (ltb (length five) 5) TooFewBytes (cond (crosses (codeFrom five) r) OutOfTurn (answerTo (moved r five)))
 
 -- the record after it, if it is allowed
 abbrev pub recordIn : Moved → ℕ

@@ -4,7 +4,9 @@ ghost use mathlib.Core.Path.{_≡_};
 ghost use Prim.Native.Nat.{_≤_};
 ghost use lib.ListN.{length};
 ghost use Rattle.floor.specs.Sound.{sound, total};
+ghost use Rattle.rules.specs.Codes.{codeFrom};
 ghost use Rattle.rules.specs.Verdicts.{movedOf};
+ghost use Rattle.garage.specs.Held.{crosses};
 ghost use Rattle.garage.specs.Station.{startOf};
 ghost use Rattle.garage.specs.Calls.{taken, event, result, takeImage};
 ghost use Rattle.station_c.specs.Private.{bytesAsked};
@@ -16,6 +18,7 @@ use garage::Outcome;
 use garage::Picture;
 use garage::Report;
 use garage::Station;
+use rules::Code;
 use rules::Instruction;
 use rules::Moved;
 use rules::Reading;
@@ -151,7 +154,7 @@ pub extern "C" fn station_request(room: &mut [u8], count: u8, set: &[u8]) -> u32
     keep(o, room)
 }
 
-// A car event: 1 in, 2 out.
+// A car event: a drive begins, 1 in, 2 out; the one under way ends, 3 done, 4 not done.
 #[no_mangle]
 pub extern "C" fn station_event(room: &mut [u8], way: u8) -> u32
     ensures { λ r. ⌜ Leaves (entry (λ s. event s way) (now (room .entry))) r (now (room .exit)) ⌝ }
@@ -317,13 +320,31 @@ fn judged(i: Instruction, image: u64) -> Answer
     verdict.answer(NOWHERE)
 }
 
-// Whether a record allows the instruction that five bytes say.
+// A drive is under way on the record, and the instruction that five bytes say has the lift in its area.
+fn crossing(image: u64, five: &[u8]) -> bool
+    requires { ⌜ 5 ≤ length (now five) ⌝ }
+    ensures { λ b. ⌜ b ≡ crosses (codeFrom (now (five .entry))) image ⌝ }
+{
+    let x = Code {
+        op: five[0],
+        a: five[1],
+        b: five[2],
+        c: five[3],
+        d: five[4],
+    };
+    garage::crosses(x, image)
+}
+
+// What a request of the instruction that five bytes say is told on a record.
 #[no_mangle]
 pub extern "C" fn garage_allowed(image: u64, five: &[u8]) -> u32
     ensures { λ r. ⌜ r ≡ returned (judgement image (now (five .entry))) ⌝ }
 {
     if five.len() < CODE {
         return say(Answer::TooFewBytes);
+    }
+    if crossing(image, five) {
+        return say(Answer::OutOfTurn);
     }
     let one = rules::read_bytes(five);
     match one {
@@ -345,6 +366,9 @@ pub extern "C" fn garage_next(image: u64, five: &[u8], next: &mut [u8]) -> u32
     }
     if five.len() < CODE {
         return say(Answer::TooFewBytes);
+    }
+    if crossing(image, five) {
+        return say(Answer::OutOfTurn);
     }
     let m = moved(image, five);
     let a = answer_to(m);

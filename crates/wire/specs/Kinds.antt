@@ -34,7 +34,7 @@ pub record Kind : Type 0 where
 abbrev pub request : ℕ
 request = 1
 
--- 2: an event, 1 in or 2 out
+-- 2: an event: a drive begins, 1 in or 2 out, or ends, 3 done or 4 not done
 abbrev pub event : Kind
 event = record { number = 2; size = 1; says = λ m. Event (getD m 4 0) }
 
@@ -90,7 +90,7 @@ bodyOf (Held x) count set = littleEndian 8 x
 -- own
 abbrev pub inRange : What → Bool
 inRange Request = true
-inRange (Event way) = leb 1 way && leb way 2
+inRange (Event way) = leb 1 way && leb way 4
 inRange (Result issue number done) = leb done 1
 inRange (Image x) = true
 inRange Ask = true

@@ -216,7 +216,7 @@ fn in_range(what: What) -> bool
 {
     match what {
         What::Request => true,
-        What::Event { way } => (1 <= way) & (way <= 2),
+        What::Event { way } => (1 <= way) & (way <= 4),
         What::Result {
             issue: _,
             number: _,

@@ -2,7 +2,6 @@
 use Rattle.rules.proofs.Answering.{moved-by, moves}
 use Rattle.bits.proofs.Cases.{true→T}
 use Rattle.rules.specs.declared.Moved.{Moved}
-use Rattle.rules.specs.declared.Instruction.the-variants.{Belts}
 use mathlib.Core.Path.{sym, ap, _∙_}
 use borrow.Author.Needs.{needs}
 use Rattle.belts.proofs.belts_moved.Statement.{statement}

@@ -5,7 +5,6 @@ use borrow.Author.Tests.{not-true, not-false}
 use lib.Dec.{eqb}
 use mathlib.Core.Bool.{_||_}
 use mathlib.Core.Path.{_∙_}
-use borrow.Author.Needs.{needs}
 use Rattle.belts.proofs.judged.Statement.{statement}
 use Rattle.belts.proofs.judged.Tie as tie
 

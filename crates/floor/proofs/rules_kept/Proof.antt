@@ -5,9 +5,9 @@ use mathlib.Core.List.{[], _∷_}
 use borrow.Author.Needs.{needs}
 use Rattle.bits.specs.Bits.{bit}
 use Rattle.bits.specs.Places.{places}
-use Rattle.floor.specs.Floor.{left, right, spare}
-use Rattle.floor.specs.Tests.{free, no, heightIs}
-use Rattle.floor.specs.Sound.{carried, onLift, onRaisedLift, threeShuttles}
+use Rattle.floor.specs.Floor.{left, right, drives, spare}
+use Rattle.floor.specs.Tests.{set, free, no, heightIs}
+use Rattle.floor.specs.Sound.{carried, onLift, onRaisedLift, threeShuttles, drivesAtStreet, drivesIntoEmpty, drivesOutOfFull}
 use Rattle.floor.proofs.Judging.{one, many, _also_}
 use Rattle.floor.proofs.rules_kept.Statement.{statement}
 use Rattle.floor.proofs.rules_kept.Tie as tie
@@ -33,18 +33,22 @@ all-requires-2 c κs = search needs
 free-requires : tie.Need-free-requires
 free-requires c κs = search needs
 
+drives-fit-requires : tie.Need-drives-fit-requires
+drives-fit-requires c κs = search needs
+
 returns : tie.Need-returns
 unfolding places
 returns c =
-    let f = bit (c .before .before .before .before .before .before .before .args .r) in
-    let high = ap₂ _&&_ (c .before .before .all .ensures) (c .before .all2 .ensures) in
+    let f = bit (c .before .before .before .before .before .before .before .before .args .r) in
+    let high = ap₂ _&&_ (c .before .before .before .all .ensures) (c .before .before .all2 .ensures) in
     (many f (carried left 1 ∷ carried left 2 ∷ carried left 3 ∷ carried right 1 ∷ carried right 2 ∷ carried right 3 ∷ [])
-    (c .before .before .before .before .before .before .all-carry .ensures)
-    also many f (onLift ∷ onRaisedLift ∷ []) (c .before .before .before .before .before .lift-fits .ensures)
-    also one f (threeShuttles left) (c .before .before .before .before .three .ensures)
-    also one f (threeShuttles right) (c .before .before .before .three2 .ensures)
+    (c .before .before .before .before .before .before .before .all-carry .ensures)
+    also many f (onLift ∷ onRaisedLift ∷ []) (c .before .before .before .before .before .before .lift-fits .ensures)
+    also one f (threeShuttles left) (c .before .before .before .before .before .three .ensures)
+    also one f (threeShuttles right) (c .before .before .before .before .three2 .ensures)
     also one f (no (heightIs 3)) (ap not high)
-    also one f (free spare) (c .free .ensures)) .same
+    also one f (free spare) (c .before .free .ensures)
+    also many f (no (set drives) ∷ drivesAtStreet ∷ drivesIntoEmpty ∷ drivesOutOfFull ∷ []) (c .drives-fit .ensures)) .same
 
 pub rules-kept-spec : {M : Type 1} → statement M
 rules-kept-spec =
@@ -57,4 +61,5 @@ rules-kept-spec =
     all-requires
     all-requires-2
     free-requires
+    drives-fit-requires
     returns)

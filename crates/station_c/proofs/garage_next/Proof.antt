@@ -1,9 +1,9 @@
--- `station_c::garage_next` meets its contract: too short a room, too few bytes, or the next record. Assumes nothing.
-use mathlib.Core.Path.{refl}
-use borrow.Author.Tests.{lt-ltb}
-use borrow.Author.Needs.{needs}
+-- `station_c::garage_next` meets its contract: too short a room, too few bytes, the lift under a driver, or the next record. Assumes nothing.
+use Rattle.station_c.proofs.Rooms.{few, hindered, followed}
 use Rattle.station_c.specs.Entries.{nexting}
-use Rattle.station_c.proofs.Rooms.{few, followed}
+use borrow.Author.Tests.{lt-ltb}
+use mathlib.Core.Path.{refl, sym, _∙_}
+use borrow.Author.Needs.{needs}
 use Rattle.station_c.proofs.garage_next.Statement.{statement}
 use Rattle.station_c.proofs.garage_next.Tie as tie
 
@@ -19,6 +19,15 @@ say-requires-2 c κs = search needs
 
 returns-2 : tie.Need-returns-2
 returns-2 c = few _ _ _ (c .before .before .if1 .left) (c .before .if2 .taken) (c .say2 .ensures)
+
+crossing-requires : tie.Need-crossing-requires
+crossing-requires c κs = search needs
+
+say-requires-3 : tie.Need-say-requires-3
+say-requires-3 c κs = search needs
+
+returns-3 : tie.Need-returns-3
+returns-3 c = hindered _ _ _ (c .before .before .before .before .if1 .left) (c .before .before .before .if2 .left) (sym (c .before .before .crossing .ensures) ∙ c .before .if3 .taken) (c .say3 .ensures)
 
 moved-requires : tie.Need-moved-requires
 moved-requires c κs = search needs
@@ -41,8 +50,8 @@ answer-requires c κs = search needs
 same-length : tie.Need-same-length
 same-length c = search needs
 
-returns-3 : tie.Need-returns-3
-returns-3 c = followed _ _ _ (c .before .before .before .before .before .before .before .before .before .before .if1 .left) (c .before .before .before .before .before .before .before .before .before .if2 .left) (c .before .before .before .before .before .before .before .before .moved .ensures) (c .before .before .before .before .before .before .before .answer-to .ensures) (c .before .before .before .before .before .before .record-in .ensures) (c .before .before .before .before .before .image-bytes .ensures) (c .before .before .answer .ensures)
+returns-4 : tie.Need-returns-4
+returns-4 c = followed _ _ _ (c .before .before .before .before .before .before .before .before .before .before .before .before .if1 .left) (c .before .before .before .before .before .before .before .before .before .before .before .if2 .left) (sym (c .before .before .before .before .before .before .before .before .before .before .crossing .ensures) ∙ c .before .before .before .before .before .before .before .before .before .if3 .left) (c .before .before .before .before .before .before .before .before .moved .ensures) (c .before .before .before .before .before .before .before .answer-to .ensures) (c .before .before .before .before .before .before .record-in .ensures) (c .before .before .before .before .before .image-bytes .ensures) (c .before .before .answer .ensures)
 
 pub garage-next-spec : {M : Type 1} → statement M
 garage-next-spec =
@@ -52,6 +61,9 @@ garage-next-spec =
     returns
     say-requires-2
     returns-2
+    crossing-requires
+    say-requires-3
+    returns-3
     moved-requires
     answer-to-requires
     record-in-requires
@@ -59,4 +71,4 @@ garage-next-spec =
     slice-aggregate-answer
     answer-requires
     same-length
-    returns-3)
+    returns-4)

@@ -20,8 +20,11 @@ least-bad-requires c κs = search needs
 rest-zero-requires : tie.Need-rest-zero-requires
 rest-zero-requires c κs = search needs
 
+crosses-drive-requires : tie.Need-crosses-drive-requires
+crosses-drive-requires c κs = search needs
+
 returns-2 : tie.Need-returns-2
-returns-2 c = fit-is _ (c .before .before .before .before .if1 .left) (omega arith) (c .before .before .sound .ensures) (c .before .least-bad .ensures) (c .before .before .before .all-marks .ensures) (c .rest-zero .ensures)
+returns-2 c = fit-is _ (c .before .before .before .before .before .if1 .left) (omega arith) (c .before .before .before .sound .ensures) (c .before .before .least-bad .ensures) (c .before .before .before .before .all-marks .ensures) (c .before .rest-zero .ensures) (c .crosses-drive .ensures)
 
 pub fit-spec : {M : Type 1} → statement M
 fit-spec =
@@ -32,4 +35,5 @@ fit-spec =
     sound-requires
     least-bad-requires
     rest-zero-requires
+    crosses-drive-requires
     returns-2)

@@ -21,11 +21,20 @@ enum-told c = search needs
 unmoved-requires : tie.Need-unmoved-requires
 unmoved-requires c κs = search needs
 
+enum-told-2 : tie.Need-enum-told-2
+enum-told-2 c = search needs
+
+unmoved-requires-2 : tie.Need-unmoved-requires-2
+unmoved-requires-2 c κs = search needs
+
 returns : tie.Need-returns
 returns c = c .holding .ensures ∙ ap turnOf (moved-event _ _ (sym (c .before .before .r .given .1) ∙ c .before .before .before .before .driven .ensures))
 
 returns-2 : tie.Need-returns-2
 returns-2 c = c .unmoved .ensures ∙ ap turnOf (moved-event _ _ (sym (c .before .enum-told .given .1) ∙ c .before .before .before .driven .ensures))
+
+returns-3 : tie.Need-returns-3
+returns-3 c = c .unmoved2 .ensures ∙ ap turnOf (moved-event _ _ (sym (c .before .enum-told2 .given .1) ∙ c .before .before .before .driven .ensures))
 
 pub occurred-spec : {M : Type 1} → statement M
 occurred-spec =
@@ -36,5 +45,8 @@ occurred-spec =
     holding-requires
     enum-told
     unmoved-requires
+    enum-told-2
+    unmoved-requires-2
     returns
-    returns-2)
+    returns-2
+    returns-3)

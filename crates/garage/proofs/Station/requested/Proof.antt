@@ -37,12 +37,12 @@ returns-4 : tie.Need-returns-4
 unfolding requested
 returns-4 c = c .unmoved4 .ensures ∙ rw (le-ltb _ _ (c .before .before .before .before .before .before .if1 .left), le-ltb _ _ (c .before .before .before .before .before .if2 .left), ne-eqb _ _ (c .before .before .before .before .if3 .left), ← c .before .before .before .search .ensures .0, lt-ltb _ _ (c .before .if4 .taken))
 
-accepted-requires : tie.Need-accepted-requires
-accepted-requires c κs = (c .before .before .search .ensures .1, c .before .before .search .ensures .2)
+cleared-requires : tie.Need-cleared-requires
+cleared-requires c κs = let e = c .before .before .search .ensures in (e .1, e .2, e .3)
 
 returns-5 : tie.Need-returns-5
 unfolding requested
-returns-5 c = c .accepted .ensures ∙ rw (le-ltb _ _ (c .before .before .before .before .before .before .if1 .left), le-ltb _ _ (c .before .before .before .before .before .if2 .left), ne-eqb _ _ (c .before .before .before .before .if3 .left), ← c .before .before .before .search .ensures .0, le-ltb _ _ (c .before .if4 .left))
+returns-5 c = c .cleared .ensures ∙ rw (le-ltb _ _ (c .before .before .before .before .before .before .if1 .left), le-ltb _ _ (c .before .before .before .before .before .if2 .left), ne-eqb _ _ (c .before .before .before .before .if3 .left), ← c .before .before .before .search .ensures .0, le-ltb _ _ (c .before .if4 .left))
 
 pub requested-spec : {M : Type 1} → statement M
 requested-spec =
@@ -57,5 +57,5 @@ requested-spec =
     search-requires
     unmoved-requires-4
     returns-4
-    accepted-requires
+    cleared-requires
     returns-5)

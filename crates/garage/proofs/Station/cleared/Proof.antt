@@ -1,0 +1,29 @@
+-- `garage::Station::cleared` meets its contract: the lift by what the search has found. Assumes nothing.
+use Rattle.garage.specs.Calls.{cleared}
+use Rattle.garage.specs.Held.{crossesDrive}
+use mathlib.Core.Bool.{_&&_}
+use mathlib.Core.Path.{sym, ap₂, _∙_}
+use borrow.Author.Needs.{needs}
+use Rattle.garage.proofs.Station.cleared.Statement.{statement}
+use Rattle.garage.proofs.Station.cleared.Tie as tie
+
+under-way-requires : tie.Need-under-way-requires
+under-way-requires c κs = search needs
+
+unmoved-requires : tie.Need-unmoved-requires
+unmoved-requires c κs = search needs
+
+returns : tie.Need-returns
+unfolding cleared crossesDrive
+returns c = c .unmoved .ensures ∙ rw (sym (ap₂ _&&_ (c .before .before .before .under-way .ensures) (c .before .before .before .before .pre .2)) ∙ c .before .if1 .taken)
+
+accepted-requires : tie.Need-accepted-requires
+accepted-requires c κs = (c .before .before .before .pre .0, c .before .before .before .pre .1)
+
+returns-2 : tie.Need-returns-2
+unfolding cleared crossesDrive
+returns-2 c = c .accepted .ensures ∙ rw (sym (ap₂ _&&_ (c .before .before .before .under-way .ensures) (c .before .before .before .before .pre .2)) ∙ c .before .if1 .left)
+
+pub cleared-spec : {M : Type 1} → statement M
+cleared-spec =
+    tie.close (tie.spec under-way-requires unmoved-requires returns accepted-requires returns-2)

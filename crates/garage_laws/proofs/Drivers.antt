@@ -1,0 +1,274 @@
+-- Drives: which events and requests are refused for one, that its end is always taken, and that nobody moves the lift under a driver.
+-- Assumes nothing.
+use mathlib.Core.Path.{_≡_, refl, sym, ap, subst, _∙_}
+use mathlib.Core.Logic.{_⊎_, inl, inr, ⊎-elim}
+use mathlib.Core.Bool.{Bool, true, false, cond, not, _&&_, _||_}
+use mathlib.Core.List.{List, [], _∷_}
+use Prim.Native.Nat.{ℕ, _+_, _≤_}
+use native.Mathlib.Omega.{arith}
+use lib.Dec.{eqb, ltb}
+use borrow.Author.Tests.{ltb-false, eqb-true, eqb-false, le-ltb, ne-eqb}
+use Rattle.bits.specs.Bits.{Bits, bit, image, digit}
+use Rattle.bits.specs.Places.{elem, share}
+use Rattle.bits.specs.Search.{least}
+use Rattle.bits.proofs.Cases.{split, clash, both, off, true→T}
+use Rattle.bits.proofs.Digits.{bit-image}
+use Rattle.bits.proofs.Sharing.{are-small, share-is}
+use Rattle.floor.specs.Floor.{lift, driveIn, driveOut}
+use Rattle.floor.specs.Tests.{holds, underWay}
+use Rattle.rules.specs.declared.Event.{Event}
+use Rattle.rules.specs.declared.Event.the-variants.{BeginIn, BeginOut, EndDone, EndNotDone}
+use Rattle.rules.specs.declared.EventReading.{EventReading}
+use Rattle.rules.specs.declared.EventReading.the-variants.{Good as Told, Bad as Untold}
+use Rattle.rules.specs.Events.{inTurn, possible, after}
+use Rattle.rules.specs.Codes.{readEvent, eventCode, most}
+use Rattle.rules.proofs.CodeLaws.{event-reads-back, event-one-form}
+use Rattle.answers.specs.declared.Answer.the-variants.{OutOfTurn}
+use Rattle.answers.specs.Answers.{numberOf}
+use Rattle.garage.specs.declared.Station.{Station}
+use Rattle.garage.specs.declared.Outcome.{Outcome}
+use Rattle.garage.specs.Held.{codeAt, heldArea, heldNext, bad, overlapsEarlier, barred, whyNot, liftIn, crossesDrive, crosses}
+use Rattle.garage.specs.Station.{fit, holding}
+use Rattle.garage.specs.Calls as station
+use Rattle.garage_laws.specs.Runs as run
+use Rattle.garage_laws.specs.Runs.{Call, said, left, calls, NoImages, driveAt}
+use Rattle.garage_laws.specs.Demands.{EventRecord, EventRefused, Readable, LiftRefused, EndTaken, Unended, NobodyMovesTheLift}
+use Rattle.garage_laws.proofs.Reach.{drive-outside, held-outside, crosses-none}
+use Rattle.garage_laws.proofs.Instance.{possibleAs, heldAs, replyAs, afterAs}
+use Rattle.garage_laws.proofs.Fits.{fit-has}
+use Rattle.garage_laws.proofs.Reasons.{why-number, least-fault}
+use Rattle.garage_laws.proofs.Calls.{either, faultless, no-fault, drivenAs, event-as, possible-turn, following, Drivable, answering-bits, event-has, event-is, event-number}
+use Rattle.garage_laws.proofs.EachCall.{unfit-is}
+use Rattle.garage_laws.proofs.Steps.{Step, refuses, opens, fails, succeeds, drives, tells, steps, parts}
+use Rattle.garage_laws.proofs.Always.{begins-has, fit-always}
+
+-- the number and the station of an outcome
+abbrev number : Outcome → ℕ
+number o = numberOf (o .answer)
+
+abbrev rest : Outcome → Station
+rest o = o .station
+
+-- ---- events that are taken
+
+pub event-record : EventRecord
+event-record s e =
+    let r = event-reads-back e in (
+      (λ z. subst (Drivable s) r (event-has s (eventCode e) z), λ d. ap number (event-is s (eventCode e) (rw r d))),
+      λ z. ap rest (event-is s (eventCode e) (event-has s (eventCode e) z)) ∙ ap (λ (v : EventReading). holding s (afterAs v (s .bits))) r,
+    )
+
+-- ---- events that are refused
+
+-- a call that is answered so is on a fit station
+fit-from : (s : Station) (c : Call) (k : ℕ) → said s c ≡ k → (k ≡ 16 → ⊥) → fit s ≡ true
+fit-from s c k e other = split (fit s) (λ f. f) (λ f. absurd (other (sym e ∙ ap number (unfit-is s f c))))
+
+-- what a fit station answers: by whether its set has the lift in an area, the event comes in turn, and is possible
+abbrev reply : Bool → Bool → Bool → ℕ
+reply b t p = cond b 6 (cond t (cond p 0 10) 31)
+
+turn-by : (b t p : Bool) → reply b t p ≡ 31 → (b ≡ false) × (t ≡ false)
+turn-by true t p e = absurd (omega arith)
+turn-by false true true e = absurd (omega arith)
+turn-by false true false e = absurd (omega arith)
+turn-by false false p e = (refl, refl)
+
+own-by : (b t p : Bool) → reply b t p ≡ 10 → (b ≡ false) × (t ≡ true) × (p ≡ false)
+own-by true t p e = absurd (omega arith)
+own-by false true true e = absurd (omega arith)
+own-by false true false e = (refl, refl, refl)
+own-by false false p e = absurd (omega arith)
+
+module _ (s : Station) (e : Event) where
+  abbrev blocked : Bool
+  blocked = liftIn (s .set) (s .count)
+
+  abbrev due : Bool
+  due = inTurn e (bit (s .bits))
+
+  abbrev can : Bool
+  can = possible e (bit (s .bits))
+
+  event-told : fit s ≡ true → said s (run.event (eventCode e)) ≡ reply blocked due can
+  event-told f = event-number s (eventCode e) f ∙ ap (λ (v : EventReading). cond blocked (heldAs v) (replyAs v (s .bits))) (event-reads-back e)
+
+pub event-refused : EventRefused
+event-refused s e = (
+  (
+    λ z. let f = fit-from s (run.event (eventCode e)) 31 z (λ k. omega arith) in let (b, t) = turn-by (blocked s e) (due s e) (can s e) (sym (event-told s e f) ∙ z) in (f, b, t),
+    λ h. event-told s e (h .0) ∙ rw (h .1, h .2),
+  ),
+  (
+    λ z. let f = fit-from s (run.event (eventCode e)) 10 z (λ k. omega arith) in let (b, t, p) = own-by (blocked s e) (due s e) (can s e) (sym (event-told s e f) ∙ z) in (f, b, t, p),
+    λ h. event-told s e (h .0) ∙ rw (h .1, h .2, h .3),
+  ),
+)
+
+-- ---- requests that are
+
+module _ (s : Station) (n : ℕ) (set : List ℕ) where
+  -- what is refused so
+  record Held : Type 0 where
+    readable : Readable s n set
+    driving : holds underWay (bit (s .bits)) ≡ true
+    lifted : liftIn set n ≡ true
+
+  -- an outcome that is told 31
+  record Said (o : Outcome) : Type 0 where
+    then : numberOf (o .answer) ≡ 31 → Held
+
+  other : {o : Outcome} → (numberOf (o .answer) ≡ 31 → ⊥) → Said o
+  other unlike = record { then = λ e. absurd (unlike e) }
+
+  -- no reason has that number
+  why-other : ltb (least n (barred set (s .bits))) n ≡ true → numberOf (whyNot set (s .bits) (least n (barred set (s .bits)))) ≡ 31 → ⊥
+  why-other t = go (why-number set (s .bits) (least n (barred set (s .bits))) (least-fault n (barred set (s .bits)) t .passes))
+    where
+      go : {k : ℕ} → (k ≡ 4) ⊎ ((20 ≤ k) × (k ≤ 28)) → k ≡ 31 → ⊥
+      go (inl h) z = omega arith
+      go (inr h) z = omega (arith, h .1)
+
+  request-said : Said (station.request s n set)
+  unfolding station.request station.requested station.cleared station.accepted crossesDrive
+  request-said =
+      either Said (fit s) (λ a.
+      either Said (ltb 0 (s .count)) (λ t. other (λ z. omega arith)) (λ b.
+      either Said (ltb most n) (λ t. other (λ z. omega arith)) (λ c.
+      either Said (eqb n 0) (λ t. other (λ z. omega arith)) (λ d.
+      either Said (ltb (least n (bad set)) n) (λ t. other (λ z. omega arith)) (λ f.
+      either Said (crossesDrive (s .bits) set n)
+      (λ x. let (u, l) = both (holds underWay (bit (s .bits))) (liftIn set n) x in
+      record {
+        then = λ z. record {
+          readable = record {
+            fits = a;
+            idle = (let l = ltb-false 0 (s .count) b in omega arith);
+            some = (let l = eqb-false n 0 d in omega arith);
+            few = ltb-false most n c;
+            good = faultless n (bad set) f;
+          };
+          driving = u;
+          lifted = l;
+        };
+      }) (λ x.
+      either Said (ltb (least n (overlapsEarlier set)) n) (λ t. other (λ z. omega arith)) (λ g.
+      either Said (ltb (least n (barred set (s .bits))) n) (λ t. other (why-other t)) (λ h.
+      other (λ z. omega arith))))))))) (λ a. other (λ z. omega arith))
+
+  request-crosses : Readable s n set → holds underWay (bit (s .bits)) ≡ true → liftIn set n ≡ true → station.request s n set ≡ station.refused s OutOfTurn
+  unfolding station.request station.requested station.cleared crossesDrive
+  request-crosses R u l = rw (
+    R .fits,
+    le-ltb 0 (s .count) (let z = R .idle in omega arith),
+    le-ltb most n (R .few),
+    ne-eqb n 0 (λ z. (let l = R .some in omega arith)),
+    no-fault n (bad set) (R .good),
+    u,
+    l,
+  )
+
+pub lift-refused : LiftRefused
+lift-refused s n set = (
+  λ z. let H = request-said s n set .then z in (H .readable, H .driving, H .lifted),
+  λ h. ap number (request-crosses s n set (h .0) (h .1) (h .2)),
+)
+
+-- ---- an end is taken
+
+module _ (s : Station) (f : fit s ≡ true) (u : holds underWay (bit (s .bits)) ≡ true) where
+  -- while a drive is under way, no instruction of the set has the lift in its area
+  lift-free : liftIn (s .set) (s .count) ≡ false
+  unfolding crossesDrive
+  lift-free = rw u at (fit-has s f .clear)
+
+  pub done-taken : said s (run.event 3) ≡ 0
+  unfolding inTurn possible
+  done-taken = event-told s EndDone f ∙ rw (lift-free, u)
+
+  pub not-done-taken : said s (run.event 4) ≡ 0
+  unfolding inTurn possible
+  not-done-taken = event-told s EndNotDone f ∙ rw (lift-free, u)
+
+pub end-taken : EndTaken
+end-taken s b l u = let f = fit-always l s (begins-has s b .0) in (done-taken (calls s l) f u, not-done-taken (calls s l) f u)
+
+-- ---- nobody moves the lift
+
+-- a drive whose bit is set is under way
+under-way-in : (f : Bits) (way : ℕ) → (way ≡ 1) ⊎ (way ≡ 2) → f (driveAt way) ≡ true → holds underWay f ≡ true
+under-way-in f way (inl w) e = let h : f driveIn ≡ true = rw w at e in split (f driveOut) (λ t. rw (h, t)) (λ t. rw (h, t))
+under-way-in f way (inr w) e = let h : f driveOut ≡ true = rw w at e in split (f driveIn) (λ t. rw (t, h)) (λ t. rw (t, h))
+
+-- as it was before: the lift's bits, and the drive
+module _ (before : Station) (way : ℕ) (w : (way ≡ 1) ⊎ (way ≡ 2)) where
+  abbrev Still : Station → Type 0
+  Still s = ((k : ℕ) → elem k lift ≡ true → bit (s .bits) k ≡ bit (before .bits) k) × (bit (s .bits) (driveAt way) ≡ true)
+
+  drive-place : elem (driveAt way) (driveIn ∷ driveOut ∷ []) ≡ true
+  drive-place = ⊎-elim (λ e. rw e) (λ e. rw e) w
+
+  -- another record that agrees on these bits
+  agrees : (s : Station) (r : ℕ) → ((k : ℕ) → elem k lift ≡ true → bit r k ≡ bit (s .bits) k) → bit r (driveAt way) ≡ bit (s .bits) (driveAt way)
+      → Still s → ((k : ℕ) → elem k lift ≡ true → bit r k ≡ bit (before .bits) k) × (bit r (driveAt way) ≡ true)
+  agrees s r a d S = ((λ k m. a k m ∙ S .0 k m), d ∙ S .1)
+
+  still-step : (s t : Station) (c : Call) → Step s c t → ((c ≡ run.event 3) ⊎ (c ≡ run.event 4) → said s c ≡ 0 → ⊥) → Still s → Still t
+  unfolding inTurn crosses
+  still-step s t c (refuses x) q S = S
+  still-step s t c (opens A) q S = S
+  still-step s t c (fails {i} x) q S = rw (answering-bits s i (s .bits)) S
+  still-step s t c (succeeds {i} p x a) q S =
+      let u = under-way-in (bit (s .bits)) way w (S .1) in
+      let o : share (heldArea (codeAt (s .set) i)) lift ≡ false = rw u at (crosses-none (s .bits) (s .set) (s .count) (fit-has s (x .0) .clear) i (x .1)) in
+      rw (answering-bits s i (following s i)) (agrees s (following s i) (away s i o) (driving s i) S)
+    where
+      away : (s : Station) (i : ℕ) → share (heldArea (codeAt (s .set) i)) lift ≡ false → (k : ℕ) → elem k lift ≡ true → bit (following s i) k ≡ bit (s .bits) k
+      away s i o k m =
+          let x = codeAt (s .set) i in
+          bit-image (heldNext x (bit (s .bits))) k (are-small lift tt k m)
+          ∙ held-outside x (s .bits) k (off _ (λ e. clash (share-is (heldArea x) lift k e m) o))
+
+      driving : (s : Station) (i : ℕ) → bit (following s i) (driveAt way) ≡ bit (s .bits) (driveAt way)
+      driving s i =
+          let x = codeAt (s .set) i in
+          bit-image (heldNext x (bit (s .bits))) (driveAt way) (are-small (driveIn ∷ driveOut ∷ []) tt (driveAt way) drive-place)
+          ∙ held-outside x (s .bits) (driveAt way) (drive-outside x (driveAt way) drive-place)
+  still-step s t c (drives {e} d) q S = absurd (unending (readEvent e) refl (d .2))
+    where
+      u : holds underWay (bit (s .bits)) ≡ true
+      u = under-way-in (bit (s .bits)) way w (S .1)
+
+      zero : said s (run.event e) ≡ 0
+      zero = rw (event-is s e d)
+
+      -- a begin does not come in turn, an end is one that was ruled out
+      unending : (v : EventReading) → readEvent e ≡ v → possibleAs v (s .bits) ≡ true → ⊥
+      unending (Told BeginIn) p t = clash (possible-turn BeginIn (bit (s .bits)) t) (rw u)
+      unending (Told BeginOut) p t = clash (possible-turn BeginOut (bit (s .bits)) t) (rw u)
+      unending (Told EndDone) p t = q (inl (ap run.event (event-one-form e EndDone p))) zero
+      unending (Told EndNotDone) p t = q (inr (ap run.event (event-one-form e EndNotDone p))) zero
+      unending Untold p t = clash t refl
+  still-step s t c tells q S = S
+
+  still-along : (l : List Call) (s : Station) → NoImages l → Unended s l → Still s → Still (calls s l)
+  still-along [] s p q S = S
+  still-along (c ∷ l) s p q S =
+      let (a, b) = parts c l p in
+      still-along l (left s c) b (q .1) (still-step s (left s c) c (steps s c a) (q .0) S)
+
+-- the lift's bits after a begin
+lift-beside : (j k : ℕ) → elem j lift ≡ false → elem k lift ≡ true → eqb j k ≡ false
+lift-beside j k o m = off (eqb j k) (λ e. clash (rw (← eqb-true j k e) at m) o)
+
+begin-still : (s : Station) (way : ℕ) (w : (way ≡ 1) ⊎ (way ≡ 2)) → said s (run.event way) ≡ 0 → Still s way w (left s (run.event way))
+unfolding after
+begin-still s way (inl w) z =
+    let e : left s (run.event way) ≡ holding s (image (after BeginIn (bit (s .bits)))) = rw w (event-record s BeginIn .1 (rw w at z)) in
+    rw (e, w) ((λ k m. bit-image (after BeginIn (bit (s .bits))) k (are-small lift tt k m) ∙ rw (lift-beside driveIn k refl m)), bit-image (after BeginIn (bit (s .bits))) driveIn (omega arith))
+begin-still s way (inr w) z =
+    let e : left s (run.event way) ≡ holding s (image (after BeginOut (bit (s .bits)))) = rw w (event-record s BeginOut .1 (rw w at z)) in
+    rw (e, w) ((λ k m. bit-image (after BeginOut (bit (s .bits))) k (are-small lift tt k m) ∙ rw (lift-beside driveOut k refl m)), bit-image (after BeginOut (bit (s .bits))) driveOut (omega arith))
+
+pub nobody-moves-the-lift : NobodyMovesTheLift
+nobody-moves-the-lift s way w z l p q = still-along s way w l (left s (run.event way)) p q (begin-still s way w z)
