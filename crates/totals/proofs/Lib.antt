@@ -1,0 +1,4 @@
+pub mod Order
+pub mod Placing
+pub mod Counting
+pub mod Steps
