@@ -115,9 +115,9 @@ module _ (c : List ℕ) (h : Happened) (none : fullAmong c (marksOf h) ≡ nothi
   )
 
   -- all are raised, and none is told
-  pub all-raised : (after : List ℕ) → after ≡ raisedAll c h → Leaves (countedIn (totalsOf c) h) after nothing
-  all-raised after e = rw (counted-is c h, none) (record { counts = e; full = refl })
+  pub all-raised : (after : List ℕ) → after ≡ raisedAll c h → Leaves (countedIn (totalsOf c) h) (totalsOf after) nothing
+  all-raised after e = rw (counted-is c h, none) (record { totals = ap totalsOf e; full = refl })
 
 -- one is told, and none is raised
-pub all-stay : (c : List ℕ) (h : Happened) (p : ℕ) → p ≡ fullAmong c (marksOf h) → (p ≡ nothing → ⊥) → Leaves (countedIn (totalsOf c) h) c p
-all-stay c h p e n = rw (counted-is c h, ← e, ne-eqb p nothing n) (record { counts = refl; full = refl })
+pub all-stay : (c : List ℕ) (h : Happened) (p : ℕ) → p ≡ fullAmong c (marksOf h) → (p ≡ nothing → ⊥) → Leaves (countedIn (totalsOf c) h) (totalsOf c) p
+all-stay c h p e n = rw (counted-is c h, ← e, ne-eqb p nothing n) (record { totals = refl; full = refl })

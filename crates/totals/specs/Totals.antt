@@ -61,6 +61,10 @@ nexts [] h vs = vs
 nexts (x ∷ xs) h [] = []
 nexts (x ∷ xs) h (v ∷ vs) = next x h v ∷ nexts xs h vs
 
+-- the totals whose numbers are these
+abbrev pub totalsOf : List ℕ → Totals
+totalsOf c = record { counts = c }
+
 -- the most that a total holds
 abbrev pub most : ℕ
 most = 4294967295
@@ -82,19 +86,16 @@ unfoldable pub countedIn : Totals → Happened → Tally
 countedIn t h =
     cond (ltb (firstFull t h) size)
     (record { totals = t; full = firstFull t h })
-    (record { totals = record { counts = nexts order h (t .counts) }; full = nothing })
+    (record { totals = totalsOf (nexts order h (t .counts)); full = nothing })
 
--- totals from the run of their numbers, and what a call that counts in them leaves: the numbers, and the place that it tells
-abbrev pub totalsOf : List ℕ → Totals
-totalsOf c = record { counts = c }
-
-pub record Leaves (c : Tally) (after : List ℕ) (place : ℕ) : Type 0 where
-  pub counts : after ≡ c .totals .counts
+-- what a call that counts in lent totals leaves: the totals, and the place that it tells
+pub record Leaves (c : Tally) (after : Totals) (place : ℕ) : Type 0 where
+  pub totals : after ≡ c .totals
   pub full : place ≡ c .full
 
 -- the totals before anything happened
 abbrev pub blank : Totals
-blank = record { counts = replicate size 0 }
+blank = totalsOf (replicate size 0)
 
 -- all that happened counted, one after another, up to the first at which a total is full
 unfoldable pub countedAll : Totals → List Happened → Tally

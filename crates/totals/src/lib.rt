@@ -169,7 +169,7 @@ fn raise_all(counts: &mut [u32; 52], m: Marks, h: Happened)
 
 // What happened counted where the totals stand, and NOTHING; or the place of the first that is full, and all stay as they were.
 pub fn count_at(counts: &mut [u32; 52], h: Happened) -> u8
-    ensures { λ p. ⌜ Leaves (countedIn (totalsOf (now (counts .entry))) h) (now (counts .exit)) p ⌝ }
+    ensures { λ p. ⌜ Leaves (countedIn (totalsOf (now (counts .entry))) h) (totalsOf (now (counts .exit))) p ⌝ }
 {
     let m = marks_of(h);
     let full = first_full(counts, m);
@@ -187,4 +187,13 @@ pub fn counted(t: Totals, h: Happened) -> Tally
     let full = count_at(&mut counts, h);
     let totals = Totals { counts };
     Tally { totals, full }
+}
+
+// What happened counted in totals that are lent, and NOTHING; or the place of the first that is full, and all stay as they were.
+pub fn count(t: &mut Totals, h: Happened) -> u8
+    ensures { λ p. ⌜ Leaves (countedIn (now (t .entry)) h) (now (t .exit)) p ⌝ }
+{
+    let c = counted(*t, h);
+    *t = c.totals;
+    c.full
 }
