@@ -2,3 +2,4 @@ pub mod Order
 pub mod Placing
 pub mod Counting
 pub mod Steps
+pub mod Promises
