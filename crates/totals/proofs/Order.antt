@@ -1,7 +1,7 @@
 -- Which total stands at which place. Assumes nothing.
 use mathlib.Core.Path.{_≡_, refl, ap, _∙_}
 use mathlib.Core.List.{List, [], _∷_, _++_, map}
-use Prim.Native.Nat.{ℕ, zero, suc, _+_, _≤_, _<_}
+use Prim.Native.Nat.{ℕ, zero, suc, _+_, _-_, _≤_, _<_}
 use native.Mathlib.Omega.{arith}
 use lib.ListN.{length, getD}
 use Rattle.bits.specs.Places.{from}
@@ -61,9 +61,22 @@ pub cars-out-at : nameAt 50 ≡ CarsOut
 unfolding nameAt order
 cars-out-at = refl
 
-pub most-cars-at : nameAt 51 ≡ MostCars
+-- it stands last, and for every place past the last
+pub most-cars-from : (p : ℕ) → 51 ≤ p → nameAt p ≡ MostCars
 unfolding nameAt order
-most-cars-at = refl
+most-cars-from p l =
+    let e : p ≡ 5 + (34 + (5 + (5 + (p - 49)))) = omega arith in
+    ap nameAt e ∙ past Kind 1 5 (34 + (5 + (5 + (p - 49)))) afterKinds ∙ past Number 0 34 (5 + (5 + (p - 49))) afterNumbers
+    ∙ past Done 1 5 (5 + (p - 49)) afterDone ∙ past Failed 1 5 (p - 49) (CarsIn ∷ CarsOut ∷ MostCars ∷ []) ∙ last (p - 49) (omega arith)
+  where
+    last : (i : ℕ) → 2 ≤ i → getD (CarsIn ∷ CarsOut ∷ MostCars ∷ []) i MostCars ≡ MostCars
+    last zero l = absurd (omega arith)
+    last (suc zero) l = absurd (omega arith)
+    last (suc (suc zero)) l = refl
+    last (suc (suc (suc i))) l = refl
+
+pub most-cars-at : nameAt 51 ≡ MostCars
+most-cars-at = most-cars-from 51 (omega arith)
 
 -- the totals after what happened, one by one
 pub nexts-length : (xs : List Name) (h : Happened) (vs : List ℕ) → length (nexts xs h vs) ≡ length vs

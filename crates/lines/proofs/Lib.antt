@@ -1,0 +1,4 @@
+pub mod Laying
+pub mod Digits
+pub mod Names
+pub mod Running
