@@ -80,7 +80,11 @@ module _ (f : ℕ → List ℕ) (test : ℕ → Bool) where
 unfoldable pub textTo : List ℕ → ℕ → List ℕ
 textTo c n = joined (λ p. lineOf (nameAt p) (getD c p 0)) (λ p. printed (nameAt p)) 0 n
 
-text-more : (c : List ℕ) (n : ℕ) → textTo c (suc n) ≡ textTo c n ++ lineIf n (getD c n 0)
+pub text-none : (c : List ℕ) → textTo c 0 ≡ []
+unfolding textTo kept
+text-none c = refl
+
+pub text-more : (c : List ℕ) (n : ℕ) → textTo c (suc n) ≡ textTo c n ++ lineIf n (getD c n 0)
 unfolding textTo lineIf
 text-more c n =
     let e : 0 + n ≡ n = omega arith in
