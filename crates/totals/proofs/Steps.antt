@@ -1,5 +1,5 @@
 -- What the code's steps need of the marks: that each total has room when it is raised, and which place is told. Assumes nothing.
-use mathlib.Core.Path.{_≡_, refl, sym, ap, _∙_}
+use mathlib.Core.Path.{_≡_, refl, ap, ap₂, _∙_}
 use mathlib.Core.Bool.{Bool, true, false, cond, not, _&&_, _||_}
 use mathlib.Core.List.{List}
 use Prim.Native.Nat.{ℕ, _+_, _^_, _≤_, _<_}
@@ -12,7 +12,8 @@ use Rattle.bits.proofs.Cases.{split, clash, off, and-intro}
 use Rattle.totals.specs.declared.Mark.{Mark}
 use Rattle.totals.specs.declared.Marks.{Marks}
 use Rattle.totals.specs.declared.Happened.{Happened}
-use Rattle.totals.specs.Totals.{most, nothing, countedIn, totalsOf, Leaves}
+use Rattle.totals.specs.declared.Tally.{Tally}
+use Rattle.totals.specs.Totals.{most, nothing, countedIn, totalsOf, Holds}
 use Rattle.totals.specs.Private.{marksOf, filled, fills, fullAmong, raised, raisedAll}
 use Rattle.totals.proofs.Placing.{in-kinds, in-answers, in-results, results-low, results-high, in-drives, marks-within}
 use Rattle.totals.proofs.Counting.{counted-is}
@@ -115,9 +116,16 @@ module _ (c : List ℕ) (h : Happened) (none : fullAmong c (marksOf h) ≡ nothi
   )
 
   -- all are raised, and none is told
-  pub all-raised : (after : List ℕ) → after ≡ raisedAll c h → Leaves (countedIn (totalsOf c) h) (totalsOf after) nothing
-  all-raised after e = rw (counted-is c h, none) (record { totals = ap totalsOf e; full = refl })
+  pub all-raised : (after : List ℕ) → after ≡ raisedAll c h → Holds (countedIn (totalsOf c) h) nothing after
+  all-raised after e = rw (counted-is c h, none) (record { full = refl; counts = e })
 
 -- one is told, and none is raised
-pub all-stay : (c : List ℕ) (h : Happened) (p : ℕ) → p ≡ fullAmong c (marksOf h) → (p ≡ nothing → ⊥) → Leaves (countedIn (totalsOf c) h) (totalsOf c) p
-all-stay c h p e n = rw (counted-is c h, ← e, ne-eqb p nothing n) (record { totals = refl; full = refl })
+pub all-stay : (c : List ℕ) (h : Happened) (p : ℕ) → p ≡ fullAmong c (marksOf h) → (p ≡ nothing → ⊥) → Holds (countedIn (totalsOf c) h) p c
+all-stay c h p e n = rw (counted-is c h, ← e, ne-eqb p nothing n) (record { full = refl; counts = refl })
+
+-- the totals and the place that are held
+pub as-held : (c : Tally) (place : ℕ) (after : List ℕ) → Holds c place after → _≡_ {A = Tally} (record { totals = totalsOf after; full = place }) c
+as-held c place after x = ap₂ made (x .counts) (x .full)
+  where
+    made : List ℕ → ℕ → Tally
+    made l p = record { totals = totalsOf l; full = p }

@@ -88,10 +88,15 @@ countedIn t h =
     (record { totals = t; full = firstFull t h })
     (record { totals = totalsOf (nexts order h (t .counts)); full = nothing })
 
--- what a call that counts in lent totals leaves: the totals, and the place that it tells
-pub record Leaves (c : Tally) (after : Totals) (place : ℕ) : Type 0 where
-  pub totals : after ≡ c .totals
+-- what a call that counts in lent totals leaves: the place that it tells, and the totals
+pub record Leaves (c : Tally) (place : ℕ) (after : Totals) : Type 0 where
   pub full : place ≡ c .full
+  pub totals : after ≡ c .totals
+
+-- the same where the numbers alone are lent
+pub record Holds (c : Tally) (place : ℕ) (after : List ℕ) : Type 0 where
+  pub full : place ≡ c .full
+  pub counts : after ≡ c .totals .counts
 
 -- the totals before anything happened
 abbrev pub blank : Totals

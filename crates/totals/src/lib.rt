@@ -2,7 +2,7 @@
 ghost use mathlib.Core.Path.{_≡_};
 ghost use mathlib.Core.Bool.{false};
 ghost use Prim.Native.Nat.{_+_, _<_, _≤_, max};
-ghost use Rattle.totals.specs.Totals.{countedIn, nothing, totalsOf, Leaves};
+ghost use Rattle.totals.specs.Totals.{countedIn, nothing, totalsOf, Leaves, Holds};
 ghost use Rattle.totals.specs.Private.{markOf, resultsFrom, marksOf, Within, filled, fills, fullAmong, raised, withCars, raisedAll};
 
 // The most that a total holds.
@@ -169,7 +169,7 @@ fn raise_all(counts: &mut [u32; 52], m: Marks, h: Happened)
 
 // What happened counted where the totals stand, and NOTHING; or the place of the first that is full, and all stay as they were.
 pub fn count_at(counts: &mut [u32; 52], h: Happened) -> u8
-    ensures { λ p. ⌜ Leaves (countedIn (totalsOf (now (counts .entry))) h) (totalsOf (now (counts .exit))) p ⌝ }
+    ensures { λ p. ⌜ Holds (countedIn (totalsOf (now (counts .entry))) h) p (now (counts .exit)) ⌝ }
 {
     let m = marks_of(h);
     let full = first_full(counts, m);
@@ -191,7 +191,7 @@ pub fn counted(t: Totals, h: Happened) -> Tally
 
 // What happened counted in totals that are lent, and NOTHING; or the place of the first that is full, and all stay as they were.
 pub fn count(t: &mut Totals, h: Happened) -> u8
-    ensures { λ p. ⌜ Leaves (countedIn (now (t .entry)) h) (now (t .exit)) p ⌝ }
+    ensures { λ p. ⌜ Leaves (countedIn (now (t .entry)) h) p (now (t .exit)) ⌝ }
 {
     let c = counted(*t, h);
     *t = c.totals;

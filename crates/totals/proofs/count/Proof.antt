@@ -97,7 +97,7 @@ module _ {M : Type 1} (𝓤 : URA M) (H : Heap 𝓤) (A : Atoms 𝓤) (W : Given
   exits r e fits =
       qed W (‵ (fobs γ (T.the-row .coded .code (r .totals))) ∷ ‵ (fbor κ (Body (mem T.the-row) b o γ)) ∷ ‵ (flft κ q) ∷ []) ∵
       suffices ! _ (ends-at 𝓤 H A f.ended stayed (f.clauses 𝓤 H A at-mem run) W (((κ, tt), (q, tt), tt, x, at), tt) (vint w8 (r .full)) (r .full) (r .totals, (tt, tt)) (tt, (tt, tt))) $
-      says ! (record { totals = ap (λ (c : Tally). c .totals) e; full = ap (λ (c : Tally). c .full) e }) $ nothing ! $ move ! (3 ∷ 0 ∷ []) $ join ! $
+      says ! (record { full = ap (λ (c : Tally). c .full) e; totals = ap (λ (c : Tally). c .totals) e }) $ nothing ! $ move ! (3 ∷ 0 ∷ []) $ join ! $
       frame ! $ feqI ! (List Val) (vptr b o ∷ []) (vptr b o ∷ []) refl $ fjoin3 ! $ nothing ! $ owned ! S.the-row (Is S.the-row) ((LL.makes S.the-type S′.the-plain) 𝓤 H A) s _ s-is $ fjoin ! $ move ! (1 ∷ 0 ∷ []) $ fjoin ! $
       owned ! u8 (Is u8) (uint-makes 𝓤 H A W w8) (r .full) _ (refl, fits) $ move ! (1 ∷ 0 ∷ []) $ done !
 
