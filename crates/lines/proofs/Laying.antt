@@ -1,12 +1,12 @@
 -- Text laid piece after piece is the text laid at once. Assumes nothing.
 use mathlib.Core.Path.{_≡_, refl, sym, ap, ap₂, _∙_}
-use Prim.Native.Nat.{ℕ, suc, _+_, _≤_, _<_}
-use mathlib.Core.List.{List, [], _∷_, _++_, append-assoc, append-nil}
+use Prim.Native.Nat.{ℕ, _+_, _≤_, _<_}
+use mathlib.Core.List.{List, _++_, append-assoc}
 use native.Mathlib.Omega.{arith}
 use native.Mathlib.Numerals.{add-one}
 use native.Mathlib.Nat.{add-assoc}
-use lib.ListN.{length, take, drop, set, getD, length-append, length-drop}
-use lib.Seq.{paste, paste-zero, paste-suc, length-paste, take-length, length-take-le, take-at, drop-append-add, drop-drop}
+use lib.ListN.{length, take, drop, set, getD, length-append}
+use lib.Seq.{paste, paste-suc, length-paste, take-length, length-take-le, take-at, drop-append-add, drop-drop}
 use Rattle.lines.specs.Private.{laid, Laid}
 
 -- a copy of all of s

@@ -1,10 +1,9 @@
 -- The name of the total at each place, as the code writes it. Assumes nothing.
 use mathlib.Core.Path.{_≡_, refl, ap, _∙_}
 use mathlib.Core.Bool.{true}
-use mathlib.Core.List.{List, _++_}
+use mathlib.Core.List.{_++_}
 use mathlib.Core.Logic.{_⊎_, inl, inr}
 use Prim.Native.Nat.{ℕ, _+_, _-_, _≤_, _<_}
-use Prim.Native.String.{String}
 use native.Mathlib.Omega.{arith}
 use lib.Dec.{T}
 use lib.ListN.{length, length-append}
@@ -13,7 +12,6 @@ use Rattle.bits.proofs.Cases.{T→true}
 use Rattle.bits.proofs.Search.{each, lt-or-ge}
 use Rattle.answers.specs.Answers.{inTable}
 use Rattle.totals.specs.Totals.{Name, order, nameAt}
-use Rattle.totals.specs.Totals.Name.{Kind, Number, Done, Failed, CarsIn, CarsOut, MostCars}
 use Rattle.totals.proofs.Order.{kind-at, number-at, done-at, failed-at, cars-in-at, cars-out-at, most-cars-from}
 use Rattle.lines.specs.Bytes.{ascii, decimal}
 use Rattle.lines.specs.Lines.{nameOf, lineOf, printed}

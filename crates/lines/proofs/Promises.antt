@@ -15,10 +15,10 @@ use Rattle.bits.proofs.Search.{each}
 use Rattle.bits.proofs.Lists.{same}
 use Rattle.answers.specs.Answers.{OfTable, inTable}
 use Rattle.answers.proofs.Promises.{table-exactly, number-byte}
-use Rattle.totals.specs.Totals.{Name, order, size, nameAt, most, nothing, totalsOf}
+use Rattle.totals.specs.Totals.{Name, order, nameAt, most, nothing}
 use Rattle.totals.specs.Totals.Name.{Number}
 use Rattle.totals.proofs.Order.{number-at}
-use Rattle.lines.specs.Bytes.{ascii, decimalTo, decimal}
+use Rattle.lines.specs.Bytes.{ascii, decimalTo}
 use Rattle.lines.specs.Lines.{nameOf, fullLine, kept, inForce, linesOf, reportOf}
 use Rattle.lines.specs.Private.{lineIf}
 use Rattle.lines.specs.Promises.{NumbersDiffer, NamesDiffer, NumbersPlaced, AsManyLines, ReportFits}

@@ -16,10 +16,9 @@ use Rattle.bits.proofs.Cases.{T→true}
 use Rattle.bits.proofs.Search.{each, lt-or-ge}
 use Rattle.totals.specs.declared.Totals.{Totals}
 use Rattle.totals.specs.Totals.{order, nameAt, nothing, totalsOf}
-use Rattle.totals.specs.Totals.Name.{MostCars}
 use Rattle.totals.proofs.Order.{most-cars-from}
 use Rattle.lines.specs.declared.Text.{Text}
-use Rattle.lines.specs.Bytes.{ascii, decimalTo, decimal}
+use Rattle.lines.specs.Bytes.{ascii, decimalTo}
 use Rattle.lines.specs.Lines.{nameOf, lineOf, printed, fullLine, kept, inForce, linesOf, reportOf, textOf}
 use Rattle.lines.specs.Private.{laid, Laid, lineIf}
 use Rattle.lines.proofs.Digits.{decimal-short}

@@ -9,21 +9,19 @@ use native.Mathlib.Omega.{arith}
 use lib.Dec.{T, eqb, leb, ltb}
 use lib.ListN.{length, getD, set, length-set}
 use lib.Seq.{ext-getD, getD-set-same, getD-set-other}
-use borrow.Author.Tests.{eqb-true, eqb-false, eq-eqb, ne-eqb, lt-ltb, le-ltb}
+use borrow.Author.Tests.{eqb-true, eqb-false, eq-eqb, ne-eqb, lt-ltb}
 use Rattle.bits.specs.Bits.{digit}
 use Rattle.bits.specs.Search.{every, least}
-use Rattle.bits.proofs.Cases.{split, clash, both, and-intro}
+use Rattle.bits.proofs.Cases.{split, both}
 use Rattle.bits.proofs.Search.{lt-or-ge, each}
 use Rattle.bits.proofs.Least.{least-is, least-none}
 use Rattle.totals.specs.declared.Mark.{Mark}
-use Rattle.totals.specs.declared.Totals.{Totals}
 use Rattle.totals.specs.declared.Happened.{Happened}
-use Rattle.totals.specs.declared.Tally.{Tally}
-use Rattle.totals.specs.Totals.{Name, order, size, nameAt, counts, next, nexts, most, nothing, full, firstFull, countedIn, totalsOf}
+use Rattle.totals.specs.Totals.{Name, order, nameAt, counts, next, nexts, most, nothing, full, countedIn, totalsOf}
 use Rattle.totals.specs.Totals.Name.{Kind, Number, Done, Failed, CarsIn, CarsOut, MostCars}
 use Rattle.totals.specs.Private.{marksOf, fills, fullAmong, raised, withCars, raisedAll}
 use Rattle.totals.proofs.Order.{most-cars-at, nexts-length, after-at, after-beyond}
-use Rattle.totals.proofs.Placing.{hits, Among, misses, in-kinds, in-answers, in-results, results-low, results-high, in-drives, marks-within, hit, counts-hit}
+use Rattle.totals.proofs.Placing.{hits, misses, in-kinds, in-answers, in-results, results-low, results-high, in-drives, marks-within, hit, counts-hit}
 
 -- ---- what is added
 

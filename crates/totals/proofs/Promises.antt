@@ -1,16 +1,16 @@
 -- The promises of specs/Promises.antt: what the totals are after some happenings, from what they were before the last. Assumes nothing.
 use mathlib.Core.Path.{_≡_, refl, sym, ap, _∙_}
-use mathlib.Core.Bool.{Bool, true, false, cond, _&&_}
+use mathlib.Core.Bool.{Bool, true, false, _&&_}
 use mathlib.Core.List.{List, [], _∷_, _++_, append-assoc, append-nil}
-use mathlib.Core.Logic.{_↔_, _⊎_, inl, inr}
-use Prim.Native.Nat.{ℕ, suc, _+_, _≤_, _<_, max}
+use mathlib.Core.Logic.{_⊎_, inl, inr}
+use Prim.Native.Nat.{ℕ, _+_, _≤_, _<_, max}
 use native.Mathlib.Omega.{arith}
-use lib.Dec.{eqb, leb, ltb}
+use lib.Dec.{leb, ltb}
 use lib.ListN.{length, getD, getD-replicate}
-use borrow.Author.Tests.{eqb-true, eqb-false, ne-eqb, ltb-true, ltb-false, lt-ltb, le-ltb, leb-true, leb-false, le-leb}
+use borrow.Author.Tests.{ne-eqb, ltb-true, ltb-false, lt-ltb, le-ltb, leb-true, leb-false}
 use Rattle.bits.specs.Bits.{digit}
-use Rattle.bits.specs.Search.{least, IsLeast}
-use Rattle.bits.proofs.Cases.{split, clash}
+use Rattle.bits.specs.Search.{IsLeast}
+use Rattle.bits.proofs.Cases.{split}
 use Rattle.bits.proofs.Search.{lt-or-ge}
 use Rattle.bits.proofs.Least.{least-le, least-below, found-least}
 use Rattle.totals.specs.declared.Totals.{Totals}

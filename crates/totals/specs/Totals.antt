@@ -1,7 +1,7 @@
 -- The report's totals: their names in the report's order, which messages count under each, and the totals after one message and after
 -- many. Assumes nothing.
 use mathlib.Core.Path.{_≡_}
-use mathlib.Core.Bool.{Bool, true, false, cond, not, _&&_}
+use mathlib.Core.Bool.{Bool, false, cond, not, _&&_}
 use mathlib.Core.List.{List, [], _∷_, _++_, map}
 use Prim.Native.Nat.{ℕ, _+_, max}
 use lib.Dec.{eqb, leb, ltb}

@@ -1,5 +1,5 @@
 use borrow.Author.Needs.{needs}
-use Rattle.totals.specs.Private.{marksOf, raisedAll}
+use Rattle.totals.specs.Private.{raisedAll}
 use Rattle.totals.proofs.Steps.{ready-1, ready-2, ready-3, ready-4}
 use Rattle.totals.proofs.raise_all.Statement.{statement}
 use Rattle.totals.proofs.raise_all.Tie as tie
