@@ -49,7 +49,8 @@ digits-are (suc (suc j)) n x =
     let less : suc (suc j) - 1 ≡ suc j = omega arith in
     let least : suc j - 1 ≡ j = omega arith in
     let low : 10 ^ suc j ≤ n = rw less at (x .2 (omega arith)) in
-    ap₂ _++_ (digits-are (suc j) (n / 10) (omega arith, omega (arith, x .1), λ _. rw least (omega arith))) (glyph-last n) ∙ sym (decimal-more n (omega (arith, ten j)))
+    ap₂ _++_ (digits-are (suc j) (n / 10) (omega arith, omega (arith, x .1), λ _. rw least (omega arith))) (glyph-last n)
+    ∙ sym (decimal-more n (omega (arith, ten j)))
   where
     ten : (j : ℕ) → 10 ≤ 10 ^ suc j
     ten j = pow-le-pow-right {n = 10} (omega arith) {i = 1} {j = suc j} (omega arith)
@@ -83,7 +84,8 @@ reads zero n l = absurd (omega arith)
 reads (suc f) n l = split (ltb n 10)
     (λ t. let b = ltb-true n 10 t in ap (read 0) (decimal-small n b) ∙ omega arith)
     (λ t. let b = ltb-false n 10 t in
-    ap (read 0) (decimal-more n b) ∙ read-last 0 (decimal (n / 10)) (48 + n % 10) ∙ ap (λ (m : ℕ). m * 10 + (48 + n % 10 - 48)) (reads f (n / 10) (omega arith)) ∙ omega arith)
+    ap (read 0) (decimal-more n b) ∙ read-last 0 (decimal (n / 10)) (48 + n % 10)
+    ∙ ap (λ (m : ℕ). m * 10 + (48 + n % 10 - 48)) (reads f (n / 10) (omega arith)) ∙ omega arith)
 
 pub decimal-once : (m n : ℕ) → decimal m ≡ decimal n → m ≡ n
 decimal-once m n e = sym (reads (suc m) m (omega arith)) ∙ ap (read 0) e ∙ reads (suc n) n (omega arith)

@@ -14,7 +14,8 @@ pub laid-paste : (d : List ℕ) (at : ℕ) (s : List ℕ) → paste d at s (leng
 unfolding laid
 laid-paste d at s = rw take-length refl
 
-pub paste-turn : (d : List ℕ) (at : ℕ) (s : List ℕ) (j : ℕ) → at + length s ≤ length d → j < length s → set (paste d at s j) (at + j) (getD s j 0) ≡ paste d at s (j + 1)
+pub paste-turn : (d : List ℕ) (at : ℕ) (s : List ℕ) (j : ℕ) → at + length s ≤ length d → j < length s
+    → set (paste d at s j) (at + j) (getD s j 0) ≡ paste d at s (j + 1)
 paste-turn d at s j h k = rw add-one (paste-suc d at s j 0 (omega arith) k)
 
 pub length-laid : (d : List ℕ) (at : ℕ) (s : List ℕ) → at + length s ≤ length d → length (laid d at s) ≡ length d
@@ -30,7 +31,8 @@ laid-laid d at a b h =
     let e : length p ≡ at + length a = head-length d at a h in
     let t : take (at + length a) (p ++ drop (at + length a) d) ≡ p = take-at p (drop (at + length a) d) (at + length a) e in
     let r : drop (at + length a + length b) (p ++ drop (at + length a) d) ≡ drop (at + length (a ++ b)) d =
-    ap (λ (n : ℕ). drop (n + length b) (p ++ drop (at + length a) d)) (sym e) ∙ drop-append-add p (drop (at + length a) d) (length b) ∙ drop-drop (length b) (at + length a) d
+    ap (λ (n : ℕ). drop (n + length b) (p ++ drop (at + length a) d)) (sym e) ∙ drop-append-add p (drop (at + length a) d) (length b)
+    ∙ drop-drop (length b) (at + length a) d
     ∙ ap (λ (n : ℕ). drop n d) (add-assoc at (length a) (length b) ∙ ap (λ (n : ℕ). at + n) (sym (length-append a b))) in
     ap₂ (λ (x y : List ℕ). x ++ b ++ y) t r ∙ ap (λ (x : List ℕ). x ++ drop (at + length (a ++ b)) d) (append-assoc (take at d) a b)
 

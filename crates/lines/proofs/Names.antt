@@ -26,7 +26,8 @@ at p q e f = ap nameAt e ∙ f
 
 pub answer-name : (p : ℕ) → 5 ≤ p → p < 39 → ascii "answer-" ++ decimal (p - 5) ≡ nameOf (nameAt p)
 unfolding nameOf
-answer-name p l h = rw (at p (5 + (p - 5)) (omega arith) (number-at (p - 5) (omega arith))) (ap (λ (n : ℕ). ascii "answer-" ++ decimal n) (omega arith))
+answer-name p l h =
+    rw (at p (5 + (p - 5)) (omega arith) (number-at (p - 5) (omega arith))) (ap (λ (n : ℕ). ascii "answer-" ++ decimal n) (omega arith))
 
 pub done-name : (p : ℕ) → 39 ≤ p → p < 44 → ascii "done-" ++ decimal (p - 38) ≡ nameOf (nameAt p)
 unfolding nameOf
@@ -34,7 +35,8 @@ done-name p l h = rw (at p (39 + (p - 39)) (omega arith) (done-at (p - 39) (omeg
 
 pub failed-name : (p : ℕ) → 44 ≤ p → p < 49 → ascii "failed-" ++ decimal (p - 43) ≡ nameOf (nameAt p)
 unfolding nameOf
-failed-name p l h = rw (at p (44 + (p - 44)) (omega arith) (failed-at (p - 44) (omega arith))) (ap (λ (n : ℕ). ascii "failed-" ++ decimal n) (omega arith))
+failed-name p l h =
+    rw (at p (44 + (p - 44)) (omega arith) (failed-at (p - 44) (omega arith))) (ap (λ (n : ℕ). ascii "failed-" ++ decimal n) (omega arith))
 
 pub cars-in-name : (p : ℕ) → p ≡ 49 → ascii "cars-in" ≡ nameOf (nameAt p)
 unfolding nameOf
@@ -70,5 +72,6 @@ pub printed-past : (p : ℕ) → 39 ≤ p → printed (nameAt p) ≡ true
 printed-past p l = go (lt-or-ge p 52)
   where
     go : (p < 52) ⊎ (52 ≤ p) → printed (nameAt p) ≡ true
-    go (inl h) = ap (λ (q : ℕ). printed (nameAt q)) (omega arith) ∙ T→true _ (each 13 (λ i. printed (nameAt (39 + i))) all-printed (p - 39) (omega arith))
+    go (inl h) = ap (λ (q : ℕ). printed (nameAt q)) (omega arith)
+        ∙ T→true _ (each 13 (λ i. printed (nameAt (39 + i))) all-printed (p - 39) (omega arith))
     go (inr h) = rw (most-cars-from p (omega arith)) refl

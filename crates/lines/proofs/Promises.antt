@@ -50,7 +50,8 @@ apart k l e = go (same k l) (subst (λ m. T (same k m)) e (same-refl k))
 
 pub names-differ : NamesDiffer
 names-differ p q l m e = split (eqb p q) (eqb-true p q)
-    (λ t. absurd (apart (nameOf (nameAt p)) (nameOf (nameAt q)) e (rw t at (each 52 (differ p) (each 52 (λ p. every 52 (differ p)) all-differ p l) q m))))
+    (λ t. absurd (apart (nameOf (nameAt p)) (nameOf (nameAt q)) e
+    (rw t at (each 52 (differ p) (each 52 (λ p. every 52 (differ p)) all-differ p l) q m))))
 
 -- ---- numbers
 
@@ -65,7 +66,9 @@ numbers-placed n e =
     (omega arith, number-at n l ∙ ap Number z)
   where
     placed : OfTable n → n < 34
-    placed (a, i) = ltb-true n 34 (T→true (ltb n 34) (rw e at (each 256 (λ n. not (inTable n) || ltb n 34) all-placed n (omega (arith, number-byte a)))))
+    placed (a, i) =
+        let tried = each 256 (λ n. not (inTable n) || ltb n 34) all-placed n (omega (arith, number-byte a)) in
+        ltb-true n 34 (T→true (ltb n 34) (rw e at tried))
 
 -- ---- lines
 

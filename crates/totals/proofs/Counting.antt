@@ -75,8 +75,12 @@ next-count h p v l = go (nameAt p) (each 51 (λ p. isCount (nameAt p)) all-count
 
 module _ (h : Happened) where
   -- no two marks add at one place
-  sum-hit : (p : ℕ) → digit (hits (marksOf h .kind) p) + digit (hits (marksOf h .answer) p) + digit (hits (marksOf h .result) p) + digit (hits (marksOf h .drive) p) ≡ digit (hit h p)
-  sum-hit p = split (hits (marksOf h .kind) p) by-kind (λ x. rw x (split (hits (marksOf h .answer) p) by-answer (λ y. rw y (split (hits (marksOf h .result) p) by-result (λ z. rw z (alone (digit (hits (marksOf h .drive) p))))))))
+  sum-hit : (p : ℕ) → digit (hits (marksOf h .kind) p) + digit (hits (marksOf h .answer) p) + digit (hits (marksOf h .result) p)
+      + digit (hits (marksOf h .drive) p) ≡ digit (hit h p)
+  sum-hit p =
+      split (hits (marksOf h .kind) p) by-kind (λ x. rw x
+      (split (hits (marksOf h .answer) p) by-answer (λ y. rw y
+      (split (hits (marksOf h .result) p) by-result (λ z. rw z (alone (digit (hits (marksOf h .drive) p))))))))
     where
       alone : (n : ℕ) → 0 + n ≡ n
       alone n = omega arith
@@ -94,7 +98,8 @@ module _ (h : Happened) where
       drive-off l = misses p (in-drives h) (λ e. omega (arith, in-drives h .low))
 
       by-kind : hits (marksOf h .kind) p ≡ true
-          → digit (hits (marksOf h .kind) p) + digit (hits (marksOf h .answer) p) + digit (hits (marksOf h .result) p) + digit (hits (marksOf h .drive) p) ≡ digit (hit h p)
+          → digit (hits (marksOf h .kind) p) + digit (hits (marksOf h .answer) p) + digit (hits (marksOf h .result) p)
+          + digit (hits (marksOf h .drive) p) ≡ digit (hit h p)
       by-kind x =
           let l : p < 5 = omega (arith, at (marksOf h .kind) x, in-kinds h .high) in
           rw (x, answer-off l, result-off (omega arith), drive-off (omega arith)) refl
@@ -193,7 +198,12 @@ first-of : (p : ℕ → Bool) (k a r d : ℕ) (x y z w : Bool) → k < a → a <
     → least 52 p ≡ cond x k (cond y a (cond z r (cond w d 52)))
 first-of p k a r d true y z w ka ar rd d52 e =
     least-is 52 k p (omega arith)
-    (λ j l. e j (omega arith) ∙ simp (ne-eqb k j (λ q. omega arith), ne-eqb a j (λ q. omega arith), ne-eqb r j (λ q. omega arith), ne-eqb d j (λ q. omega arith)))
+    (λ j l. e j (omega arith) ∙ simp (
+      ne-eqb k j (λ q. omega arith),
+      ne-eqb a j (λ q. omega arith),
+      ne-eqb r j (λ q. omega arith),
+      ne-eqb d j (λ q. omega arith),
+    ))
     (e k (omega arith) ∙ simp (eq-eqb k k refl))
 first-of p k a r d false true z w ka ar rd d52 e =
     least-is 52 a p (omega arith)
@@ -204,7 +214,8 @@ first-of p k a r d false false true w ka ar rd d52 e =
     (λ j l. e j (omega arith) ∙ simp (and-false, ne-eqb r j (λ q. omega arith), ne-eqb d j (λ q. omega arith)))
     (e r (omega arith) ∙ simp (and-false, eq-eqb r r refl))
 first-of p k a r d false false false true ka ar rd d52 e =
-    least-is 52 d p (omega arith) (λ j l. e j (omega arith) ∙ simp (and-false, ne-eqb d j (λ q. omega arith))) (e d (omega arith) ∙ simp (and-false, eq-eqb d d refl))
+    least-is 52 d p (omega arith) (λ j l. e j (omega arith) ∙ simp (and-false, ne-eqb d j (λ q. omega arith)))
+    (e d (omega arith) ∙ simp (and-false, eq-eqb d d refl))
 first-of p k a r d false false false false ka ar rd d52 e = least-none 52 p (λ j l. e j l ∙ simp and-false)
 
 -- the place that is told of them, and what goes with it
@@ -227,11 +238,14 @@ module _ (c : List ℕ) (h : Happened) where
   filled-at m j = split (eqb (m .at) j) (λ t. let e : m .at ≡ j = eqb-true (m .at) j t in rw (t, e) refl) (λ t. rw t refl)
 
   full-is : (j : ℕ) → j < 52 → full (totalsOf c) h j ≡ (eqb (marksOf h .kind .at) j && fills c (marksOf h .kind)
-      || (eqb (marksOf h .answer .at) j && fills c (marksOf h .answer) || (eqb (marksOf h .result .at) j && fills c (marksOf h .result) || eqb (marksOf h .drive .at) j && fills c (marksOf h .drive))))
+      || (eqb (marksOf h .answer .at) j && fills c (marksOf h .answer) || (eqb (marksOf h .result .at) j && fills c (marksOf h .result)
+      || eqb (marksOf h .drive .at) j && fills c (marksOf h .drive))))
   full-is j l =
       ap (λ b. b && leb most (getD c j 0)) (counts-hit h j l)
-      ∙ spread (hits (marksOf h .kind) j) (hits (marksOf h .answer) j) (hits (marksOf h .result) j) (hits (marksOf h .drive) j) (leb most (getD c j 0))
-      ∙ ap₂ _||_ (filled-at (marksOf h .kind) j) (ap₂ _||_ (filled-at (marksOf h .answer) j) (ap₂ _||_ (filled-at (marksOf h .result) j) (filled-at (marksOf h .drive) j)))
+      ∙ spread (hits (marksOf h .kind) j) (hits (marksOf h .answer) j) (hits (marksOf h .result) j) (hits (marksOf h .drive) j)
+      (leb most (getD c j 0))
+      ∙ ap₂ _||_ (filled-at (marksOf h .kind) j) (ap₂ _||_ (filled-at (marksOf h .answer) j) (ap₂ _||_ (filled-at (marksOf h .result) j)
+      (filled-at (marksOf h .drive) j)))
 
   -- the first place that is told, and the totals with it
   pub counted-is : countedIn (totalsOf c) h ≡ cond (eqb (fullAmong c (marksOf h)) nothing)
@@ -242,7 +256,8 @@ module _ (c : List ℕ) (h : Happened) where
         raised-all h c,
         first-of (full (totalsOf c) h) (marksOf h .kind .at) (marksOf h .answer .at) (marksOf h .result .at) (marksOf h .drive .at)
             (fills c (marksOf h .kind)) (fills c (marksOf h .answer)) (fills c (marksOf h .result)) (fills c (marksOf h .drive))
-            (omega (arith, in-kinds h .high, in-answers h .low)) (omega (arith, in-answers h .high, results-low h)) (omega (arith, results-high h, in-drives h .low)) (omega (arith, in-drives h .high)) full-is,
+            (omega (arith, in-kinds h .high, in-answers h .low)) (omega (arith, in-answers h .high, results-low h))
+            (omega (arith, results-high h, in-drives h .low)) (omega (arith, in-drives h .high)) full-is,
       )
       (told-of (marksOf h .kind .at) (marksOf h .answer .at) (marksOf h .result .at) (marksOf h .drive .at)
       (fills c (marksOf h .kind)) (fills c (marksOf h .answer)) (fills c (marksOf h .result)) (fills c (marksOf h .drive))

@@ -134,31 +134,64 @@ module _ (h : Happened) where
   by-kind : (i : ℕ) → i < 5 → Hit i
   unfolding marksOf
   by-kind i l =
-      rw (kind-at i l, answer-misses i (λ e. omega (arith, in-answers .low)), result-misses i (λ e. omega (arith, results-low)), drive-misses i (omega arith), or-false)
+      rw (
+        kind-at i l,
+        answer-misses i (λ e. omega (arith, in-answers .low)),
+        result-misses i (λ e. omega (arith, results-low)),
+        drive-misses i (omega arith),
+        or-false,
+      )
       (hits-at 0 5 1 (h .kind) (omega arith) i i l (omega arith))
 
   by-number : (i q : ℕ) → i < 34 → q ≡ 5 + i → Hit q
   unfolding marksOf
   by-number i q l e =
-      rw (e, number-at i l, kind-misses (5 + i) (omega arith), result-misses (5 + i) (λ e. omega (arith, results-low)), drive-misses (5 + i) (omega arith), or-false)
+      rw (
+        e,
+        number-at i l,
+        kind-misses (5 + i) (omega arith),
+        result-misses (5 + i) (λ e. omega (arith, results-low)),
+        drive-misses (5 + i) (omega arith),
+        or-false,
+      )
       (hits-at 5 34 0 (h .answer) (omega arith) i (5 + i) l refl)
 
   by-done : (i q : ℕ) → i < 5 → q ≡ 39 + i → Hit q
   unfolding marksOf
   by-done i q l e =
-      rw (e, done-at i l, kind-misses (39 + i) (omega arith), answer-misses (39 + i) (λ e. omega (arith, in-answers .high)), drive-misses (39 + i) (omega arith), or-false)
+      rw (
+        e,
+        done-at i l,
+        kind-misses (39 + i) (omega arith),
+        answer-misses (39 + i) (λ e. omega (arith, in-answers .high)),
+        drive-misses (39 + i) (omega arith),
+        or-false,
+      )
       (done-hits (h .done) (h .op) i (39 + i) l refl)
 
   by-failed : (i q : ℕ) → i < 5 → q ≡ 44 + i → Hit q
   unfolding marksOf
   by-failed i q l e =
-      rw (e, failed-at i l, kind-misses (44 + i) (omega arith), answer-misses (44 + i) (λ e. omega (arith, in-answers .high)), drive-misses (44 + i) (omega arith), or-false)
+      rw (
+        e,
+        failed-at i l,
+        kind-misses (44 + i) (omega arith),
+        answer-misses (44 + i) (λ e. omega (arith, in-answers .high)),
+        drive-misses (44 + i) (omega arith),
+        or-false,
+      )
       (failed-hits (h .done) (h .op) i (44 + i) l refl)
 
   by-drive : (i q : ℕ) → i < 2 → q ≡ 49 + i → counts (nameAt q) h ≡ eqb (h .drive) (1 + i) → Hit q
   unfolding marksOf
   by-drive i q l e n =
-      rw (n, e, kind-misses (49 + i) (omega arith), answer-misses (49 + i) (λ e. omega (arith, in-answers .high)), result-misses (49 + i) (λ e. omega (arith, results-high)))
+      rw (
+        n,
+        e,
+        kind-misses (49 + i) (omega arith),
+        answer-misses (49 + i) (λ e. omega (arith, in-answers .high)),
+        result-misses (49 + i) (λ e. omega (arith, results-high)),
+      )
       (hits-at 49 2 1 (h .drive) (omega arith) i (49 + i) l refl)
 
   -- a message counts exactly where a mark adds one
@@ -167,7 +200,13 @@ module _ (h : Happened) where
     where
       last : p ≡ 51 → Hit p
       last e =
-          rw (e, most-cars-at, kind-misses 51 (omega arith), answer-misses 51 (λ z. omega (arith, in-answers .high)), result-misses 51 (λ z. omega (arith, results-high)))
+          rw (
+            e,
+            most-cars-at,
+            kind-misses 51 (omega arith),
+            answer-misses 51 (λ z. omega (arith, in-answers .high)),
+            result-misses 51 (λ z. omega (arith, results-high)),
+          )
           (sym (misses 51 in-drives (λ z. omega (arith, in-drives .high))))
 
       out : (p < 51) ⊎ (51 ≤ p) → 50 ≤ p → Hit p
@@ -175,7 +214,8 @@ module _ (h : Happened) where
       out (inr a) b = last (omega arith)
 
       drives : (p < 50) ⊎ (50 ≤ p) → 49 ≤ p → Hit p
-      drives (inl a) b = by-drive 0 p (omega arith) (omega arith) (ap (λ (q : ℕ). counts (nameAt q) h) (omega arith) ∙ ap (λ n. counts n h) cars-in-at)
+      drives (inl a) b = by-drive 0 p (omega arith) (omega arith) (ap (λ (q : ℕ). counts (nameAt q) h) (omega arith)
+          ∙ ap (λ n. counts n h) cars-in-at)
       drives (inr a) b = out (lt-or-ge p 51) a
 
       failures : (p < 49) ⊎ (49 ≤ p) → 44 ≤ p → Hit p

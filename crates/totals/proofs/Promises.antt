@@ -124,7 +124,9 @@ module _ (t : Totals) (h : Happened) (hs : List Happened) where
 ends : (gs hs : List Happened) (t : Totals) → Right gs t → Ends gs t hs (countedAll t hs)
 unfolding countedAll
 ends gs [] t r = counted refl (rw append-nil r)
-ends gs (h ∷ hs) t r = split (ltb (firstFull t h) size) stop (λ e. go e (ends (gs ++ h ∷ []) hs (totalsOf (nexts order h (t .counts))) (right-next gs t r h (none e))))
+ends gs (h ∷ hs) t r =
+    split (ltb (firstFull t h) size) stop
+    (λ e. go e (ends (gs ++ h ∷ []) hs (totalsOf (nexts order h (t .counts))) (right-next gs t r h (none e))))
   where
     none : ltb (firstFull t h) size ≡ false → firstFull t h ≡ size
     none e = let z = ltb-false (firstFull t h) size e in omega (arith, least-le size (full t h))
@@ -132,10 +134,13 @@ ends gs (h ∷ hs) t r = split (ltb (firstFull t h) size) stop (λ e. go e (ends
     stop : ltb (firstFull t h) size ≡ true → Ends gs t (h ∷ hs) (countedAll t (h ∷ hs))
     stop e = rw (stops-here t h hs e) (stopped [] h hs refl refl (rw append-nil (first-full gs t r h (ltb-true (firstFull t h) size e))))
 
-    go : ltb (firstFull t h) size ≡ false → Ends (gs ++ h ∷ []) (totalsOf (nexts order h (t .counts))) hs (countedAll (totalsOf (nexts order h (t .counts))) hs)
+    go : ltb (firstFull t h) size ≡ false → Ends (gs ++ h ∷ []) (totalsOf (nexts order h (t .counts))) hs
+        (countedAll (totalsOf (nexts order h (t .counts))) hs)
         → Ends gs t (h ∷ hs) (countedAll t (h ∷ hs))
     go e (counted f q) = rw (goes-on t h hs e) (counted f (rw append-assoc at q))
-    go e (stopped before last rest a b l) = rw (goes-on t h hs e) (stopped (h ∷ before) last rest (ap (λ k. h ∷ k) a) (goes-on t h before e ∙ b) (rw (append-assoc gs (h ∷ []) before) at l))
+    go e (stopped before last rest a b l) =
+        rw (goes-on t h hs e) (stopped (h ∷ before) last rest (ap (λ k. h ∷ k) a) (goes-on t h before e ∙ b)
+        (rw (append-assoc gs (h ∷ []) before) at l))
 
 -- ---- the promises
 
@@ -161,7 +166,8 @@ none-full-exactly hs = (λ e. right-end hs e .low, λ low. go low (ends [] hs bl
         let p = countedAll blank hs .full in
         let n = nameAt p in
         let passed = ltb-true most (tally n (before ++ last ∷ [])) (l .passes) in
-        let whole : tally n hs ≡ tally n (before ++ last ∷ []) + tally n rest = ap (tally n) (a ∙ sym (append-assoc before (last ∷ []) rest)) ∙ tally-append n (before ++ last ∷ []) rest in
+        let whole : tally n hs ≡ tally n (before ++ last ∷ []) + tally n rest = ap (tally n) (a ∙ sym (append-assoc before (last ∷ []) rest))
+        ∙ tally-append n (before ++ last ∷ []) rest in
         absurd (omega (arith, low p (l .within)))
 
 pub full-stops : FullStops

@@ -20,7 +20,8 @@ use Rattle.totals.proofs.Counting.{counted-is}
 
 -- a sum that does not pass the most is a number of 32 bits
 pub room : (v more : ℕ) → more ≤ 1 → filled v more ≡ false → v < 2 ^ 32 → v + more < 2 ^ 32
-room v more s f l = split (leb most v) (λ t. split (eqb more 1) (λ e. clash (and-intro e t) f) (λ e. small e)) (λ t. let z = leb-false most v t in omega arith)
+room v more s f l = split (leb most v) (λ t. split (eqb more 1) (λ e. clash (and-intro e t) f) (λ e. small e))
+    (λ t. let z = leb-false most v t in omega arith)
   where
     small : eqb more 1 ≡ false → v + more < 2 ^ 32
     small e = split (eqb more 0) (λ z. let y = eqb-true more 0 z in omega arith) (λ z. clash (one z) e)
@@ -30,12 +31,14 @@ room v more s f l = split (leb most v) (λ t. split (eqb more 1) (λ e. clash (a
 
 -- ---- the place that is told
 
-module _ (c : List ℕ) (m : Marks) {x y z w : Bool} (ex : x ≡ fills c (m .kind)) (ey : y ≡ fills c (m .answer)) (ez : z ≡ fills c (m .result)) (ew : w ≡ fills c (m .drive)) where
+module _ (c : List ℕ) (m : Marks) {x y z w : Bool} (ex : x ≡ fills c (m .kind)) (ey : y ≡ fills c (m .answer)) (ez : z ≡ fills c (m .result))
+    (ew : w ≡ fills c (m .drive)) where
   pub told-none : not (x || y || z || w) ≡ true → nothing ≡ fullAmong c m
   unfolding fullAmong
   told-none t = rw (← ex, ← ey, ← ez, ← ew) (go x y z w t)
     where
-      go : (x y z w : Bool) → not (x || y || z || w) ≡ true → 255 ≡ cond x (m .kind .at) (cond y (m .answer .at) (cond z (m .result .at) (cond w (m .drive .at) 255)))
+      go : (x y z w : Bool) → not (x || y || z || w) ≡ true → 255 ≡ cond x (m .kind .at) (cond y (m .answer .at)
+          (cond z (m .result .at) (cond w (m .drive .at) 255)))
       go false false false false t = refl
       go true y z w t = clash t refl
       go false true z w t = clash t refl
@@ -86,17 +89,24 @@ module _ (c : List ℕ) (h : Happened) (none : fullAmong c (marksOf h) ≡ nothi
 
   result-free : fills c (marksOf h .result) ≡ false
   unfolding fullAmong
-  result-free = off (fills c (marksOf h .result)) (λ t. below (marksOf h .result .at) (marks-within h .result) (rw (kind-free, answer-free, t) at none))
+  result-free = off (fills c (marksOf h .result)) (λ t. below (marksOf h .result .at) (marks-within h .result)
+      (rw (kind-free, answer-free, t) at none))
 
   drive-free : fills c (marksOf h .drive) ≡ false
   unfolding fullAmong
-  drive-free = off (fills c (marksOf h .drive)) (λ t. below (marksOf h .drive .at) (marks-within h .drive) (rw (kind-free, answer-free, result-free, t) at none))
+  drive-free = off (fills c (marksOf h .drive)) (λ t. below (marksOf h .drive .at) (marks-within h .drive)
+      (rw (kind-free, answer-free, result-free, t) at none))
 
   pub ready-1 : Ready c (marksOf h .kind)
   ready-1 = (marks-within h .kind, in-kinds h .small, kind-free)
 
   pub ready-2 : Ready (raised c (marksOf h .kind)) (marksOf h .answer)
-  ready-2 = (marks-within h .answer, in-answers h .small, unraised c (marksOf h .kind) (marksOf h .answer) (omega (arith, in-kinds h .high, in-answers h .low)) ∙ answer-free)
+  ready-2 = (
+    marks-within h .answer,
+    in-answers h .small,
+    unraised c (marksOf h .kind) (marksOf h .answer)
+        (omega (arith, in-kinds h .high, in-answers h .low)) ∙ answer-free,
+  )
 
   pub ready-3 : Ready (raised (raised c (marksOf h .kind)) (marksOf h .answer)) (marksOf h .result)
   ready-3 = (
@@ -110,7 +120,8 @@ module _ (c : List ℕ) (h : Happened) (none : fullAmong c (marksOf h) ≡ nothi
   ready-4 = (
     marks-within h .drive,
     in-drives h .small,
-    unraised (raised (raised c (marksOf h .kind)) (marksOf h .answer)) (marksOf h .result) (marksOf h .drive) (omega (arith, results-high h, in-drives h .low))
+    unraised (raised (raised c (marksOf h .kind)) (marksOf h .answer)) (marksOf h .result) (marksOf h .drive)
+        (omega (arith, results-high h, in-drives h .low))
         ∙ unraised (raised c (marksOf h .kind)) (marksOf h .answer) (marksOf h .drive) (omega (arith, in-answers h .high, in-drives h .low))
         ∙ unraised c (marksOf h .kind) (marksOf h .drive) (omega (arith, in-kinds h .high, in-drives h .low)) ∙ drive-free,
   )

@@ -15,7 +15,8 @@ in-table-requires : tie.Need-in-table-requires
 in-table-requires c κs = search needs
 
 returns-2 : tie.Need-returns-2
-returns-2 c = c .in-table .ensures ∙ sym (printed-number (c .before .before .before .args .place) (c .before .before .if1 .left) (c .before .if2 .taken))
+returns-2 c = c .in-table .ensures ∙ sym (printed-number (c .before .before .before .args .place) (c .before .before .if1 .left)
+    (c .before .if2 .taken))
 
 returns-3 : tie.Need-returns-3
 returns-3 c = sym (printed-past (c .before .before .args .place) (c .if2 .left))

@@ -39,7 +39,14 @@ put-text-requires-2 c κs =
     let t = c .before .before .before .before .before .before .before .before in
     let n = c .before .before .before .before .before .before .before .before .before .before .before .before .before in
     let s = c .before .before .before .before .before .before .before .before .before .before .before .before .before .before .before .before in
-    omega (arith, s .pre, line-length (s .args .place) (s .args .value), n .put-name .ensures .next, t .put-text .ensures .next, v .put-number .ensures .next)
+    omega (
+      arith,
+      s .pre,
+      line-length (s .args .place) (s .args .value),
+      n .put-name .ensures .next,
+      t .put-text .ensures .next,
+      v .put-number .ensures .next,
+    )
 
 same-length : tie.Need-same-length
 same-length c = search needs

@@ -21,7 +21,8 @@ element-copy-out-put-if : tie.Need-element-copy-out-put-if Inv-loop μ-loop
 element-copy-out-put-if c = search needs
 
 put-if-requires : tie.Need-put-if-requires Inv-loop μ-loop
-put-if-requires c κs = omega (arith, c .before .before .before .loop .inv .short, c .before .before .before .loop .inv .same, c .before .before .before .before .before .pre)
+put-if-requires c κs = omega
+    (arith, c .before .before .before .loop .inv .short, c .before .before .before .loop .inv .same, c .before .before .before .before .before .pre)
 
 add-place : tie.Need-add-place Inv-loop μ-loop
 add-place c = search needs
@@ -33,13 +34,15 @@ loop-again : tie.Need-loop-again Inv-loop μ-loop
 loop-again c =
     let x = c .before .before .before .before .before .before in
     let p = c .before .before in
-    turns (x .before .before .args .out .now) (x .before .before .args .counts .now) (x .loop .out) (p .put-if .last .0) (x .loop .at) (p .put-if .result) (x .loop .place) (omega arith) (p .put-if .ensures .1) (omega arith) (x .loop .inv) (p .put-if .ensures .0)
+    turns (x .before .before .args .out .now) (x .before .before .args .counts .now) (x .loop .out) (p .put-if .last .0) (x .loop .at)
+    (p .put-if .result) (x .loop .place) (omega arith) (p .put-if .ensures .1) (omega arith) (x .loop .inv) (p .put-if .ensures .0)
 
 same-length : tie.Need-same-length Inv-loop μ-loop
 same-length c = search needs
 
 returns : tie.Need-returns Inv-loop μ-loop
-returns c = ends (c .before .before .before .args .out .now) (c .before .before .before .args .counts .now) (c .before .loop .out) (c .before .loop .at) (c .before .loop .place) (omega arith) (c .before .loop .inv)
+returns c = ends (c .before .before .before .args .out .now) (c .before .before .before .args .counts .now) (c .before .loop .out)
+    (c .before .loop .at) (c .before .loop .place) (omega arith) (c .before .loop .inv)
 
 pub put-lines-spec : {M : Type 1} → statement M
 put-lines-spec =

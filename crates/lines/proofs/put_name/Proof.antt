@@ -45,7 +45,8 @@ returns-2 : tie.Need-returns-2
 unfolding ascii
 returns-2 c =
     let s = c .before .before .before .before .before .before .before .before in
-    rw (← answer-name (s .args .place) (c .before .before .before .before .before .before .if1 .left) (c .before .before .before .before .before .if2 .taken)) (c .before .before .put-numbered2 .ensures)
+    rw (← answer-name (s .args .place) (c .before .before .before .before .before .before .if1 .left)
+    (c .before .before .before .before .before .if2 .taken)) (c .before .before .put-numbered2 .ensures)
 
 slice-aggregate-put-numbered-3 : tie.Need-slice-aggregate-put-numbered-3
 slice-aggregate-put-numbered-3 c = search needs
@@ -66,7 +67,8 @@ returns-3 : tie.Need-returns-3
 unfolding ascii
 returns-3 c =
     let s = c .before .before .before .before .before .before .before .before .before in
-    rw (← done-name (s .args .place) (c .before .before .before .before .before .before .if2 .left) (c .before .before .before .before .before .if3 .taken)) (c .before .before .put-numbered3 .ensures)
+    rw (← done-name (s .args .place) (c .before .before .before .before .before .before .if2 .left)
+    (c .before .before .before .before .before .if3 .taken)) (c .before .before .put-numbered3 .ensures)
 
 slice-aggregate-put-numbered-4 : tie.Need-slice-aggregate-put-numbered-4
 slice-aggregate-put-numbered-4 c = search needs
@@ -87,7 +89,8 @@ returns-4 : tie.Need-returns-4
 unfolding ascii
 returns-4 c =
     let s = c .before .before .before .before .before .before .before .before .before .before in
-    rw (← failed-name (s .args .place) (c .before .before .before .before .before .before .if3 .left) (c .before .before .before .before .before .if4 .taken)) (c .before .before .put-numbered4 .ensures)
+    rw (← failed-name (s .args .place) (c .before .before .before .before .before .before .if3 .left)
+    (c .before .before .before .before .before .if4 .taken)) (c .before .before .put-numbered4 .ensures)
 
 slice-aggregate-put-text : tie.Need-slice-aggregate-put-text
 slice-aggregate-put-text c = search needs

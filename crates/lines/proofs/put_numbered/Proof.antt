@@ -25,7 +25,8 @@ returns c =
     let n = c .before .before in
     let t = c .before .before .before .before .before .before in
     let s = c .before .before .before .before .before .before .before .before .before .before in
-    then (s .args .out .now) (t .put-text .last .0) (n .put-number .last .0) (s .args .at) (t .put-text .result) (n .put-number .result) (s .args .name .now) (decimal (s .args .n)) (omega arith) (t .put-text .ensures) (n .put-number .ensures)
+    then (s .args .out .now) (t .put-text .last .0) (n .put-number .last .0) (s .args .at) (t .put-text .result) (n .put-number .result)
+    (s .args .name .now) (decimal (s .args .n)) (omega arith) (t .put-text .ensures) (n .put-number .ensures)
 
 pub put-numbered-spec : {M : Type 1} → statement M
 put-numbered-spec = tie.close (tie.spec put-text-requires put-number-requires same-length returns)

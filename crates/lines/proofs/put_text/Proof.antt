@@ -33,8 +33,12 @@ loop-less c = omega arith
 
 loop-again : tie.Need-loop-again Inv-loop μ-loop
 loop-again c =
-    let x = c .before .before in
-    (omega arith, simp length-set (omega arith), rw (x .loop .inv .2) (paste-turn (x .before .args .out .now) (x .before .args .at) (x .before .args .src .now) (x .loop .i) (omega arith) (omega arith)))
+    let x = c .before .before in (
+      omega arith,
+      simp length-set (omega arith),
+      rw (x .loop .inv .2) (paste-turn (x .before .args .out .now) (x .before .args .at)
+          (x .before .args .src .now) (x .loop .i) (omega arith) (omega arith)),
+    )
 
 add-result : tie.Need-add-result Inv-loop μ-loop
 add-result c = omega arith
@@ -47,7 +51,8 @@ returns c =
     let x = c .before in
     let z : x .loop .i ≡ length (x .before .args .src .now) = omega arith in
     record {
-      holds = x .loop .inv .2 ∙ ap (paste (x .before .args .out .now) (x .before .args .at) (x .before .args .src .now)) z ∙ laid-paste (x .before .args .out .now) (x .before .args .at) (x .before .args .src .now);
+      holds = x .loop .inv .2 ∙ ap (paste (x .before .args .out .now) (x .before .args .at) (x .before .args .src .now)) z
+          ∙ laid-paste (x .before .args .out .now) (x .before .args .at) (x .before .args .src .now);
       next = omega arith;
     }
 

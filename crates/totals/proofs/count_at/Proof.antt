@@ -18,12 +18,15 @@ returns : tie.Need-returns
 returns c =
     let s = c .before .before .before .before .before .before in
     let told = c .before .before .before .first-full in
-    rw (c .before .before .if1 .taken) (all-raised (s .args .counts .now) (s .args .h) (rw (c .before .before .before .before .before .marks-of .ensures) at (sym (told .ensures) ∙ c .before .before .if1 .taken)) (c .raise-all .last .0) (c .raise-all .ensures))
+    rw (c .before .before .if1 .taken) (all-raised (s .args .counts .now) (s .args .h) (rw
+    (c .before .before .before .before .before .marks-of .ensures) at (sym (told .ensures)
+    ∙ c .before .before .if1 .taken)) (c .raise-all .last .0) (c .raise-all .ensures))
 
 returns-2 : tie.Need-returns-2
 returns-2 c =
     let s = c .before .before .before .before in
-    all-stay (s .args .counts .now) (s .args .h) (c .before .first-full .result) (rw (c .before .before .before .marks-of .ensures) at (c .before .first-full .ensures)) (c .if1 .left)
+    all-stay (s .args .counts .now) (s .args .h) (c .before .first-full .result) (rw (c .before .before .before .marks-of .ensures) at
+    (c .before .first-full .ensures)) (c .if1 .left)
 
 pub count-at-spec : {M : Type 1} → statement M
 count-at-spec =

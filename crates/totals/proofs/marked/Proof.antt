@@ -11,7 +11,11 @@ add-if1 : tie.Need-add-if1
 add-if1 c = search needs
 
 sub-t10 : tie.Need-sub-t10
-sub-t10 c = omega (arith, leb-true (c .before .args .a) (c .before .args .x) (both (leb (c .before .args .a) (c .before .args .x)) _ (c .if1 .taken) .0))
+sub-t10 c = omega (
+  arith,
+  leb-true (c .before .args .a) (c .before .args .x) (both (leb (c .before .args .a) (c .before .args .x)) _
+      (c .if1 .taken) .0),
+)
 
 add-t11 : tie.Need-add-t11
 add-t11 c = search needs

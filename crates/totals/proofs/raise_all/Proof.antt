@@ -17,7 +17,8 @@ raise-requires-2 c κs =
 raise-requires-3 : tie.Need-raise-requires-3
 raise-requires-3 c κs =
     let s = c .before .before .before .before .before .before .before .before .before in
-    rw (c .before .raise2 .ensures, c .before .before .before .raise .ensures, s .pre .0) (ready-3 (s .args .counts .now) (s .args .h) (rw (s .pre .0) at (s .pre .1)))
+    rw (c .before .raise2 .ensures, c .before .before .before .raise .ensures, s .pre .0) (ready-3 (s .args .counts .now) (s .args .h) (rw
+    (s .pre .0) at (s .pre .1)))
 
 raise-requires-4 : tie.Need-raise-requires-4
 raise-requires-4 c κs =
