@@ -100,7 +100,7 @@ nexts-beyond (x ∷ xs) h [] p a = refl
 nexts-beyond (x ∷ xs) h (v ∷ vs) zero a = absurd (omega arith)
 nexts-beyond (x ∷ xs) h (v ∷ vs) (suc p) a = nexts-beyond xs h vs p (omega arith)
 
-order-length : length order ≡ 52
+pub order-length : length order ≡ 52
 unfolding order
 order-length = refl
 

@@ -18,8 +18,8 @@ use Rattle.totals.specs.declared.Happened.{Happened}
 use Rattle.totals.specs.declared.Tally.{Tally}
 use Rattle.totals.specs.Totals.{Name, order, size, nameAt, counts, next, nexts, most, nothing, full, firstFull, countedIn, totalsOf, blank, countedAll}
 use Rattle.totals.specs.Totals.Name.{MostCars}
-use Rattle.totals.specs.Promises.{tally, largest, TotalsRight, MostCarsRight, NoneFullExactly, Stops, FullStops}
-use Rattle.totals.proofs.Order.{most-cars-at, nexts-length, after-at}
+use Rattle.totals.specs.Promises.{OrderWhole, tally, largest, TotalsRight, MostCarsRight, NoneFullExactly, Stops, FullStops}
+use Rattle.totals.proofs.Order.{order-length, most-cars-at, nexts-length, after-at}
 use Rattle.totals.proofs.Counting.{next-count}
 
 tally-append : (x : Name) (gs hs : List Happened) → tally x (gs ++ hs) ≡ tally x gs + tally x hs
@@ -150,6 +150,9 @@ right-end hs e = go (ends [] hs blank right-start)
     go : Ends [] blank hs (countedAll blank hs) → Right hs (countedAll blank hs .totals)
     go (counted f r) = r
     go (stopped before last rest a b l) = absurd (omega (arith, l .within))
+
+pub order-whole : OrderWhole
+order-whole = order-length
 
 pub totals-right : TotalsRight
 totals-right hs e p l = right-end hs e .each p l

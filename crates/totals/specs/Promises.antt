@@ -5,12 +5,16 @@ use mathlib.Core.Logic.{_↔_}
 use mathlib.Core.List.{List, [], _∷_, _++_}
 use Prim.Native.Nat.{ℕ, _+_, _≤_, _<_, max}
 use lib.Dec.{ltb}
-use lib.ListN.{getD}
+use lib.ListN.{length, getD}
 use Rattle.bits.specs.Bits.{digit}
 use Rattle.bits.specs.Search.{IsLeast}
 use Rattle.totals.specs.declared.Happened.{Happened}
 use Rattle.totals.specs.declared.Tally.{Tally}
-use Rattle.totals.specs.Totals.{Name, size, nameAt, counts, most, nothing, blank, countedAll}
+use Rattle.totals.specs.Totals.{Name, order, size, nameAt, counts, most, nothing, blank, countedAll}
+
+-- the order has as many names as there are totals
+abbrev pub OrderWhole : Type 0
+OrderWhole = length order ≡ size
 
 -- how many of some happenings count under a name
 unfoldable pub tally : Name → List Happened → ℕ

@@ -2,7 +2,7 @@
 ghost use mathlib.Core.Path.{_≡_};
 ghost use mathlib.Core.Bool.{false};
 ghost use Prim.Native.Nat.{_+_, _<_, _≤_, max};
-ghost use Rattle.totals.specs.Totals.{countedIn, nothing, totalsOf, Leaves, Holds};
+ghost use Rattle.totals.specs.Totals.{countedIn, nothing, totalsOf, blank, Leaves, Holds};
 ghost use Rattle.totals.specs.Private.{markOf, resultsFrom, marksOf, Within, filled, fills, fullAmong, raised, withCars, raisedAll};
 
 // The most that a total holds.
@@ -36,6 +36,16 @@ pub struct Happened {
 pub struct Tally {
     pub totals: Totals,
     pub full: u8,
+}
+
+impl Totals {
+    // The totals before anything happened.
+    pub fn blank() -> Totals
+        ensures { λ t. ⌜ t ≡ blank ⌝ }
+    {
+        let counts = [0u32; 52];
+        Totals { counts }
+    }
 }
 
 // A place of the totals, and what is added there: 1 or 0.
