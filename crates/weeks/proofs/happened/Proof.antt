@@ -1,0 +1,17 @@
+use Rattle.weeks.specs.declared.Step.{Step}
+use mathlib.Core.Path.{ap}
+use borrow.Author.Needs.{needs}
+use Rattle.weeks.proofs.happened.Statement.{statement}
+use Rattle.weeks.proofs.happened.Tie as tie
+
+fit-requires : tie.Need-fit-requires
+fit-requires c κs = search needs
+
+seen-requires : tie.Need-seen-requires
+seen-requires c κs = search needs
+
+returns : tie.Need-returns
+returns c = ap (λ (x : Step). x .happened) (c .before .seen .ensures)
+
+pub happened-spec : {M : Type 1} → statement M
+happened-spec = tie.close (tie.spec fit-requires seen-requires returns)
