@@ -4,7 +4,7 @@ use mathlib.Core.Bool.{Bool, true, false, cond, _&&_}
 use mathlib.Core.List.{List, [], _∷_}
 use Prim.Native.Nat.{ℕ, _+_, _*_, _≤_, _<_}
 use native.Mathlib.Omega.{arith}
-use borrow.Author.Tests.{eqb-true, eqb-false, le-ltb}
+use borrow.Author.Tests.{eqb-true, ltb-false, le-ltb}
 use denote.Enum.Declared.{tagOf}
 use lib.Dec.{eqb, ltb}
 use lib.ListN.{getD, length, take, drop}
@@ -28,7 +28,7 @@ use Rattle.wire.specs.declared.Frame.{Frame}
 use Rattle.wire.specs.declared.Frame.the-variants.{Cut, Wrong, Whole}
 use Rattle.wire.specs.Kinds.{fromLittleEndian, event, result, image, asked, inRange}
 use Rattle.wire.specs.Reads.{frameOf, lengthAt, kindAt, sized, badIn, readRequest, readWhole, readFramed, readAsked}
-use Rattle.wire.proofs.Frames.{whole-frame}
+use Rattle.wire.proofs.Frames.{when, whole-frame}
 use Rattle.service.specs.Service.{respond}
 use Rattle.service.proofs.Readings.{ways}
 use Rattle.weeks.specs.declared.Tells.{Tells}
@@ -79,12 +79,27 @@ tellsOf s w = record { op = opIn s w; done = isDone w; drive = driveDone (s .bit
 abbrev none : Tells
 none = record { op = 0; done = false; drive = 0 }
 
--- the kind of a whole message
-whole-kind : (m : List ℕ) (n : ℕ) → frameOf m ≡ Whole n → kindRead m ≡ cond (ltb 5 (kindAt m)) 0 (kindAt m)
+-- the kind of a whole message; a wrong length has none
+pub whole-kind : (m : List ℕ) (n : ℕ) → frameOf m ≡ Whole n → kindRead m ≡ cond (ltb 5 (kindAt m)) 0 (kindAt m)
 unfolding kindRead
 whole-kind m n e =
     let f = whole-frame m n e in
     simp (le-ltb (length m) 4 (omega arith), le-ltb (lengthAt m) 2 (omega arith), le-ltb 43 (lengthAt m) (omega arith))
+
+pub wrong-kind : (m : List ℕ) → frameOf m ≡ Wrong → kindRead m ≡ 0
+unfolding kindRead
+wrong-kind m e = split (ltb (length m) 4) (λ t. rw t)
+    (λ t. let h = ltb-false (length m) 4 t in
+    rw t
+    (split (ltb (lengthAt m) 2) (λ a. rw a)
+    (λ a. rw a
+    (split (ltb 43 (lengthAt m)) (λ b. rw b)
+    (λ b. absurd (not-wrong (rw (le-ltb (length m) 2 (omega arith), a, b) at e)))))))
+  where
+    not-wrong : cond (ltb (length m) (lengthAt m + 2)) Cut (Whole (lengthAt m + 2)) ≡ Wrong → ⊥
+    not-wrong e =
+        when (ltb (length m) (lengthAt m + 2)) Cut (Whole (lengthAt m + 2)) Wrong e
+        (λ _ q. let z : _≡_ {A = ℕ} 0 1 = cc in omega arith) (λ _ q. let z : _≡_ {A = ℕ} 0 1 = cc in omega arith)
 
 kind-is : (m : List ℕ) (n k : ℕ) → frameOf m ≡ Whole n → kindAt m ≡ k → k ≤ 5 → kindRead m ≡ k
 kind-is m n k e q h = whole-kind m n e ∙ rw (q, le-ltb 5 k h)

@@ -1,7 +1,8 @@
-use native.Mathlib.Omega.{arith}
-use Rattle.weeks.proofs.Telling.{sound-cars, few-sound, few-told, cars-told}
+-- `weeks::cars_now` meets its contract: a sound record has few cars, so that their number is a byte. Assumes nothing.
 use mathlib.Core.Path.{sym, _∙_}
+use native.Mathlib.Omega.{arith}
 use borrow.Author.Needs.{needs}
+use Rattle.weeks.proofs.Telling.{sound-cars, few-sound, few-told, cars-told}
 use Rattle.weeks.proofs.cars_now.Statement.{statement}
 use Rattle.weeks.proofs.cars_now.Tie as tie
 

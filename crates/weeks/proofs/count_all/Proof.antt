@@ -1,17 +1,18 @@
-use Rattle.weeks.proofs.Counting.{Midway, started, cut-short, wrong-length, one-full, counted-on}
-use Rattle.weeks.specs.Private.{stepOf}
-use Rattle.weeks.specs.declared.Step.{Step}
+-- `weeks::count_all` meets its contract: each turn keeps `Midway`, and what is left of the input shrinks. Assumes nothing.
+use mathlib.Core.Path.{_≡_, sym, ap, _∙_}
+use Prim.Native.Nat.{_-_}
+use native.Mathlib.Omega.{arith}
+use borrow.Author.Needs.{needs}
+use denote.Ref.{now}
+use lib.ListN.{length, drop, length-drop}
+use Rattle.wire.specs.Reads.{frameOf}
+use Rattle.garage.specs.Station.{fit}
 use Rattle.service.proofs.Called.{respond-fit}
 use Rattle.wire.proofs.Parts.{from-on}
 use Rattle.wire.proofs.Frames.{Framed, whole-frame}
-use Rattle.wire.specs.Reads.{frameOf}
-use Rattle.garage.specs.Station.{fit}
-use lib.ListN.{length, drop, length-drop}
-use denote.Ref.{now}
-use native.Mathlib.Omega.{arith}
-use Prim.Native.Nat.{_-_}
-use mathlib.Core.Path.{_≡_, sym, ap, _∙_}
-use borrow.Author.Needs.{needs}
+use Rattle.weeks.specs.Private.{stepOf}
+use Rattle.weeks.specs.declared.Step.{Step}
+use Rattle.weeks.proofs.Counting.{Midway, started, cut-short, wrong-length, one-full, counted-on}
 use Rattle.weeks.proofs.count_all.Statement.{statement}
 use Rattle.weeks.proofs.count_all.Tie as tie
 
@@ -89,9 +90,9 @@ loop-less c = omega (arith, whole (c .before .before .before .before .before .be
 
 loop-again : tie.Need-loop-again Inv-loop μ-loop
 loop-again c = let heard = c .before .before .before .before .seen2 .ensures ∙ ap (stepOf (c .before .before .before .before .before .before .before .before .before .before .loop .s)) (from-on _ (c .before .before .before .before .before .before .before .before .before .before .loop .at)) in (
-      counted-on (c .before .before .before .before .before .before .before .before .before .before .loop .inv .0) heard (c .before .before .count-at2 .ensures) _ (found (c .before .before .before .before .before .before .before .before) ∙ c .before .before .before .before .before .before .frame .given .1) (c .before .if1 .left),
-      c .before .before .before .before .before .before .before .before .before .before .loop .inv .1 ∙ sym (ap (λ (x : Step). fit (x .station)) heard ∙ respond-fit _ _),
-    )
+  counted-on (c .before .before .before .before .before .before .before .before .before .before .loop .inv .0) heard (c .before .before .count-at2 .ensures) _ (found (c .before .before .before .before .before .before .before .before) ∙ c .before .before .before .before .before .before .frame .given .1) (c .before .if1 .left),
+  c .before .before .before .before .before .before .before .before .before .before .loop .inv .1 ∙ sym (ap (λ (x : Step). fit (x .station)) heard ∙ respond-fit _ _),
+)
 
 pub count-all-spec : {M : Type 1} → statement M
 count-all-spec =

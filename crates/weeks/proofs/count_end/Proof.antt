@@ -1,6 +1,7 @@
-use Rattle.weeks.proofs.Counting.{none-left, some-left}
-use denote.Ref.{now}
+-- `weeks::count_end` meets its contract: no bytes, or a message that was cut short. Assumes nothing.
 use borrow.Author.Needs.{needs}
+use denote.Ref.{now}
+use Rattle.weeks.proofs.Counting.{none-left, some-left}
 use Rattle.weeks.proofs.count_end.Statement.{statement}
 use Rattle.weeks.proofs.count_end.Tie as tie
 

@@ -1,3 +1,4 @@
+-- `weeks::count_message` meets its contract: what happens, counted. Assumes nothing.
 use borrow.Author.Needs.{needs}
 use Rattle.weeks.proofs.count_message.Statement.{statement}
 use Rattle.weeks.proofs.count_message.Tie as tie

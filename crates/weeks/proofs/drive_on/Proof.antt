@@ -1,8 +1,9 @@
-use Rattle.bits.specs.Bits.{bit}
-use Rattle.weeks.proofs.Telling.{one-set}
-use Rattle.bits.specs.Places.{places}
+-- `weeks::drive_on` meets its contract: the masks name the two bits. Assumes nothing.
 use mathlib.Core.Path.{sym, _∙_}
 use borrow.Author.Needs.{needs}
+use Rattle.bits.specs.Bits.{bit}
+use Rattle.bits.specs.Places.{places}
+use Rattle.weeks.proofs.Telling.{one-set}
 use Rattle.weeks.proofs.drive_on.Statement.{statement}
 use Rattle.weeks.proofs.drive_on.Tie as tie
 

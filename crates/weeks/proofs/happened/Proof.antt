@@ -1,6 +1,7 @@
-use Rattle.weeks.specs.declared.Step.{Step}
+-- `weeks::happened` meets its contract: what is seen where fitness has just been tested. Assumes nothing.
 use mathlib.Core.Path.{ap}
 use borrow.Author.Needs.{needs}
+use Rattle.weeks.specs.declared.Step.{Step}
 use Rattle.weeks.proofs.happened.Statement.{statement}
 use Rattle.weeks.proofs.happened.Tie as tie
 

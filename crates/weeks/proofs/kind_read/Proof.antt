@@ -1,6 +1,7 @@
-use Rattle.weeks.specs.Weeks.{kindRead}
+-- `weeks::kind_read` meets its contract: each refusal by its own test. Assumes nothing.
 use borrow.Author.Tests.{lt-ltb, le-ltb}
 use borrow.Author.Needs.{needs}
+use Rattle.weeks.specs.Weeks.{kindRead}
 use Rattle.weeks.proofs.kind_read.Statement.{statement}
 use Rattle.weeks.proofs.kind_read.Tie as tie
 

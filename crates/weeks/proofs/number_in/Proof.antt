@@ -1,5 +1,6 @@
-use Rattle.weeks.proofs.Telling.{no-number}
+-- `weeks::number_in` meets its contract: kind 128, or any other. Assumes nothing.
 use borrow.Author.Needs.{needs}
+use Rattle.weeks.proofs.Telling.{no-number}
 use Rattle.weeks.proofs.number_in.Statement.{statement}
 use Rattle.weeks.proofs.number_in.Tie as tie
 

@@ -1,8 +1,9 @@
-use Rattle.garage.proofs.Padding.{five-at}
-use Rattle.garage.proofs.Loops.{past-eighth}
-use Rattle.rules.specs.declared.Code.{Code}
+-- `weeks::op_at` meets its contract: an instruction's first byte, or none past the eighth. Assumes nothing.
 use mathlib.Core.Path.{ap, sym}
 use borrow.Author.Needs.{needs}
+use Rattle.rules.specs.declared.Code.{Code}
+use Rattle.garage.proofs.Padding.{five-at}
+use Rattle.garage.proofs.Loops.{past-eighth}
 use Rattle.weeks.proofs.op_at.Statement.{statement}
 use Rattle.weeks.proofs.op_at.Tie as tie
 

@@ -1,7 +1,8 @@
+-- `weeks::seen` meets its contract: taken, with what the bytes tell, or refused. Assumes nothing.
 use mathlib.Core.Path.{refl}
+use borrow.Author.Needs.{needs}
 use denote.Ref.{now}
 use Rattle.weeks.proofs.Steps.{still-sound, step-taken, step-refused}
-use borrow.Author.Needs.{needs}
 use Rattle.weeks.proofs.seen.Statement.{statement}
 use Rattle.weeks.proofs.seen.Tie as tie
 

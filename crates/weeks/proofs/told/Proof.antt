@@ -1,6 +1,7 @@
-use Rattle.weeks.specs.Private.{toldBy}
+-- `weeks::told` meets its contract: an event, a result, or any other kind. Assumes nothing.
 use borrow.Author.Tests.{eq-eqb, ne-eqb}
 use borrow.Author.Needs.{needs}
+use Rattle.weeks.specs.Private.{toldBy}
 use Rattle.weeks.proofs.told.Statement.{statement}
 use Rattle.weeks.proofs.told.Tie as tie
 
