@@ -1,5 +1,5 @@
 mod Telling
 mod Steps
 mod Counting
-mod Pieces
+pub mod Pieces
 pub mod Promises

@@ -154,7 +154,7 @@ left (Whole n) go t s a e rec q =
     stopped-or (eqb (c .full) nothing) (further n w) c s a
     (λ p. rw (← drop-drop (w .says .used) n a) (rec (c .totals) x (drop n a) (shorter a n e) p)) q
 
-left-cut : (k : ℕ) (t : Totals) (s : Station) (a : List ℕ) → length a ≤ k → countFor k t s a .says .stop ≡ false
+pub left-cut : (k : ℕ) (t : Totals) (s : Station) (a : List ℕ) → length a ≤ k → countFor k t s a .says .stop ≡ false
     → frameOf (drop (countFor k t s a .says .used) a) ≡ Cut
 unfolding countFor
 left-cut zero t s a h q = none-cut a h
