@@ -1,4 +1,5 @@
 //! A program run over its pipes, and the messages that went through them.
+#![allow(dead_code)] // each driver uses its own part of this module
 
 use crate::reference::{read_message, Answer, Message};
 use crate::traffic::Numbers;
