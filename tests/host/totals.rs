@@ -27,6 +27,8 @@ mod raw {
             message_length: usize,
         ) -> u32;
         pub fn report_lines(totals: *const u8, totals_length: usize, full: u8, out: *mut u8, out_length: usize) -> u32;
+    }
+    extern "C" {
         pub fn station_start(room: *mut u8, room_length: usize) -> u32;
         pub fn station_message(
             room: *mut u8,
