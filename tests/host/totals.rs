@@ -64,8 +64,9 @@ const NO_PLACE: u8 = 255;
 /// Longer than any report.
 const TEXT: usize = 2000;
 
-/// What the entries return: taken, too short a room, and a total that is full.
+/// What the entries return: taken, a field out of range, too short a room, and a total that is full.
 const TAKEN: u32 = said(0, NO_PLACE);
+const BAD_FIELD: u32 = said(4, NO_PLACE);
 const NO_ROOM: u32 = said(17, NO_PLACE);
 const fn said(number: u8, place: u8) -> u32 { number as u32 + 256 * place as u32 }
 fn told(total: Total) -> u32 { said(40, place(total)) }
@@ -216,6 +217,17 @@ fn text_in(numbers: &mut Numbers, room: &[u8], full: u8, text: &str, length: usi
     assert_eq!((report_lines(room, full, &mut out), out), (returned, expected), "{text:?} in {length} bytes");
 }
 
+/// What is neither a place nor none is told before a room that is too short.
+fn no_places(numbers: &mut Numbers) {
+    for no_place in PLACES as u8..NO_PLACE {
+        for (totals, length) in [(SIZE, TEXT), (SIZE, 0), (SIZE - 1, TEXT)] {
+            let mut out = any_bytes(numbers, length);
+            let kept = out.clone();
+            assert_eq!((report_lines(&vec![0; totals], no_place, &mut out), out), (BAD_FIELD, kept), "{no_place} for a place");
+        }
+    }
+}
+
 /// Texts of totals of many sizes, in rooms of every length round the text's own; and of each total that is full.
 fn texts(numbers: &mut Numbers) {
     for round in 0..300 {
@@ -285,6 +297,7 @@ fn main() {
     let mut numbers = Numbers(1905);
     starts(&mut numbers);
     short_rooms(&mut numbers);
+    no_places(&mut numbers);
     texts(&mut numbers);
     as_the_program(program);
     long_run(31, messages);
