@@ -1,0 +1,46 @@
+-- The report's totals as bytes, and what the entries that keep them for a host in C answer and leave. Assumes nothing.
+use mathlib.Core.Bool.{Bool, cond, not, _||_}
+use mathlib.Core.List.{List, _++_, map}
+use Prim.Native.Nat.{ℕ, _+_, _*_}
+use lib.Dec.{eqb, ltb}
+use lib.ListN.{length, getD, drop}
+use Rattle.bits.specs.Places.{from, join}
+use Rattle.answers.specs.declared.Answer.the-variants.{Taken, BadField}
+use Rattle.answers.specs.Answers.{nowhere}
+use Rattle.wire.specs.Kinds.{littleEndian, fromLittleEndian}
+use Rattle.totals.specs.declared.Totals.{Totals}
+use Rattle.totals.specs.Totals.{size, totalsOf, nothing, blank}
+use Rattle.lines.specs.Lines.{reportOf}
+use Rattle.station_c.specs.Entries.{returned, Entry, writes, noRoom}
+
+-- ---- totals in bytes
+
+-- how many bytes they take
+abbrev pub totalsSize : ℕ
+totalsSize = 208
+
+-- four for each, the lowest first, in the report's order
+unfoldable pub totalsBytes : Totals → List ℕ
+totalsBytes t = join (map (λ p. littleEndian 4 (getD (t .counts) p 0)) (from 0 size))
+
+-- the totals that the first 208 bytes hold
+unfoldable pub totalsIn : List ℕ → Totals
+totalsIn m = totalsOf (map (λ p. fromLittleEndian 4 (4 * p) m) (from 0 size))
+
+-- ---- what an entry answers, and what it leaves in the room that it may write
+
+-- the totals of a new report: 17 where the room is too short
+unfoldable pub starting : List ℕ → Entry
+starting room = cond (ltb (length room) totalsSize) (noRoom room) (writes Taken (totalsBytes blank) room)
+
+-- which total is full: a place of the totals, or none
+abbrev pub known : ℕ → Bool
+known full = ltb full size || eqb full nothing
+
+-- the report's text: 4 where what is full is neither a place nor none, 17 where either room is too short; else how long it is, 65536 times
+unfoldable pub lining : List ℕ → ℕ → List ℕ → Entry
+lining room full out =
+    let text = reportOf (totalsIn room) full in
+    cond (not (known full)) (writes (BadField nowhere) text out)
+    (cond (ltb (length room) totalsSize || ltb (length out) (length text)) (noRoom out)
+    (record { says = returned Taken + 65536 * length text; leaves = text ++ drop (length text) out }))
