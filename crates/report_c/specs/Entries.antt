@@ -37,10 +37,14 @@ starting room = cond (ltb (length room) totalsSize) (noRoom room) (writes Taken 
 abbrev pub known : ℕ → Bool
 known full = ltb full size || eqb full nothing
 
--- the report's text: 4 where what is full is neither a place nor none, 17 where either room is too short; else how long it is, 65536 times
+-- a text is written: 17 where the room is too short; else how long it is, 65536 times
+unfoldable pub texting : List ℕ → List ℕ → Entry
+texting text out =
+    cond (ltb (length out) (length text)) (noRoom out)
+    (record { says = returned Taken + 65536 * length text; leaves = text ++ drop (length text) out })
+
+-- the report's text: 4 where what is full is neither a place nor none, then 17 where either room is too short
 unfoldable pub lining : List ℕ → ℕ → List ℕ → Entry
 lining room full out =
-    let text = reportOf (totalsIn room) full in
-    cond (not (known full)) (writes (BadField nowhere) text out)
-    (cond (ltb (length room) totalsSize || ltb (length out) (length text)) (noRoom out)
-    (record { says = returned Taken + 65536 * length text; leaves = text ++ drop (length text) out }))
+    cond (not (known full)) (record { says = returned (BadField nowhere); leaves = out })
+    (cond (ltb (length room) totalsSize) (noRoom out) (texting (reportOf (totalsIn room) full) out))

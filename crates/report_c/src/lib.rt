@@ -6,7 +6,12 @@ ghost use Prim.Native.Nat.{_+_, _≤_};
 ghost use lib.ListN.{length, take, drop};
 ghost use Rattle.wire.specs.Kinds.{littleEndian, fromLittleEndian};
 ghost use Rattle.totals.specs.Totals.{totalsOf};
-ghost use Rattle.report_c.specs.Entries.{totalsSize, totalsBytes, totalsIn};
+ghost use Rattle.station_c.specs.Entries.{Leaves};
+ghost use Rattle.report_c.specs.Entries.{totalsSize, totalsBytes, totalsIn, starting, known, texting, lining};
+use answers::Answer;
+use answers::NOWHERE;
+use station_c::say;
+use totals::NOTHING;
 use totals::Totals;
 
 // The number of totals.
@@ -70,4 +75,55 @@ fn keep(counts: &[u32; SIZE], room: &mut [u8])
         put_four(room, 4 * place, counts[place]);
         place += 1;
     }
+}
+
+// ---- the entries
+
+// Writes the totals of a new report.
+#[no_mangle]
+pub extern "C" fn report_start(totals: &mut [u8]) -> u32
+    ensures { λ r. ⌜ Leaves (starting (now (totals .entry))) r (now (totals .exit)) ⌝ }
+{
+    if totals.len() < TOTALS {
+        return say(Answer::NoRoom);
+    }
+    let counts = [0u32; SIZE];
+    keep(&counts, totals);
+    say(Answer::Taken)
+}
+
+// Whether what is full is a place of the totals, or none.
+fn known(full: u8) -> bool
+    ensures { λ b. ⌜ b ≡ known full ⌝ }
+{
+    ((full as usize) < SIZE) | (full == NOTHING)
+}
+
+// Writes the first bytes of a line to a room that has as many, and says how many they are.
+fn put(line: [u8; 1092], size: usize, out: &mut [u8]) -> u32
+    requires { ⌜ size ≤ length line ⌝ }
+    ensures { λ r. ⌜ Leaves (texting (take size line) (now (out .entry))) r (now (out .exit)) ⌝ }
+{
+    if out.len() < size {
+        return say(Answer::NoRoom);
+    }
+    bytes::copy(&line[..size], out);
+    say(Answer::Taken) + 65536 * (size as u32)
+}
+
+// The report's text: one line for each total in force, or the name of the one that is full.
+#[no_mangle]
+pub extern "C" fn report_lines(totals: &[u8], full: u8, out: &mut [u8]) -> u32
+    ensures { λ r. ⌜ Leaves (lining (now (totals .entry)) full (now (out .entry))) r (now (out .exit)) ⌝ }
+{
+    if !known(full) {
+        return say(Answer::BadField(NOWHERE));
+    }
+    if totals.len() < TOTALS {
+        return say(Answer::NoRoom);
+    }
+    let t = load(totals);
+    let text = lines::report(t, full);
+    let line = text.bytes;
+    put(line, text.size, out)
 }
