@@ -87,7 +87,7 @@ reading-ends m c i l r =
 unfoldable pub bytesTo : List ℕ → ℕ → List ℕ
 bytesTo c i = join (map (λ p. littleEndian 4 (getD c p 0)) (from 0 i))
 
-bytes-more : (c : List ℕ) (i : ℕ) → bytesTo c (suc i) ≡ bytesTo c i ++ littleEndian 4 (getD c i 0)
+pub bytes-more : (c : List ℕ) (i : ℕ) → bytesTo c (suc i) ≡ bytesTo c i ++ littleEndian 4 (getD c i 0)
 unfolding bytesTo
 bytes-more c i =
     let f : ℕ → List ℕ = λ (p : ℕ). littleEndian 4 (getD c p 0) in

@@ -1,2 +1,4 @@
 pub mod Fours
 pub mod Rooms
+pub mod Forms
+pub mod Promises

@@ -1,0 +1,43 @@
+-- The promises of specs/Promises.antt; those of the bytes' form stand in Forms. Assumes nothing.
+use mathlib.Core.Path.{_≡_, refl}
+use mathlib.Core.Bool.{not}
+use mathlib.Core.Logic.{_⊎_, inl, inr}
+use mathlib.Core.List.{List}
+use Prim.Native.Nat.{ℕ, _+_, _*_, _%_}
+use native.Mathlib.Omega.{arith}
+use lib.Dec.{ltb}
+use lib.ListN.{length}
+use Rattle.bits.proofs.Cases.{split}
+use Rattle.station_c.specs.Entries.{writes}
+use Rattle.totals.specs.Totals.{blank}
+use Rattle.lines.specs.Lines.{reportOf}
+use Rattle.report_c.specs.Entries.{totalsBytes, totalsIn, starting, known, texting, lining}
+use Rattle.report_c.specs.Promises.{TotalsFit, RefusedUntouched, NumbersReturned}
+use Rattle.report_c.proofs.Rooms.{totals-size}
+
+pub totals-fit : TotalsFit
+totals-fit = totals-size
+
+pub refused-untouched : RefusedUntouched
+unfolding starting lining texting writes
+refused-untouched = (
+  λ room h. split (ltb (length room) 208) (λ t. rw t) (λ t. absurd (h (rw t))),
+  λ room full out h. split (not (known full))
+      (λ t. rw t)
+      (λ t. split (ltb (length room) 208)
+      (λ u. rw (t, u))
+      (λ u. let text = reportOf (totalsIn room) full in
+      split (ltb (length out) (length text)) (λ v. rw (t, u, v)) (λ v. absurd (h (rw (t, u, v) (omega arith)))))),
+)
+
+pub numbers-returned : NumbersReturned
+unfolding starting lining texting writes
+numbers-returned = (
+  λ room. split (ltb (length room) 208) (λ t. rw t (inr refl)) (λ t. rw t (inl refl)),
+  λ room full out. split (not (known full))
+      (λ t. rw t (inr (inl refl)))
+      (λ t. split (ltb (length room) 208)
+      (λ u. rw (t, u) (inr (inr refl)))
+      (λ u. let text = reportOf (totalsIn room) full in
+      split (ltb (length out) (length text)) (λ v. rw (t, u, v) (inr (inr refl))) (λ v. rw (t, u, v) (inl (omega arith))))),
+)
