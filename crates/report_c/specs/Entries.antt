@@ -9,9 +9,11 @@ use Rattle.answers.specs.declared.Answer.the-variants.{Taken, BadField}
 use Rattle.answers.specs.Answers.{nowhere}
 use Rattle.wire.specs.Kinds.{littleEndian, fromLittleEndian}
 use Rattle.totals.specs.declared.Totals.{Totals}
-use Rattle.totals.specs.Totals.{size, totalsOf, nothing, blank}
+use Rattle.totals.specs.declared.Tally.{Tally}
+use Rattle.totals.specs.Totals.{size, totalsOf, nothing, countedIn, blank}
 use Rattle.lines.specs.Lines.{reportOf}
-use Rattle.station_c.specs.Entries.{returned, Entry, writes, noRoom}
+use Rattle.weeks.specs.Weeks.{happened}
+use Rattle.station_c.specs.Entries.{stationSize, stationOf, returned, Entry, writes, noRoom}
 
 -- ---- totals in bytes
 
@@ -32,6 +34,21 @@ totalsIn m = totalsOf (map (λ p. fromLittleEndian 4 (4 * p) m) (from 0 size))
 -- the totals of a new report: 17 where the room is too short
 unfoldable pub starting : List ℕ → Entry
 starting room = cond (ltb (length room) totalsSize) (noRoom room) (writes Taken (totalsBytes blank) room)
+
+-- the number of the answer that a total is full
+abbrev pub fullNumber : ℕ
+fullNumber = 40
+
+-- totals in which something was counted are written; where one is full that is said with its place, and nothing is written
+unfoldable pub tallied : Tally → List ℕ → Entry
+tallied c room =
+    cond (eqb (c .full) nothing) (writes Taken (totalsBytes (c .totals)) room) (record { says = fullNumber + 256 * c .full; leaves = room })
+
+-- the first message of some bytes is counted, by what it does on the lent station: 17 where either room is too short, then as above
+unfoldable pub counting : List ℕ → List ℕ → List ℕ → Entry
+counting room station message =
+    cond (ltb (length room) totalsSize || ltb (length station) stationSize) (noRoom room)
+    (tallied (countedIn (totalsIn room) (happened (stationOf station) message)) room)
 
 -- which total is full: a place of the totals, or none
 abbrev pub known : ℕ → Bool

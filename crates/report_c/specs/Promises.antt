@@ -2,12 +2,14 @@
 use mathlib.Core.Path.{_≡_}
 use mathlib.Core.Logic.{_⊎_}
 use mathlib.Core.List.{List, _++_}
-use Prim.Native.Nat.{ℕ, _%_, _≤_}
+use Prim.Native.Nat.{ℕ, _/_, _%_, _≤_}
 use lib.ListN.{length, getD, take}
 use Rattle.wire_laws.specs.Statements.{Bytes}
 use Rattle.totals.specs.declared.Totals.{Totals}
-use Rattle.totals.specs.Totals.{size, most}
-use Rattle.report_c.specs.Entries.{totalsSize, totalsBytes, totalsIn, starting, lining}
+use Rattle.totals.specs.Totals.{size, most, countedIn}
+use Rattle.weeks.specs.Weeks.{happened}
+use Rattle.station_c.specs.Entries.{stationSize, stationOf}
+use Rattle.report_c.specs.Entries.{totalsSize, totalsBytes, totalsIn, starting, counting, lining}
 
 -- totals as code holds them: one for each place, none above the most
 pub record Typed (t : Totals) : Type 0 where
@@ -30,14 +32,23 @@ TotalsOneForm = (room : List ℕ) → Bytes room → totalsSize ≤ length room 
 abbrev pub AnyBytesHold : Type 0
 AnyBytesHold = (room : List ℕ) → Bytes room → Typed (totalsIn room)
 
+-- a message is counted: the room holds the totals in which it is, and the place that is told is that of the first that is full, or none
+abbrev pub MessageCounted : Type 0
+MessageCounted =
+    (room station message : List ℕ) → Bytes room → totalsSize ≤ length room → stationSize ≤ length station
+    → let c = countedIn (totalsIn room) (happened (stationOf station) message) in
+    (totalsIn (counting room station message .leaves) ≡ c .totals) × (counting room station message .says / 256 ≡ c .full)
+
 -- an entry that refuses leaves the room as it was
 abbrev pub RefusedUntouched : Type 0
 RefusedUntouched =
     ((room : List ℕ) → (starting room .says % 256 ≡ 0 → ⊥) → starting room .leaves ≡ room)
+    × ((room station message : List ℕ) → (counting room station message .says % 256 ≡ 0 → ⊥) → counting room station message .leaves ≡ room)
     × ((room : List ℕ) (full : ℕ) (out : List ℕ) → (lining room full out .says % 256 ≡ 0 → ⊥) → lining room full out .leaves ≡ out)
 
 -- the numbers that each returns
 abbrev pub NumbersReturned : Type 0
 NumbersReturned =
     ((room : List ℕ) → let n = starting room .says % 256 in (n ≡ 0) ⊎ (n ≡ 17))
+    × ((room station message : List ℕ) → let n = counting room station message .says % 256 in (n ≡ 0) ⊎ (n ≡ 17) ⊎ (n ≡ 40))
     × ((room : List ℕ) (full : ℕ) (out : List ℕ) → let n = lining room full out .says % 256 in (n ≡ 0) ⊎ (n ≡ 4) ⊎ (n ≡ 17))

@@ -6,10 +6,11 @@ ghost use Prim.Native.Nat.{_+_, _≤_};
 ghost use lib.ListN.{length, take, drop};
 ghost use Rattle.wire.specs.Kinds.{littleEndian, fromLittleEndian};
 ghost use Rattle.totals.specs.Totals.{totalsOf};
-ghost use Rattle.station_c.specs.Entries.{Leaves};
-ghost use Rattle.report_c.specs.Entries.{totalsSize, totalsBytes, totalsIn, starting, known, texting, lining};
+ghost use Rattle.station_c.specs.Entries.{stationSize, stationOf, Leaves};
+ghost use Rattle.report_c.specs.Entries.{totalsSize, totalsBytes, totalsIn, starting, counting, known, texting, lining};
 use answers::Answer;
 use answers::NOWHERE;
+use garage::Station;
 use station_c::say;
 use totals::NOTHING;
 use totals::Totals;
@@ -19,6 +20,12 @@ const SIZE: usize = 52;
 
 // The bytes that they take.
 const TOTALS: usize = 208;
+
+// The bytes of a lent station.
+const STATION: usize = 52;
+
+// The number of the answer that a total is full.
+const FULL: u32 = 40;
 
 // ---- totals in bytes
 
@@ -88,6 +95,38 @@ pub extern "C" fn report_start(totals: &mut [u8]) -> u32
         return say(Answer::NoRoom);
     }
     let counts = [0u32; SIZE];
+    keep(&counts, totals);
+    say(Answer::Taken)
+}
+
+// The station that the first 52 bytes of a room hold.
+fn held(room: &[u8]) -> Station
+    requires { ⌜ stationSize ≤ length (now room) ⌝ }
+    ensures { λ s. ⌜ s ≡ stationOf (now (room .entry)) ⌝ }
+{
+    let mut b = [0u8; STATION];
+    bytes::copy(&room[..STATION], &mut b);
+    station_c::station_of(b)
+}
+
+// Counts the first message of a run, as it is before the lent station is given it; where a total is full, its place is told.
+#[no_mangle]
+pub extern "C" fn report_message(totals: &mut [u8], station: &[u8], message: &[u8]) -> u32
+    ensures { λ r. ⌜ Leaves (counting (now (totals .entry)) (now (station .entry)) (now (message .entry))) r (now (totals .exit)) ⌝ }
+{
+    if totals.len() < TOTALS {
+        return say(Answer::NoRoom);
+    }
+    if station.len() < STATION {
+        return say(Answer::NoRoom);
+    }
+    let s = held(station);
+    let t = load(totals);
+    let mut counts = t.counts;
+    let full = weeks::count_message(&mut counts, s, message);
+    if full != NOTHING {
+        return FULL + 256 * (full as u32);
+    }
     keep(&counts, totals);
     say(Answer::Taken)
 }
