@@ -6,11 +6,10 @@ use mathlib.Core.List.{List, [], _∷_}
 use Prim.Native.Nat.{ℕ, zero, suc, _+_, _≤_}
 use native.Mathlib.Nat.{add-assoc, add-zero, zero-add}
 use native.Mathlib.Omega.{arith}
-use borrow.Author.Tests.{eq-eqb, ne-eqb, eqb-true}
+use borrow.Author.Tests.{eq-eqb, ne-eqb}
 use lib.Dec.{eqb}
 use lib.ListN.{length, drop, length-drop}
 use lib.Seq.{drop-drop}
-use Rattle.bits.proofs.Cases.{split}
 use Rattle.garage.specs.declared.Station.{Station}
 use Rattle.wire.specs.declared.Frame.{Frame}
 use Rattle.wire.specs.declared.Frame.the-variants.{Cut, Wrong, Whole}
@@ -94,6 +93,16 @@ further-more a b w = rw add-assoc
 
 -- ---- the loop
 
+-- the same bytes counted
+pub message-held : (c : List ℕ) (s : Station) (a b : List ℕ) {p : ℕ} {last : List ℕ} → a ≡ b
+    → Holds (countedIn (totalsOf c) (happened s a)) p last → Holds (countedIn (totalsOf c) (happened s b)) p last
+message-held c s a b e h = rw (← e) h
+
+-- a step's message counted
+pub step-held : (c : List ℕ) (s : Station) (m : List ℕ) {x : Step} {p : ℕ} {last : List ℕ} → x ≡ stepOf s m
+    → Holds (countedIn (totalsOf c) (x .happened)) p last → Holds (countedIn (totalsOf c) (happened s m)) p last
+step-held c s m e h = rw (← ap (λ (y : Step). y .happened) e) h
+
 -- so far `at` bytes of the input are taken, and a count from here on is what is left of the whole
 pub record Midway (input : List ℕ) (before : List ℕ) (s₀ : Station) (counts : List ℕ) (s : Station) (at : ℕ) : Type 0 where
   pub within : at ≤ length input
@@ -112,28 +121,27 @@ module _ {input before : List ℕ} {s₀ : Station} {counts : List ℕ} {s : Sta
       → Counts (countOn (totalsOf before) s₀ input) (record { station = s; used = at; stop = false; full = nothing }) counts
   cut-short e = ended (uncounted (totalsOf counts)) false (turn-cut (totalsOf counts) s (drop at input) e) (record { full = refl; counts = refl })
 
-  module _ {x : Step} {p : ℕ} {last : List ℕ} (seen : x ≡ stepOf s (drop at input)) (held : Holds (countedIn (totalsOf counts) (x .happened)) p last) where
-    holds : Holds (countedIn (totalsOf counts) (happened s (drop at input))) p last
-    holds = rw (← ap (λ (y : Step). y .happened) seen) held
-
+  -- the message that stands here is counted
+  module _ {p : ℕ} {last : List ℕ} (held : Holds (countedIn (totalsOf counts) (happened s (drop at input))) p last) where
     pub wrong-length : frameOf (drop at input) ≡ Wrong
         → Counts (countOn (totalsOf before) s₀ input) (record { station = s; used = at; stop = true; full = p }) last
-    wrong-length e = ended _ true (turn-wrong (totalsOf counts) s (drop at input) e) holds
+    wrong-length e = ended _ true (turn-wrong (totalsOf counts) s (drop at input) e) held
 
     pub one-full : (n : ℕ) → frameOf (drop at input) ≡ Whole n → (p ≡ nothing → ⊥)
         → Counts (countOn (totalsOf before) s₀ input) (record { station = s; used = at; stop = true; full = p }) last
     one-full n e q =
-        ended _ true (turn-full (totalsOf counts) s (drop at input) n e (ne-eqb _ nothing (λ z. q (holds .full ∙ z)))) holds
+        ended _ true (turn-full (totalsOf counts) s (drop at input) n e (ne-eqb _ nothing (λ z. q (held .full ∙ z)))) held
 
-    pub counted-on : (n : ℕ) → frameOf (drop at input) ≡ Whole n → p ≡ nothing → Midway input before s₀ last (x .station) (at + n)
-    counted-on n e q =
+    pub counted-on : (n : ℕ) {x : Station} → x ≡ respond s (drop at input) .station → frameOf (drop at input) ≡ Whole n → p ≡ nothing
+        → Midway input before s₀ last x (at + n)
+    counted-on n next e q =
         let f = whole-frame (drop at input) n e in
         let l = length-drop at input in
         record {
           within = omega arith;
           rest =
               m .rest
-              ∙ ap (further at) (turn-whole (totalsOf counts) s (drop at input) n e (eq-eqb _ nothing (sym (holds .full) ∙ q)))
+              ∙ ap (further at) (turn-whole (totalsOf counts) s (drop at input) n e (eq-eqb _ nothing (sym (held .full) ∙ q)))
               ∙ further-more at n _
-              ∙ rw (← ap (λ (y : Step). y .station) seen, holds .counts, drop-drop n at input);
+              ∙ rw (← next, held .counts, drop-drop n at input);
         }

@@ -7,7 +7,7 @@ use Prim.Native.Nat.{ℕ, zero, suc, _+_, _≤_}
 use native.Mathlib.Omega.{arith}
 use borrow.Author.Tests.{eqb-true}
 use lib.Dec.{eqb}
-use lib.ListN.{length, drop, length-append, List·getD-append}
+use lib.ListN.{length, drop, List·getD-append}
 use lib.Seq.{drop-append-le, drop-drop}
 use Rattle.bits.specs.Places.{join}
 use Rattle.bits.proofs.Cases.{split}

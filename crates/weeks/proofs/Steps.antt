@@ -1,5 +1,5 @@
 -- One message: what the code puts together is what happens, and the next station. Assumes nothing.
-use mathlib.Core.Path.{_≡_, refl, sym, ap, _∙_}
+use mathlib.Core.Path.{_≡_, sym, ap, _∙_}
 use mathlib.Core.Bool.{Bool, true, false}
 use mathlib.Core.List.{List}
 use Prim.Native.Nat.{ℕ}
@@ -19,13 +19,22 @@ use Rattle.weeks.specs.Weeks.{kindRead, numberIn, carsIn, happened}
 use Rattle.weeks.specs.Private.{toldBy, stepOf}
 use Rattle.weeks.proofs.Telling.{tellsOf, taken-told}
 
+-- the record of a fit station is sound
+pub fit-sound : (s : Station) {known : Bool} → known ≡ fit s → known ≡ true → sound (s .bits) ≡ true
+fit-sound s f t = fit-has s (sym f ∙ t) .sound
+
+-- the cars after a step are those of its station
+pub step-cars : (s : Station) (m : List ℕ) {x : Step} → x ≡ stepOf s m → x .happened .cars ≡ carsIn (total (x .station .bits))
+unfolding happened
+step-cars s m e = rw e
+
 module _ (s : Station) (m : List ℕ) {known : Bool} {r : Reply} (f : known ≡ fit s) (e : r ≡ respondKnown known s m) where
   pub reply-is : r ≡ respond s m
   reply-is = e ∙ rw f (known-same s m)
 
   -- every call keeps a fit station's record sound
   pub still-sound : known ≡ true → sound (r .station .bits) ≡ true
-  still-sound t = fit-has (r .station) (ap (λ (x : Reply). fit (x .station)) reply-is ∙ respond-fit s m ∙ sym f ∙ t) .sound
+  still-sound = fit-sound (r .station) (f ∙ sym (ap (λ (x : Reply). fit (x .station)) reply-is ∙ respond-fit s m))
 
   module _ {k a n : ℕ} (w : What) (kind : k ≡ kindRead m) (given : w ≡ r .answer) (answer : a ≡ numberIn w) (cars : n ≡ carsIn (total (r .station .bits))) where
     abbrev step : Tells → Step

@@ -142,9 +142,20 @@ fn cars_now(known: bool, r: u64) -> u8
     }
 }
 
-// What the first message of m does on a station of which it is known whether it is fit.
-fn seen(known: bool, s: Station, m: &[u8]) -> Step
-    requires { ⌜ known ≡ fit s ⌝ }
+// How many cars there are after a message, where it is known how many there were: they are counted only where the record has changed.
+fn cars_after(known: bool, cars: u8, before: u64, after: u64) -> u8
+    requires { ⌜ (cars ≡ carsIn (total before)) × (known ≡ true → sound after ≡ true) ⌝ }
+    ensures { λ n. ⌜ n ≡ carsIn (total after) ⌝ }
+{
+    if before == after {
+        return cars;
+    }
+    cars_now(known, after)
+}
+
+// What the first message of m does on a station of which it is known whether it is fit, and how many cars it has.
+fn seen(known: bool, cars: u8, s: Station, m: &[u8]) -> Step
+    requires { ⌜ (known ≡ fit s) × (cars ≡ carsIn (total (s .bits))) ⌝ }
     ensures { λ x. ⌜ x ≡ stepOf s (now (m .entry)) ⌝ }
 {
     let r = service::respond_known(known, s, m);
@@ -152,7 +163,7 @@ fn seen(known: bool, s: Station, m: &[u8]) -> Step
     let reply = r.answer;
     let kind = kind_read(m);
     let answer = number_in(reply);
-    let cars = cars_now(known, station.bits);
+    let cars = cars_after(known, cars, s.bits, station.bits);
     if answer == 0 {
         let t = told(s, kind, m);
         let happened = Happened {
@@ -180,7 +191,8 @@ fn seen(known: bool, s: Station, m: &[u8]) -> Step
 pub fn happened(s: Station, m: &[u8]) -> Happened
     ensures { λ h. ⌜ h ≡ happened s (now (m .entry)) ⌝ }
 {
-    let x = seen(s.fit(), s, m);
+    let known = s.fit();
+    let x = seen(known, cars_now(known, s.bits), s, m);
     x.happened
 }
 
@@ -199,6 +211,7 @@ pub fn count_all(counts: &mut [u32; 52], s: Station, input: &[u8]) -> Counted
     ensures { λ r. ⌜ Counts (countOn (totalsOf (now (counts .entry))) s (now (input .entry))) r (now (counts .exit)) ⌝ }
 {
     let known = s.fit();
+    let mut cars = cars_now(known, s.bits);
     let mut s = s;
     let mut at: usize = 0;
     loop {
@@ -214,8 +227,7 @@ pub fn count_all(counts: &mut [u32; 52], s: Station, input: &[u8]) -> Counted
                 };
             }
             Frame::Wrong => {
-                let x = seen(known, s, rest);
-                let full = totals::count_at(counts, x.happened);
+                let full = count_message(counts, s, rest);
                 return Counted {
                     station: s,
                     used: at,
@@ -224,8 +236,9 @@ pub fn count_all(counts: &mut [u32; 52], s: Station, input: &[u8]) -> Counted
                 };
             }
             Frame::Whole(n) => {
-                let x = seen(known, s, rest);
-                let full = totals::count_at(counts, x.happened);
+                let x = seen(known, cars, s, rest);
+                let happened = x.happened;
+                let full = totals::count_at(counts, happened);
                 if full != NOTHING {
                     return Counted {
                         station: s,
@@ -234,6 +247,7 @@ pub fn count_all(counts: &mut [u32; 52], s: Station, input: &[u8]) -> Counted
                         full,
                     };
                 }
+                cars = happened.cars;
                 s = x.station;
                 at += n;
             }

@@ -1,6 +1,7 @@
-use lib.Seq.{length-take-le}
+-- `report::close` meets its contract. Assumes nothing.
 use mathlib.Core.Path.{sym}
 use borrow.Author.Needs.{needs}
+use lib.Seq.{length-take-le}
 use Rattle.report.proofs.close.Statement.{statement}
 use Rattle.report.proofs.close.Tie as tie
 

@@ -1,7 +1,8 @@
-use Rattle.report.proofs.Short.{held-short}
-use lib.Seq.{length-take-le}
+-- `report::count` meets its contract. Assumes nothing.
 use mathlib.Core.Path.{sym}
 use borrow.Author.Needs.{needs}
+use lib.Seq.{length-take-le}
+use Rattle.report.proofs.Short.{held-short}
 use Rattle.report.proofs.count.Statement.{statement}
 use Rattle.report.proofs.count.Tie as tie
 

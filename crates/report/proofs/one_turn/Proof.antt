@@ -1,6 +1,7 @@
-use Rattle.report.proofs.Short.{filled}
+-- `report::one_turn` meets its contract: a read fills no more than the buffer. Assumes nothing.
 use native.Mathlib.Omega.{arith}
 use borrow.Author.Needs.{needs}
+use Rattle.report.proofs.Short.{filled}
 use Rattle.report.proofs.one_turn.Statement.{statement}
 use Rattle.report.proofs.one_turn.Tie as tie
 

@@ -1,7 +1,8 @@
-use lib.ListN.{length}
-use Prim.Native.Nat.{_<_}
+-- `report::session` meets its contract: less than a message is held, and the turns that are left shrink. Assumes nothing.
 use mathlib.Core.Path.{_≡_}
+use Prim.Native.Nat.{_<_}
 use borrow.Author.Needs.{needs}
+use lib.ListN.{length}
 use Rattle.report.proofs.session.Statement.{statement}
 use Rattle.report.proofs.session.Tie as tie
 

@@ -2,11 +2,15 @@
 use mathlib.Core.Path.{ap}
 use borrow.Author.Needs.{needs}
 use Rattle.weeks.specs.declared.Step.{Step}
+use Rattle.weeks.proofs.Steps.{fit-sound}
 use Rattle.weeks.proofs.happened.Statement.{statement}
 use Rattle.weeks.proofs.happened.Tie as tie
 
 fit-requires : tie.Need-fit-requires
 fit-requires c κs = search needs
+
+cars-now-requires : tie.Need-cars-now-requires
+cars-now-requires c κs = fit-sound _ (c .fit .ensures)
 
 seen-requires : tie.Need-seen-requires
 seen-requires c κs = search needs
@@ -15,4 +19,4 @@ returns : tie.Need-returns
 returns c = ap (λ (x : Step). x .happened) (c .before .seen .ensures)
 
 pub happened-spec : {M : Type 1} → statement M
-happened-spec = tie.close (tie.spec fit-requires seen-requires returns)
+happened-spec = tie.close (tie.spec fit-requires cars-now-requires seen-requires returns)
