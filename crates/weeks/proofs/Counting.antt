@@ -17,13 +17,12 @@ use Rattle.wire.specs.Reads.{frameOf}
 use Rattle.wire.proofs.Frames.{whole-frame}
 use Rattle.service.specs.Service.{respond}
 use Rattle.service.proofs.Running.{none-cut, shorter}
+use Rattle.totals.specs.declared.Happened.{Happened}
 use Rattle.totals.specs.declared.Totals.{Totals}
 use Rattle.totals.specs.declared.Tally.{Tally}
 use Rattle.totals.specs.Totals.{Holds, totalsOf, nothing, countedIn}
-use Rattle.weeks.specs.declared.Step.{Step}
 use Rattle.weeks.specs.Weeks.{happened}
 use Rattle.weeks.specs.Counts.{uncounted, Counting, Counts, ends, further, after, countFor, countOn, countEnd}
-use Rattle.weeks.specs.Private.{stepOf}
 
 -- ---- the end of the input
 
@@ -93,15 +92,10 @@ further-more a b w = rw add-assoc
 
 -- ---- the loop
 
--- the same bytes counted
-pub message-held : (c : List ℕ) (s : Station) (a b : List ℕ) {p : ℕ} {last : List ℕ} → a ≡ b
-    → Holds (countedIn (totalsOf c) (happened s a)) p last → Holds (countedIn (totalsOf c) (happened s b)) p last
-message-held c s a b e h = rw (← e) h
-
--- a step's message counted
-pub step-held : (c : List ℕ) (s : Station) (m : List ℕ) {x : Step} {p : ℕ} {last : List ℕ} → x ≡ stepOf s m
-    → Holds (countedIn (totalsOf c) (x .happened)) p last → Holds (countedIn (totalsOf c) (happened s m)) p last
-step-held c s m e h = rw (← ap (λ (y : Step). y .happened) e) h
+-- the same counted
+pub same-held : (c : List ℕ) {h g : Happened} {p : ℕ} {last : List ℕ} → h ≡ g
+    → Holds (countedIn (totalsOf c) h) p last → Holds (countedIn (totalsOf c) g) p last
+same-held c e held = rw (← e) held
 
 -- so far `at` bytes of the input are taken, and a count from here on is what is left of the whole
 pub record Midway (input : List ℕ) (before : List ℕ) (s₀ : Station) (counts : List ℕ) (s : Station) (at : ℕ) : Type 0 where

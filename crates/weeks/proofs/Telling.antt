@@ -4,7 +4,7 @@ use mathlib.Core.Bool.{Bool, true, false, cond, _&&_}
 use mathlib.Core.List.{List, [], _∷_}
 use Prim.Native.Nat.{ℕ, _+_, _*_, _≤_, _<_}
 use native.Mathlib.Omega.{arith}
-use borrow.Author.Tests.{eqb-true, ltb-false, le-ltb}
+use borrow.Author.Tests.{eqb-true, eqb-false, ne-eqb, ltb-false, le-ltb}
 use denote.Enum.Declared.{tagOf}
 use lib.Dec.{eqb, ltb}
 use lib.ListN.{getD, length, take, drop}
@@ -20,6 +20,7 @@ use Rattle.floor.specs.Cars.{cars}
 use Rattle.floor.specs.Sound.{sound, total}
 use Rattle.floor.proofs.Few.{few-cars}
 use Rattle.garage.specs.declared.Station.{Station}
+use Rattle.garage.specs.Held.{codeAt}
 use Rattle.wire.proofs.What as what
 use Rattle.wire.specs.declared.What.{What}
 use Rattle.wire.specs.declared.What.the-variants.{Request, Event, Result, Image, Ask, Answer, Held}
@@ -32,7 +33,7 @@ use Rattle.wire.proofs.Frames.{when, whole-frame}
 use Rattle.service.specs.Service.{respond}
 use Rattle.service.proofs.Readings.{ways}
 use Rattle.weeks.specs.declared.Tells.{Tells}
-use Rattle.weeks.specs.Weeks.{kindRead, numberIn, opIn, isDone, driveDone, carsIn}
+use Rattle.weeks.specs.Weeks.{kindRead, numberIn, opIn, isDone, driveOn, driveDone, carsIn}
 use Rattle.weeks.specs.Private.{toldBy}
 
 -- a mask of one bit is set where that bit is
@@ -107,9 +108,27 @@ kind-is m n k e q h = whole-kind m n e ∙ rw (q, le-ltb 5 k h)
 kind-taken : (m : List ℕ) (n : ℕ) → 4 ≤ n → kindAt (take n m) ≡ kindAt m
 kind-taken m n h = rw (getD-take n m 2 0 (omega arith), getD-take n m 3 0 (omega arith))
 
+-- by its kind: an event that ends a drive as done, another, a result, or any other kind
+module _ (s : Station) (m : List ℕ) {k : ℕ} where
+  pub told-done : (way d : ℕ) → k ≡ 2 → way ≡ getD m 4 0 → way ≡ 3 → d ≡ driveOn (s .bits) → record { op = 0; done = false; drive = d } ≡ toldBy s k m
+  unfolding toldBy
+  told-done way d e b w f = rw (e, ← b, w, f)
+
+  pub told-event : (way : ℕ) → k ≡ 2 → way ≡ getD m 4 0 → (way ≡ 3 → ⊥) → none ≡ toldBy s k m
+  unfolding toldBy
+  told-event way e b w = rw (e, ← b, ne-eqb way 3 w)
+
+  pub told-result : (op n d : ℕ) → k ≡ 3 → op ≡ codeAt (s .set) n .op → n ≡ getD m 6 0 → d ≡ getD m 7 0
+      → record { op = op; done = eqb d 1; drive = 0 } ≡ toldBy s k m
+  unfolding toldBy
+  told-result op n d e o a b = rw (e, o, a, b)
+
+  pub told-other : (k ≡ 2 → ⊥) → (k ≡ 3 → ⊥) → none ≡ toldBy s k m
+  unfolding toldBy
+  told-other a b = rw (ne-eqb k 2 a, ne-eqb k 3 b)
+
 told-none : (s : Station) (m : List ℕ) (k : ℕ) → eqb k 2 ≡ false → eqb k 3 ≡ false → toldBy s k m ≡ none
-unfolding toldBy
-told-none s m k a b = rw (a, b)
+told-none s m k a b = sym (told-other s m (eqb-false k 2 a) (eqb-false k 3 b))
 
 -- a request tells nothing of these, be it read or refused
 request-tells : (s : Station) (m : List ℕ) → tellsOf s (readRequest m .message .what) ≡ none

@@ -12,9 +12,9 @@ use Rattle.service.proofs.Called.{respond-fit}
 use Rattle.wire.proofs.Parts.{from-on}
 use Rattle.wire.proofs.Frames.{Framed, whole-frame}
 use Rattle.weeks.specs.Private.{stepOf}
-use Rattle.weeks.specs.Weeks.{carsIn}
+use Rattle.weeks.specs.Weeks.{carsIn, happened}
 use Rattle.weeks.specs.declared.Step.{Step}
-use Rattle.weeks.proofs.Counting.{Midway, started, message-held, step-held, cut-short, wrong-length, one-full, counted-on}
+use Rattle.weeks.proofs.Counting.{Midway, started, same-held, cut-short, wrong-length, one-full, counted-on}
 use Rattle.weeks.proofs.Steps.{fit-sound, step-cars}
 use Rattle.weeks.proofs.count_all.Statement.{statement}
 use Rattle.weeks.proofs.count_all.Tie as tie
@@ -71,7 +71,7 @@ count-message-requires : tie.Need-count-message-requires Inv-loop μ-loop
 count-message-requires c κs = search needs
 
 returns-2 : tie.Need-returns-2 Inv-loop μ-loop
-returns-2 c = wrong-length (c .before .before .before .before .before .before .loop .inv .0) (message-held _ (c .before .before .before .before .before .before .loop .s) _ _ (from-on _ (c .before .before .before .before .before .before .loop .at)) (c .count-message .ensures)) (found (c .before .before .before .before) ∙ c .before .before .enum-told2 .given .1)
+returns-2 c = wrong-length (c .before .before .before .before .before .before .loop .inv .0) (same-held _ (ap (happened (c .before .before .before .before .before .before .loop .s)) (from-on _ (c .before .before .before .before .before .before .loop .at))) (c .count-message .ensures)) (found (c .before .before .before .before) ∙ c .before .before .enum-told2 .given .1)
 
 enum-known-frame : tie.Need-enum-known-frame Inv-loop μ-loop
 enum-known-frame c = search needs
@@ -83,7 +83,7 @@ count-at-requires : tie.Need-count-at-requires Inv-loop μ-loop
 count-at-requires c κs = search needs
 
 returns-3 : tie.Need-returns-3 Inv-loop μ-loop
-returns-3 c = one-full (c .before .before .before .before .before .before .before .before .before .before .loop .inv .0) (step-held _ (c .before .before .before .before .before .before .before .before .before .before .loop .s) _ (c .before .before .before .before .seen .ensures ∙ ap (stepOf (c .before .before .before .before .before .before .before .before .before .before .loop .s)) (from-on _ (c .before .before .before .before .before .before .before .before .before .before .loop .at))) (c .before .count-at .ensures)) _ (found (c .before .before .before .before .before .before .before .before) ∙ c .before .before .before .before .before .before .frame .given .1) (c .if1 .taken)
+returns-3 c = one-full (c .before .before .before .before .before .before .before .before .before .before .loop .inv .0) (same-held _ (ap (λ (x : Step). x .happened) (c .before .before .before .before .seen .ensures ∙ ap (stepOf (c .before .before .before .before .before .before .before .before .before .before .loop .s)) (from-on _ (c .before .before .before .before .before .before .before .before .before .before .loop .at)))) (c .before .count-at .ensures)) _ (found (c .before .before .before .before .before .before .before .before) ∙ c .before .before .before .before .before .before .frame .given .1) (c .if1 .taken)
 
 add-at : tie.Need-add-at Inv-loop μ-loop
 add-at c = omega (arith, whole (c .before .before .before .before .before .before .before) .within, length-drop (c .before .before .before .before .before .before .before .before .before .before .before .loop .at) (now (c .before .before .before .before .before .before .before .before .before .before .before .before .before .before .before .args .input)))
@@ -93,7 +93,7 @@ loop-less c = omega (arith, whole (c .before .before .before .before .before .be
 
 loop-again : tie.Need-loop-again Inv-loop μ-loop
 loop-again c = let heard = c .before .before .before .before .before .seen .ensures ∙ ap (stepOf (c .before .before .before .before .before .before .before .before .before .before .before .loop .s)) (from-on _ (c .before .before .before .before .before .before .before .before .before .before .before .loop .at)) in (
-  counted-on (c .before .before .before .before .before .before .before .before .before .before .before .loop .inv .0) (step-held _ (c .before .before .before .before .before .before .before .before .before .before .before .loop .s) _ heard (c .before .before .count-at .ensures)) _ (ap (λ (x : Step). x .station) heard) (found (c .before .before .before .before .before .before .before .before .before) ∙ c .before .before .before .before .before .before .before .frame .given .1) (c .before .if1 .left),
+  counted-on (c .before .before .before .before .before .before .before .before .before .before .before .loop .inv .0) (same-held _ (ap (λ (x : Step). x .happened) heard) (c .before .before .count-at .ensures)) _ (ap (λ (x : Step). x .station) heard) (found (c .before .before .before .before .before .before .before .before .before) ∙ c .before .before .before .before .before .before .before .frame .given .1) (c .before .if1 .left),
   c .before .before .before .before .before .before .before .before .before .before .before .loop .inv .1 ∙ sym (ap (λ (x : Step). fit (x .station)) heard ∙ respond-fit _ _),
   step-cars (c .before .before .before .before .before .before .before .before .before .before .before .loop .s) _ heard,
 )

@@ -1,5 +1,6 @@
 -- `weeks::count_message` meets its contract: what happens, counted. Assumes nothing.
 use borrow.Author.Needs.{needs}
+use Rattle.weeks.proofs.Counting.{same-held}
 use Rattle.weeks.proofs.count_message.Statement.{statement}
 use Rattle.weeks.proofs.count_message.Tie as tie
 
@@ -10,7 +11,7 @@ count-at-requires : tie.Need-count-at-requires
 count-at-requires c κs = search needs
 
 returns : tie.Need-returns
-returns c = rw (← c .before .happened .ensures) (c .count-at .ensures)
+returns c = same-held _ (c .before .happened .ensures) (c .count-at .ensures)
 
 pub count-message-spec : {M : Type 1} → statement M
 count-message-spec = tie.close (tie.spec happened-requires count-at-requires returns)
