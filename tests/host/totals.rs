@@ -305,7 +305,8 @@ fn main() {
     // the largest number of cars is never too large, and no message is told of a room; an unknown kind counts under its answer alone
     let can: BTreeSet<Total> = totals().filter(|total| !matches!(total, Total::MostCars | Total::Answer(17))).collect();
     let after_another: BTreeSet<Total> = can.iter().filter(|total| !matches!(total, Total::Kind(_) | Total::Answer(3))).copied().collect();
-    for (what, met, can) in [("told as full", &met.told, &can), ("raised to its end", &met.reached, &can), ("full behind another", &met.behind, &after_another)] {
+    let all = [("told as full", &met.told, &can), ("raised to its end", &met.reached, &can), ("full behind another", &met.behind, &after_another)];
+    for (what, met, can) in all {
         let amiss: Vec<String> = met.symmetric_difference(can).map(Total::to_string).collect();
         if !amiss.is_empty() {
             eprintln!("totals: {what} never, or it can't be: {amiss:?}");
