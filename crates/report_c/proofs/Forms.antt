@@ -1,6 +1,6 @@
 -- Totals in bytes read back, and have one form. Assumes nothing.
 use mathlib.Core.Path.{_≡_, refl, sym, ap, ap₂, _∙_}
-use mathlib.Core.List.{List, _∷_, _++_, map, append-assoc}
+use mathlib.Core.List.{List, _∷_, _++_, map}
 use mathlib.Core.Logic.{_⊎_, inl, inr}
 use Prim.Native.Nat.{ℕ, zero, suc, _+_, _*_, _/_, _%_, _^_, _≤_, _<_}
 use native.Mathlib.Omega.{arith}
@@ -11,10 +11,9 @@ use Rattle.bits.proofs.Search.{lt-or-ge}
 use Rattle.wire.specs.Kinds.{littleEndian, fromLittleEndian}
 use Rattle.wire_laws.specs.Statements.{Bytes}
 use Rattle.wire_laws.proofs.Numbers.{read-tail, number-back, number-form}
-use Rattle.totals.specs.declared.Totals.{Totals}
 use Rattle.totals.specs.Totals.{totalsOf}
 use Rattle.report_c.specs.Entries.{totalsBytes, totalsIn}
-use Rattle.report_c.specs.Promises.{Typed, TotalsReadBack, TotalsOneForm, AnyBytesHold}
+use Rattle.report_c.specs.Promises.{TotalsReadBack, TotalsOneForm, AnyBytesHold}
 use Rattle.report_c.proofs.Fours.{valued-length, valued-at, bytesTo, bytes-more}
 
 -- ---- what was written reads back

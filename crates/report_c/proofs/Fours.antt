@@ -6,10 +6,9 @@ use native.Mathlib.Omega.{arith}
 use native.Mathlib.Numerals.{add-one}
 use lib.ListN as list
 use lib.ListN.{length, getD, take, drop, replicate, length-append}
-use lib.Seq.{sets-eq, paste, paste-suc, take-all, take-at, drop-append-add, drop-drop}
+use lib.Seq.{sets-eq, paste, paste-suc, take-at, drop-append-add, drop-drop}
 use Rattle.bits.specs.Places.{from, join}
 use Rattle.wire.specs.Kinds.{littleEndian, fromLittleEndian}
-use Rattle.totals.specs.declared.Totals.{Totals}
 use Rattle.totals.specs.Totals.{totalsOf}
 use Rattle.report_c.specs.Entries.{totalsBytes, totalsIn}
 

@@ -1,5 +1,5 @@
 -- Totals in which a message is counted are such as code holds, and a room that keeps them holds them. Assumes nothing.
-use mathlib.Core.Path.{_≡_, refl, sym, ap, _∙_}
+use mathlib.Core.Path.{_≡_, refl, sym, _∙_}
 use mathlib.Core.Bool.{Bool, true, false, _&&_}
 use mathlib.Core.Logic.{_⊎_, inl, inr}
 use mathlib.Core.List.{List}
@@ -11,7 +11,7 @@ use lib.ListN.{getD, length, drop}
 use Rattle.bits.specs.Bits.{digit}
 use Rattle.bits.proofs.Cases.{split}
 use Rattle.bits.proofs.Search.{lt-or-ge}
-use Rattle.bits.proofs.Least.{least-le, least-below}
+use Rattle.bits.proofs.Least.{least-below}
 use Rattle.floor.specs.declared.Total.{Total}
 use Rattle.floor.specs.declared.Total.the-variants.{Cars, Unsound}
 use Rattle.floor.specs.Sound.{total}
@@ -20,7 +20,6 @@ use Rattle.garage.specs.declared.Station.{Station}
 use Rattle.service.specs.Service.{respond}
 use Rattle.totals.specs.declared.Totals.{Totals}
 use Rattle.totals.specs.declared.Happened.{Happened}
-use Rattle.totals.specs.declared.Tally.{Tally}
 use Rattle.totals.specs.Totals.{Name, size, order, nameAt, counts, next, nexts, most, nothing, full, firstFull, countedIn}
 use Rattle.totals.specs.Totals.Name.{Kind, Number, Done, Failed, CarsIn, CarsOut, MostCars}
 use Rattle.totals.proofs.Order.{nexts-length, after-at, after-beyond}
@@ -28,7 +27,6 @@ use Rattle.weeks.specs.Weeks.{carsIn, happened}
 use Rattle.station_c.specs.Entries.{stationOf, writes}
 use Rattle.report_c.specs.Entries.{totalsBytes, totalsIn, tallied, counting}
 use Rattle.report_c.specs.Promises.{Typed, MessageCounted}
-use Rattle.report_c.proofs.Rooms.{totals-size}
 use Rattle.report_c.proofs.Forms.{totals-read-back, any-bytes-hold}
 
 -- ---- no total passes the most
@@ -81,8 +79,9 @@ message-counted room station message b h l =
     let x = happened (stationOf station) message in
     let t = totalsIn room in
     let c = countedIn t x in
+    let typed = counted-typed t x (any-bytes-hold room b) (happened-few (stationOf station) message) in
     rw (le-ltb _ _ h, le-ltb _ _ l)
     (split (eqb (c .full) nothing)
     (λ e. let f = eqb-true (c .full) nothing e in
-    rw e (totals-read-back (c .totals) (drop (length (totalsBytes (c .totals))) room) (counted-typed t x (any-bytes-hold room b) (happened-few (stationOf station) message)), omega arith))
+    rw e (totals-read-back (c .totals) (drop (length (totalsBytes (c .totals))) room) typed, omega arith))
     (λ e. rw e (sym (full-stays t x (eqb-false (c .full) nothing e)), omega arith)))

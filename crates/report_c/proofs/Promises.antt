@@ -1,9 +1,7 @@
 -- The promises of specs/Promises.antt; those of the bytes' form stand in Forms. Assumes nothing.
-use mathlib.Core.Path.{_≡_, refl}
+use mathlib.Core.Path.{refl}
 use mathlib.Core.Bool.{not, _||_}
-use mathlib.Core.Logic.{_⊎_, inl, inr}
-use mathlib.Core.List.{List}
-use Prim.Native.Nat.{ℕ, _+_, _*_, _%_}
+use mathlib.Core.Logic.{inl, inr}
 use native.Mathlib.Omega.{arith}
 use lib.Dec.{eqb, ltb}
 use lib.ListN.{length}
@@ -12,7 +10,7 @@ use Rattle.station_c.specs.Entries.{stationOf, writes}
 use Rattle.weeks.specs.Weeks.{happened}
 use Rattle.totals.specs.Totals.{nothing, countedIn}
 use Rattle.lines.specs.Lines.{reportOf}
-use Rattle.report_c.specs.Entries.{totalsBytes, totalsIn, starting, tallied, counting, known, texting, lining}
+use Rattle.report_c.specs.Entries.{totalsIn, starting, tallied, counting, known, texting, lining}
 use Rattle.report_c.specs.Promises.{TotalsFit, RefusedUntouched, NumbersReturned}
 use Rattle.report_c.proofs.Rooms.{totals-size}
 

@@ -47,7 +47,22 @@ module _ (room : List ℕ) {r : ℕ} where
 -- the first 52 bytes of a room hold the station that it holds
 pub station-first : (room : List ℕ) → 52 ≤ length room → stationOf (take 52 room) ≡ stationOf room
 unfolding stationOf
-station-first room h = rw (at 0 (omega arith), at 1 (omega arith), at 2 (omega arith), at 3 (omega arith), at 4 (omega arith), at 5 (omega arith), at 6 (omega arith), at 7 (omega arith), at 8 (omega arith), at 9 (omega arith), at 50 (omega arith), at 51 (omega arith), set)
+station-first room h =
+    rw (
+      at 0 (omega arith),
+      at 1 (omega arith),
+      at 2 (omega arith),
+      at 3 (omega arith),
+      at 4 (omega arith),
+      at 5 (omega arith),
+      at 6 (omega arith),
+      at 7 (omega arith),
+      at 8 (omega arith),
+      at 9 (omega arith),
+      at 50 (omega arith),
+      at 51 (omega arith),
+      set,
+    )
   where
     at : (i : ℕ) → i < 52 → getD (take 52 room) i 0 ≡ getD room i 0
     at i l = getD-take 52 room i 0 l
@@ -97,7 +112,9 @@ module _ (line : List ℕ) (size : ℕ) (out : List ℕ) (enough : size ≤ leng
   pub text-written : {told : ℕ} {last : List ℕ} → size ≤ length out → told ≡ returned Taken → r ≡ told + 65536 * size
       → last ≡ take (length (take size line)) (take size line) ++ drop (length (take size line)) out → Leaves (texting (take size line) out) r last
   unfolding texting
-  text-written h e f l = rw (length-take-le size line enough, le-ltb _ _ h) (f ∙ ap (λ (n : ℕ). n + 65536 * size) e, l ∙ rw (take-length, length-take-le size line enough))
+  text-written h e f l =
+      let all = length-take-le size line enough in
+      rw (all, le-ltb _ _ h) (f ∙ ap (λ (n : ℕ). n + 65536 * size) e, l ∙ rw (take-length, all))
 
 -- a text has no more bytes than its room
 pub text-fits : (s : List ℕ) (x : Text) → x ≡ textOf s → x .size ≤ length (x .bytes)
