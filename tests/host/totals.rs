@@ -61,8 +61,8 @@ fn station_message(room: &mut [u8], message: &[u8], reply: &mut [u8]) -> u32 {
 const PLACES: usize = 52;
 const SIZE: usize = 4 * PLACES;
 const NO_PLACE: u8 = 255;
-/// Longer than any report.
-const TEXT: usize = 2000;
+/// What is always room enough for a report, by the header.
+const TEXT: usize = 1092;
 
 /// What the entries return: taken, a field out of range, too short a room, and a total that is full.
 const TAKEN: u32 = said(0, NO_PLACE);
@@ -239,6 +239,7 @@ fn texts(numbers: &mut Numbers) {
         }
         put(&week, &mut room);
         let text = week.report();
+        assert!(text.len() <= TEXT, "a report of {} bytes", text.len());
         let lengths = if round < 2 { 0..text.len() + 3 } else { text.len() - 2..text.len() + 3 };
         for length in lengths { text_in(numbers, &room, NO_PLACE, &text, length); }
         for total in totals() {
