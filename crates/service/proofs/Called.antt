@@ -66,6 +66,9 @@ pub known-same : KnownSame
 unfolding respond respondKnown
 known-same s bytes = let m = readAsked bytes .message in rw (known-called (m .what) s (m .count) (m .set))
 
+pub known-reply : (s : Station) (bytes : List ℕ) {known : Bool} → known ≡ fit s → respondKnown known s bytes ≡ respond s bytes
+known-reply s bytes f = rw f (known-same s bytes)
+
 -- on a station that isn't fit a message that makes a call is refused
 pub unfit-called : (known : Bool) (w : What) (s : Station) (n : ℕ) (set : List ℕ) {a : Bool} → a ≡ makesCall w → a && not known ≡ true
     → refused s Unfit ≡ calledKnown known w s n set

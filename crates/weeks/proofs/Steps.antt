@@ -12,7 +12,7 @@ use Rattle.wire.specs.declared.What.{What}
 use Rattle.wire.specs.Reads.{readAsked}
 use Rattle.service.specs.declared.Reply.{Reply}
 use Rattle.service.specs.Service.{respond, respondKnown}
-use Rattle.service.proofs.Called.{known-same, respond-fit}
+use Rattle.service.proofs.Called.{known-reply, respond-fit}
 use Rattle.weeks.specs.declared.Tells.{Tells}
 use Rattle.weeks.specs.declared.Step.{Step}
 use Rattle.weeks.specs.Weeks.{kindRead, numberIn, carsIn, happened}
@@ -30,7 +30,7 @@ step-cars s m e = rw e
 
 module _ (s : Station) (m : List ℕ) {known : Bool} {r : Reply} (f : known ≡ fit s) (e : r ≡ respondKnown known s m) where
   pub reply-is : r ≡ respond s m
-  reply-is = e ∙ rw f (known-same s m)
+  reply-is = e ∙ known-reply s m f
 
   -- every call keeps a fit station's record sound
   pub still-sound : known ≡ true → sound (r .station .bits) ≡ true
