@@ -11,6 +11,9 @@ use streams::Input;
 use totals::NOTHING;
 use totals::Totals;
 
+// Where it says how far it is, if that is a terminal: bin/report opens it on its own standard error. The program's is for failures.
+const PROGRESS: i32 = 3;
+
 // Between two turns: the station, how many bytes are held at the front of the buffer, the place of the total that is full, whether nothing
 // more is to be read, and whether a read failed, so that nothing is to be printed.
 struct Between {
@@ -88,6 +91,19 @@ fn one_turn(t: Between, counts: &mut [u32; 52], buf: &mut [u8]) -> Between
     }
 }
 
+// Says how far it is: a dot for every 1,024 reads, and the end of that line.
+fn say_dot(shown: bool, reads: u64) {
+    if shown & (reads % 1024 == 0) {
+        io::write_all(PROGRESS, b".");
+    }
+}
+
+fn end_dots(shown: bool, reads: u64) {
+    if shown & (1024 <= reads) {
+        io::write_all(PROGRESS, b"\n");
+    }
+}
+
 // Turn after turn; no input is so long that it takes more.
 fn session(counts: &mut [u32; 52], buf: &mut [u8]) -> Between
     requires { ⌜ 45 ≤ length (now buf) ⌝ }
@@ -100,13 +116,16 @@ fn session(counts: &mut [u32; 52], buf: &mut [u8]) -> Between
         stop: false,
         failed: false,
     };
-    let mut turns = u64::MAX;
-    while 0 < turns {
+    let shown = libc::isatty(PROGRESS) == 1;
+    let mut reads: u64 = 0;
+    while reads < u64::MAX {
         t = one_turn(t, counts, buf);
         if t.stop {
+            end_dots(shown, reads);
             return t;
         }
-        turns -= 1;
+        reads += 1;
+        say_dot(shown, reads);
     }
     t
 }
