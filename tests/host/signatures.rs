@@ -85,7 +85,7 @@ fn typed(text: &str) -> (String, String) {
 fn header(text: &str) -> Entries {
     let mut parts = text.split("/*");
     let before = parts.next().unwrap_or("").to_string();
-    let bare = parts.fold(before, |bare, part| bare + part.split_once("*/").expect("a comment's end").1);
+    let bare = parts.fold(before, |bare, part| bare + part.split_once("*/").expect("a comment's end").1).replace("\\\n", "");
     let lines: Vec<&str> = bare.lines().filter(|line| !line.trim_start().starts_with('#')).collect();
     let one = |declaration: &str| {
         let (before, parameters) = declaration.split_once('(')?;
