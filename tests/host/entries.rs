@@ -13,7 +13,7 @@ use reference::{sound, Instruction, Station, REASONS};
 use std::collections::BTreeSet;
 use std::io::{BufReader, Read, Write};
 use std::process::{exit, Stdio};
-use traffic::Numbers;
+use traffic::{any_bytes, Numbers};
 
 /// Bytes that are no station.
 const UNFIT: u8 = 16;
@@ -69,9 +69,6 @@ fn both(station: &Station) -> Option<bool> {
     Some(station.set.chunks(5).take(station.count.into()).enumerate().any(|(at, five)| lift(five) && station.answered >> at & 1 == 0))
 }
 
-/// Bytes that stand for room: any at all.
-fn any_bytes(numbers: &mut Numbers, size: usize) -> Vec<u8> { (0..size).map(|_| numbers.byte()).collect() }
-
 /// A room for a station: mostly longer than it needs, now and then too short.
 fn station_room(numbers: &mut Numbers, station: &Station) -> Vec<u8> {
     let mut room = station.to_bytes().to_vec();
@@ -82,32 +79,6 @@ fn station_room(numbers: &mut Numbers, station: &Station) -> Vec<u8> {
         room.extend(any_bytes(numbers, more));
     }
     room
-}
-
-/// A station that is not always one reached by calls.
-fn damaged(numbers: &mut Numbers, station: &Station) -> Station {
-    let mut other = *station;
-    match numbers.below(7) {
-        0 => other.record = traffic::near_record(numbers, station.record),
-        1 => {
-            // instructions that need not be allowed, some of them answered; a drive beside them makes it unfit, or is left out
-            other.count = 1 + numbers.below(8) as u8;
-            let waits = numbers.below(other.count.into());
-            other.answered = if numbers.one_in(2) { 0 } else { numbers.byte() & 0xFF >> (8 - other.count) & !(1 << waits) };
-            if numbers.one_in(2) { other.record &= !(3 << 55); }
-            other.set = [0; 40];
-            for at in 0..usize::from(other.count) {
-                other.set[5 * at..5 * at + 5].copy_from_slice(&traffic::good_five(numbers));
-            }
-        }
-        2 => other.count = numbers.below(12) as u8,
-        3 => other.answered = numbers.byte(),
-        4 => other.set[numbers.below(40) as usize] = numbers.byte(),
-        // any next issue is fit; every other time one round the end
-        5 => other.next_issue = (if numbers.one_in(2) { numbers.next() } else { 65535 + numbers.below(3) }) as u16,
-        _ => {}
-    }
-    other
 }
 
 fn station_call(numbers: &mut Numbers, station: &Station) -> Given {
@@ -140,12 +111,7 @@ fn station_call(numbers: &mut Numbers, station: &Station) -> Given {
 
 fn message_call(numbers: &mut Numbers, station: &Station) -> Given {
     let room = station_room(numbers, station);
-    let refused = if numbers.one_in(6) { traffic::refused_request(numbers, station.record, 2) } else { None };
-    let mut message = refused.unwrap_or_else(|| traffic::framed_message(numbers, station));
-    if numbers.one_in(10) { message[0] = numbers.byte(); }
-    if numbers.one_in(10) { message.truncate(numbers.below(message.len() as u64 + 1) as usize); }
-    let more = numbers.below(3) as usize;
-    message.extend(any_bytes(numbers, more));
+    let message = traffic::any_message(numbers, station);
     let size = if numbers.one_in(10) { numbers.below(14) } else { 12 + numbers.below(4) } as usize;
     Given { entry: 6, room, input: message, output: any_bytes(numbers, size), ..Given::default() }
 }
@@ -171,7 +137,7 @@ fn trials(count: usize) -> Vec<Trial> {
         .map(|_| {
             let message = traffic::framed_message(&mut numbers, &station);
             traffic::after(&mut station, &message);
-            let lent = if numbers.one_in(3) { damaged(&mut numbers, &station) } else { station };
+            let lent = if numbers.one_in(3) { traffic::damaged_station(&mut numbers, &station) } else { station };
             match numbers.below(4) {
                 0 => record_call(&mut numbers, lent.record),
                 1 => message_call(&mut numbers, &lent),

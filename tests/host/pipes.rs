@@ -1,13 +1,16 @@
 //! A program run over its pipes, and the messages that went through them.
+#![allow(dead_code)] // each driver uses its own part of this module
 
 use crate::reference::{read_message, Answer, Message};
 use crate::traffic::Numbers;
 use std::io::Write;
 use std::process::{Command, Stdio};
 
-/// What the program writes for an input that comes in pieces.
+/// What the program writes for an input that comes in pieces. The program may have words, after spaces.
 pub fn answers(program: &str, input: &[u8], seed: u64) -> Vec<u8> {
-    let mut child = Command::new(program).stdin(Stdio::piped()).stdout(Stdio::piped()).spawn().expect("the program starts");
+    let mut words = program.split(' ');
+    let mut command = Command::new(words.next().expect("a program"));
+    let mut child = command.args(words).stdin(Stdio::piped()).stdout(Stdio::piped()).spawn().expect("the program starts");
     let mut pipe = child.stdin.take().expect("a pipe");
     let output = std::thread::scope(|all| {
         all.spawn(move || {

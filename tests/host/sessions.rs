@@ -1,5 +1,5 @@
 //! Runs the worked examples of a page: `sessions PROGRAM PAGE`. In each block marked `session`, the bytes of the `>` lines are given
-//! to the program and its output must be the bytes of the `<` lines.
+//! to the program and its output must be the bytes of the `<` lines; in each one marked `report`, it must be all the other lines.
 
 use std::io::Write;
 use std::process::{exit, Command, Stdio};
@@ -19,12 +19,12 @@ fn main() {
     let words: Vec<String> = std::env::args().collect();
     let [_, program, page] = &words[..] else { panic!("usage: sessions PROGRAM PAGE") };
     let text = std::fs::read_to_string(page).expect("the page is there");
-    let (mut inside, mut input, mut expected, mut run, mut failed) = (false, Vec::new(), Vec::new(), 0, 0);
+    let (mut inside, mut input, mut expected, mut run, mut failed) = ("", Vec::new(), Vec::new(), 0, 0);
     for (at, line) in text.lines().enumerate() {
-        match line {
-            "```session" => { inside = true; input.clear(); expected.clear(); }
-            "```" if inside => {
-                inside = false;
+        match (inside, line) {
+            ("", "```session" | "```report") => { inside = &line[3..]; input.clear(); expected.clear(); }
+            ("session" | "report", "```") => {
+                inside = "";
                 run += 1;
                 let got = answers(program, &input);
                 if got != expected {
@@ -32,8 +32,9 @@ fn main() {
                     eprintln!("{page}:{}: expected {expected:02X?}, got {got:02X?}", at + 1);
                 }
             }
-            _ if inside && line.starts_with('>') => input.extend(bytes(line)),
-            _ if inside && line.starts_with('<') => expected.extend(bytes(line)),
+            ("session" | "report", _) if line.starts_with('>') => input.extend(bytes(line)),
+            ("session", _) if line.starts_with('<') => expected.extend(bytes(line)),
+            ("report", _) => expected.extend([line.as_bytes(), b"\n"].concat()),
             _ => {}
         }
     }

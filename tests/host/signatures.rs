@@ -1,6 +1,7 @@
-//! The parameter lists of the entries, held against each other: `signatures SOURCE HEADER WRAPPER` compares what the header for C and
-//! the wrapper in Rust declare with the source's own signatures, names too, and says each difference. `signatures SOURCE` writes a
-//! program in C that takes each entry's address at the type that the source gives it, for a compiler to hold against the header.
+//! The parameter lists of the entries, held against each other: `signatures SOURCE HEADER HOST` compares what the header for C and the
+//! first block of entries of a host in Rust declare with the source's own signatures, names too, and says each difference. `signatures
+//! SOURCE HEADER` writes a program in C that takes each entry's address at the type that the source gives it, for a compiler to hold
+//! against the header.
 
 use std::collections::BTreeMap;
 use std::process::exit;
@@ -46,7 +47,7 @@ fn source_parameter(kind: &str, name: &str) -> Vec<(String, String)> {
     }
 }
 
-/// A parameter of the wrapper.
+/// A parameter of a host's.
 fn wrapper_parameter(kind: &str, name: &str) -> Vec<(String, String)> {
     let kind = match kind {
         "*mut u8" => "uint8_t *",
@@ -84,7 +85,7 @@ fn typed(text: &str) -> (String, String) {
 fn header(text: &str) -> Entries {
     let mut parts = text.split("/*");
     let before = parts.next().unwrap_or("").to_string();
-    let bare = parts.fold(before, |bare, part| bare + part.split_once("*/").expect("a comment's end").1);
+    let bare = parts.fold(before, |bare, part| bare + part.split_once("*/").expect("a comment's end").1).replace("\\\n", "");
     let lines: Vec<&str> = bare.lines().filter(|line| !line.trim_start().starts_with('#')).collect();
     let one = |declaration: &str| {
         let (before, parameters) = declaration.split_once('(')?;
@@ -114,8 +115,8 @@ fn main() {
     let source = functions(&read(&words[0]), "pub extern \"C\" fn ", source_parameter);
     assert!(!source.is_empty(), "the source has no entries");
     match &words[1..] {
-        [] => {
-            println!("#include \"station.h\"");
+        [in_c] => {
+            println!("#include \"{in_c}\"");
             for (name, signature) in &source {
                 println!("{} = {name};", signature.declare(&format!("(*const as_{name})"), false));
             }
@@ -128,6 +129,6 @@ fn main() {
             if other_c || other_rust { exit(1); }
             println!("signatures: {} entries, as the source has them in {in_c} and {in_rust}", source.len());
         }
-        _ => panic!("usage: signatures SOURCE [HEADER WRAPPER]"),
+        _ => panic!("usage: signatures SOURCE HEADER [HOST]"),
     }
 }

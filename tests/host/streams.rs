@@ -1,9 +1,10 @@
-//! Input and output at their worst: `streams PROGRAM`. In each case what the program writes must be what the reference answers, or a
-//! first part of it where the output fails; its status must be the one that docs/PROTOCOL.md names, and standard error must have one
-//! line where something failed and nothing otherwise.
+//! Input and output at their worst: `streams STATION REPORT`, the paths of both programs. In each case what the program writes must be
+//! what the reference answers or counts, or a first part of it where the output fails; its status must be the one that
+//! docs/PROTOCOL.md names, and standard error must have one line where something failed and nothing otherwise.
 
 mod reference;
 mod traffic;
+mod week;
 
 use std::fs::File;
 use std::io::{self, Read, Write};
@@ -45,6 +46,13 @@ fn small_files() {
     }
 }
 
+/// A program: its path, under which name it tells of failures, and what it must write for an input.
+struct Program<'a> {
+    path: &'a str,
+    name: &'a str,
+    serve: fn(&[u8]) -> Vec<u8>,
+}
+
 /// From here on a read or a write that would have to wait fails instead.
 fn never_waits(file: &impl AsRawFd) {
     const SET_FLAGS: i32 = 4;
@@ -54,8 +62,8 @@ fn never_waits(file: &impl AsRawFd) {
 }
 
 /// The program, in a group of its own.
-fn start(program: &str, input: impl Into<Stdio>, output: impl Into<Stdio>, before: fn()) -> Child {
-    let mut command = Command::new(program);
+fn start(program: &Program, input: impl Into<Stdio>, output: impl Into<Stdio>, before: fn()) -> Child {
+    let mut command = Command::new(program.path);
     command.stdin(input).stdout(output).stderr(Stdio::piped()).process_group(0);
     unsafe {
         command.pre_exec(move || {
@@ -100,59 +108,61 @@ struct Case {
     got: Vec<u8>,
     expected: Vec<u8>,
     status: i32,
+    /// What stands on standard error after the program's name, if anything does.
     words: &'static str,
 }
 
 /// Waits for the program's end; whether all was as expected.
-fn held(child: Child, case: Case) -> bool {
+fn held(program: &Program, child: Child, case: Case) -> bool {
     let ended = child.wait_with_output().expect("the program ends");
     let (status, words) = (ended.status.code(), String::from_utf8_lossy(&ended.stderr));
-    let right = case.got == case.expected && status == Some(case.status) && words == case.words;
+    let told = if case.words.is_empty() { String::new() } else { format!("{}: {}\n", program.name, case.words) };
+    let right = case.got == case.expected && status == Some(case.status) && words == told;
     if !right {
         let same = case.got.iter().zip(&case.expected).take_while(|(a, b)| a == b).count();
-        eprintln!("{}: {} bytes came, {} expected, the first {same} the same", case.name, case.got.len(), case.expected.len());
-        eprintln!("  status {status:?}, expected {}; standard error {words:?}, expected {:?}", case.status, case.words);
+        eprintln!("{}, {}: {} bytes came, {} expected, the first {same} the same", program.name, case.name, case.got.len(), case.expected.len());
+        eprintln!("  status {status:?}, expected {}; standard error {words:?}, expected {told:?}", case.status);
     }
     right
 }
 
 /// All the answers come, and then nothing more: status 0, no word.
-fn all_come(name: &'static str, child: Child, got: Vec<u8>, input: &[u8]) -> bool {
-    held(child, Case { name, got, expected: reference::serve(input), status: 0, words: "" })
+fn all_come(program: &Program, name: &'static str, child: Child, got: Vec<u8>, input: &[u8]) -> bool {
+    held(program, child, Case { name, got, expected: (program.serve)(input), status: 0, words: "" })
 }
 
 /// A device that takes nothing.
-fn full_device(program: &str) -> bool {
+fn full_device(program: &Program) -> bool {
     let (input, to) = io::pipe().expect("a pipe");
     let child = start(program, input, File::create("/dev/full").expect("the device"), as_usual);
     let sent = sender(to, traffic::input(1, 1000), 500, Duration::ZERO);
-    let words = "station: standard output: No space left on device\n";
-    let right = held(child, Case { name: "full device", got: Vec::new(), expected: Vec::new(), status: 1, words });
+    let words = "standard output: No space left on device";
+    let right = held(program, child, Case { name: "full device", got: Vec::new(), expected: Vec::new(), status: 1, words });
     sent.join().expect("the sender ends");
     right
 }
 
 /// A reader that goes away after some bytes, with the system's signal for it in force and without.
-fn closed_pipe(program: &str, name: &'static str, before: fn(), status: i32, words: &'static str) -> bool {
+fn closed_pipe(program: &Program, name: &'static str, before: fn(), status: i32, words: &'static str) -> bool {
     let (input, to) = io::pipe().expect("a pipe");
     let (from, output) = io::pipe().expect("a pipe");
     let messages = traffic::input(2, 60_000);
-    let mut expected = reference::serve(&messages);
+    let mut expected = (program.serve)(&messages);
     expected.truncate(SOME);
     let child = start(program, input, output, before);
     let sent = sender(to, messages, 50_000, Duration::ZERO);
     let got = slowly(from, expected.len());
-    let right = held(child, Case { name, got, expected, status, words });
+    let right = held(program, child, Case { name, got, expected, status, words });
     sent.join().expect("the sender ends");
     right
 }
 
 /// A file that takes some bytes and then no more.
-fn full_file(program: &str) -> bool {
+fn full_file(program: &Program) -> bool {
     let path = std::env::temp_dir().join(format!("streams.{}", std::process::id()));
     let (input, to) = io::pipe().expect("a pipe");
     let messages = traffic::input(9, 60_000);
-    let mut expected = reference::serve(&messages);
+    let mut expected = (program.serve)(&messages);
     expected.truncate(SOME);
     let mut child = start(program, input, File::create(&path).expect("a file"), small_files);
     let sent = sender(to, messages, 50_000, Duration::ZERO);
@@ -160,11 +170,11 @@ fn full_file(program: &str) -> bool {
     let got = std::fs::read(&path).expect("the file is there");
     std::fs::remove_file(&path).expect("the file goes");
     sent.join().expect("the sender ends");
-    held(child, Case { name: "full file", got, expected, status: 1, words: "station: standard output: File too large\n" })
+    held(program, child, Case { name: "full file", got, expected, status: 1, words: "standard output: File too large" })
 }
 
 /// A slow reader behind an output that never waits.
-fn slow_reader(program: &str) -> bool {
+fn slow_reader(program: &Program) -> bool {
     let (input, to) = io::pipe().expect("a pipe");
     let (from, output) = io::pipe().expect("a pipe");
     never_waits(&output);
@@ -173,11 +183,11 @@ fn slow_reader(program: &str) -> bool {
     let sent = sender(to, messages.clone(), 200_000, Duration::ZERO);
     let got = slowly(from, usize::MAX);
     sent.join().expect("the sender ends");
-    all_come("slow reader", child, got, &messages)
+    all_come(program, "slow reader", child, got, &messages)
 }
 
 /// An input that comes in pieces with pauses, and is read without waiting or as it comes.
-fn pieces(program: &str, name: &'static str, waits: bool, messages: Vec<u8>, piece: usize, pause: Duration) -> bool {
+fn pieces(program: &Program, name: &'static str, waits: bool, messages: Vec<u8>, piece: usize, pause: Duration) -> bool {
     let (input, to) = io::pipe().expect("a pipe");
     let (mut from, output) = io::pipe().expect("a pipe");
     if !waits { never_waits(&input); }
@@ -186,11 +196,11 @@ fn pieces(program: &str, name: &'static str, waits: bool, messages: Vec<u8>, pie
     let mut got = Vec::new();
     from.read_to_end(&mut got).expect("the reader reads");
     sent.join().expect("the sender ends");
-    all_come(name, child, got, &messages)
+    all_come(program, name, child, got, &messages)
 }
 
 /// Stopped and continued again and again, on sockets whose calls have a time limit: such calls are interrupted by it and fail at the limit.
-fn interrupted(program: &str, name: &'static str, piece: usize, pause: Duration) -> bool {
+fn interrupted(program: &Program, name: &'static str, piece: usize, pause: Duration) -> bool {
     let (to, input) = UnixStream::pair().expect("a socket");
     let (from, output) = UnixStream::pair().expect("a socket");
     input.set_read_timeout(Some(20 * SHORT)).expect("a limit");
@@ -206,58 +216,71 @@ fn interrupted(program: &str, name: &'static str, piece: usize, pause: Duration)
         sleep(SHORT);
     }
     sent.join().expect("the sender ends");
-    all_come(name, child, read.join().expect("the reader ends"), &messages)
+    all_come(program, name, child, read.join().expect("the reader ends"), &messages)
 }
 
 /// An input that can't be read.
-fn no_input(program: &str) -> bool {
+fn no_input(program: &Program) -> bool {
     let (mut from, output) = io::pipe().expect("a pipe");
     let child = start(program, File::open("/").expect("a folder"), output, as_usual);
     let mut got = Vec::new();
     from.read_to_end(&mut got).expect("the reader reads");
-    let words = "station: standard input: Is a directory\n";
-    held(child, Case { name: "no input", got, expected: Vec::new(), status: 1, words })
+    let words = "standard input: Is a directory";
+    held(program, child, Case { name: "no input", got, expected: Vec::new(), status: 1, words })
 }
 
 /// Asked to end while it waits for a message: nothing is left running that holds the output open.
-fn asked_to_end(program: &str) -> bool {
+fn asked_to_end(program: &Program) -> bool {
     let (input, mut to) = io::pipe().expect("a pipe");
     let (mut from, output) = io::pipe().expect("a pipe");
     let messages = traffic::input(5, 1);
-    let expected = reference::serve(&messages);
+    let expected = (program.serve)(&messages);
     let child = start(program, input, output, as_usual);
     to.write_all(&messages).expect("the program reads");
     let mut got = vec![0; expected.len()];
     from.read_exact(&mut got).expect("the reader reads");
     signal_one(&child, SIGTERM);
     from.read_to_end(&mut got).expect("the reader reads");
-    held(child, Case { name: "asked to end", got, expected, status: 128 + SIGTERM, words: "" })
+    held(program, child, Case { name: "asked to end", got, expected, status: 128 + SIGTERM, words: "" })
+}
+
+/// An input that ends inside a message.
+fn cut_in_a_message(program: &Program) -> bool {
+    let mut cut = traffic::input(6, 300);
+    cut.extend([10, 0, 4, 0, 1]);
+    pieces(program, "cut in a message", true, cut, 1000, SHORT)
 }
 
 fn main() {
     let words: Vec<String> = std::env::args().collect();
-    let [_, program] = &words[..] else { panic!("usage: streams PROGRAM") };
+    let [_, station, report] = &words[..] else { panic!("usage: streams STATION REPORT") };
     thread::spawn(|| {
         sleep(Duration::from_secs(120));
         eprintln!("streams: a case doesn't end");
         exit(1);
     });
-    let mut cut = traffic::input(6, 300);
-    cut.extend([10, 0, 4, 0, 1]);
-    let cases = [
-        full_device(program),
-        full_file(program),
-        closed_pipe(program, "closed pipe", as_usual, 128 + SIGPIPE, ""),
-        closed_pipe(program, "closed pipe, no signal", no_pipe_signal, 1, "station: standard output: Broken pipe\n"),
-        slow_reader(program),
-        pieces(program, "input that never waits", false, traffic::input(7, 20_000), 4000, 2 * SHORT),
-        pieces(program, "byte by byte", true, traffic::input(8, 300), 1, Duration::ZERO),
-        pieces(program, "cut in a message", true, cut, 1000, SHORT),
-        interrupted(program, "reads interrupted", 10_000, 2 * SHORT),
-        interrupted(program, "writes interrupted", 200_000, Duration::ZERO),
-        no_input(program),
-        asked_to_end(program),
+    let station = &Program { path: station, name: "station", serve: reference::serve };
+    let report = &Program { path: report, name: "report", serve: |input| week::Week::of(input).report().into_bytes() };
+    let both = |program| {
+        [
+            full_device(program),
+            pieces(program, "input that never waits", false, traffic::input(7, 20_000), 4000, 2 * SHORT),
+            pieces(program, "byte by byte", true, traffic::input(8, 300), 1, Duration::ZERO),
+            cut_in_a_message(program),
+            interrupted(program, "reads interrupted", 10_000, 2 * SHORT),
+            no_input(program),
+        ]
+    };
+    // what the report writes is short, and comes when all is read: its output is never slow
+    let answering = [
+        full_file(station),
+        closed_pipe(station, "closed pipe", as_usual, 128 + SIGPIPE, ""),
+        closed_pipe(station, "closed pipe, no signal", no_pipe_signal, 1, "standard output: Broken pipe"),
+        slow_reader(station),
+        interrupted(station, "writes interrupted", 200_000, Duration::ZERO),
+        asked_to_end(station),
     ];
+    let cases = [both(station), both(report), answering].concat();
     let wrong = cases.iter().filter(|right| !**right).count();
     println!("streams: {} cases of input and output that wait, fail or go away, {wrong} wrong", cases.len());
     exit(i32::from(wrong > 0));

@@ -24,6 +24,9 @@ impl Numbers {
     pub fn byte(&mut self) -> u8 { self.next() as u8 }
 }
 
+/// Bytes that stand for room: any at all.
+pub fn any_bytes(numbers: &mut Numbers, size: usize) -> Vec<u8> { (0..size).map(|_| numbers.byte()).collect() }
+
 /// Five bytes of a well-formed instruction: of eight, three move belts, two shuttles, and one each tilts, moves the lift or turns it;
 /// of those that move belts, half are in row 1.
 pub fn good_five(numbers: &mut Numbers) -> [u8; 5] {
@@ -191,6 +194,43 @@ pub fn framed_message(numbers: &mut Numbers, station: &Station) -> Vec<u8> {
         bytes[at] = if numbers.one_in(2) { numbers.byte() } else { bytes[at] ^ 1 << numbers.below(8) };
     }
     bytes
+}
+
+/// One message, also one that the record refuses, that is cut short or whose length is another; any bytes may follow it.
+pub fn any_message(numbers: &mut Numbers, station: &Station) -> Vec<u8> {
+    let refused = if numbers.one_in(6) { refused_request(numbers, station.record, 2) } else { None };
+    let mut message = refused.unwrap_or_else(|| framed_message(numbers, station));
+    if numbers.one_in(10) { message[0] = numbers.byte(); }
+    if numbers.one_in(10) { message.truncate(numbers.below(message.len() as u64 + 1) as usize); }
+    let more = numbers.below(3) as usize;
+    message.extend(any_bytes(numbers, more));
+    message
+}
+
+/// A station that is not always one reached by calls.
+pub fn damaged_station(numbers: &mut Numbers, station: &Station) -> Station {
+    let mut other = *station;
+    match numbers.below(7) {
+        0 => other.record = near_record(numbers, station.record),
+        1 => {
+            // instructions that need not be allowed, some of them answered; a drive beside them makes it unfit, or is left out
+            other.count = 1 + numbers.below(8) as u8;
+            let waits = numbers.below(other.count.into());
+            other.answered = if numbers.one_in(2) { 0 } else { numbers.byte() & 0xFF >> (8 - other.count) & !(1 << waits) };
+            if numbers.one_in(2) { other.record &= !(3 << 55); }
+            other.set = [0; 40];
+            for at in 0..usize::from(other.count) {
+                other.set[5 * at..5 * at + 5].copy_from_slice(&good_five(numbers));
+            }
+        }
+        2 => other.count = numbers.below(12) as u8,
+        3 => other.answered = numbers.byte(),
+        4 => other.set[numbers.below(40) as usize] = numbers.byte(),
+        // any next issue is fit; every other time one round the end
+        5 => other.next_issue = (if numbers.one_in(2) { numbers.next() } else { 65535 + numbers.below(3) }) as u16,
+        _ => {}
+    }
+    other
 }
 
 /// The station after a message, by the reference.

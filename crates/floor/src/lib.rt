@@ -155,8 +155,8 @@ pub fn sound(r: u64) -> bool
     row_paired(r) & rules_kept(r)
 }
 
-// The number of cars of a record: two cells of row 1 are one car.
-fn cars_in(r: u64) -> u64
+// The number of cars of a record that is known to be sound: two cells of row 1 are one car.
+pub fn cars_in(r: u64) -> u64
     ensures { λ n. ⌜ n ≡ cars (bit r) ⌝ }
 {
     let halves = bits::count(r, ROW_1) as u64;

@@ -14,18 +14,18 @@ use Rattle.garage.specs.declared.Station.{Station}
 use Rattle.garage.specs.declared.Outcome.{Outcome}
 use Rattle.garage.specs.declared.Turn.{Turn}
 use Rattle.garage.specs.Station.{fit}
-use Rattle.garage.specs.Calls.{refused, onFit, request, event, result, takeImage, ask}
+use Rattle.garage.specs.Calls.{refused, request, event, result, takeImage, ask}
 use Rattle.garage.specs.Turns.{turnOf}
 use Rattle.garage.proofs.Turns.{Kept, kept-refused, kept-requested, kept-evented, kept-resulted, kept-imaged}
 use Rattle.garage_laws.specs.Runs as run
 use Rattle.garage_laws.specs.Runs.{Call}
-use Rattle.garage_laws.proofs.EachCall.{unfit-is}
 use Rattle.garage_laws.proofs.Demands.{fit-stays}
 use Rattle.wire.specs.declared.What.{What}
 use Rattle.wire.specs.declared.What.the-variants.{Request, Event, Result, Image, Ask, Answer, Held}
 use Rattle.wire.specs.Reads.{readAsked}
-use Rattle.service.specs.Service.{called, respond}
+use Rattle.service.specs.Service.{called, respond, onKnown, calledKnown, respondKnown}
 use Rattle.service.specs.Private.{makesCall}
+use Rattle.service.specs.Statements.{KnownSame}
 
 -- it is one of the station's, or the refusal of kinds 128 and 129
 pub each-called : (P : Outcome → Type 0) (s : Station) → ((c : Call) → P (run.call s c)) → (w : What) (n : ℕ) (set : List ℕ)
@@ -51,32 +51,60 @@ respond-fit s bytes =
 
 -- ---- by what is known of fitness
 
+-- a call that is known to be on a fit station is the call
+known-called : (w : What) (s : Station) (n : ℕ) (set : List ℕ) → calledKnown (fit s) w s n set ≡ called w s n set
+unfolding request event result takeImage ask
+known-called Request s n set = refl
+known-called (Event way) s n set = refl
+known-called (Result issue number done) s n set = refl
+known-called (Image r) s n set = refl
+known-called Ask s n set = refl
+known-called (Answer number place issue) s n set = refl
+known-called (Held r) s n set = refl
+
+pub known-same : KnownSame
+unfolding respond respondKnown
+known-same s bytes = let m = readAsked bytes .message in rw (known-called (m .what) s (m .count) (m .set))
+
+pub known-reply : (s : Station) (bytes : List ℕ) {known : Bool} → known ≡ fit s → respondKnown known s bytes ≡ respond s bytes
+known-reply s bytes f = rw f (known-same s bytes)
+
 -- on a station that isn't fit a message that makes a call is refused
-pub unfit-called : (w : What) (s : Station) (n : ℕ) (set : List ℕ) {a known : Bool} → known ≡ fit s → a ≡ makesCall w → a && not known ≡ true
-    → refused s Unfit ≡ called w s n set
-unfit-called w s n set {a} {known} e q t =
+pub unfit-called : (known : Bool) (w : What) (s : Station) (n : ℕ) (set : List ℕ) {a : Bool} → a ≡ makesCall w → a && not known ≡ true
+    → refused s Unfit ≡ calledKnown known w s n set
+unfit-called known w s n set {a} q t =
     let (p, o) = both a (not known) t in
-    each-called (λ o. refused s Unfit ≡ o) s (λ c. sym (unfit-is s (sym e ∙ not-true known o) c)) w n set (λ g. clash (sym q ∙ p) g)
+    rw (not-true known o) (unfit w (sym q ∙ p))
+  where
+    unfit : (w : What) → makesCall w ≡ true → refused s Unfit ≡ calledKnown false w s n set
+    unfit Request p = refl
+    unfit (Event way) p = refl
+    unfit (Result issue number done) p = refl
+    unfit (Image r) p = refl
+    unfit Ask p = refl
+    unfit (Answer number place issue) p = clash p refl
+    unfit (Held r) p = clash p refl
 
 -- past that test such a message finds it fit, and its turn is the call's
-pub past-test : (s : Station) (o : Outcome) {t : Turn} {a known : Bool} → known ≡ fit s → a ≡ true → a && not known ≡ false → t ≡ turnOf o
-    → t ≡ turnOf (onFit s o)
-past-test s o {t} {a} {known} e q n g =
-    let f : fit s ≡ true = sym e ∙ not-false known (sym (ap (λ (x : Bool). x && not known) q) ∙ n) in
+pub past-test : (known : Bool) (s : Station) (o : Outcome) {t : Turn} {a : Bool} → a ≡ true → a && not known ≡ false → t ≡ turnOf o
+    → t ≡ turnOf (onKnown known s o)
+past-test known s o {t} {a} q n g =
+    let f : known ≡ true = not-false known (sym (ap (λ (x : Bool). x && not known) q) ∙ n) in
     rw f g
 
 -- ---- the set that it leaves
 
-kept-on-fit : (s : Station) (set : List ℕ) {o : Outcome} → Kept s set o → Kept s set (onFit s o)
-kept-on-fit s set k = split (fit s) (λ t. rw t k) (λ t. rw t (kept-refused s set Unfit))
+kept-on-known : (known : Bool) (s : Station) (set : List ℕ) {o : Outcome} → Kept s set o → Kept s set (onKnown known s o)
+kept-on-known true s set k = k
+kept-on-known false s set k = kept-refused s set Unfit
 
 -- one that comes with its unused places zero is the new one as it is
-pub called-kept : (w : What) (s : Station) (n : ℕ) (set : List ℕ) → set ≡ take (5 * n) set ++ replicate (40 - 5 * n) 0 → Kept s set (called w s n set)
-unfolding request event result takeImage ask
-called-kept Request s n set e = kept-on-fit s set (kept-requested s set n set e)
-called-kept (Event way) s n set e = kept-on-fit s set (kept-evented s set way)
-called-kept (Result issue number done) s n set e = kept-on-fit s set (kept-resulted s set _)
-called-kept (Image r) s n set e = kept-on-fit s set (kept-imaged s set _)
-called-kept Ask s n set e = kept-on-fit s set (kept-refused s set Taken)
-called-kept (Answer number place issue) s n set e = kept-refused s set UnknownKind
-called-kept (Held r) s n set e = kept-refused s set UnknownKind
+pub called-kept : (known : Bool) (w : What) (s : Station) (n : ℕ) (set : List ℕ) → set ≡ take (5 * n) set ++ replicate (40 - 5 * n) 0
+    → Kept s set (calledKnown known w s n set)
+called-kept known Request s n set e = kept-on-known known s set (kept-requested s set n set e)
+called-kept known (Event way) s n set e = kept-on-known known s set (kept-evented s set way)
+called-kept known (Result issue number done) s n set e = kept-on-known known s set (kept-resulted s set _)
+called-kept known (Image r) s n set e = kept-on-known known s set (kept-imaged s set _)
+called-kept known Ask s n set e = kept-on-known known s set (kept-refused s set Taken)
+called-kept known (Answer number place issue) s n set e = kept-refused s set UnknownKind
+called-kept known (Held r) s n set e = kept-refused s set UnknownKind

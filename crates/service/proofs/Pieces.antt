@@ -15,7 +15,7 @@ use Rattle.garage.specs.declared.Station.{Station}
 use Rattle.wire.specs.declared.Frame.{Frame}
 use Rattle.wire.specs.declared.Frame.the-variants.{Cut, Wrong, Whole}
 use Rattle.wire.specs.Kinds.{asked}
-use Rattle.wire.specs.Reads.{frameOf, lengthAt, readWhole, readFramed, readAsked}
+use Rattle.wire.specs.Reads.{frameOf, lengthAt, refused, readWhole, readFramed, readAsked}
 use Rattle.wire.proofs.Frames.{when, whole-frame}
 use Rattle.service.specs.Service.{respond, answerMessage, answerBytes, noBytes, goOn, answersFor, answersOn}
 use Rattle.service.specs.Runs.{Ran, after, runOf, run, lastOf, feed}
@@ -59,17 +59,23 @@ wrong-more s t e =
     no2 e = absurd (let z : _≡_ {A = ℕ} 0 1 = cc in omega arith)
 
 -- a reply rests on what the message says alone
-same-reply : (s : Station) (a b : List ℕ) → readAsked a ≡ readAsked b → respond s a ≡ respond s b
+pub same-reply : (s : Station) (a b : List ℕ) → readAsked a ≡ readAsked b → respond s a ≡ respond s b
 unfolding respond
 same-reply s a b e = rw e
 
-pub reply-more : (s : Station) (a t : List ℕ) (n : ℕ) → frameOf a ≡ Whole n → respond s (a ++ t) ≡ respond s a
+pub reading-more : (a t : List ℕ) (n : ℕ) → frameOf a ≡ Whole n → readAsked (a ++ t) ≡ readAsked a
 unfolding readAsked
-reply-more s a t n e =
-    same-reply s (a ++ t) a
-    (ap (λ (f : Frame). readFramed asked f (a ++ t)) (whole-more a t n e)
+reading-more a t n e =
+    ap (λ (f : Frame). readFramed asked f (a ++ t)) (whole-more a t n e)
     ∙ ap (readWhole asked) (take-append-le n a t (whole-frame a n e .within))
-    ∙ sym (ap (λ (f : Frame). readFramed asked f a) e))
+    ∙ sym (ap (λ (f : Frame). readFramed asked f a) e)
+
+pub reading-wrong : (a : List ℕ) → frameOf a ≡ Wrong → readAsked a ≡ refused BadLength 0
+unfolding readAsked
+reading-wrong a e = rw e
+
+pub reply-more : (s : Station) (a t : List ℕ) (n : ℕ) → frameOf a ≡ Whole n → respond s (a ++ t) ≡ respond s a
+reply-more s a t n e = same-reply s (a ++ t) a (reading-more a t n e)
 
 pub reply-cut : (s : Station) (a : List ℕ) → frameOf a ≡ Cut → respond s a .answer ≡ answerMessage TooFewBytes
 unfolding respond readAsked

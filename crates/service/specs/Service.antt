@@ -6,12 +6,12 @@ use Prim.Native.Nat.{ℕ, zero, suc}
 use lib.Dec.{eqb}
 use lib.ListN.{length, drop}
 use Rattle.answers.specs.declared.Answer.{Answer}
-use Rattle.answers.specs.declared.Answer.the-variants.{UnknownKind}
+use Rattle.answers.specs.declared.Answer.the-variants.{Unfit, UnknownKind}
 use Rattle.answers.specs.Answers.{numberOf, placeOf, issueOf}
 use Rattle.garage.specs.declared.Station.{Station}
 use Rattle.garage.specs.declared.Outcome.{Outcome}
 use Rattle.garage.specs.Station.{startOf}
-use Rattle.garage.specs.Calls.{refused, request, event, result, takeImage, ask}
+use Rattle.garage.specs.Calls.{refused, taken, requested, request, evented, event, resulted, result, imaged, takeImage, ask}
 use Rattle.wire.specs.declared.What.{What}
 use Rattle.wire.specs.declared.What.the-variants.{Request, Event, Result, Image, Ask, Held}
 use Rattle.wire.specs.declared.Frame.{Frame}
@@ -56,6 +56,29 @@ respond s bytes =
     let m = r .message in
     cond (eqb (numberOf (r .answer)) 0)
     (replyOf (m .what) (called (m .what) s (m .count) (m .set)))
+    (record { station = s; answer = answerMessage (r .answer) })
+
+-- a call past its test of fitness, where the station is known to be fit; where it is known not to be, 16
+abbrev pub onKnown : Bool → Station → Outcome → Outcome
+onKnown known s o = cond known o (refused s Unfit)
+
+-- the call that a message makes, where fitness is known and is not tested again
+abbrev pub calledKnown : Bool → What → Station → ℕ → List ℕ → Outcome
+calledKnown known Request s count set = onKnown known s (requested s count set)
+calledKnown known (Event way) s count set = onKnown known s (evented s way)
+calledKnown known (Result issue number done) s count set = onKnown known s (resulted s (record { issue = issue; number = number; done = done }))
+calledKnown known (Image r) s count set = onKnown known s (imaged s (record { bits = r }))
+calledKnown known Ask s count set = onKnown known s (taken s)
+calledKnown known (What.Answer number place issue) s count set = refused s UnknownKind
+calledKnown known (Held r) s count set = refused s UnknownKind
+
+-- the reply to the first message of some bytes, where fitness is known
+unfoldable pub respondKnown : Bool → Station → List ℕ → Reply
+respondKnown known s bytes =
+    let r = readAsked bytes in
+    let m = r .message in
+    cond (eqb (numberOf (r .answer)) 0)
+    (replyOf (m .what) (calledKnown known (m .what) s (m .count) (m .set)))
     (record { station = s; answer = answerMessage (r .answer) })
 
 -- an answer in bytes

@@ -7,10 +7,11 @@ use Prim.Native.Nat.{ℕ, _≤_}
 use Rattle.bits.specs.Places.{join}
 use Rattle.answers.specs.Answers.{OfTable, nowhere}
 use Rattle.garage.specs.declared.Station.{Station}
+use Rattle.garage.specs.Station.{fit}
 use Rattle.wire.specs.declared.What.{What}
 use Rattle.wire.specs.declared.What.the-variants.{Request, Event, Result, Image, Ask, Held}
 use Rattle.wire.specs.Kinds.{inRange}
-use Rattle.service.specs.Service.{respond, answersOn}
+use Rattle.service.specs.Service.{respond, respondKnown, answersOn}
 use Rattle.service.specs.Runs.{fed}
 
 -- no input gives no output
@@ -38,6 +39,10 @@ Answers Ask = ⊥
 -- every message is answered so
 abbrev pub AlwaysAnswered : Type 0
 AlwaysAnswered = (s : Station) (bytes : List ℕ) → Answers (respond s bytes .answer)
+
+-- where what is known of fitness is so, a message is answered as if it were tested
+abbrev pub KnownSame : Type 0
+KnownSame = (s : Station) (bytes : List ℕ) → respondKnown (fit s) s bytes ≡ respond s bytes
 
 -- a message that is refused leaves the station as it was
 abbrev pub RefusedKeeps : Type 0

@@ -6,13 +6,12 @@ ghost use Prim.Native.Nat.{_*_, _-_, _≤_};
 ghost use lib.Dec.{eqb, leb};
 ghost use lib.ListN.{length, take, drop, replicate};
 ghost use Rattle.answers.specs.Answers.{numberOf};
-ghost use Rattle.garage.specs.Station.{fit};
 ghost use Rattle.garage.specs.Calls.{refused};
 ghost use Rattle.garage.specs.Turns.{turnOf};
 ghost use Rattle.wire.specs.declared.What.the-variants.{Held};
 ghost use Rattle.wire.specs.Kinds.{inRange};
 ghost use Rattle.wire.specs.Writes.{Leaves};
-ghost use Rattle.service.specs.Service.{called, answerMessage, replyOf, respond, answerBytes};
+ghost use Rattle.service.specs.Service.{answerMessage, replyOf, respond, calledKnown, respondKnown, answerBytes};
 ghost use Rattle.service.specs.Private.{makesCall};
 ghost use Rattle.service.specs.Runs.{Serves, run, enough, served, serving, finishing};
 use answers::Answer;
@@ -73,8 +72,7 @@ fn unmoved(s: Station, answer: Answer) -> Turn
 
 // The turn of the call that a message makes on a station of which it is known whether it is fit.
 fn turn(known: bool, what: What, s: Station, count: u8, set: [u8; 40]) -> Turn
-    requires { ⌜ known ≡ fit s ⌝ }
-    ensures { λ t. ⌜ t ≡ turnOf (called what s count set) ⌝ }
+    ensures { λ t. ⌜ t ≡ turnOf (calledKnown known what s count set) ⌝ }
 {
     if makes_call(what) & !known {
         return unmoved(s, Answer::Unfit);
@@ -104,8 +102,8 @@ fn turn(known: bool, what: What, s: Station, count: u8, set: [u8; 40]) -> Turn
 
 // The call itself. A message's set comes with its unused places zero: it is the new set as it is.
 fn call(known: bool, what: What, s: Station, count: u8, set: [u8; 40]) -> Outcome
-    requires { ⌜ (known ≡ fit s) × (set ≡ take (5 * count) set ++ replicate (40 - 5 * count) 0) ⌝ }
-    ensures { λ o. ⌜ o ≡ called what s count set ⌝ }
+    requires { ⌜ set ≡ take (5 * count) set ++ replicate (40 - 5 * count) 0 ⌝ }
+    ensures { λ o. ⌜ o ≡ calledKnown known what s count set ⌝ }
 {
     let t = turn(known, what, s, count, set);
     s.after(t, set)
@@ -151,9 +149,8 @@ fn in_reply(what: What, o: Outcome) -> Reply
 }
 
 // The reply to the first message of m, on a station of which it is known whether it is fit.
-fn respond_known(known: bool, s: Station, m: &[u8]) -> Reply
-    requires { ⌜ known ≡ fit s ⌝ }
-    ensures { λ r. ⌜ r ≡ respond s (now (m .entry)) ⌝ }
+pub fn respond_known(known: bool, s: Station, m: &[u8]) -> Reply
+    ensures { λ r. ⌜ r ≡ respondKnown known s (now (m .entry)) ⌝ }
 {
     let r = wire::read_asked(m);
     let answer = r.answer;

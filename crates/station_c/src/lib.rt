@@ -51,6 +51,13 @@ fn load(room: &[u8]) -> Station
     }
 }
 
+// The station that 52 bytes hold, for a crate that is lent one too.
+pub fn station_of(room: [u8; STATION]) -> Station
+    ensures { λ s. ⌜ s ≡ stationOf room ⌝ }
+{
+    load(&room)
+}
+
 // A station as 52 bytes, by its fields.
 fn stored(bits: u64, count: u8, answered: u8, set: [u8; 40], next: u16) -> [u8; STATION]
     ensures { λ b. ⌜ b ≡ stationBytes (record { bits = bits; count = count; answered = answered; set = set; next = next }) ⌝ }
@@ -67,7 +74,7 @@ fn stored(bits: u64, count: u8, answered: u8, set: [u8; 40], next: u16) -> [u8; 
 }
 
 // An answer as one number.
-fn say(a: Answer) -> u32
+pub fn say(a: Answer) -> u32
     ensures { λ r. ⌜ r ≡ returned a ⌝ }
 {
     a.number() as u32 + 256 * (a.place() as u32) + 65536 * (a.issue() as u32)

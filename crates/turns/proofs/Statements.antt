@@ -18,7 +18,7 @@ use Rattle.turns.specs.Turns.{holding, turning}
 use Rattle.turns.specs.Statements.{RestIsShort, TurnFeeds}
 
 -- a message that is cut short is shorter than the longest
-cut-below : (s : List ℕ) → frameOf s ≡ Cut → length s < 45
+pub cut-below : (s : List ℕ) → frameOf s ≡ Cut → length s < 45
 cut-below s e =
     when (ltb (length s) 2) Cut _ _ e (λ a _. let h = ltb-true (length s) 2 a in omega arith)
     (λ _ e. when (ltb (lengthAt s) 2) Wrong _ _ e (λ _ e. no e)

@@ -59,7 +59,7 @@ pub fn word(low: u8, high: u8) -> u16
 }
 
 // A byte of a run, or zero past its end.
-fn byte(s: &[u8], i: usize) -> u8
+pub fn byte(s: &[u8], i: usize) -> u8
     ensures { λ r. ⌜ r ≡ getD (now (s .entry)) i 0 ⌝ }
 {
     if i < s.len() {

@@ -11,7 +11,7 @@ use Rattle.wire.proofs.Frames.{Framed, whole-frame}
 use Rattle.wire.proofs.Parts.{from-on}
 use Rattle.service.specs.Service.{respond}
 use Rattle.service.proofs.Replies.{answer-bytes-length}
-use Rattle.service.proofs.Called.{respond-fit}
+use Rattle.service.proofs.Called.{respond-fit, known-reply}
 use Rattle.service.proofs.Ranges.{replies-in-range}
 use Rattle.service.proofs.Turns.{Midway, started, room-left, cut-short, wrong-length, answered}
 use Rattle.service.proofs.answer_all.Statement.{statement}
@@ -34,7 +34,7 @@ seen c =
 heard : (c : tie.After-respond-known Inv-loop μ-loop)
     → c .respond-known .result ≡ respond (c .before .before .before .before .before .before .loop .s)
     (drop (c .before .before .before .before .before .before .loop .at) (now (c .before .before .before .before .before .before .before .before .before .before .args .input)))
-heard c = c .respond-known .ensures ∙ ap (respond (c .before .before .before .before .before .before .loop .s)) (from-on _ (c .before .before .before .before .before .before .loop .at))
+heard c = c .respond-known .ensures ∙ known-reply _ _ (c .before .before .before .before .before .before .loop .inv .1) ∙ ap (respond (c .before .before .before .before .before .before .loop .s)) (from-on _ (c .before .before .before .before .before .before .loop .at))
 
 -- and a whole message lies within it
 whole : (c : tie.After-frame Inv-loop μ-loop)
@@ -100,7 +100,7 @@ enum-known-frame : tie.Need-enum-known-frame Inv-loop μ-loop
 enum-known-frame c = search needs
 
 respond-known-requires : tie.Need-respond-known-requires Inv-loop μ-loop
-respond-known-requires c κs = c .before .before .before .before .before .loop .inv .1
+respond-known-requires c κs = search needs
 
 sub-say-2 : tie.Need-sub-say-2 Inv-loop μ-loop
 sub-say-2 c = search needs

@@ -7,13 +7,13 @@ use Rattle.service.proofs.call.Statement.{statement}
 use Rattle.service.proofs.call.Tie as tie
 
 turn-requires : tie.Need-turn-requires
-turn-requires c κs = c .pre .0
+turn-requires c κs = search needs
 
 after-requires : tie.Need-after-requires
 after-requires c κs = search needs
 
 returns : tie.Need-returns
-returns c = let a = c .before .before .args in c .after .ensures ∙ rebuilt (a .s) (a .set) (c .before .turn .ensures) (called-kept (a .what) (a .s) (a .count) (a .set) (c .before .before .pre .1))
+returns c = let a = c .before .before .args in c .after .ensures ∙ rebuilt (a .s) (a .set) (c .before .turn .ensures) (called-kept (a .known) (a .what) (a .s) (a .count) (a .set) (c .before .before .pre))
 
 pub call-spec : {M : Type 1} → statement M
 call-spec = tie.close (tie.spec turn-requires after-requires returns)

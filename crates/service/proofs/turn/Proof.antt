@@ -1,7 +1,7 @@
 -- `service::turn` meets its contract: by whether the station is known to be fit, and by what the message says. Assumes nothing.
 use mathlib.Core.Path.{ap, _∙_}
 use borrow.Author.Needs.{needs}
-use Rattle.garage.specs.Calls.{taken, requested, request, evented, event, resulted, result, imaged, takeImage, ask}
+use Rattle.garage.specs.Calls.{taken, requested, evented, resulted, imaged}
 use Rattle.garage.specs.Turns.{turnOf}
 use Rattle.service.proofs.Called.{unfit-called, past-test}
 use Rattle.service.proofs.turn.Statement.{statement}
@@ -14,7 +14,7 @@ unmoved-requires : tie.Need-unmoved-requires
 unmoved-requires c κs = search needs
 
 returns : tie.Need-returns
-returns c = let a = c .before .before .before .args in c .unmoved .ensures ∙ ap turnOf (unfit-called (a .what) (a .s) (a .count) (a .set) (c .before .before .before .pre) (c .before .before .makes-call .ensures) (c .before .if1 .taken))
+returns c = let a = c .before .before .before .args in c .unmoved .ensures ∙ ap turnOf (unfit-called (a .known) (a .what) (a .s) (a .count) (a .set) (c .before .before .makes-call .ensures) (c .before .if1 .taken))
 
 enum-told : tie.Need-enum-told
 enum-told c = search needs
@@ -59,24 +59,19 @@ unmoved-requires-4 : tie.Need-unmoved-requires-4
 unmoved-requires-4 c κs = search needs
 
 returns-2 : tie.Need-returns-2
-unfolding request
-returns-2 c = let a = c .before .before .before .before .before .args in past-test (a .s) (requested (a .s) (a .count) (a .set)) (c .before .before .before .before .before .pre) (c .before .before .before .before .makes-call .ensures ∙ rw (c .before .enum-told .given .1)) (c .before .before .before .if1 .left) (c .requested .ensures) ∙ rw (c .before .enum-told .given .1)
+returns-2 c = let a = c .before .before .before .before .before .args in past-test (a .known) (a .s) (requested (a .s) (a .count) (a .set)) (c .before .before .before .before .makes-call .ensures ∙ rw (c .before .enum-told .given .1)) (c .before .before .before .if1 .left) (c .requested .ensures) ∙ rw (c .before .enum-told .given .1)
 
 returns-3 : tie.Need-returns-3
-unfolding event
-returns-3 c = let a = c .before .before .before .before .before .before .args in past-test (a .s) (evented (a .s) _) (c .before .before .before .before .before .before .pre) (c .before .before .before .before .before .makes-call .ensures ∙ rw (c .before .before .what .given .1)) (c .before .before .before .before .if1 .left) (c .evented .ensures) ∙ rw (c .before .before .what .given .1)
+returns-3 c = let a = c .before .before .before .before .before .before .args in past-test (a .known) (a .s) (evented (a .s) _) (c .before .before .before .before .before .makes-call .ensures ∙ rw (c .before .before .what .given .1)) (c .before .before .before .before .if1 .left) (c .evented .ensures) ∙ rw (c .before .before .what .given .1)
 
 returns-4 : tie.Need-returns-4
-unfolding result
-returns-4 c = let a = c .before .before .before .before .before .before .args in past-test (a .s) (resulted (a .s) _) (c .before .before .before .before .before .before .pre) (c .before .before .before .before .before .makes-call .ensures ∙ rw (c .before .before .what2 .given .1)) (c .before .before .before .before .if1 .left) (c .resulted .ensures) ∙ rw (c .before .before .what2 .given .1)
+returns-4 c = let a = c .before .before .before .before .before .before .args in past-test (a .known) (a .s) (resulted (a .s) _) (c .before .before .before .before .before .makes-call .ensures ∙ rw (c .before .before .what2 .given .1)) (c .before .before .before .before .if1 .left) (c .resulted .ensures) ∙ rw (c .before .before .what2 .given .1)
 
 returns-5 : tie.Need-returns-5
-unfolding takeImage
-returns-5 c = let a = c .before .before .before .before .before .before .args in past-test (a .s) (imaged (a .s) _) (c .before .before .before .before .before .before .pre) (c .before .before .before .before .before .makes-call .ensures ∙ rw (c .before .before .what3 .given .1)) (c .before .before .before .before .if1 .left) (c .imaged .ensures) ∙ rw (c .before .before .what3 .given .1)
+returns-5 c = let a = c .before .before .before .before .before .before .args in past-test (a .known) (a .s) (imaged (a .s) _) (c .before .before .before .before .before .makes-call .ensures ∙ rw (c .before .before .what3 .given .1)) (c .before .before .before .before .if1 .left) (c .imaged .ensures) ∙ rw (c .before .before .what3 .given .1)
 
 returns-6 : tie.Need-returns-6
-unfolding ask
-returns-6 c = let a = c .before .before .before .before .before .args in past-test (a .s) (taken (a .s)) (c .before .before .before .before .before .pre) (c .before .before .before .before .makes-call .ensures ∙ rw (c .before .enum-told2 .given .1)) (c .before .before .before .if1 .left) (c .unmoved2 .ensures) ∙ rw (c .before .enum-told2 .given .1)
+returns-6 c = let a = c .before .before .before .before .before .args in past-test (a .known) (a .s) (taken (a .s)) (c .before .before .before .before .makes-call .ensures ∙ rw (c .before .enum-told2 .given .1)) (c .before .before .before .if1 .left) (c .unmoved2 .ensures) ∙ rw (c .before .enum-told2 .given .1)
 
 returns-7 : tie.Need-returns-7
 returns-7 c = c .unmoved3 .ensures ∙ rw (c .before .enum-told3 .given .1)

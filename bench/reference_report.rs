@@ -1,0 +1,14 @@
+//! The reference's report of the messages on standard input.
+#[path = "../tests/host/reference.rs"]
+mod reference;
+#[path = "../tests/host/week.rs"]
+mod week;
+
+use std::io::{self, Read};
+
+fn main() -> io::Result<()> {
+    let mut input = Vec::new();
+    io::stdin().read_to_end(&mut input)?;
+    print!("{}", week::Week::of(&input).report());
+    Ok(())
+}

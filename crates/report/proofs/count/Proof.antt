@@ -1,0 +1,36 @@
+-- `report::count` meets its contract. Assumes nothing.
+use mathlib.Core.Path.{sym}
+use borrow.Author.Needs.{needs}
+use lib.Seq.{length-take-le}
+use Rattle.report.proofs.Short.{held-short}
+use Rattle.report.proofs.count.Statement.{statement}
+use Rattle.report.proofs.count.Tie as tie
+
+slice-reshare-prefix-count-all : tie.Need-slice-reshare-prefix-count-all
+slice-reshare-prefix-count-all c = search needs
+
+slice-aggregate-count-all : tie.Need-slice-aggregate-count-all
+slice-aggregate-count-all c = sym (length-take-le _ _ (c .before .before .before .pre))
+
+count-all-requires : tie.Need-count-all-requires
+count-all-requires c κs = search needs
+
+hold-requires : tie.Need-hold-requires
+hold-requires c κs = search needs
+
+same-length : tie.Need-same-length
+same-length c = search needs
+
+returns : tie.Need-returns
+returns c = held-short _ _ _ _ (c .before .before .before .before .before .count-all .ensures .0) (c .before .before .hold .ensures .0)
+
+pub count-spec : {M : Type 1} → statement M
+count-spec =
+    tie.close
+    (tie.spec
+    slice-reshare-prefix-count-all
+    slice-aggregate-count-all
+    count-all-requires
+    hold-requires
+    same-length
+    returns)

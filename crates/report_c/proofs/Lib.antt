@@ -1,0 +1,5 @@
+pub mod Fours
+pub mod Rooms
+pub mod Forms
+pub mod Keeping
+pub mod Promises

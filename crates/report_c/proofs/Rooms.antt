@@ -1,0 +1,143 @@
+-- What each entry answers and leaves, case by case. Assumes nothing.
+use mathlib.Core.Path.{_≡_, refl, sym, ap, _∙_}
+use mathlib.Core.Bool.{Bool, true, false, not}
+use mathlib.Core.List.{List, _++_, append-nil}
+use Prim.Native.Nat.{ℕ, _+_, _*_, _-_, _≤_, _<_}
+use native.Mathlib.Omega.{arith}
+use borrow.Author.Tests.{lt-ltb, le-ltb, eq-eqb, ne-eqb}
+use lib.ListN.{length, getD, take, drop, replicate, length-append, length-drop, take-append-drop}
+use lib.Seq.{take-at, take-length, length-take-le, getD-take, drop-append-le, take-append-le}
+use Rattle.bits.proofs.Cases.{passed, failed}
+use Rattle.answers.specs.declared.Answer.the-variants.{Taken, BadField, NoRoom}
+use Rattle.answers.specs.Answers.{nowhere}
+use Rattle.totals.specs.declared.Totals.{Totals}
+use Rattle.totals.specs.Totals.{totalsOf, nothing, countedIn, Holds, blank}
+use Rattle.weeks.specs.Weeks.{happened}
+use Rattle.garage.specs.declared.Station.{Station}
+use Rattle.lines.specs.declared.Text.{Text}
+use Rattle.lines.specs.Lines.{reportOf, textOf}
+use Rattle.station_c.specs.Entries.{stationOf, returned, Leaves, writes}
+use Rattle.report_c.specs.Entries.{totalsBytes, totalsIn, starting, fullNumber, tallied, counting, known, texting, lining}
+use Rattle.report_c.proofs.Fours.{bytesTo, bytes-length}
+
+pub totals-size : (t : Totals) → length (totalsBytes t) ≡ 208
+unfolding totalsBytes bytesTo
+totals-size t = bytes-length (t .counts) 52
+
+-- totals that are written
+pub written : (t : Totals) (room : List ℕ) {r : ℕ} {last : List ℕ} → r ≡ returned Taken → last ≡ totalsBytes t ++ drop 208 room
+    → Leaves (writes Taken (totalsBytes t) room) r last
+unfolding writes
+written t room e l = (e, l ∙ rw (totals-size t))
+
+-- ---- a new report
+
+module _ (room : List ℕ) {r : ℕ} where
+  pub start-short : length room < 208 → r ≡ returned NoRoom → Leaves (starting room) r room
+  unfolding starting
+  start-short h e = rw (lt-ltb _ _ h) (e, refl)
+
+  pub start-written : {last : List ℕ} → 208 ≤ length room → r ≡ returned Taken → last ≡ totalsBytes blank ++ drop 208 room
+      → Leaves (starting room) r last
+  unfolding starting
+  start-written h e l = rw (le-ltb _ _ h) (written blank room e l)
+
+-- ---- a message
+
+-- the first 52 bytes of a room hold the station that it holds
+pub station-first : (room : List ℕ) → 52 ≤ length room → stationOf (take 52 room) ≡ stationOf room
+unfolding stationOf
+station-first room h =
+    rw (
+      at 0 (omega arith),
+      at 1 (omega arith),
+      at 2 (omega arith),
+      at 3 (omega arith),
+      at 4 (omega arith),
+      at 5 (omega arith),
+      at 6 (omega arith),
+      at 7 (omega arith),
+      at 8 (omega arith),
+      at 9 (omega arith),
+      at 50 (omega arith),
+      at 51 (omega arith),
+      set,
+    )
+  where
+    at : (i : ℕ) → i < 52 → getD (take 52 room) i 0 ≡ getD room i 0
+    at i l = getD-take 52 room i 0 l
+
+    set : take 40 (drop 10 (take 52 room)) ≡ take 40 (drop 10 room)
+    set =
+        let l : length (take 52 room) ≡ 52 = length-take-le 52 room h in
+        let k : 40 ≤ length (drop 10 (take 52 room)) = rw length-drop (omega arith) in
+        sym (ap (λ (m : List ℕ). take 40 (drop 10 m)) (sym (take-append-drop 52 room))
+        ∙ ap (take 40) (drop-append-le 10 (take 52 room) (drop 52 room) (omega arith))
+        ∙ take-append-le 40 (drop 10 (take 52 room)) (drop 52 room) k)
+
+-- they were copied to an array
+pub station-copied : (room b : List ℕ) {s : Station} → 52 ≤ length room
+    → b ≡ take (length (take 52 room)) (take 52 room) ++ drop (length (take 52 room)) (replicate 52 0) → s ≡ stationOf b → s ≡ stationOf room
+station-copied room b h e f =
+    f ∙ ap stationOf (e ∙ rw (take-length, length-take-le 52 room h) (append-nil (take 52 room))) ∙ station-first room h
+
+module _ (room station message : List ℕ) {r : ℕ} where
+  pub count-short : length room < 208 → r ≡ returned NoRoom → Leaves (counting room station message) r room
+  unfolding counting
+  count-short h e = rw (lt-ltb _ _ h) (e, refl)
+
+  pub station-short : 208 ≤ length room → length station < 52 → r ≡ returned NoRoom → Leaves (counting room station message) r room
+  unfolding counting
+  station-short h l e = rw (le-ltb _ _ h, lt-ltb _ _ l) (e, refl)
+
+  module _ (h : 208 ≤ length room) (l : 52 ≤ length station) {s : Station} {t : Totals} (e : s ≡ stationOf station) (f : t ≡ totalsIn room)
+      {full : ℕ} {after : List ℕ} (c : Holds (countedIn (totalsOf (t .counts)) (happened s message)) full after) where
+    pub count-full : (full ≡ nothing → ⊥) → r ≡ fullNumber + 256 * full → Leaves (counting room station message) r room
+    unfolding counting tallied
+    count-full z g = rw (le-ltb _ _ h, le-ltb _ _ l, ← e, ← f, ← c .full, ne-eqb _ _ z) (g, refl)
+
+    pub count-written : {last : List ℕ} → full ≡ nothing → r ≡ returned Taken → last ≡ totalsBytes (totalsOf after) ++ drop 208 room
+        → Leaves (counting room station message) r last
+    unfolding counting tallied
+    count-written z g w = rw (le-ltb _ _ h, le-ltb _ _ l, ← e, ← f, ← c .full, eq-eqb _ _ z) (written _ room g (w ∙ rw (c .counts)))
+
+-- ---- the text
+
+-- some bytes of a line are written, or there is no room
+module _ (line : List ℕ) (size : ℕ) (out : List ℕ) (enough : size ≤ length line) {r : ℕ} where
+  pub text-short : length out < size → r ≡ returned NoRoom → Leaves (texting (take size line) out) r out
+  unfolding texting
+  text-short h e = rw (length-take-le size line enough, lt-ltb _ _ h) (e, refl)
+
+  pub text-written : {told : ℕ} {last : List ℕ} → size ≤ length out → told ≡ returned Taken → r ≡ told + 65536 * size
+      → last ≡ take (length (take size line)) (take size line) ++ drop (length (take size line)) out → Leaves (texting (take size line) out) r last
+  unfolding texting
+  text-written h e f l =
+      let all = length-take-le size line enough in
+      rw (all, le-ltb _ _ h) (f ∙ ap (λ (n : ℕ). n + 65536 * size) e, l ∙ rw (take-length, all))
+
+-- a text has no more bytes than its room
+pub text-fits : (s : List ℕ) (x : Text) → x ≡ textOf s → x .size ≤ length (x .bytes)
+text-fits s x e =
+    let size : x .size ≡ length s = ap (λ (t : Text). t .size) e in
+    let bytes : length (x .bytes) ≡ length s + length {A = ℕ} (replicate (1092 - length s) 0) =
+    ap (λ (t : Text). length (t .bytes)) e ∙ length-append s (replicate (1092 - length s) 0) in
+    omega arith
+
+-- its own bytes
+text-bytes : (s : List ℕ) (x : Text) → x ≡ textOf s → take (x .size) (x .bytes) ≡ s
+text-bytes s x e = ap (λ (t : Text). take (t .size) (t .bytes)) e ∙ take-at s (replicate (1092 - length s) 0) (length s) refl
+
+module _ (room : List ℕ) (full : ℕ) (out : List ℕ) {b : Bool} (asked : b ≡ known full) {r : ℕ} where
+  pub lines-unknown : not b ≡ true → r ≡ returned (BadField nowhere) → Leaves (lining room full out) r out
+  unfolding lining
+  lines-unknown h e = rw (failed asked h) (e, refl)
+
+  pub lines-short : not b ≡ false → length room < 208 → r ≡ returned NoRoom → Leaves (lining room full out) r out
+  unfolding lining
+  lines-short h l e = rw (passed asked h, lt-ltb _ _ l) (e, refl)
+
+  pub lines-written : {t : Totals} {x : Text} {last : List ℕ} → not b ≡ false → 208 ≤ length room → t ≡ totalsIn room → x ≡ textOf (reportOf t full)
+      → Leaves (texting (take (x .size) (x .bytes)) out) r last → Leaves (lining room full out) r last
+  unfolding lining
+  lines-written {t} {x} h l e f w = rw (passed asked h, le-ltb _ _ l, ← e, ← text-bytes (reportOf t full) x f) w

@@ -1,0 +1,54 @@
+-- What is promised of lent totals, and of what the entries return. Proved in proofs/Promises.antt. Assumes nothing.
+use mathlib.Core.Path.{_≡_}
+use mathlib.Core.Logic.{_⊎_}
+use mathlib.Core.List.{List, _++_}
+use Prim.Native.Nat.{ℕ, _/_, _%_, _≤_}
+use lib.ListN.{length, getD, take}
+use Rattle.wire_laws.specs.Statements.{Bytes}
+use Rattle.totals.specs.declared.Totals.{Totals}
+use Rattle.totals.specs.Totals.{size, most, countedIn}
+use Rattle.weeks.specs.Weeks.{happened}
+use Rattle.station_c.specs.Entries.{stationSize, stationOf}
+use Rattle.report_c.specs.Entries.{totalsSize, totalsBytes, totalsIn, starting, counting, lining}
+
+-- totals as code holds them: one for each place, none above the most
+pub record Typed (t : Totals) : Type 0 where
+  pub places : length (t .counts) ≡ size
+  pub small : (p : ℕ) → getD (t .counts) p 0 ≤ most
+
+-- they take 208 bytes
+abbrev pub TotalsFit : Type 0
+TotalsFit = (t : Totals) → length (totalsBytes t) ≡ totalsSize
+
+-- totals that were written read back, whatever stands past them
+abbrev pub TotalsReadBack : Type 0
+TotalsReadBack = (t : Totals) (past : List ℕ) → Typed t → totalsIn (totalsBytes t ++ past) ≡ t
+
+-- the bytes of a room are those of the totals that they hold
+abbrev pub TotalsOneForm : Type 0
+TotalsOneForm = (room : List ℕ) → Bytes room → totalsSize ≤ length room → totalsBytes (totalsIn room) ≡ take totalsSize room
+
+-- and whatever bytes they are, they hold totals as code does
+abbrev pub AnyBytesHold : Type 0
+AnyBytesHold = (room : List ℕ) → Bytes room → Typed (totalsIn room)
+
+-- a message is counted: the room holds the totals in which it is, and the place that is told is that of the first that is full, or none
+abbrev pub MessageCounted : Type 0
+MessageCounted =
+    (room station message : List ℕ) → Bytes room → totalsSize ≤ length room → stationSize ≤ length station
+    → let c = countedIn (totalsIn room) (happened (stationOf station) message) in
+    (totalsIn (counting room station message .leaves) ≡ c .totals) × (counting room station message .says / 256 ≡ c .full)
+
+-- an entry that refuses leaves the room as it was
+abbrev pub RefusedUntouched : Type 0
+RefusedUntouched =
+    ((room : List ℕ) → (starting room .says % 256 ≡ 0 → ⊥) → starting room .leaves ≡ room)
+    × ((room station message : List ℕ) → (counting room station message .says % 256 ≡ 0 → ⊥) → counting room station message .leaves ≡ room)
+    × ((room : List ℕ) (full : ℕ) (out : List ℕ) → (lining room full out .says % 256 ≡ 0 → ⊥) → lining room full out .leaves ≡ out)
+
+-- the numbers that each returns
+abbrev pub NumbersReturned : Type 0
+NumbersReturned =
+    ((room : List ℕ) → let n = starting room .says % 256 in (n ≡ 0) ⊎ (n ≡ 17))
+    × ((room station message : List ℕ) → let n = counting room station message .says % 256 in (n ≡ 0) ⊎ (n ≡ 17) ⊎ (n ≡ 40))
+    × ((room : List ℕ) (full : ℕ) (out : List ℕ) → let n = lining room full out .says % 256 in (n ≡ 0) ⊎ (n ≡ 4) ⊎ (n ≡ 17))

@@ -1,0 +1,168 @@
+// The entries for a host in C that keeps the report's totals beside its station: the totals are lent as 208 bytes, an answer is its number
+// plus 256 times a place, and a refused call writes nothing. What each answers and leaves stands in specs/Entries.antt.
+ghost use mathlib.Core.Path.{_≡_};
+ghost use mathlib.Core.List.{[], _∷_, _++_};
+ghost use Prim.Native.Nat.{_+_, _≤_};
+ghost use lib.ListN.{length, take, drop};
+ghost use Rattle.wire.specs.Kinds.{littleEndian, fromLittleEndian};
+ghost use Rattle.totals.specs.Totals.{totalsOf};
+ghost use Rattle.station_c.specs.Entries.{stationSize, stationOf, Leaves};
+ghost use Rattle.report_c.specs.Entries.{totalsSize, totalsBytes, totalsIn, starting, counting, known, texting, lining};
+use answers::Answer;
+use answers::NOWHERE;
+use garage::Station;
+use station_c::say;
+use totals::NOTHING;
+use totals::Totals;
+
+// The number of totals.
+const SIZE: usize = 52;
+
+// The bytes that they take.
+const TOTALS: usize = 208;
+
+// The bytes of a lent station.
+const STATION: usize = 52;
+
+// The number of the answer that a total is full.
+const FULL: u32 = 40;
+
+// ---- totals in bytes
+
+// The number that four bytes say, the lowest first.
+fn joined(a: u8, b: u8, c: u8, d: u8) -> u32
+    ensures { λ r. ⌜ r ≡ fromLittleEndian 4 0 (a ∷ b ∷ c ∷ d ∷ []) ⌝ }
+{
+    a as u32 + 256 * (b as u32 + 256 * (c as u32 + 256 * (d as u32)))
+}
+
+// The number that stands in a room from a place on.
+fn four_at(room: &[u8], at: usize) -> u32
+    requires { ⌜ at + 4 ≤ length (now room) ⌝ }
+    ensures { λ r. ⌜ r ≡ fromLittleEndian 4 at (now (room .entry)) ⌝ }
+{
+    joined(room[at], room[at + 1], room[at + 2], room[at + 3])
+}
+
+// The totals that the first 208 bytes hold.
+fn load(room: &[u8]) -> Totals
+    requires { ⌜ totalsSize ≤ length (now room) ⌝ }
+    ensures { λ t. ⌜ t ≡ totalsIn (now (room .entry)) ⌝ }
+{
+    let mut counts = [0u32; SIZE];
+    let mut place: usize = 0;
+    while place < SIZE {
+        counts[place] = four_at(room, 4 * place);
+        place += 1;
+    }
+    Totals { counts }
+}
+
+// The four bytes that say a number, written from a place on.
+fn put_four(room: &mut [u8], at: usize, n: u32)
+    requires { ⌜ at + 4 ≤ length (now room) ⌝ }
+    ensures { λ _. ⌜ now (room .exit) ≡ take at (now (room .entry)) ++ littleEndian 4 n ++ drop (at + 4) (now (room .entry)) ⌝ }
+{
+    let b = n / 256;
+    let c = b / 256;
+    let d = c / 256;
+    room[at] = (n % 256) as u8;
+    room[at + 1] = (b % 256) as u8;
+    room[at + 2] = (c % 256) as u8;
+    room[at + 3] = (d % 256) as u8;
+}
+
+// The bytes of totals, written to the room's first 208.
+fn keep(counts: &[u32; SIZE], room: &mut [u8])
+    requires { ⌜ totalsSize ≤ length (now room) ⌝ }
+    ensures { λ _. ⌜ now (room .exit) ≡ totalsBytes (totalsOf (now (counts .entry))) ++ drop totalsSize (now (room .entry)) ⌝ }
+{
+    let mut place: usize = 0;
+    while place < SIZE {
+        put_four(room, 4 * place, counts[place]);
+        place += 1;
+    }
+}
+
+// ---- the entries
+
+// Writes the totals of a new report.
+#[no_mangle]
+pub extern "C" fn report_start(totals: &mut [u8]) -> u32
+    ensures { λ r. ⌜ Leaves (starting (now (totals .entry))) r (now (totals .exit)) ⌝ }
+{
+    if totals.len() < TOTALS {
+        return say(Answer::NoRoom);
+    }
+    let counts = [0u32; SIZE];
+    keep(&counts, totals);
+    say(Answer::Taken)
+}
+
+// The station that the first 52 bytes of a room hold.
+fn held(room: &[u8]) -> Station
+    requires { ⌜ stationSize ≤ length (now room) ⌝ }
+    ensures { λ s. ⌜ s ≡ stationOf (now (room .entry)) ⌝ }
+{
+    let mut b = [0u8; STATION];
+    bytes::copy(&room[..STATION], &mut b);
+    station_c::station_of(b)
+}
+
+// Counts the first message of a run, as it is before the lent station is given it; where a total is full, its place is told.
+#[no_mangle]
+pub extern "C" fn report_message(totals: &mut [u8], station: &[u8], message: &[u8]) -> u32
+    ensures { λ r. ⌜ Leaves (counting (now (totals .entry)) (now (station .entry)) (now (message .entry))) r (now (totals .exit)) ⌝ }
+{
+    if totals.len() < TOTALS {
+        return say(Answer::NoRoom);
+    }
+    if station.len() < STATION {
+        return say(Answer::NoRoom);
+    }
+    let s = held(station);
+    let t = load(totals);
+    let mut counts = t.counts;
+    let full = weeks::count_message(&mut counts, s, message);
+    if full != NOTHING {
+        return FULL + 256 * (full as u32);
+    }
+    keep(&counts, totals);
+    say(Answer::Taken)
+}
+
+// Whether what is full is a place of the totals, or none.
+fn known(full: u8) -> bool
+    ensures { λ b. ⌜ b ≡ known full ⌝ }
+{
+    ((full as usize) < SIZE) | (full == NOTHING)
+}
+
+// Writes the first bytes of a line to a room that has as many, and says how many they are.
+fn put(line: [u8; 1092], size: usize, out: &mut [u8]) -> u32
+    requires { ⌜ size ≤ length line ⌝ }
+    ensures { λ r. ⌜ Leaves (texting (take size line) (now (out .entry))) r (now (out .exit)) ⌝ }
+{
+    if out.len() < size {
+        return say(Answer::NoRoom);
+    }
+    bytes::copy(&line[..size], out);
+    say(Answer::Taken) + 65536 * (size as u32)
+}
+
+// The report's text: one line for each total in force, or the name of the one that is full.
+#[no_mangle]
+pub extern "C" fn report_lines(totals: &[u8], full: u8, out: &mut [u8]) -> u32
+    ensures { λ r. ⌜ Leaves (lining (now (totals .entry)) full (now (out .entry))) r (now (out .exit)) ⌝ }
+{
+    if !known(full) {
+        return say(Answer::BadField(NOWHERE));
+    }
+    if totals.len() < TOTALS {
+        return say(Answer::NoRoom);
+    }
+    let t = load(totals);
+    let text = lines::report(t, full);
+    let line = text.bytes;
+    put(line, text.size, out)
+}

@@ -1,0 +1,3 @@
+pub mod Totals
+pub mod Private
+pub mod Promises

@@ -1,0 +1,53 @@
+-- What is promised of totals in which all that happened is counted, one message after another. Proved in proofs/Promises.antt.
+-- Assumes nothing.
+use mathlib.Core.Path.{_≡_}
+use mathlib.Core.Logic.{_↔_}
+use mathlib.Core.List.{List, [], _∷_, _++_}
+use Prim.Native.Nat.{ℕ, _+_, _≤_, _<_, max}
+use lib.Dec.{ltb}
+use lib.ListN.{length, getD}
+use Rattle.bits.specs.Bits.{digit}
+use Rattle.bits.specs.Search.{IsLeast}
+use Rattle.totals.specs.declared.Happened.{Happened}
+use Rattle.totals.specs.declared.Tally.{Tally}
+use Rattle.totals.specs.Totals.{Name, order, size, nameAt, counts, most, nothing, blank, countedAll}
+
+-- the order has as many names as there are totals
+abbrev pub OrderWhole : Type 0
+OrderWhole = length order ≡ size
+
+-- how many of some happenings count under a name
+unfoldable pub tally : Name → List Happened → ℕ
+tally x [] = 0
+tally x (h ∷ hs) = digit (counts x h) + tally x hs
+
+-- the largest number of cars after any of them; 0 of none
+unfoldable pub largest : List Happened → ℕ
+largest [] = 0
+largest (h ∷ hs) = max (h .cars) (largest hs)
+
+-- where none is full, each total but the last is the number of those that count under its name
+abbrev pub TotalsRight : Type 0
+TotalsRight = (hs : List Happened) → countedAll blank hs .full ≡ nothing → (p : ℕ) → p < 51
+    → getD (countedAll blank hs .totals .counts) p 0 ≡ tally (nameAt p) hs
+
+-- and the last, the most cars, is the largest number of cars
+abbrev pub MostCarsRight : Type 0
+MostCarsRight = (hs : List Happened) → countedAll blank hs .full ≡ nothing → getD (countedAll blank hs .totals .counts) 51 0 ≡ largest hs
+
+-- none is full exactly if no number of those that count passes the most
+abbrev pub NoneFullExactly : Type 0
+NoneFullExactly = (hs : List Happened) → (countedAll blank hs .full ≡ nothing) ↔ ((p : ℕ) → p < size → tally (nameAt p) hs ≤ most)
+
+-- a run that stops: at the first that would make a number pass the most, with the totals of those before it, and the first such name told
+pub record Stops (hs : List Happened) (c : Tally) : Type 0 where
+  pub before : List Happened
+  pub last : Happened
+  pub rest : List Happened
+  pub all : hs ≡ before ++ last ∷ rest
+  pub none : countedAll blank before .full ≡ nothing
+  pub totals : c .totals ≡ countedAll blank before .totals
+  pub first : IsLeast size (λ p. ltb most (tally (nameAt p) (before ++ last ∷ []))) (c .full)
+
+abbrev pub FullStops : Type 0
+FullStops = (hs : List Happened) → (countedAll blank hs .full ≡ nothing → ⊥) → Stops hs (countedAll blank hs)

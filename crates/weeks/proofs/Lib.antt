@@ -1,0 +1,5 @@
+mod Telling
+mod Steps
+mod Counting
+pub mod Pieces
+pub mod Promises

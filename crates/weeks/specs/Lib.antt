@@ -1,0 +1,4 @@
+pub mod Weeks
+pub mod Counts
+pub mod Private
+pub mod Promises
