@@ -36,7 +36,7 @@ use Rattle.garage_laws.proofs.Lists.{told, asCall, Unstuck}
 result-is : (s : Station) (k i : ℕ) (o : Outcome) → k ≡ present s → sticks o ≡ false → Waiting s i → (moves o ≡ true → heldAllowed (codeAt (s .set) i) (bit (s .bits)) ≡ true)
     → call s (run.result k i (told o)) ≡ taken (answering s i (resulting s i o))
 result-is s k i failed p u w ok = failure-is s k i p w
-result-is s k i finished p u w ok = success-is s k i p w (ok refl)
+result-is s k i finished p u w ok = success-is s k i p w
 result-is s k i stuck p u w ok = clash refl u
 
 -- only a success is told as 1

@@ -10,7 +10,7 @@ use borrow.Author.Tests.{eqb-true, eqb-false, eq-eqb, ne-eqb, ltb-false, le-ltb}
 use Rattle.bits.specs.Bits.{digit}
 use Rattle.bits.proofs.Cases.{split}
 use Rattle.answers.specs.declared.Answer.{Answer}
-use Rattle.answers.specs.declared.Answer.the-variants.{Taken, Opened, TooFewBytes, BadLength, UnknownKind, BadField, TooMany, SetOutstanding, EmptySet, Overlap, NotAllowed, EventImpossible, NoSet, NotInSet, AlreadyAnswered, NowNotAllowed, Unsound, Unfit, NoRoom, Late, NotIssued, OutOfTurn}
+use Rattle.answers.specs.declared.Answer.the-variants.{Taken, Opened, TooFewBytes, BadLength, UnknownKind, BadField, TooMany, SetOutstanding, EmptySet, Overlap, NotAllowed, EventImpossible, NoSet, NotInSet, AlreadyAnswered, Unsound, Unfit, NoRoom, Late, NotIssued, OutOfTurn}
 use Rattle.answers.specs.Answers.{numberOf, issueOf}
 use Rattle.garage.specs.declared.Station.{Station}
 use Rattle.garage.specs.declared.Outcome.{Outcome}
@@ -22,7 +22,7 @@ use Rattle.garage_laws.specs.Runs as run
 use Rattle.garage_laws.specs.Runs.{Call, call, said, left, carried, opens, calls, setsOpened}
 use Rattle.garage_laws.specs.Demands.{Heard, LateExactly, IssuesInTurn, FirstIsZero, BehindCounts}
 use Rattle.garage_laws.proofs.Fits.{after-result}
-use Rattle.garage_laws.proofs.Calls.{either, following, request-has, request-is, success-has, success-is, success-either, failure-has, failure-is, done-has, event-has, event-is, image-has, image-is, ask-has, ask-is}
+use Rattle.garage_laws.proofs.Calls.{either, following, request-has, request-is, success-has, success-is, failure-has, failure-is, done-has, event-has, event-is, image-has, image-is, ask-has, ask-is}
 use Rattle.garage_laws.proofs.EachCall.{untouched}
 
 -- ---- what a call carries and leaves
@@ -44,7 +44,6 @@ refusal-none EventImpossible h = refl
 refusal-none NoSet h = refl
 refusal-none NotInSet h = refl
 refusal-none AlreadyAnswered h = refl
-refusal-none NowNotAllowed h = refl
 refusal-none Unsound h = refl
 refusal-none Unfit h = refl
 refusal-none NoRoom h = refl
@@ -70,7 +69,7 @@ module _ (s : Station) where
 
   result-keeps : (k i done : ℕ) → said s (run.result k i done) ≡ 0 → Keeps (run.result k i done)
   result-keeps k i zero e = let (p, w) = failure-has s k i e in by-taken (run.result k i 0) (failure-is s k i p w) (answered-next i (s .bits))
-  result-keeps k i (suc zero) e = let (p, w, t) = success-has s k i e in by-taken (run.result k i 1) (success-is s k i p w t) (answered-next i (following s i))
+  result-keeps k i (suc zero) e = let (p, w) = success-has s k i e in by-taken (run.result k i 1) (success-is s k i p w) (answered-next i (following s i))
   result-keeps k i (suc (suc done)) e = absurd (omega (arith, done-has s (record { issue = k; number = i; done = suc (suc done) }) e))
 
   request-turns : (n : ℕ) (set : List ℕ) → let c = run.request n set in
@@ -134,9 +133,7 @@ module _ (s : Station) (r : Report) where
   unfolding station.numbered station.ended
   numbered-told =
       either Told (not (inSet s (r .number))) (λ a. other (omega arith)) (λ a.
-      either Told (marked s (r .number)) (λ b. other (omega arith)) (λ b.
-      either Told (eqb (r .done) 0) (λ c. other (omega arith)) (λ c.
-      success-either s (r .number) Told (λ d. other (omega arith)) (λ d. other (omega arith)))))
+      either Told (marked s (r .number)) (λ b. other (omega arith)) (λ b. other (omega arith)))
 
   timely-told : Heard s r → Told (station.timely s r)
   unfolding station.timely
