@@ -117,8 +117,9 @@ fn open_contract(header: &str, from_c: bool) -> Option<&'static str> {
 fn laws(krate: &Path) -> Vec<String> {
     let mut found = Vec::new();
     for file in files(&krate.join("proofs"), ".antt") {
-        let declared = read(&file).lines().filter_map(|line| Some(line.trim_start().split_once(" : ")?.0.trim_start_matches("pub ").to_string())).collect::<Vec<_>>();
-        found.extend(declared);
+        let source = read(&file);
+        let declared = source.lines().filter_map(|line| line.trim_start().split_once(" : ").map(|parts| parts.0).or(line.strip_suffix(" :")));
+        found.extend(declared.map(|name| name.trim_start().trim_start_matches("pub ").to_string()));
     }
     found
 }
@@ -215,6 +216,10 @@ fn main() {
             let own: Vec<_> = wrongs.iter().filter(|wrong| wrong.edit == edit).collect();
             if own.is_empty() && errors.first().is_none_or(|(_, words)| misfit(words)) {
                 faults.push(format!("{name}/{edit}: its log's first error shows no false fact"));
+            }
+            for line in read(file).lines().filter(|_| !own.is_empty()) {
+                let Some((named, _)) = line.strip_prefix("# ").and_then(|line| line.split_once(": ")) else { continue };
+                if !named.contains(' ') && own.iter().all(|wrong| wrong.name != named) { faults.push(format!("{name}/{edit}: {named} is no function and no law")); }
             }
             for wrong in own {
                 let proof = format!("proofs/{}/Proof.antt", wrong.name.replace("::", "/"));
