@@ -66,7 +66,7 @@ pub first-is-zero : FirstIsZero
 first-is-zero = issues.first-is-zero
 
 pub image-keeps-count : ImageKeepsCount
-image-keeps-count s r = issues.issues-in-turn s (run.image r) .1
+image-keeps-count s r = issues.in-turn s (run.image r) .1
 
 pub behind-counts : BehindCounts
 behind-counts = issues.behind-counts
