@@ -1,5 +1,5 @@
-/* Time and stack of each entry of station.h, of a request of eight instructions, and of the next record by each kind of instruction: a
- * line for each with nanoseconds a call and bytes of stack (stack.h). With a name, only those calls are made, and nothing is printed, so that their
+/* Time and stack of each entry of station.h, of a request of eight instructions, of calls on a station where eight are outstanding, and of
+ * the next record by each kind of instruction: a line for each with nanoseconds a call and bytes of stack (stack.h). With a name, only those calls are made, and nothing is printed, so that their
  * instructions can be counted; with any other word none are. */
 #define _POSIX_C_SOURCE 200809L
 #include "stack.h"
@@ -11,7 +11,8 @@
 
 enum { CALLS = 200000 };
 
-static uint8_t start[STATION_SIZE], outstanding[STATION_SIZE], room[STATION_SIZE], image[STATION_IMAGE_SIZE], answer[STATION_REPLY_MOST];
+static uint8_t start[STATION_SIZE], outstanding[STATION_SIZE], with_eight[STATION_SIZE], room[STATION_SIZE];
+static uint8_t image[STATION_IMAGE_SIZE], answer[STATION_REPLY_MOST];
 static uint16_t issue; /* the outstanding set's */
 static const uint8_t left_belt[STATION_CODE_SIZE] = {GARAGE_BELTS, 1, 2, GARAGE_LOWER, GARAGE_FULL};
 static const uint8_t shuttle[STATION_CODE_SIZE] = {GARAGE_SHUTTLES, GARAGE_LEFT, 2, GARAGE_LOWERED, GARAGE_HIGHER};
@@ -35,6 +36,9 @@ CALL(result) { memcpy(room, outstanding, STATION_SIZE); station_result(room, STA
 CALL(image) { memcpy(room, start, STATION_SIZE); station_image(room, STATION_SIZE, STATION_START_IMAGE); }
 CALL(ask) { station_ask(start, STATION_SIZE, image, sizeof image); }
 CALL(message) { memcpy(room, start, STATION_SIZE); station_message(room, STATION_SIZE, request, sizeof request, answer, sizeof answer); }
+CALL(result_of_eight) { memcpy(room, with_eight, STATION_SIZE); station_result(room, STATION_SIZE, issue, 0, STATION_DONE); }
+CALL(event_beside_eight) { memcpy(room, with_eight, STATION_SIZE); station_event(room, STATION_SIZE, STATION_BEGIN_IN); }
+CALL(ask_beside_eight) { station_ask(with_eight, STATION_SIZE, image, sizeof image); }
 CALL(sound) { garage_sound(STATION_START_IMAGE); }
 CALL(cars) { garage_cars(STATION_START_IMAGE); }
 CALL(allowed) { garage_allowed(STATION_START_IMAGE, left_belt, sizeof left_belt); }
@@ -51,6 +55,7 @@ static const struct {
     {"station_start", call_start},     {"station_request", call_request}, {"station_event", call_event}, {"station_result", call_result},
     {"station_image", call_image},     {"station_ask", call_ask},         {"station_message", call_message}, {"garage_sound", call_sound},
     {"garage_cars", call_cars},        {"garage_allowed", call_allowed},  {"request_of_eight", call_eight},
+    {"result_of_eight", call_result_of_eight}, {"event_beside_eight", call_event_beside_eight}, {"ask_beside_eight", call_ask_beside_eight},
     {"next_by_belt", call_next_left_belt}, {"next_by_shuttle", call_next_shuttle}, {"next_by_tilt", call_next_tilt}, {"next_by_lift", call_next_lift},
 };
 
@@ -66,14 +71,17 @@ static double nanoseconds_of(void (*call)(void *)) {
 int main(int words, char **word) {
     station_start(start, sizeof start);
     memcpy(outstanding, start, sizeof start);
+    memcpy(with_eight, start, sizeof start);
     issue = STATION_SET(station_request(outstanding, sizeof outstanding, 1, left_belt, sizeof left_belt));
+    if (station_request(with_eight, sizeof with_eight, STATION_MOST, eight, sizeof eight) != (STATION_NOWHERE << 8 | (uint32_t)issue << 16))
+        return 1;
     for (size_t at = 0; at < sizeof entries / sizeof *entries; at++) {
         if (words > 1) {
             if (strcmp(word[1], entries[at].name) == 0)
                 nanoseconds_of(entries[at].call);
             continue;
         }
-        printf("%-16s %8.1f ns, at most %5zu bytes of stack\n", entries[at].name, nanoseconds_of(entries[at].call), stack_of(entries[at].call, NULL));
+        printf("%-18s %8.1f ns, at most %5zu bytes of stack\n", entries[at].name, nanoseconds_of(entries[at].call), stack_of(entries[at].call, NULL));
     }
     return 0;
 }

@@ -23,7 +23,7 @@ fn time(name: &str, mut call: impl FnMut()) {
     let begun = Instant::now();
     for _ in 0..CALLS { call(); }
     if only.is_some() { return; }
-    println!("{name:<16} {:8.1} ns", begun.elapsed().as_secs_f64() * 1e9 / f64::from(CALLS));
+    println!("{name:<18} {:8.1} ns", begun.elapsed().as_secs_f64() * 1e9 / f64::from(CALLS));
 }
 
 /// A call on a station that is lent as bytes and written back if it is taken.
@@ -46,6 +46,9 @@ fn main() {
     let mut station = Station::start();
     let issue = station.request(1, &LEFT_BELT).issue;
     let outstanding = station.to_bytes();
+    let mut station = Station::start();
+    assert_eq!(station.request(8, &EIGHT.concat()).issue, issue);
+    let with_eight = station.to_bytes();
     time("station_start", || { black_box(Station::start().to_bytes()); });
     time("station_request", || lent(&start, |station| station.request(black_box(1), black_box(&LEFT_BELT))));
     time("station_event", || lent(&start, |station| station.event(black_box(1))));
@@ -61,6 +64,9 @@ fn main() {
     time("garage_allowed", || { black_box(Instruction::read(black_box(LEFT_BELT)).map(|belts| belts.asked(black_box(START)))); });
     let eight = EIGHT.concat();
     time("request_of_eight", || lent(&start, |station| station.request(black_box(8), black_box(&eight))));
+    time("result_of_eight", || lent(&with_eight, |station| station.result(black_box(issue), black_box(0), black_box(1))));
+    time("event_beside_eight", || lent(&with_eight, |station| station.event(black_box(1))));
+    time("ask_beside_eight", || lent(&with_eight, |station| station.ask()));
     next("next_by_belt", LEFT_BELT);
     next("next_by_shuttle", SHUTTLE);
     next("next_by_tilt", TILT);

@@ -15,16 +15,17 @@
  * them. No entry allocates, prints, or waits; none takes more stack than STATION_STACK_MOST.
  *
  * What may stand in a station's room: any bytes.
- *   - Bytes that are no station are refused with STATION_UNFIT. A drive under way and a set with the lift in an area are no station
- *     together.
+ *   - Bytes that are no station are refused with STATION_UNFIT, by every call but station_start: the record must be sound and what
+ *     stands beside it well formed. A drive under way and a set with the lift in an area are no station together; nor is a set of which
+ *     two instructions overlap, answered or not, or of which one that still waits for its result is not allowed on the record. One that
+ *     is answered need not be.
  *   - Bytes that station_start wrote, and after it these entries alone, are a station with all that is promised: each call answers by
  *     the rules, an accepted set is safe in any order of its results, and the record is what the results and events since the start,
  *     or since the last image that was taken, have made of it. They may be copied, kept, and put back as they are; the record and the
  *     count of sets are then those of when they were kept.
  *   - Other bytes that happen to be a station, another garage's or made by hand, are answered as that station: each call still answers
- *     by the rules and leaves a station whose record is sound. Only the promise on calls in a row is lost: the set that they say is
- *     outstanding need never have been accepted, so that a result may be refused with STATION_NOW_NOT_ALLOWED and the order of
- *     results may count, and the record need not be this garage's.
+ *     by the rules and leaves a station whose record is sound. But the record need not be this garage's, and the set that they say is
+ *     outstanding need never have been accepted.
  *
  * A station is lent as STATION_SIZE bytes, `room`: the record in eight bytes, the lowest first; how many instructions the
  * outstanding set has; a bit for each of them that is answered; five bytes for each, and zeros in the unused places; the issue of the
@@ -72,7 +73,7 @@ extern "C" {
 #define STATION_PLACE(answer) ((uint8_t)(((answer) >> 8) & 0xFFu))
 #define STATION_SET(answer) ((uint16_t)(((answer) >> 16) & 0xFFFFu))
 
-/* What the numbers mean; 9, 18 and 19 are none. */
+/* What the numbers mean; 9, 14, 18 and 19 are none. */
 enum {
     STATION_TAKEN = 0,              /* taken */
     STATION_TOO_FEW_BYTES = 1,      /* fewer bytes than a message or a count says, or an instruction has */
@@ -87,7 +88,6 @@ enum {
     STATION_NO_SET = 11,            /* a result, and no set is outstanding */
     STATION_NOT_IN_SET = 12,        /* a result for an instruction that the set doesn't have */
     STATION_ALREADY_ANSWERED = 13,  /* a second result for one instruction */
-    STATION_NOW_NOT_ALLOWED = 14,   /* reported done, and the record doesn't allow it */
     STATION_UNSOUND = 15,           /* the image is no possible garage */
     STATION_UNFIT = 16,             /* the lent bytes are no station */
     STATION_NO_ROOM = 17,           /* lent room is too short */
@@ -119,9 +119,9 @@ enum {
 };
 
 /* The bytes of stack that a call may take on x86-64, below the frame that makes it. No theorem says so: it is measured on many calls, and
- * added up over the archive's instructions for every path. That comes to about 970 for station_message, 860 for station_request, 620 for
- * station_result, and less than 500 for each other; the C library's memcpy and the like are left out. */
-enum { STATION_STACK_MOST = 1024 };
+ * added up over the archive's instructions for every path. That comes to about 1050 for station_message, 950 for station_request, 820 for
+ * station_result, 810 for station_event, and less than 750 for each other; the C library's memcpy and the like are left out. */
+enum { STATION_STACK_MOST = 1280 };
 
 /* The record of the start: no cars, rows 1 and 2 lowered and row 3 tilted on both sides, the lift at street height. */
 #define STATION_START_IMAGE UINT64_C(0x00091B0000000000)
@@ -178,8 +178,7 @@ uint32_t station_request(uint8_t *room, size_t room_length, uint8_t count, const
 uint32_t station_event(uint8_t *room, size_t room_length, uint8_t way);
 
 /* The result of instruction `number`, counted from 0, of the set that was given `issue`: STATION_DONE applies it to the record,
- * STATION_FAILED leaves the record as it is. With the last result the set is no longer outstanding. 17, 16, then 4, 11, 29, 30, 12, 13,
- * 14. */
+ * STATION_FAILED leaves the record as it is. With the last result the set is no longer outstanding. 17, 16, then 4, 11, 29, 30, 12, 13. */
 uint32_t station_result(uint8_t *room, size_t room_length, uint16_t issue, uint8_t number, uint8_t done);
 
 /* Takes an image as the record, as after somebody looked for themselves; whoever looks must see too whether a driver is in the lift, since

@@ -1,10 +1,11 @@
-/* The entries of station.h under a coverage-guided fuzzer, against the reference. An input is a small program: each of its bytes
- * picks a call on one kept station, or damage to it, and the next ones are what the call is given. What the call returns and what it
+/* The entries of station.h and report.h under a coverage-guided fuzzer, against the reference. An input is a small program: each of its
+ * bytes picks a call on one kept station and totals beside it, or damage to them, and the next ones are what the call is given. What the call returns and what it
  * leaves of every byte that it was lent must be what the reference says. `seeds` has programs, and how they are written. */
 #define _GNU_SOURCE /* memfd_create */
 #include "command.h"
 #include "guards.h"
 #include "input.h"
+#include "report.h"
 
 #include <stdbool.h>
 #include <stdio.h>
@@ -16,6 +17,9 @@ uint32_t reference_call(const struct command *command);
 bool reference_gives(uint8_t entry, uint8_t number);
 uint16_t reference_reason(const struct command *command, uint32_t answer);
 bool reference_refuses(uint8_t opcode, uint8_t number);
+uint8_t reference_handed(const struct command *command);
+bool reference_shows(uint8_t handed, uint8_t number);
+uint8_t reference_sorts(void);
 
 int LLVMFuzzerInitialize(int *count, char ***words);
 int LLVMFuzzerTestOneInput(const uint8_t *data, size_t size);
@@ -28,7 +32,11 @@ int LLVMFuzzerTestOneInput(const uint8_t *data, size_t size);
 /* Where the record has the lift's car, height and drives, and the shuttles' slots. */
 enum { LIFT_AT = 52, SLOTS_AT = 40 };
 
-enum { NUMBERS = STATION_OUT_OF_TURN + 1, OPCODES = GARAGE_ROTATE + 1, RUNS = 3 };
+/* The report's entries, behind the station's. The station stands in the room, the totals that are counted in and the text in the run to
+ * write; the totals that are only read in the run to read. */
+enum { REPORT_START = ENTRIES, REPORT_MESSAGE, REPORT_LINES, ALL_ENTRIES };
+
+enum { NUMBERS = REPORT_FULL + 1, OPCODES = GARAGE_ROTATE + 1, SORTS = 32, RUNS = 3 };
 
 static struct page pages[RUNS];
 static size_t page_size;
@@ -36,40 +44,58 @@ static size_t page_size;
 /* ---- what was reached */
 
 static uint64_t calls;
-static bool seen[ENTRIES][NUMBERS], refused[OPCODES][NUMBERS];
+static bool seen[ALL_ENTRIES][NUMBERS], refused[OPCODES][NUMBERS];
+static uint64_t handed[ENTRIES][SORTS]; /* how often an entry was called on each sort of handed-in station */
 
 /* Told to the fuzzer beside the code that was reached: an input is kept where one of these is new. */
 static struct {
-    uint8_t answers[ENTRIES][32];
+    uint8_t answers[ALL_ENTRIES][NUMBERS];
     uint8_t reasons[OPCODES][NUMBERS];
+    uint8_t handed[ENTRIES][SORTS];
     uint8_t cars[32];
     uint8_t lift[32];
     uint8_t shuttles[2][64];
     uint8_t outstanding[STATION_MOST + 1][STATION_MOST + 1];
 } reached __attribute__((section("__libfuzzer_extra_counters")));
 
-static void tell(const struct command *command, uint32_t answer) {
+/* A call, the sort of station that it was made on (past the last, none of them), and its answer. */
+static void tell(const struct command *command, uint8_t sort, uint32_t answer) {
     uint8_t number = STATION_NUMBER(answer);
-    uint16_t reason = reference_reason(command, answer);
     calls++;
-    reached.answers[command->entry][number % 32] = 1;
     if (number < NUMBERS)
-        seen[command->entry][number] = true;
+        reached.answers[command->entry][number] = seen[command->entry][number] = true;
+    if (command->entry >= ENTRIES)
+        return;
+    uint16_t reason = reference_reason(command, answer);
+    if (sort < reference_sorts() && reference_shows(sort, number)) {
+        reached.handed[command->entry][sort] = 1;
+        handed[command->entry][sort]++;
+    }
     if (reason != 0)
         reached.reasons[reason >> 8][number] = refused[reason >> 8][number] = true;
 }
 
-/* Says whether each entry gave every number that it can give, and no other, and each opcode was refused for all that it can be on a
- * sound record; if not, too little was tried. */
+/* Says whether each entry gave every number that it can give, and no other, each opcode was refused for all that it can be on a sound
+ * record, and each call that tests a station was made on every sort of handed-in one; if not, too little was tried. */
 static void summary(void) {
     bool all = true;
+    uint64_t fewest = UINT64_MAX;
+    for (uint8_t entry = REQUEST; entry <= MESSAGE; entry++)
+        for (uint8_t sort = 0; sort < reference_sorts(); sort++) {
+            if (handed[entry][sort] == 0) {
+                fprintf(stderr, "entry %d was never called on a station of sort %d\n", entry, sort);
+                all = false;
+            }
+            fewest = handed[entry][sort] < fewest ? handed[entry][sort] : fewest;
+        }
+    fprintf(stderr, "sorts of handed-in stations: %d, each call on each %llu times or more\n", reference_sorts(), (unsigned long long)fewest);
     for (uint8_t opcode = 0; opcode < OPCODES; opcode++)
         for (uint8_t number = 0; number < NUMBERS; number++)
             if (reference_refuses(opcode, number) != refused[opcode][number]) {
                 fprintf(stderr, "opcode %d was %s with %d\n", opcode, refused[opcode][number] ? "refused" : "never refused", number);
                 all = false;
             }
-    for (uint8_t entry = 0; entry < ENTRIES; entry++)
+    for (uint8_t entry = 0; entry < ALL_ENTRIES; entry++)
         for (uint8_t number = 0; number < NUMBERS; number++)
             if (entry != CARS && reference_gives(entry, number) != seen[entry][number]) {
                 fprintf(stderr, "entry %d %s %d\n", entry, seen[entry][number] ? "gave" : "never gave", number);
@@ -114,12 +140,22 @@ void __asan_on_error(void) {
         show_call();
 }
 
+/* Makes the call. */
+static uint32_t call_any(const struct command *c) {
+    switch (c->entry) {
+    case REPORT_START: return report_start(LENT(c->out));
+    case REPORT_MESSAGE: return report_message(LENT(c->out), LENT(c->room), LENT(c->in));
+    case REPORT_LINES: return report_lines(LENT(c->in), c->first, LENT(c->out));
+    default: return call_entry(c);
+    }
+}
+
 /* Whether an entry may write a run at all. A call that isn't taken writes nothing; of a message that isn't, the refusal is written, and the
- * station's room is not. */
+ * station's room is not; nor do the report's calls write that. */
 static bool may_write(uint8_t entry, int run, uint32_t answer) {
     uint8_t number = STATION_NUMBER(answer);
     switch (run) {
-    case 0: return number == STATION_TAKEN && entry != ASK;
+    case 0: return number == STATION_TAKEN && entry != ASK && entry < ENTRIES;
     case 2: return number == STATION_TAKEN || (entry == MESSAGE && number != STATION_NO_ROOM);
     default: return false;
     }
@@ -136,6 +172,7 @@ static uint8_t *place_of(uint8_t *page, size_t size, bool low) {
 static void compare(struct command *command, unsigned places) {
     struct command lent = *command;
     const uint8_t *left[RUNS];
+    uint8_t sort = reference_handed(command);
     for (int run = 0; run < RUNS; run++)
         memcpy(before[run], run_of(command, run)->bytes, run_of(command, run)->size);
     expected = reference_call(command);
@@ -148,7 +185,7 @@ static void compare(struct command *command, unsigned places) {
         left[run] = pages[run].readable + at;
     }
     under_way = command;
-    uint32_t answer = call_entry(&lent);
+    uint32_t answer = call_any(&lent);
     bool same = answer == expected;
     for (int run = 0; run < RUNS; run++)
         same &= memcmp(left[run], run_of(command, run)->bytes, run_of(command, run)->size) == 0;
@@ -160,7 +197,7 @@ static void compare(struct command *command, unsigned places) {
         abort();
     }
     under_way = NULL;
-    tell(command, answer);
+    tell(command, sort, answer);
 }
 
 /* ---- the steps of a program */
@@ -225,12 +262,50 @@ static void settle(unsigned places, bool backward) {
     }
 }
 
-/* Damage that no call does, marks or the next issue among it, and calls in a row; numbered behind the entries. */
+/* One call of the report's on the kept totals and station, with what a byte of bits says: sizes, a total at its end or one before, and for
+ * the text any place as the one that is full. */
+static void report_call(uint8_t entry, unsigned places) {
+    uint8_t in[RUN_MOST] = {0}, out[RUN_MOST], which = take();
+    struct command command = {.entry = entry, .first = REPORT_NONE, .room = {kept, 0}, .in = {in, 0}, .out = {totals, REPORT_TOTALS}};
+    memset(out, 0xA5, sizeof out);
+    if (which & 8) {
+        uint8_t byte = take(), *total = totals + 4 * (byte % REPORT_PLACES);
+        memset(total, 0xFF, 4);
+        total[0] = byte >> 7 ? 0xFE : 0xFF;
+    }
+    switch (entry) {
+    case REPORT_MESSAGE:
+        command.room.size = STATION_SIZE;
+        command.in.size = take_message(in);
+        break;
+    case REPORT_LINES:
+        command.in = (struct lent){totals, REPORT_TOTALS};
+        command.out = (struct lent){out, REPORT_TEXT_MOST};
+        if (which & 16) command.first = take();
+        break;
+    default:
+        break;
+    }
+    if (which & 1) command.room.size = take_size();
+    if (which & 2) command.in.size = take_size_near(command.in.size);
+    if (which & 4) command.out.size = take_size_near(command.out.size);
+    compare(&command, places);
+}
+
+/* Damage that no call does, marks or the next issue among it, calls in a row, and the report's calls; numbered behind the entries. */
 enum { NEW_RECORD = ENTRIES, NEW_SET, NEW_MARKS, NEW_STATION, SETTLE };
 
 static void one_step(void) {
     uint8_t pick = take();
     unsigned places = pick >> 4 & 7;
+    if (pick >> 7) {
+        switch (pick & 15) {
+        case NEW_RECORD: report_call(REPORT_START, places); return;
+        case NEW_SET: report_call(REPORT_MESSAGE, places); return;
+        case NEW_STATION: report_call(REPORT_LINES, places); return;
+        default: break;
+        }
+    }
     switch (pick & 15) {
     case NEW_RECORD:
         put_number(kept, take_image());
@@ -281,6 +356,7 @@ int LLVMFuzzerInitialize(int *count, char ***words) {
 int LLVMFuzzerTestOneInput(const uint8_t *data, size_t size) {
     input = data, input_left = size;
     memset(kept, 0x5A, sizeof kept);
+    memset(totals, 0, sizeof totals);
     one_call(START, size % 2, false);
     while (input_left > 0) {
         one_step();

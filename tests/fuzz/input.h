@@ -6,8 +6,8 @@
 
 #include <string.h>
 
-/* Runs are lent up to lengths that no longer fit a byte. */
-enum { RUN_MOST = 320 };
+/* Runs are lent up to lengths that no longer fit a byte, and that the report's longest text fits. */
+enum { RUN_MOST = 1200 };
 
 /* Where a station's room has its set and the next issue. */
 enum { SET_AT = 8, MARKS_AT = 9, CODES_AT = 10, ISSUE_AT = 50 };
@@ -42,14 +42,21 @@ static size_t take_size(void) {
     return byte < 0xC0 ? byte % 64 : RUN_MOST - 64 + byte % 64;
 }
 
+/* The same round another size: up to 32 bytes less or more, or any. */
+static size_t take_size_near(size_t size) {
+    uint8_t byte = take();
+    size_t least = size < 32 ? 0 : size - 32;
+    return byte < 0xC0 ? least + byte % 65 : (byte % 64u << 8 | take()) % RUN_MOST;
+}
+
 /* Changes some bits of one byte. */
 static void damage(uint8_t *bytes, size_t size) {
     size_t at = take() % size;
     bytes[at] ^= take();
 }
 
-/* The station as the calls before left it, with bytes behind it. */
-static uint8_t kept[RUN_MOST];
+/* The station as the calls before left it, and the report's totals, each with bytes behind it. */
+static uint8_t kept[RUN_MOST], totals[RUN_MOST];
 
 static uint64_t number_of(const uint8_t *eight) {
     uint64_t image = 0;

@@ -2,11 +2,24 @@
 
 #[path = "../host/command.rs"]
 mod command;
+#[path = "../host/handed.rs"]
+mod handed;
+#[path = "../host/places.rs"]
+mod places;
 #[path = "../host/reference.rs"]
 mod reference;
+#[path = "../host/traffic.rs"]
+mod traffic;
+#[path = "../host/week.rs"]
+mod week;
 
-use reference::REASONS;
+use reference::{Station, REASONS};
 use std::slice::{from_raw_parts, from_raw_parts_mut};
+
+/// The report's entries, as harness.c numbers them.
+const REPORT_START: u8 = command::ENTRIES.len() as u8;
+const REPORT_MESSAGE: u8 = REPORT_START + 1;
+const REPORT_LINES: u8 = REPORT_START + 2;
 
 /// As `struct lent` of command.h.
 #[repr(C)]
@@ -51,7 +64,35 @@ impl Command {
 /// # Safety
 /// Each run is valid for its size, and overlaps no other.
 #[no_mangle]
-pub unsafe extern "C" fn reference_call(given: &Command) -> u32 { command::call(&mut given.lent()) }
+pub unsafe extern "C" fn reference_call(given: &Command) -> u32 {
+    let mut lent = given.lent();
+    match given.entry {
+        REPORT_START => places::start(lent.output),
+        REPORT_MESSAGE => places::message(lent.output, lent.room, lent.input),
+        REPORT_LINES => places::lines(lent.input, lent.first, lent.output),
+        _ => command::call(&mut lent),
+    }
+}
+
+/// The sort of handed-in station that a call is made on: its place among all, or one past them.
+///
+/// # Safety
+/// Each run is valid for its size, and overlaps no other.
+#[no_mangle]
+pub unsafe extern "C" fn reference_handed(given: &Command) -> u8 {
+    let sort = given.lent().room.first_chunk().and_then(|room| handed::handed(&Station::from_bytes(room)));
+    handed::ALL.iter().position(|&one| Some(one) == sort).map_or(reference_sorts(), |at| at as u8)
+}
+
+/// How many sorts there are.
+#[no_mangle]
+pub extern "C" fn reference_sorts() -> u8 { handed::ALL.len() as u8 }
+
+/// Whether an answer shows that a call was made on a station of a sort.
+#[no_mangle]
+pub extern "C" fn reference_shows(sort: u8, number: u8) -> bool {
+    handed::ALL.get(usize::from(sort)).is_some_and(|sort| sort.shown_by(number))
+}
 
 /// Where a call's answer says why an instruction isn't allowed on a sound record: the opcode in the upper byte, the number; else 0.
 ///
@@ -69,5 +110,11 @@ pub extern "C" fn reference_refuses(opcode: u8, number: u8) -> bool { REASONS.co
 /// Whether an entry can answer with a number.
 #[no_mangle]
 pub extern "C" fn reference_gives(entry: u8, number: u8) -> bool {
-    command::ENTRIES.get(usize::from(entry)).is_some_and(|(_, numbers)| numbers.contains(&number))
+    let report = |numbers: &[u8]| numbers.contains(&number);
+    match entry {
+        REPORT_START => report(&[0, 17]),
+        REPORT_MESSAGE => report(&[0, 17, 40]),
+        REPORT_LINES => report(&[0, 4, 17]),
+        _ => command::ENTRIES.get(usize::from(entry)).is_some_and(|(_, numbers)| numbers.contains(&number)),
+    }
 }

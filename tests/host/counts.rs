@@ -7,17 +7,14 @@ use std::ops::Range;
 
 #[allow(dead_code)] // only the rows are counted over
 mod floor;
+mod raw;
 #[allow(dead_code)]
 mod reduced;
 mod reference;
 use reference::{drive_under_way, sound, Instruction, Station, BEGIN_IN, BEGIN_OUT, END_DONE, END_NOT_DONE, START};
 
-extern "C" {
-    fn garage_sound(image: u64) -> bool;
-}
-
 /// Whether the station's own code says that an image of the whole floor is sound.
-fn garage_is_sound(image: u64) -> bool { unsafe { garage_sound(image) } }
+fn garage_is_sound(image: u64) -> bool { unsafe { raw::garage_sound(image) } }
 
 /// How many ways to fill some cells make a sound record of one whose cells are free.
 fn fillings(is_sound: fn(u64) -> bool, record: u64, cells: &Range<u32>) -> u64 {

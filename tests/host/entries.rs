@@ -2,15 +2,17 @@
 //! stations as they come by calls and on damaged ones, in rooms long and short: what an entry returns and what it leaves in every room
 //! must be what the reference says, and no call may take more than so many bytes of stack. Each entry must have given every number that
 //! it can give, and no other; those that say why an instruction isn't allowed, every reason of each opcode on sound records. Each call
-//! must have been made on stations that are unfit for one thing only: a drive under way beside a set with the lift.
+//! must have been made on handed-in stations of every sort that handed.rs tells apart.
 
 mod command;
+mod handed;
 mod reference;
 mod traffic;
 
 use command::{Command, ENTRIES};
-use reference::{sound, Instruction, Station, REASONS};
-use std::collections::BTreeSet;
+use handed::{handed, Handed};
+use reference::{Station, REASONS};
+use std::collections::{BTreeMap, BTreeSet};
 use std::io::{BufReader, Read, Write};
 use std::process::{exit, Stdio};
 use traffic::{any_bytes, Numbers};
@@ -31,14 +33,14 @@ struct Given {
     output: Vec<u8>,
 }
 
-/// A command in bytes, what it must return and leave, the reason that this gives for an opcode, and whether its station has both.
+/// A command in bytes, what it must return and leave, the reason that this gives for an opcode, and what its station has.
 struct Trial {
     entry: u8,
     sent: Vec<u8>,
     answer: u32,
     left: Vec<u8>,
     reason: Option<(u8, u8)>,
-    both: Option<bool>,
+    handed: Option<Handed>,
 }
 
 impl Given {
@@ -50,23 +52,14 @@ impl Given {
             sent.push(run.len() as u8);
             sent.extend(run);
         }
-        let both = self.room.first_chunk().and_then(|room| both(&Station::from_bytes(room)));
+        let handed = self.room.first_chunk().and_then(|room| handed(&Station::from_bytes(room)));
         let Given { entry, first, second, issue, image, .. } = self;
         let (room, input, output) = (&mut self.room[..], &self.input[..], &mut self.output[..]);
         let mut command = Command { entry, first, second, issue, image, room, input, output };
         let answer = command::call(&mut command);
         let reason = command::reason_told(&command, answer);
-        Trial { entry, sent, answer, left: [self.room, self.output].concat(), reason, both }
+        Trial { entry, sent, answer, left: [self.room, self.output].concat(), reason, handed }
     }
-}
-
-/// Of a station that has a drive under way and a set with the lift in an area, and is fit but for that: whether an instruction with the
-/// lift still waits for its result.
-fn both(station: &Station) -> Option<bool> {
-    let alone = Station { record: station.record & !(3 << 55), ..*station };
-    if station.fit() || !sound(station.record) || !alone.fit() { return None; }
-    let lift = |five: &[u8]| five.first_chunk().and_then(|&five| Instruction::read(five)).is_some_and(|one| one.takes_lift());
-    Some(station.set.chunks(5).take(station.count.into()).enumerate().any(|(at, five)| lift(five) && station.answered >> at & 1 == 0))
 }
 
 /// A room for a station: mostly longer than it needs, now and then too short.
@@ -137,7 +130,11 @@ fn trials(count: usize) -> Vec<Trial> {
         .map(|_| {
             let message = traffic::framed_message(&mut numbers, &station);
             traffic::after(&mut station, &message);
-            let lent = if numbers.one_in(3) { traffic::damaged_station(&mut numbers, &station) } else { station };
+            let lent = match numbers.below(6) {
+                0 => handed::made(&mut numbers, &station).unwrap_or(station),
+                1 | 2 => traffic::damaged_station(&mut numbers, &station),
+                _ => station,
+            };
             match numbers.below(4) {
                 0 => record_call(&mut numbers, lent.record),
                 1 => message_call(&mut numbers, &lent),
@@ -162,7 +159,7 @@ fn main() {
     let mut answers = BufReader::new(child.stdout.take().expect("a pipe"));
     let mut seen = vec![BTreeSet::new(); ENTRIES.len()];
     let mut reasons = vec![BTreeSet::new(); ENTRIES.len()];
-    let mut both = vec![BTreeSet::new(); ENTRIES.len()];
+    let mut met = vec![BTreeMap::new(); ENTRIES.len()];
     let mut stacks = [0; ENTRIES.len()];
     for (at, trial) in trials.iter().enumerate() {
         let (mut answer, mut stack, mut left) = ([0; 4], [0; 4], vec![0; trial.left.len()]);
@@ -177,7 +174,7 @@ fn main() {
         }
         seen[entry].insert(answer as u8);
         reasons[entry].extend(trial.reason);
-        if answer as u8 == UNFIT { both[entry].extend(trial.both); }
+        if let Some(handed) = trial.handed.filter(|handed| handed.shown_by(answer as u8)) { *met[entry].entry(handed).or_insert(0) += 1; }
         stacks[entry] = stack.max(stacks[entry]);
     }
     sender.join().expect("the sender ends");
@@ -200,11 +197,12 @@ fn main() {
         if !traffic::every_reason(entry, reasons) { exit(1); }
         println!("entries: {entry} gave {} pairs of opcode and reason on sound records, all that can come", reasons.len());
     }
-    for ((entry, _), both) in ENTRIES.iter().zip(&both).filter(|((_, numbers), _)| numbers.contains(&UNFIT)) {
-        if both.len() != 2 {
-            eprintln!("{entry} was not called on stations that have both a drive under way and the lift in a set, answered and not");
+    for ((entry, _), met) in ENTRIES.iter().zip(&met).filter(|((_, numbers), _)| numbers.contains(&UNFIT)) {
+        if !met.keys().eq(&handed::ALL) {
+            eprintln!("{entry} was not called on every sort of handed-in station, but on {met:?}");
             exit(1);
         }
+        println!("entries: {entry} was called on handed-in stations of {} sorts, on each {} times or more", met.len(), met.values().min().unwrap_or(&0));
     }
     println!("entries: at most {limit} bytes of stack, of {stacks:?}");
     println!("entries: {} commands, each answer and room as the reference's; every number that each entry can give came", trials.len());

@@ -245,6 +245,17 @@ impl Instruction {
     }
 }
 
+/// The least of some instructions whose area shares a part with that of an earlier one, if there is one.
+pub fn overlap(set: impl Iterator<Item = Instruction>) -> Option<u8> {
+    let mut earlier = 0;
+    for (instruction, place) in set.zip(0..) {
+        let area = instruction.area();
+        if area & earlier != 0 { return Some(place); }
+        earlier |= area;
+    }
+    None
+}
+
 /// Reads up to eight instructions of five bytes each, or gives the place of the least bad one.
 pub fn read_set(bytes: &[u8]) -> Result<[Instruction; LARGEST_SET], u8> {
     let mut set = [Rotate; LARGEST_SET];

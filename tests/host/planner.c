@@ -51,7 +51,6 @@ static const char *const numbers[] = {
     [STATION_NO_SET] = "no set is outstanding",
     [STATION_NOT_IN_SET] = "not in the set",
     [STATION_ALREADY_ANSWERED] = "already answered",
-    [STATION_NOW_NOT_ALLOWED] = "not allowed on the present record",
     [STATION_UNSOUND] = "image not sound",
     [STATION_UNFIT] = "station unfit",
     [STATION_NO_ROOM] = "room too small",

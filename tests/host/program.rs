@@ -1,9 +1,8 @@
 //! The whole program against the reference: `program PROGRAM MESSAGES SESSIONS`. Two long inputs of so many messages each, given in
 //! pieces of many sizes, and many short ones, damaged and cut: what the program writes must be what the reference answers, and that
 //! what the papers say of their examples.
-//! Every number that can come through the program must have come, and no other: 14 (a station that was reached by calls never
-//! gives it), 16 (the program's station is always fit) and 17 (its room is always enough) can't. So must every reason that each
-//! opcode can be refused for, and all that calls can meet of drives.
+//! Every number that can come through the program must have come, and no other: 16 (the program's station is always fit) and 17 (its
+//! room is always enough) can't. So must every reason that each opcode can be refused for, and all that calls can meet of drives.
 
 mod drives;
 mod pipes;
@@ -42,7 +41,7 @@ fn examples() {
     assert_eq!(Station::start().request(2, &[half, gap].concat()), answer_at(25, 0));
     assert_eq!(Station::start().request(3, &[[1, 1, 2, 0, 1], gap, half].concat()), answer_at(21, 1));
     for number in 0..=255 {
-        let known = !matches!(number, 9 | 18 | 19 | 32..);
+        let known = !matches!(number, 9 | 14 | 18 | 19 | 32..);
         assert_eq!(read_message(&[6, 0, 128, 0, number, 255, 1, 2]).err().map(|refused| refused.answer), (!known).then_some(answer(4)));
     }
 }
@@ -131,6 +130,28 @@ fn driving() {
     }
 }
 
+/// The same of stations handed in: what their sets may hold.
+fn handed_in() {
+    let [turn, down, belt, tilt] = [[5, 0, 0, 0, 0], [4, 2, 0, 0, 0], [1, 1, 2, 0, 1], [3, 0, 3, 1, 0]];
+    let fit = |record, set: &[[u8; 5]], answered| {
+        let mut station = Station { record, count: set.len() as u8, answered, ..Station::start() };
+        station.set[..5 * set.len()].copy_from_slice(&set.concat());
+        // every call tests it, a result that failed, an event and an ask too
+        let mut calls = [station; 5];
+        let told = [calls[0].result(65535, 7, 0), calls[1].event(0), calls[2].ask(), calls[3].image(0), calls[4].request(0, &[])];
+        assert_eq!(told.map(|answer| answer.number == 16), [!station.fit(); 5]);
+        station.fit()
+    };
+    // overlap, whether both wait, one or none; beside each other or not
+    assert!(fit(START, &[belt, tilt], 0) && fit(START, &[belt, tilt], 1));
+    assert!(![0, 1, 2].into_iter().any(|answered| fit(START, &[tilt, tilt], answered)));
+    assert!(![0, 1, 2, 4, 5].into_iter().any(|answered| fit(START, &[tilt, belt, tilt], answered)));
+    assert!(!fit(START, &[down, belt], 0) && !fit(START, &[belt, belt, tilt], 3));
+    // what waits must be allowed, what is answered need not be
+    assert!(!fit(START, &[turn], 0) && !fit(START, &[tilt, turn], 1) && fit(START, &[tilt, turn], 2));
+    assert!(fit(START | 2 << 53, &[down, [1, 2, 2, 0, 1]], 1), "the lift is down, and a belt still waits");
+}
+
 /// What the instructions were refused for that the record didn't allow, each with its opcode: each message has one answer.
 fn reasons_in<'a>(input: &'a [u8], output: &'a [u8]) -> impl Iterator<Item = (u8, u8)> + 'a {
     messages_in(input).zip(messages_in(output)).filter_map(|(message, answer)| {
@@ -147,6 +168,7 @@ fn main() {
     examples();
     issues();
     driving();
+    handed_in();
     let (mut seen, mut reasons, mut met) = (BTreeSet::new(), BTreeSet::new(), BTreeSet::new());
     let long = (0..2).map(|seed| (seed, traffic::input(seed, messages))).inspect(|(_, input)| met.extend(drives::met_in(input)));
     let short = (0..sessions).map(|seed| (seed, traffic::damaged_input(1000 + seed, (seed % 40) as usize)));

@@ -16,7 +16,7 @@ mod messages;
 
 use floor::{LEFT_BELT, LIFT_CELLS, OTHER_ROWS, RIGHT_BELT, ROW_1};
 pub use instructions::{Instruction, REASONS, REASON_NUMBERS};
-use instructions::{named, read_set};
+use instructions::{named, overlap, read_set};
 pub use messages::{answer_message, read_call, read_message, serve, stream, write_message, Message, Refused};
 
 /// What a call answers: a number of the table, the place of the instruction that it names or none, and the issue of a set that was
@@ -177,7 +177,8 @@ impl Station {
     pub fn start() -> Self { Station { record: START, count: 0, answered: 0, set: [0; 40], next_issue: 0 } }
 
     /// Record sound; up to eight instructions, all well-formed; marks on no others, and not on every
-    /// one of a set; unused places zero; not both a drive under way and a set with the lift in an area.
+    /// one of a set; unused places zero; not both a drive under way and a set with the lift in an area;
+    /// no two that overlap, answered or not; and what still waits for its result is allowed on the record.
     pub fn fit(&self) -> bool {
         let Some((held, unused)) = self.set.split_at_checked(5 * usize::from(self.count)) else { return false };
         sound(self.record)
@@ -186,12 +187,19 @@ impl Station {
             && unused.iter().all(|&byte| byte == 0)
             && (self.count == 0 || self.answered != self.all_marks())
             && !(drive_under_way(self.record) && self.holds_lift())
+            && overlap(self.held()).is_none()
+            && self.waiting().all(|instruction| instruction.allowed(self.record))
     }
 
     fn all_marks(&self) -> u8 { (0..8).filter(|&at| at < self.count).fold(0, |marks, at| marks | 1 << at) }
 
-    fn held(&self) -> impl Iterator<Item = Instruction> + '_ {
+    pub fn held(&self) -> impl Iterator<Item = Instruction> + '_ {
         self.set.chunks_exact(5).take(self.count.into()).filter_map(|five| Instruction::read(*five.first_chunk()?))
+    }
+
+    /// Of those held, the ones that have no result yet.
+    fn waiting(&self) -> impl Iterator<Item = Instruction> + '_ {
+        self.held().zip(0..).filter(|&(_, at)| !named(self.answered, at)).map(|(instruction, _)| instruction)
     }
 
     /// Whether the outstanding set has the lift in an area, answered or not.
@@ -251,12 +259,7 @@ impl Station {
             Err(place) => return answer_at(4, place),
         };
         if drive_under_way(self.record) && set.iter().take(count.into()).any(Instruction::takes_lift) { return answer(31); }
-        let mut earlier = 0;
-        for (place, instruction) in (0..count).zip(&set) {
-            let area = instruction.area();
-            if area & earlier != 0 { return answer_at(8, place); }
-            earlier |= area;
-        }
+        if let Some(place) = overlap(set.into_iter().take(count.into())) { return answer_at(8, place); }
         for (place, instruction) in (0..count).zip(&set) {
             if let Err(number) = instruction.judge(self.record) { return answer_at(number, place); }
         }
@@ -286,9 +289,10 @@ impl Station {
         answer(0)
     }
 
-    /// One result for each instruction: success applies its rule to the record as it is now,
-    /// failure only marks; with the last one nothing is held or marked any more. It must be of the
-    /// outstanding set: one of up to 32767 sets before is late, any other was not issued.
+    /// One result for each instruction: success applies its rule to the record as it is now, which allows
+    /// it since the station is fit; failure only marks; with the last one nothing is held or marked any
+    /// more. It must be of the outstanding set: one of up to 32767 sets before is late, any other was not
+    /// issued.
     fn take_result(&mut self, issue: u16, number: u8, outcome: u8) -> Answer {
         if outcome > 1 { return answer(4); }
         if self.count == 0 { return answer(11); }
@@ -299,11 +303,8 @@ impl Station {
         }
         if number >= self.count { return answer(12); }
         if named(self.answered, number.into()) { return answer(13); }
-        if outcome == 1 {
-            let Some(instruction) = self.held().nth(number.into()) else { return answer(14) };
-            if !instruction.allowed(self.record) { return answer(14); }
-            self.record = instruction.next(self.record);
-        }
+        let instruction = self.held().nth(number.into());
+        if let (1, Some(done)) = (outcome, instruction) { self.record = done.next(self.record); }
         self.answered |= 1 << number;
         if self.answered == self.all_marks() { *self = Station { record: self.record, next_issue: self.next_issue, ..Self::start() }; }
         answer(0)

@@ -4,18 +4,21 @@
 //! one before its end and reached it; and, where another can be full before it, not told.
 
 mod pipes;
+mod places;
+mod raw;
 mod reference;
 mod traffic;
 mod week;
 
+use places::{held, place, put, told, written, BAD_FIELD, NO_PLACE, NO_ROOM, PLACES, SIZE, TAKEN};
 use reference::Station;
 use std::collections::BTreeSet;
 use std::process::exit;
 use traffic::{any_bytes, any_message, damaged_station, Numbers};
 use week::{full, happened, totals, Happened, Total, Week};
 
-/// The entries as the archives have them.
-mod raw {
+/// The report's entries as their archive has them.
+mod report {
     extern "C" {
         pub fn report_start(totals: *mut u8, totals_length: usize) -> u32;
         pub fn report_message(
@@ -28,27 +31,16 @@ mod raw {
         ) -> u32;
         pub fn report_lines(totals: *const u8, totals_length: usize, full: u8, out: *mut u8, out_length: usize) -> u32;
     }
-    extern "C" {
-        pub fn station_start(room: *mut u8, room_length: usize) -> u32;
-        pub fn station_message(
-            room: *mut u8,
-            room_length: usize,
-            message: *const u8,
-            message_length: usize,
-            reply: *mut u8,
-            reply_length: usize,
-        ) -> u32;
-    }
 }
 
-fn report_start(room: &mut [u8]) -> u32 { unsafe { raw::report_start(room.as_mut_ptr(), room.len()) } }
+fn report_start(room: &mut [u8]) -> u32 { unsafe { report::report_start(room.as_mut_ptr(), room.len()) } }
 
 fn report_message(room: &mut [u8], station: &[u8], message: &[u8]) -> u32 {
-    unsafe { raw::report_message(room.as_mut_ptr(), room.len(), station.as_ptr(), station.len(), message.as_ptr(), message.len()) }
+    unsafe { report::report_message(room.as_mut_ptr(), room.len(), station.as_ptr(), station.len(), message.as_ptr(), message.len()) }
 }
 
 fn report_lines(room: &[u8], full: u8, out: &mut [u8]) -> u32 {
-    unsafe { raw::report_lines(room.as_ptr(), room.len(), full, out.as_mut_ptr(), out.len()) }
+    unsafe { report::report_lines(room.as_ptr(), room.len(), full, out.as_mut_ptr(), out.len()) }
 }
 
 fn station_start(room: &mut [u8]) -> u32 { unsafe { raw::station_start(room.as_mut_ptr(), room.len()) } }
@@ -57,58 +49,15 @@ fn station_message(room: &mut [u8], message: &[u8], reply: &mut [u8]) -> u32 {
     unsafe { raw::station_message(room.as_mut_ptr(), room.len(), message.as_ptr(), message.len(), reply.as_mut_ptr(), reply.len()) }
 }
 
-/// The places of totals, and their bytes.
-const PLACES: usize = 52;
-const SIZE: usize = 4 * PLACES;
-const NO_PLACE: u8 = 255;
 /// What is always room enough for a report, by the header.
 const TEXT: usize = 1092;
-
-/// What the entries return: taken, a field out of range, too short a room, and a total that is full.
-const TAKEN: u32 = said(0, NO_PLACE);
-const BAD_FIELD: u32 = said(4, NO_PLACE);
-const NO_ROOM: u32 = said(17, NO_PLACE);
-const fn said(number: u8, place: u8) -> u32 { number as u32 + 256 * place as u32 }
-fn told(total: Total) -> u32 { said(40, place(total)) }
-
-/// Where a total stands: in the report's order, with a place for each of the answers 0 to 33.
-fn place(total: Total) -> u8 {
-    match total {
-        Total::Kind(kind) => kind - 1,
-        Total::Answer(number) => 5 + number,
-        Total::Done(op) => 38 + op,
-        Total::Failed(op) => 43 + op,
-        Total::CarsIn => 49,
-        Total::CarsOut => 50,
-        Total::MostCars => 51,
-    }
-}
-
-/// The totals in bytes, over what stands there: places of no total keep theirs.
-fn put(week: &Week, room: &mut [u8]) {
-    for total in totals() {
-        let at = 4 * usize::from(place(total));
-        room[at..at + 4].copy_from_slice(&week.get(total).to_le_bytes());
-    }
-}
-
-/// The totals that bytes hold.
-fn held(room: &[u8]) -> Week {
-    let mut week = Week::default();
-    for total in totals() {
-        let at = 4 * usize::from(place(total));
-        week.set(total, u32::from_le_bytes(room[at..at + 4].try_into().expect("four bytes")));
-    }
-    week
-}
 
 /// Totals that start: all 0 in a room that is long enough, whatever stood there, and the rest of it is kept.
 fn starts(numbers: &mut Numbers) {
     for length in 0..SIZE + 8 {
         let mut room = any_bytes(numbers, length);
         let mut expected = room.clone();
-        let returned = if length < SIZE { NO_ROOM } else { TAKEN };
-        if length >= SIZE { expected[..SIZE].fill(0); }
+        let returned = places::start(&mut expected);
         assert_eq!((report_start(&mut room), room), (returned, expected), "a room of {length}");
     }
 }
@@ -212,7 +161,7 @@ fn text_in(numbers: &mut Numbers, room: &[u8], full: u8, text: &str, length: usi
     let mut returned = NO_ROOM;
     if text.len() <= length {
         expected[..text.len()].copy_from_slice(text.as_bytes());
-        returned = TAKEN + 65536 * text.len() as u32;
+        returned = written(text.len());
     }
     assert_eq!((report_lines(room, full, &mut out), out), (returned, expected), "{text:?} in {length} bytes");
 }

@@ -68,7 +68,7 @@ pub fn refused_five(numbers: &mut Numbers, record: u64) -> Option<[u8; 5]> {
 
 /// Instructions that the record allows and that overlap neither each other nor what is taken, as many as are found in some tries. While a
 /// drive is under way they mostly leave the lift alone.
-fn allowed_set(numbers: &mut Numbers, record: u64, mut taken: u64, wanted: usize) -> Vec<u8> {
+pub fn allowed_set(numbers: &mut Numbers, record: u64, mut taken: u64, wanted: usize) -> Vec<u8> {
     let mut bytes = Vec::new();
     let lift_too = !drive_under_way(record) || numbers.one_in(4);
     for _ in 0..40 * wanted {

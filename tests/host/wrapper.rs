@@ -4,33 +4,10 @@
 //! keeps two threads from one station. These are all the duties that the header names.
 
 mod numbers;
+mod raw;
 
 pub use numbers::Number;
 use std::fmt;
-
-/// The entries as the archive has them.
-mod raw {
-    extern "C" {
-        pub fn station_start(room: *mut u8, room_length: usize) -> u32;
-        pub fn station_request(room: *mut u8, room_length: usize, count: u8, set: *const u8, set_length: usize) -> u32;
-        pub fn station_event(room: *mut u8, room_length: usize, way: u8) -> u32;
-        pub fn station_result(room: *mut u8, room_length: usize, issue: u16, number: u8, done: u8) -> u32;
-        pub fn station_image(room: *mut u8, room_length: usize, image: u64) -> u32;
-        pub fn station_ask(room: *const u8, room_length: usize, image: *mut u8, image_length: usize) -> u32;
-        pub fn station_message(
-            room: *mut u8,
-            room_length: usize,
-            message: *const u8,
-            message_length: usize,
-            reply: *mut u8,
-            reply_length: usize,
-        ) -> u32;
-        pub fn garage_sound(image: u64) -> bool;
-        pub fn garage_cars(image: u64) -> u32;
-        pub fn garage_allowed(image: u64, five: *const u8, five_length: usize) -> u32;
-        pub fn garage_next(image: u64, five: *const u8, five_length: usize, next: *mut u8, next_length: usize) -> u32;
-    }
-}
 
 /// A number of the table; the place of the instruction that it names, or `NOWHERE`; and the issue of the set where a request was taken,
 /// else 0.
@@ -241,6 +218,34 @@ mod tests {
         assert_eq!([coming, leaving, parked | 1 << 55, START | 3 << 55, coming | 1 << 53].map(sound), [true, true, false, false, false]);
     }
 
+    /// Every call looks at the set that a handed-in station holds: whether two of it overlap, answered or not, and whether what still
+    /// waits is allowed on the record.
+    #[test]
+    fn the_set_of_a_handed_in_station() {
+        let holding = |record: u64, set: &[Five], answered| {
+            let mut room = *Station::start().bytes();
+            room[..8].copy_from_slice(&record.to_le_bytes());
+            room[8..10].copy_from_slice(&[set.len() as u8, answered]);
+            room[10..10 + 5 * set.len()].copy_from_slice(&set.concat());
+            Station::from_bytes(room)
+        };
+        let (tilt, belt, turn) = ([3, 0, 3, 1, 0], [1, 1, 2, 0, 1], [5, 0, 0, 0, 0]);
+        let overlapping = [(vec![tilt, tilt], 0), (vec![tilt, tilt], 1), (vec![tilt, belt, tilt], 4), (vec![tilt, belt, tilt], 5)];
+        let barred = [(vec![turn], 0), (vec![tilt, turn], 1)];
+        for (set, answered) in overlapping.into_iter().chain(barred) {
+            let mut s = holding(START, &set, answered);
+            let before = s.clone();
+            // a result that failed and one that comes twice, an event that doesn't touch the set, an ask
+            assert_eq!((s.result(65535, 1, 0), s.result(65535, 0, 1), s.event(1)), (refusal(Unfit), refusal(Unfit), refusal(Unfit)), "{set:?}");
+            assert_eq!((s.ask(), s.image(START), s.request(1, &belt)), (Err(refusal(Unfit)), refusal(Unfit), refusal(Unfit)));
+            assert_eq!((s.message(&[2, 0, 5, 0]).0, s), (refusal(Unfit), before));
+        }
+        // the lift is down: that it may not go down again counts no more, since it is answered
+        let down = START | 2 << 53;
+        let mut s = holding(down, &[LIFT_DOWN, [1, 2, 2, 0, 1]], 1);
+        assert_eq!((s.ask(), s.result(65535, 0, 1), s.result(65535, 1, 1), s.ask()), (Ok(down), refusal(AlreadyAnswered), TAKEN, Ok(down)));
+    }
+
     /// A result that comes when its set has closed and the next has begun is not taken for the next set's.
     #[test]
     fn results_of_another_set_are_told() {
@@ -350,7 +355,7 @@ mod tests {
     #[test]
     #[should_panic(expected = "a number of the table")]
     fn an_answer_outside_the_table_is_none() {
-        Answer::of(9);
+        Answer::of(14);
     }
 
     #[test]

@@ -13,10 +13,11 @@ struct Function {
     header: String,
 }
 
-/// A wrong program: the edit that makes it, the function that it spoils, and how.
+/// A wrong version: the edit that makes it, the function that it spoils or the law that it makes false, and how.
 struct Wrong {
     edit: String,
-    function: String,
+    name: String,
+    law: bool,
     how: String,
 }
 
@@ -38,16 +39,16 @@ fn files(folder: &Path, ending: &str) -> Vec<PathBuf> {
 
 fn name_of(path: &Path) -> String { path.file_stem().unwrap_or_default().to_string_lossy().into_owned() }
 
-/// The functions of a library crate; public ones are those of lib.rt and of its public modules, and a type's wherever they stand. A type's
-/// functions are named by the type, without the module.
+/// The functions of a crate; public ones are those of a library's lib.rt and of its public modules, and a type's wherever they stand. A
+/// type's functions are named by the type, without the module.
 fn functions(krate: &Path) -> Vec<Function> {
-    let root = krate.join("src/lib.rt");
-    let Ok(lib) = fs::read_to_string(&root) else { return Vec::new() };
+    let lib = fs::read_to_string(krate.join("src/lib.rt")).unwrap_or_default();
     let mut found = Vec::new();
     for file in files(&krate.join("src"), ".rt") {
         let module = name_of(&file);
-        let inside = if module == "lib" { String::new() } else { format!("{module}::") };
-        let open = module == "lib" || lib.contains(&format!("pub mod {module};"));
+        let root = ["lib", "main"].contains(&module.as_str());
+        let inside = if root { String::new() } else { format!("{module}::") };
+        let open = root || lib.contains(&format!("pub mod {module};"));
         let (source, mut of) = (read(&file), String::new());
         let mut lines = source.lines();
         while let Some(line) = lines.next() {
@@ -60,10 +61,12 @@ fn functions(krate: &Path) -> Vec<Function> {
             let public = words.starts_with("pub ");
             let Some((_, rest)) = words.strip_prefix("fn ").map(|rest| ("", rest)).or(words.split_once(" fn ")) else { continue };
             if words.starts_with("//") || !line.contains('(') { continue; }
-            let mut header = words.to_string();
-            for line in lines.by_ref().take_while(|line| line.trim() != "{") {
-                header.push('\n');
-                header.push_str(line.trim());
+            let mut header = words.trim_end_matches(" {").to_string();
+            if header == words {
+                for line in lines.by_ref().take_while(|line| line.trim() != "{") {
+                    header.push('\n');
+                    header.push_str(line.trim());
+                }
             }
             let name = rest.split('(').next().unwrap_or_default();
             let within = if of.is_empty() { &inside } else { &of };
@@ -110,14 +113,26 @@ fn open_contract(header: &str, from_c: bool) -> Option<&'static str> {
     words.any(|word| word == answer || word == ".exit").then_some("what it equates the answer with speaks of the answer")
 }
 
-/// The wrong programs of a crate: in an edit, a line `# FUNCTION: how` before a replacement.
-fn wrongs(krate: &Path, known: &[Function]) -> Vec<Wrong> {
+/// The laws of a crate: what the files of `proofs/` declare, but for the functions' own.
+fn laws(krate: &Path) -> Vec<String> {
     let mut found = Vec::new();
+    for file in files(&krate.join("proofs"), ".antt") {
+        let source = read(&file);
+        let declared = source.lines().filter_map(|line| line.trim_start().split_once(" : ").map(|parts| parts.0).or(line.strip_suffix(" :")));
+        found.extend(declared.map(|name| name.trim_start().trim_start_matches("pub ").to_string()));
+    }
+    found
+}
+
+/// The wrong versions of a crate that are named: in an edit, a line `# FUNCTION: how` or `# LAW: how` before a replacement.
+fn wrongs(krate: &Path, known: &[Function]) -> Vec<Wrong> {
+    let (laws, mut found) = (laws(krate), Vec::new());
     for file in files(&krate.join("must-fail"), ".edit") {
         for line in read(&file).lines() {
-            let Some((function, how)) = line.strip_prefix("# ").and_then(|line| line.split_once(": ")) else { continue };
-            if known.iter().any(|one| one.path == function) {
-                found.push(Wrong { edit: name_of(&file), function: function.into(), how: how.into() });
+            let Some((name, how)) = line.strip_prefix("# ").and_then(|line| line.split_once(": ")) else { continue };
+            let law = known.iter().all(|one| one.path != name);
+            if !law || laws.iter().any(|one| one == name) {
+                found.push(Wrong { edit: name_of(&file), name: name.into(), law, how: how.into() });
             }
         }
     }
@@ -169,22 +184,25 @@ fn main() {
             let path = &function.path;
             if let Some(why) = open_contract(&function.header, from_c) { faults.push(format!("{name}::{path}: {why}")); }
             let contract = promise(&function.header).and_then(|text| text.split_once("⌜ ")).map_or("", |(_, says)| says);
-            let shut: Vec<_> = wrongs.iter().filter(|wrong| wrong.function == *path).collect();
+            let shut: Vec<_> = wrongs.iter().filter(|wrong| wrong.name == *path).collect();
             let promises_nothing = from_c && contract.is_empty();
             if shut.len() < 2 && !promises_nothing { faults.push(format!("{name}::{path}: {} wrong programs tried", shut.len())); }
             let shut: Vec<_> = shut.iter().map(|wrong| told(&name, &wrong.how, &wrong.edit)).collect();
             let contract = if promises_nothing { "that it ends".into() } else { format!("`{}`", contract.replace('|', "\\|")) };
             list += &format!("| `{path}` | {contract} | {} |\n", shut.join("; "));
         }
-        let parts = wrongs.iter().filter(|wrong| known.iter().any(|one| one.path == wrong.function && !one.public));
-        let parts: Vec<_> = parts.map(|wrong| format!("`{}`: {}", wrong.function, told(&name, &wrong.how, &wrong.edit))).collect();
-        if !parts.is_empty() { list += &format!("\nOf its parts: {}.\n", parts.join("; ")); }
         let edits = files(&krate.join("must-fail"), ".edit");
+        if public_none && !edits.is_empty() { list += &format!("\n## `{name}`\n"); }
+        let private = |wrong: &&Wrong| known.iter().any(|one| one.path == wrong.name && !one.public);
+        let named = |wrong: &Wrong| format!("`{}`: {}", wrong.name, told(&name, &wrong.how, &wrong.edit));
+        let parts: Vec<_> = wrongs.iter().filter(private).map(named).collect();
+        if !parts.is_empty() { list += &format!("\nOf its parts: {}.\n", parts.join("; ")); }
+        let shut: Vec<_> = wrongs.iter().filter(|wrong| wrong.law).map(named).collect();
+        if !shut.is_empty() { list += &format!("\nBy its laws: {}.\n", shut.join("; ")); }
         let whole: Vec<_> = edits.iter().filter(|file| !wrongs.iter().any(|wrong| wrong.edit == name_of(file))).collect();
         if !whole.is_empty() {
             let how = |file: &Path| read(file).lines().next().unwrap_or_default().trim_start_matches("# ").to_string();
             let shut: Vec<_> = whole.iter().map(|file| told(&name, &how(file), &name_of(file))).collect();
-            if public_none { list += &format!("\n## `{name}`\n"); }
             list += &format!("\nAs a whole: {}.\n", shut.join("; "));
             tried += whole.iter().map(|file| how(file).split("; ").count()).sum::<usize>();
         }
@@ -199,12 +217,18 @@ fn main() {
             if own.is_empty() && errors.first().is_none_or(|(_, words)| misfit(words)) {
                 faults.push(format!("{name}/{edit}: its log's first error shows no false fact"));
             }
+            for line in read(file).lines().filter(|_| !own.is_empty()) {
+                let Some((named, _)) = line.strip_prefix("# ").and_then(|line| line.split_once(": ")) else { continue };
+                if !named.contains(' ') && own.iter().all(|wrong| wrong.name != named) { faults.push(format!("{name}/{edit}: {named} is no function and no law")); }
+            }
             for wrong in own {
-                let proof = format!("proofs/{}/Proof.antt", wrong.function.replace("::", "/"));
-                let by_itself = format!("fn {name}::{}: no proof: ", wrong.function);
+                let proof = format!("proofs/{}/Proof.antt", wrong.name.replace("::", "/"));
+                let by_itself = format!("fn {name}::{}: no proof: ", wrong.name);
                 let searched = log.lines().any(|line| line.starts_with(&by_itself) && line.contains("`search` does not close `returns"));
-                if !searched && !errors.iter().any(|(file, words)| *file == proof && !misfit(words)) {
-                    faults.push(format!("{name}/{edit}: {} is not refused for a false fact of its own", wrong.function));
+                let law = format!("`{}`: ", wrong.name);
+                let refuses = |file: &str, words: &str| if wrong.law { !file.ends_with("/Proof.antt") && words.starts_with(&law) } else { file == proof };
+                if !searched && !errors.iter().any(|(file, words)| refuses(file, words) && !misfit(words)) {
+                    faults.push(format!("{name}/{edit}: {} is not refused for a false fact of its own", wrong.name));
                 }
             }
         }

@@ -11,7 +11,7 @@ use Rattle.bits.proofs.Cases.{both, one-of}
 use Rattle.answers.specs.declared.Reason.{Reason}
 use Rattle.answers.specs.declared.Reason.the-variants.{NothingNamed, Gap, NotAvailable, NotFree, OddCount, HalfMove, SameHeight, NotAtRotation, CellsNotFree}
 use Rattle.answers.specs.declared.Answer.{Answer}
-use Rattle.answers.specs.declared.Answer.the-variants.{Taken, Opened, TooFewBytes, BadLength, UnknownKind, BadField, TooMany, SetOutstanding, EmptySet, Overlap, NotAllowed, EventImpossible, NoSet, NotInSet, AlreadyAnswered, NowNotAllowed, Unsound, Unfit, NoRoom, Late, NotIssued, OutOfTurn}
+use Rattle.answers.specs.declared.Answer.the-variants.{Taken, Opened, TooFewBytes, BadLength, UnknownKind, BadField, TooMany, SetOutstanding, EmptySet, Overlap, NotAllowed, EventImpossible, NoSet, NotInSet, AlreadyAnswered, Unsound, Unfit, NoRoom, Late, NotIssued, OutOfTurn}
 use Rattle.answers.specs.Answers.{reasonNumber, numberOf, OfTable, inTable}
 use Rattle.answers.specs.Promises.{TableExactly}
 
@@ -86,7 +86,6 @@ answer-in EventImpossible = refl
 answer-in NoSet = refl
 answer-in NotInSet = refl
 answer-in AlreadyAnswered = refl
-answer-in NowNotAllowed = refl
 answer-in Unsound = refl
 answer-in Unfit = refl
 answer-in NoRoom = refl
@@ -96,21 +95,25 @@ answer-in OutOfTurn = refl
 
 -- where the numbers of the table lie
 abbrev Ranges : ℕ → Type 0
-Ranges n = (n ≤ 8) ⊎ (((10 ≤ n) × (n ≤ 17)) ⊎ ((20 ≤ n) × (n ≤ 31)))
+Ranges n = (n ≤ 8) ⊎ (((10 ≤ n) × (n ≤ 13)) ⊎ (((15 ≤ n) × (n ≤ 17)) ⊎ ((20 ≤ n) × (n ≤ 31))))
 
 ranges : (n : ℕ) → inTable n ≡ true → Ranges n
-ranges n e = first (one-of (leb n 8) (leb 10 n && leb n 17 || leb 20 n && leb n 31) e)
+ranges n e = first (one-of (leb n 8) (leb 10 n && leb n 13 || (leb 15 n && leb n 17 || leb 20 n && leb n 31)) e)
   where
     inside : (low high : ℕ) → leb low n && leb n high ≡ true → (low ≤ n) × (n ≤ high)
     inside low high e = let (p, q) = both (leb low n) (leb n high) e in (leb-true low n p, leb-true n high q)
 
-    second : (leb 10 n && leb n 17 ≡ true) ⊎ (leb 20 n && leb n 31 ≡ true) → Ranges n
-    second (inl e) = inr (inl (inside 10 17 e))
-    second (inr e) = inr (inr (inside 20 31 e))
+    third : (leb 15 n && leb n 17 ≡ true) ⊎ (leb 20 n && leb n 31 ≡ true) → Ranges n
+    third (inl e) = inr (inr (inl (inside 15 17 e)))
+    third (inr e) = inr (inr (inr (inside 20 31 e)))
 
-    first : (leb n 8 ≡ true) ⊎ (leb 10 n && leb n 17 || leb 20 n && leb n 31 ≡ true) → Ranges n
+    second : (leb 10 n && leb n 13 ≡ true) ⊎ (leb 15 n && leb n 17 || leb 20 n && leb n 31 ≡ true) → Ranges n
+    second (inl e) = inr (inl (inside 10 13 e))
+    second (inr e) = third (one-of (leb 15 n && leb n 17) (leb 20 n && leb n 31) e)
+
+    first : (leb n 8 ≡ true) ⊎ (leb 10 n && leb n 13 || (leb 15 n && leb n 17 || leb 20 n && leb n 31) ≡ true) → Ranges n
     first (inl e) = inl (leb-true n 8 e)
-    first (inr e) = second (one-of (leb 10 n && leb n 17) (leb 20 n && leb n 31) e)
+    first (inr e) = second (one-of (leb 10 n && leb n 13) (leb 15 n && leb n 17 || leb 20 n && leb n 31) e)
 
 -- a number of the table is a byte
 pub number-byte : (a : Answer) → numberOf a < 256
@@ -119,7 +122,8 @@ number-byte a = go (ranges (numberOf a) (answer-in a))
     go : Ranges (numberOf a) → numberOf a < 256
     go (inl h) = omega arith
     go (inr (inl h)) = omega (arith, h .1)
-    go (inr (inr h)) = omega (arith, h .1)
+    go (inr (inr (inl h))) = omega (arith, h .1)
+    go (inr (inr (inr h))) = omega (arith, h .1)
 
 -- a number from an answer's own on is that one, or greater
 from : (a : Answer) (n : ℕ) → (numberOf a < n → OfTable n) → numberOf a ≤ n → OfTable n
@@ -135,9 +139,9 @@ found n (inl h) =
     from Taken n (from TooFewBytes n (from BadLength n (from UnknownKind n (from (BadField 0) n (from TooMany n
     (from SetOutstanding n (from EmptySet n (from (Overlap 0) n (λ l. absurd (omega arith)))))))))) (omega arith)
 found n (inr (inl h)) =
-    from EventImpossible n (from NoSet n (from NotInSet n (from AlreadyAnswered n (from NowNotAllowed n
-    (from Unsound n (from Unfit n (from NoRoom n (λ l. absurd (omega (arith, h .1)))))))))) (h .0)
-found n (inr (inr h)) =
+    from EventImpossible n (from NoSet n (from NotInSet n (from AlreadyAnswered n (λ l. absurd (omega (arith, h .1)))))) (h .0)
+found n (inr (inr (inl h))) = from Unsound n (from Unfit n (from NoRoom n (λ l. absurd (omega (arith, h .1))))) (h .0)
+found n (inr (inr (inr h))) =
     why NothingNamed (why Gap (why NotAvailable (why NotFree (why OddCount (why HalfMove
     (why SameHeight (why NotAtRotation (why CellsNotFree (from Late n (from NotIssued n (from OutOfTurn n (λ l. absurd (omega (arith, h .1)))))))))))))) (h .0)
   where

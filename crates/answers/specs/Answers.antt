@@ -7,7 +7,7 @@ use lib.Dec.{leb}
 use Rattle.answers.specs.declared.Reason.{Reason}
 use Rattle.answers.specs.declared.Reason.the-variants.{NothingNamed, Gap, NotAvailable, NotFree, OddCount, HalfMove, SameHeight, NotAtRotation, CellsNotFree}
 use Rattle.answers.specs.declared.Answer.{Answer}
-use Rattle.answers.specs.declared.Answer.the-variants.{Taken, Opened, TooFewBytes, BadLength, UnknownKind, BadField, TooMany, SetOutstanding, EmptySet, Overlap, NotAllowed, EventImpossible, NoSet, NotInSet, AlreadyAnswered, NowNotAllowed, Unsound, Unfit, NoRoom, Late, NotIssued, OutOfTurn}
+use Rattle.answers.specs.declared.Answer.the-variants.{Taken, Opened, TooFewBytes, BadLength, UnknownKind, BadField, TooMany, SetOutstanding, EmptySet, Overlap, NotAllowed, EventImpossible, NoSet, NotInSet, AlreadyAnswered, Unsound, Unfit, NoRoom, Late, NotIssued, OutOfTurn}
 
 -- the number of a reason
 abbrev pub reasonNumber : Reason → ℕ
@@ -38,7 +38,6 @@ numberOf EventImpossible = 10
 numberOf NoSet = 11
 numberOf NotInSet = 12
 numberOf AlreadyAnswered = 13
-numberOf NowNotAllowed = 14
 numberOf Unsound = 15
 numberOf Unfit = 16
 numberOf NoRoom = 17
@@ -50,9 +49,9 @@ numberOf OutOfTurn = 31
 abbrev pub OfTable : ℕ → Type 0
 OfTable n = (a : Answer) × (n ≡ numberOf a)
 
--- the same as a test: 0 to 8, 10 to 17, 20 to 31
+-- the same as a test: 0 to 8, 10 to 13, 15 to 17, 20 to 31
 abbrev pub inTable : ℕ → Bool
-inTable n = leb n 8 || (leb 10 n && leb n 17 || leb 20 n && leb n 31)
+inTable n = leb n 8 || (leb 10 n && leb n 13 || (leb 15 n && leb n 17 || leb 20 n && leb n 31))
 
 -- the place where an answer names no instruction
 abbrev pub nowhere : ℕ
@@ -75,7 +74,6 @@ placeOf EventImpossible = nowhere
 placeOf NoSet = nowhere
 placeOf NotInSet = nowhere
 placeOf AlreadyAnswered = nowhere
-placeOf NowNotAllowed = nowhere
 placeOf Unsound = nowhere
 placeOf Unfit = nowhere
 placeOf NoRoom = nowhere
@@ -100,7 +98,6 @@ issueOf EventImpossible = 0
 issueOf NoSet = 0
 issueOf NotInSet = 0
 issueOf AlreadyAnswered = 0
-issueOf NowNotAllowed = 0
 issueOf Unsound = 0
 issueOf Unfit = 0
 issueOf NoRoom = 0

@@ -55,8 +55,6 @@ pub enum Answer {
     NotInSet,
     // 13: already answered
     AlreadyAnswered,
-    // 14: success reported, instruction not allowed on the present record
-    NowNotAllowed,
     // 15: image not sound
     Unsound,
     // 16: station state unfit
@@ -78,7 +76,7 @@ pub const NOWHERE: u8 = 255;
 pub fn in_table(n: u8) -> bool
     ensures { λ b. ⌜ b ≡ inTable n ⌝ }
 {
-    (n <= 8) | ((10 <= n) & (n <= 17) | (20 <= n) & (n <= 31))
+    (n <= 8) | ((10 <= n) & (n <= 13) | ((15 <= n) & (n <= 17) | (20 <= n) & (n <= 31)))
 }
 
 impl Reason {
@@ -121,7 +119,6 @@ impl Answer {
             Answer::NoSet => 11,
             Answer::NotInSet => 12,
             Answer::AlreadyAnswered => 13,
-            Answer::NowNotAllowed => 14,
             Answer::Unsound => 15,
             Answer::Unfit => 16,
             Answer::NoRoom => 17,
@@ -151,7 +148,6 @@ impl Answer {
             Answer::NoSet => NOWHERE,
             Answer::NotInSet => NOWHERE,
             Answer::AlreadyAnswered => NOWHERE,
-            Answer::NowNotAllowed => NOWHERE,
             Answer::Unsound => NOWHERE,
             Answer::Unfit => NOWHERE,
             Answer::NoRoom => NOWHERE,

@@ -283,9 +283,7 @@ lent-never room b l p u q =
     let L = lent-uses room (begun room b) l p in
     let s = stationOf last in
     split (short last u)
-    (λ t. let e = skipped last (L .long) u t .1 in (λ z. omega arith, λ z. omega arith))
+    (λ t. let e = skipped last (L .long) u t .1 in λ z. omega arith)
     (λ t.
     let e = ap (λ (k : ℕ). k % 256) (done last (L .long) (L .typed) u q t .returns) in
-    let (no14, no16) = by-meaning (λ (x : Reply). (returnedOf (x .answer) % 256 ≡ 14 → ⊥) × (returnedOf (x .answer) % 256 ≡ 16 → ⊥)) s
-    (λ z. omega arith, λ z. omega arith) (never-so s (L .reached)) u q in
-    (λ z. no14 (sym e ∙ z), λ z. no16 (sym e ∙ z)))
+    λ z. by-meaning (λ (x : Reply). returnedOf (x .answer) % 256 ≡ 16 → ⊥) s (λ z. omega arith) (never-so s (L .reached)) u q (sym e ∙ z))

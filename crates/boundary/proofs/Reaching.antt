@@ -1,5 +1,5 @@
 -- Where calls lead: a station that was reached stays so, an image that is taken being a new beginning; it is fit, and its next answer is
--- neither 14 nor 16. And a station as code holds it stays one. Assumes nothing.
+-- never 16. And a station as code holds it stays one. Assumes nothing.
 use mathlib.Core.Path.{_≡_, refl, sym, ap, subst, _∙_}
 use mathlib.Core.Bool.{true}
 use mathlib.Core.List.{List, [], _∷_, _++_}
@@ -26,7 +26,6 @@ use Rattle.garage_laws.proofs.Calls.{image-has, image-is, following}
 use Rattle.garage_laws.proofs.EachCall.{untouched, fit-says}
 use Rattle.garage_laws.proofs.Steps.{Step, refuses, opens, fails, succeeds, drives, tells, steps, reached}
 use Rattle.garage_laws.proofs.Always.{begins-has, fit-step, small-step, fit-stays, always-laid-out}
-use Rattle.garage_laws.proofs.Demands.{never-fourteen}
 use Rattle.station_c.specs.Entries.{returned, returnedOf}
 use Rattle.station_c.specs.Promises.{Typed}
 use Rattle.station_c.proofs.Promises.{returned-reads-back}
@@ -109,7 +108,7 @@ fit-calls (c ∷ l) s = fit-calls l (left s c) ∙ fit-stays s c
 pub start-fit : (l : List Call) → fit (calls startOf l) ≡ true
 start-fit l = fit-calls l startOf ∙ fit-start
 
--- ---- neither 14 nor 16
+-- ---- never 16
 
 -- what is returned of a call's answer as a message is its number and place
 pub returned-reply : (s : Station) (c : Call) → returned (call s c .answer) ≡ returnedOf (replyTo s c)
@@ -125,11 +124,11 @@ low : (a : Answer) (n : ℕ) → numberOf a ≤ 5 → returned a % 256 ≡ n →
 low a n f e = let b = returned-reads-back a .0 in omega arith
 
 pub never-so : (s : Station) → Reached s → (h : Heard) → Fine h
-    → (returnedOf (reply s h .answer) % 256 ≡ 14 → ⊥) × (returnedOf (reply s h .answer) % 256 ≡ 16 → ⊥)
-never-so s R (makes c) f =
+    → returnedOf (reply s h .answer) % 256 ≡ 16 → ⊥
+never-so s R (makes c) f z =
     let e : returnedOf (replyTo s c) % 256 ≡ said s c = ap (λ (n : ℕ). n % 256) (sym (returned-reply s c)) ∙ returned-reads-back (call s c .answer) .0 in
-    (λ z. never-fourteen s R c (sym e ∙ z), λ z. fit-says s (reached-fit s R) c (sym e ∙ z))
-never-so s R (made.refuses a) f = (λ z. let l = low a 14 f z in omega arith, λ z. let l = low a 16 f z in omega arith)
+    fit-says s (reached-fit s R) c (sym e ∙ z)
+never-so s R (made.refuses a) f z = let l = low a 16 f z in omega arith
 
 -- ---- as code holds it
 

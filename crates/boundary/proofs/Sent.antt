@@ -67,18 +67,15 @@ program-sound pieces =
     let e = sym (pieces-are-calls startOf pieces .1) in
     (subst (λ (t : Station). fit t ≡ true) e (start-fit l), subst (λ (t : Station). Sound (bit (t .bits))) e (always-laid-out startOf atStart l))
 
--- ---- neither 14, nor 16, nor 17
+-- ---- neither 16 nor 17
 
 never-one : (s : Station) → Reached s → (input : List ℕ) → Bytes input → (place issue : ℕ)
-    → (reply s (heard input) .answer ≡ What.Answer 14 place issue → ⊥)
-    × (reply s (heard input) .answer ≡ What.Answer 16 place issue → ⊥)
+    → (reply s (heard input) .answer ≡ What.Answer 16 place issue → ⊥)
     × (reply s (heard input) .answer ≡ What.Answer 17 place issue → ⊥)
-never-one s R input b place issue =
-    let (no14, no16) = never-so s R (heard input) (heard-fine input b) in (
-      λ e. no14 (ap (λ (w : What). returnedOf w % 256) e ∙ omega arith),
-      λ e. no16 (ap (λ (w : What). returnedOf w % 256) e ∙ omega arith),
-      λ e. never-seventeen s input place issue (ap (λ (x : Reply). x .answer) (message-is-call s input) ∙ e),
-    )
+never-one s R input b place issue = (
+  λ e. never-so s R (heard input) (heard-fine input b) (ap (λ (w : What). returnedOf w % 256) e ∙ omega arith),
+  λ e. never-seventeen s input place issue (ap (λ (x : Reply). x .answer) (message-is-call s input) ∙ e),
+)
 
 never-go : (f : Frame) (k : ℕ) (s : Station) (input : List ℕ) → Bytes input
     → ((rest : List ℕ) → Bytes rest → NoSuch (repliesTo s (heardFor k rest))) → NoSuch (repliesTo s (goOn f (λ n. heardFor k (drop n input))))

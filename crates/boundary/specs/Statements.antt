@@ -97,14 +97,14 @@ ProgramSound =
     (pieces : List (List ℕ))
     → (fit (fedStation startOf [] pieces) ≡ true) × Sound (bit (fedStation startOf [] pieces .bits))
 
--- each of some replies is no answer 14, 16 or 17
+-- each of some replies is no answer 16 or 17
 abbrev pub NoSuch : List What → Type 0
 NoSuch [] = Unit {0}
 NoSuch (w ∷ l) =
-    ((place issue : ℕ) → (w ≡ What.Answer 14 place issue → ⊥) × (w ≡ What.Answer 16 place issue → ⊥) × (w ≡ What.Answer 17 place issue → ⊥))
+    ((place issue : ℕ) → (w ≡ What.Answer 16 place issue → ⊥) × (w ≡ What.Answer 17 place issue → ⊥))
     × NoSuch l
 
--- whatever bytes the program is sent, it never answers 14, 16 or 17
+-- whatever bytes the program is sent, it never answers 16 or 17
 abbrev pub ProgramNever : Type 0
 ProgramNever = (input : List ℕ) → Bytes input → NoSuch (repliesTo startOf (heardIn input))
 
@@ -114,8 +114,8 @@ LentSound =
     (room : List ℕ) → Begun room → (l : List Use) → AllPassed l
     → (fit (stationOf (uses room l)) ≡ true) × Sound (bit (stationOf (uses room l) .bits))
 
--- and no entry then returns 14 or 16
+-- and no entry then returns 16
 abbrev pub LentNever : Type 0
 LentNever =
     (room : List ℕ) → Begun room → (l : List Use) → AllPassed l → (u : Use) → AsPassed u
-    → (used (uses room l) u .says % 256 ≡ 14 → ⊥) × (used (uses room l) u .says % 256 ≡ 16 → ⊥)
+    → used (uses room l) u .says % 256 ≡ 16 → ⊥

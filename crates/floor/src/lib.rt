@@ -129,8 +129,11 @@ pub fn under_way(r: u64) -> bool
 fn drives_fit(r: u64) -> bool
     ensures { λ b. ⌜ b ≡ allHold (no (set drives) ∷ drivesAtStreet ∷ drivesIntoEmpty ∷ drivesOutOfFull ∷ []) (bit r) ⌝ }
 {
+    if bits::free(r, DRIVES) {
+        return true;
+    }
     !bits::all(r, DRIVES)
-        & (bits::free(r, DRIVES) | bits::free(r, HEIGHT_LOW) & bits::free(r, HEIGHT_HIGH))
+        & (bits::free(r, HEIGHT_LOW) & bits::free(r, HEIGHT_HIGH))
         & (bits::free(r, DRIVE_IN) | bits::free(r, RAISED_CAR))
         & (bits::free(r, DRIVE_OUT) | bits::all(r, RAISED_CAR))
 }

@@ -16,9 +16,10 @@ use Rattle.bits.proofs.Search.{every-at, every-is}
 use Rattle.bits.proofs.Digits.{bit-ext, bit-past, bit-ones}
 use Rattle.bits.proofs.Operations.{bit-and, bit-low}
 use Rattle.bits.proofs.Least.{every-least}
+use Rattle.floor.specs.Tests.{holds, underWay}
 use Rattle.floor.specs.Sound.{sound}
 use Rattle.garage.specs.declared.Station.{Station}
-use Rattle.garage.specs.Held.{bad, crossesDrive}
+use Rattle.garage.specs.Held.{bad, overlapsEarlier, stranded, liftIn, crossesDrive}
 use Rattle.garage.specs.Station.{closed, inSet, used, fit, noting, answering}
 
 -- n marks are a byte
@@ -94,31 +95,42 @@ one-answer s i r m a e = rw (all-marked (s .count) (bitOr (s .answered) (2 ^ i))
 -- ---- a fit station
 
 -- the code's conjunction, grouped as the definition's
-and-assoc-6 : (a b c d e f : Bool) → a && b && c && d && e && f ≡ a && (b && (c && (d && (e && f))))
-and-assoc-6 false b c d e f = refl
-and-assoc-6 true false c d e f = refl
-and-assoc-6 true true false d e f = refl
-and-assoc-6 true true true d e f = and-assoc d e f
+and-assoc-8 : (a b c d e f g h : Bool) → a && b && c && d && e && f && g && h ≡ a && (b && (c && (d && (e && (f && (g && h))))))
+and-assoc-8 false b c d e f g h = refl
+and-assoc-8 true false c d e f g h = refl
+and-assoc-8 true true false d e f g h = refl
+and-assoc-8 true true true false e f g h = refl
+and-assoc-8 true true true true false f g h = refl
+and-assoc-8 true true true true true f g h = and-assoc f g h
 
 -- none below n is bad
 all-good : (n : ℕ) (p : ℕ → Bool) → eqb (least n p) n ≡ every n (λ i. not (p i))
 all-good n p = rw (← ap (λ (q : ℕ → Bool). least n q) (fun-ext (λ i. Bool·not-not (p i)))) (every-least n (λ i. not (p i)))
 
 -- what the code tests
-pub fit-is : (s : Station) {fine rest crosses : Bool} {worst all : ℕ} → s .count ≤ 8 → s .answered < 2 ^ 8
-    → fine ≡ sound (s .bits) → worst ≡ least (s .count) (bad (s .set)) → all ≡ 2 ^ s .count - 1
-    → rest ≡ every 40 (λ k. used s k || eqb (getD (s .set) k 0) 0) → crosses ≡ crossesDrive (s .bits) (s .set) (s .count)
-    → fine && eqb worst (s .count) && leb (s .answered) all && rest && (eqb (s .count) 0 || not (eqb (bitAnd (s .answered) all) all)) && not crosses ≡ fit s
-unfolding fit
-fit-is s {fine} {rest} {crosses} {worst} {all} h l e₁ e₂ e₃ e₄ e₅ =
-    and-assoc-6 fine (eqb worst (s .count)) (leb (s .answered) all) rest (eqb (s .count) 0 || not (eqb (bitAnd (s .answered) all) all)) (not crosses)
+pub fit-is : (s : Station) {fine rest driving lifts : Bool} {worst over shut all : ℕ} → s .count ≤ 8 → s .answered < 2 ^ 8
+    → fine ≡ sound (s .bits) → all ≡ 2 ^ s .count - 1 → rest ≡ every 40 (λ k. used s k || eqb (getD (s .set) k 0) 0)
+    → driving ≡ holds underWay (bit (s .bits))
+    → (worst ≡ least (s .count) (bad (s .set))) × (over ≡ least (s .count) (overlapsEarlier (s .set)))
+    × (shut ≡ least (s .count) (stranded (s .answered) (s .set) (s .bits))) × (lifts ≡ liftIn (s .set) (s .count))
+    → fine && eqb worst (s .count) && leb (s .answered) all && rest && (eqb (s .count) 0 || not (eqb (bitAnd (s .answered) all) all))
+    && not (driving && lifts) && eqb over (s .count) && eqb shut (s .count) ≡ fit s
+unfolding fit crossesDrive
+fit-is s {fine} {rest} {driving} {lifts} {worst} {over} {shut} {all} h l e₁ e₂ e₃ e₄ found =
+    and-assoc-8 fine (eqb worst (s .count)) (leb (s .answered) all) rest (eqb (s .count) 0 || not (eqb (bitAnd (s .answered) all) all))
+    (not (driving && lifts)) (eqb over (s .count)) (eqb shut (s .count))
     ∙ rw (
       e₁,
       e₂,
-      all-good (s .count) (bad (s .set)),
       e₃,
       e₄,
-      e₅,
+      found .0,
+      found .1,
+      found .2,
+      found .3,
+      all-good (s .count) (bad (s .set)),
+      all-good (s .count) (overlapsEarlier (s .set)),
+      all-good (s .count) (stranded (s .answered) (s .set) (s .bits)),
       le-leb _ _ h,
       only-marked (s .count) (s .answered) l,
       some-not (s .count) (bit (s .answered)),

@@ -24,12 +24,12 @@ use Rattle.rules.specs.Codes.{readCode, readEvent}
 use Rattle.rules.specs.Verdicts.{onCode, maskOf, codeMask, verdictOf, codeVerdict, isAllowed, movedBy, movedOf, codeMoved, drivenOf}
 use Rattle.rules.proofs.CodeLaws.{one-form}
 use Rattle.rules.proofs.Reasons.{allows-is}
-use Rattle.answers.specs.declared.Answer.the-variants.{BadField, EventImpossible, NowNotAllowed, OutOfTurn}
+use Rattle.answers.specs.declared.Answer.the-variants.{BadField, EventImpossible, OutOfTurn}
 use Rattle.answers.specs.Answers.{nowhere}
 use Rattle.garage.specs.declared.Station.{Station}
-use Rattle.garage.specs.Held.{codeAt, isGood, heldArea, heldAllowed, heldNext}
-use Rattle.garage.specs.Station.{holding, answering}
-use Rattle.garage.specs.Calls.{refused, taken, occurred, driven, evented, succeeded}
+use Rattle.garage.specs.Held.{isGood, heldArea, heldAllowed, heldNext, heldAfter}
+use Rattle.garage.specs.Station.{holding}
+use Rattle.garage.specs.Calls.{refused, taken, occurred, driven, evented}
 use Rattle.garage.specs.Private.{heldMask, maskIn}
 
 -- ---- areas and verdicts
@@ -98,11 +98,10 @@ held-moved {A} made unmade x r = read (readCode x)
         ∙ ap (λ (b : Bool). cond {A = A} b (made (image (next i (bit r)))) unmade) (allows-is i r)
     read Bad = refl
 
--- success of instruction i
-pub success : (s : Station) (i : ℕ) {x : Code} {m : Moved} → x ≡ codeAt (s .set) i → m ≡ codeMoved x (s .bits)
-    → onMoved (λ r. taken (answering s i r)) (refused s NowNotAllowed) m ≡ succeeded s i
-unfolding succeeded
-success s i d e = rw (e, d) (held-moved (λ r. taken (answering s i r)) (refused s NowNotAllowed) (codeAt (s .set) i) (s .bits))
+-- the record after it
+pub held-after : (x : Code) (r : ℕ) {m : Moved} → m ≡ codeMoved x r → onMoved (λ n. n) r m ≡ heldAfter x r
+unfolding heldAfter
+held-after x r e = ap (onMoved (λ n. n) r) e ∙ held-moved (λ n. n) r x r
 
 -- one answer where a car event is possible, others where it doesn't come in turn and where it isn't possible
 abbrev pub onDriven : {A : Type 0} → (ℕ → A) → A → A → Driven → A

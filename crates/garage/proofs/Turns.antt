@@ -22,9 +22,9 @@ use Rattle.garage.specs.declared.Outcome.{Outcome}
 use Rattle.garage.specs.declared.Report.{Report}
 use Rattle.garage.specs.declared.Picture.{Picture}
 use Rattle.garage.specs.declared.Turn.{Turn}
-use Rattle.garage.specs.Held.{codeAt, heldAllowed, bad, overlapsEarlier, barred, liftIn, crossesDrive}
+use Rattle.garage.specs.Held.{bad, overlapsEarlier, barred, liftIn, crossesDrive}
 use Rattle.garage.specs.Station.{inSet, marked, present, late, holding, answering}
-use Rattle.garage.specs.Calls.{refused, taken, accepted, cleared, requested, occurred, driven, evented, succeeded, ended, numbered, timely, resulted, imaged}
+use Rattle.garage.specs.Calls.{refused, taken, accepted, cleared, requested, occurred, driven, evented, ended, numbered, timely, resulted, imaged}
 use Rattle.garage.specs.Turns.{turnOf, keptSet, afterTurn}
 use Rattle.garage.proofs.Marks.{in-set}
 
@@ -106,13 +106,9 @@ module _ (s : Station) (fresh : List ℕ) where
         (λ e. rw (e, le-ltb (s .count) (s .count) (omega arith)));
   }
 
-  kept-succeeded : (i : ℕ) → i < s .count → Kept (succeeded s i)
-  unfolding succeeded
-  kept-succeeded i h = either (heldAllowed (codeAt (s .set) i) (bit (s .bits))) (λ a. kept-answering i _ h) (λ a. kept-refused _)
-
   kept-ended : (i done : ℕ) → i < s .count → Kept (ended s i done)
   unfolding ended
-  kept-ended i done h = either (eqb done 0) (λ a. kept-answering i (s .bits) h) (λ a. kept-succeeded i h)
+  kept-ended i done h = kept-answering i _ h
 
   kept-numbered : (i done : ℕ) → Kept (numbered s i done)
   unfolding numbered

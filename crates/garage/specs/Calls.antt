@@ -12,13 +12,13 @@ use Rattle.rules.specs.declared.Event.the-variants.{BeginIn, BeginOut, EndDone,
 use Rattle.rules.specs.Events.{inTurn, possible, after}
 use Rattle.rules.specs.Codes.{most}
 use Rattle.answers.specs.declared.Answer.{Answer}
-use Rattle.answers.specs.declared.Answer.the-variants.{Taken, Opened, BadField, TooMany, SetOutstanding, EmptySet, Overlap, EventImpossible, NoSet, NotInSet, AlreadyAnswered, NowNotAllowed, Unsound, Unfit, Late, NotIssued, OutOfTurn}
+use Rattle.answers.specs.declared.Answer.the-variants.{Taken, Opened, BadField, TooMany, SetOutstanding, EmptySet, Overlap, EventImpossible, NoSet, NotInSet, AlreadyAnswered, Unsound, Unfit, Late, NotIssued, OutOfTurn}
 use Rattle.answers.specs.Answers.{nowhere}
 use Rattle.garage.specs.declared.Station.{Station}
 use Rattle.garage.specs.declared.Outcome.{Outcome}
 use Rattle.garage.specs.declared.Report.{Report}
 use Rattle.garage.specs.declared.Picture.{Picture}
-use Rattle.garage.specs.Held.{codeAt, heldAllowed, heldNext, bad, overlapsEarlier, barred, whyNot, liftIn, crossesDrive}
+use Rattle.garage.specs.Held.{codeAt, heldAfter, bad, overlapsEarlier, barred, whyNot, liftIn, crossesDrive}
 use Rattle.garage.specs.Station.{inSet, marked, present, late, fit, holding, opened, answering}
 
 -- the station as it was, and why; the next station, taken
@@ -88,15 +88,10 @@ evented s e =
 unfoldable pub event : Station → ℕ → Outcome
 event s e = onFit s (evented s e)
 
--- instruction i is done: its rule is applied to the record at that moment
-unfoldable pub succeeded : Station → ℕ → Outcome
-succeeded s i =
-    let x = codeAt (s .set) i in
-    cond (heldAllowed x (bit (s .bits))) (taken (answering s i (image (heldNext x (bit (s .bits)))))) (refused s NowNotAllowed)
-
--- the end of a result: instruction i failed, which changes nothing but the mark, or is done
+-- the end of a result: instruction i failed, which changes nothing but the mark, or is done, and its rule is applied to the record at that
+-- moment
 unfoldable pub ended : Station → ℕ → ℕ → Outcome
-ended s i done = cond (eqb done 0) (taken (answering s i (s .bits))) (succeeded s i)
+ended s i done = taken (answering s i (cond (eqb done 0) (s .bits) (heldAfter (codeAt (s .set) i) (s .bits))))
 
 -- a result by its instruction's number: it is in the set, and not answered yet
 unfoldable pub numbered : Station → ℕ → ℕ → Outcome

@@ -1,10 +1,10 @@
 -- Instructions as a station holds them: the request's own five bytes each. Bytes that say no instruction have an empty area, are
 -- never allowed and change nothing. Assumes nothing.
-use mathlib.Core.Bool.{Bool, true, false, not, _&&_}
+use mathlib.Core.Bool.{Bool, true, false, not, cond, _&&_}
 use mathlib.Core.List.{List, []}
 use Prim.Native.Nat.{ℕ, _*_}
 use lib.ListN.{drop}
-use Rattle.bits.specs.Bits.{Bits, bit}
+use Rattle.bits.specs.Bits.{Bits, bit, image}
 use Rattle.bits.specs.Places.{share}
 use Rattle.bits.specs.Search.{some}
 use Rattle.floor.specs.Floor.{lift}
@@ -32,6 +32,10 @@ heldAllowed x f = onCode (λ i. allowed i f) false (readCode x)
 unfoldable pub heldNext : Code → Bits → Bits
 heldNext x f = onCode (λ i. next i f) f (readCode x)
 
+-- the record after it, where the one before allows it; else that one
+unfoldable pub heldAfter : Code → ℕ → ℕ
+heldAfter x r = cond (heldAllowed x (bit r)) (image (heldNext x (bit r))) r
+
 -- instruction i of a set is bad; overlaps an earlier one; is not allowed on the record with this image
 abbrev pub bad : List ℕ → ℕ → Bool
 bad set i = not (isGood (codeAt set i))
@@ -41,6 +45,10 @@ overlapsEarlier set i = some i (λ j. share (heldArea (codeAt set i)) (heldArea 
 
 abbrev pub barred : List ℕ → ℕ → ℕ → Bool
 barred set r i = not (heldAllowed (codeAt set i) (bit r))
+
+-- instruction i has none of these marks, and is not allowed on the record with this image
+abbrev pub stranded : ℕ → List ℕ → ℕ → ℕ → Bool
+stranded marks set r i = not (bit marks i) && barred set r i
 
 -- what is answered for instruction i on the record with this image: why it is not allowed
 abbrev pub whyNot : List ℕ → ℕ → ℕ → Answer

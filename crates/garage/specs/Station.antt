@@ -12,7 +12,7 @@ use Rattle.bits.specs.Search.{some, every}
 use Rattle.floor.specs.Sound.{sound}
 use Rattle.rules.specs.Codes.{most}
 use Rattle.garage.specs.declared.Station.{Station}
-use Rattle.garage.specs.Held.{bad, crossesDrive}
+use Rattle.garage.specs.Held.{bad, overlapsEarlier, stranded, crossesDrive}
 
 -- no set is outstanding, no instruction and no mark: the record, and the issue that the next set will have
 abbrev pub closed : ℕ → ℕ → Station
@@ -51,7 +51,7 @@ abbrev pub used : Station → ℕ → Bool
 used s k = ltb k (5 * s .count)
 
 -- the record is sound; 0 to 8 instructions, well formed; marks only those; unused places zero; a non-empty set has one unanswered; while a
--- drive is under way, none of them has the lift in its area
+-- drive is under way, none of them has the lift in its area; no two of them overlap, answered or not; each unanswered one is allowed
 unfoldable pub fit : Station → Bool
 fit s =
     sound (s .bits)
@@ -60,7 +60,9 @@ fit s =
     && (every 8 (λ i. not (marked s i) || ltb i (s .count))
     && (every 40 (λ k. used s k || eqb (getD (s .set) k 0) 0)
     && ((eqb (s .count) 0 || some (s .count) (λ i. not (marked s i)))
-    && not (crossesDrive (s .bits) (s .set) (s .count)))))))
+    && (not (crossesDrive (s .bits) (s .set) (s .count))
+    && (every (s .count) (λ i. not (overlapsEarlier (s .set) i))
+    && every (s .count) (λ i. not (stranded (s .answered) (s .set) (s .bits) i)))))))))
 
 -- the same set with these marks, the record now r
 abbrev pub noting : Station → ℕ → ℕ → Station

@@ -2,22 +2,13 @@
 ghost use mathlib.Core.Path.{_≡_};
 ghost use Rattle.bits.specs.Bits.{bit};
 ghost use Rattle.rules.specs.Verdicts.{isAllowed};
-ghost use Rattle.garage.specs.Held.{isGood, heldAllowed};
+ghost use Rattle.garage.specs.Held.{isGood, heldAllowed, heldAfter};
 ghost use Rattle.garage.specs.Private.{heldMask, maskIn};
 use rules::Area;
 use rules::Code;
+use rules::Moved;
 use rules::Reading;
 use rules::Verdict;
-
-// Whether the bytes say an instruction.
-pub fn good(x: Code) -> bool
-    ensures { λ b. ⌜ b ≡ isGood x ⌝ }
-{
-    match rules::read(x) {
-        Reading::Good(_) => true,
-        Reading::Bad => false,
-    }
-}
 
 // The mask that an answer gives, or none.
 fn mask_in(a: Area) -> u64
@@ -68,5 +59,16 @@ pub fn judge(x: Code, r: u64) -> Judged
             area: 0,
             allowed: false,
         },
+    }
+}
+
+// The record after it, where it is allowed; else the record as it was.
+pub fn after(x: Code, r: u64) -> u64
+    ensures { λ n. ⌜ n ≡ heldAfter x r ⌝ }
+{
+    match engine::code_moved(x, r) {
+        Moved::Record(n) => n,
+        Moved::NotAllowed(_) => r,
+        Moved::IllFormed => r,
     }
 }

@@ -116,12 +116,15 @@ impl Station {
             return false;
         }
         let all = all_marks(n);
+        let found = sets::search(set, n, marks, self.bits);
         floor::sound(self.bits)
-            & (sets::least_bad(set, n) == n)
+            & (found.bad == n)
             & (marks <= all)
             & sets::rest_zero(set, n)
             & ((n == 0) | (marks & all != all))
-            & !sets::crosses_drive(self.bits, set, n)
+            & !(floor::under_way(self.bits) & found.lift)
+            & (found.overlap == n)
+            & (found.barred == n)
     }
 
     // The station as it was, and the answer.

@@ -59,7 +59,7 @@ impl Station {
         if count == 0 {
             return self.unmoved(Answer::EmptySet);
         }
-        let found = sets::search(set, count, self.bits);
+        let found = sets::search(set, count, 0, self.bits);
         if found.bad < count {
             return self.unmoved(Answer::BadField(found.bad));
         }

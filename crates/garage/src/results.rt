@@ -2,18 +2,18 @@
 ghost use mathlib.Core.Path.{_≡_};
 ghost use Prim.Native.Nat.{_≤_, _<_};
 ghost use Rattle.garage.specs.Station.{inSet, behind, answering};
-ghost use Rattle.garage.specs.Calls.{taken, succeeded, ended, numbered, timely, resulted, result};
+ghost use Rattle.garage.specs.Calls.{taken, ended, numbered, timely, resulted, result};
 ghost use Rattle.garage.specs.Turns.{turnOf};
 use super::Outcome;
 use super::Report;
 use super::Station;
 use super::Turn;
 use super::all_marks;
+use super::held;
 use super::refused;
 use super::sets;
 use answers::Answer;
 use answers::NOWHERE;
-use rules::Moved;
 use std::num::wrapping_sub_u16;
 
 impl Station {
@@ -42,19 +42,6 @@ impl Station {
         }
     }
 
-    // Success of instruction i, which has no result yet.
-    fn succeeded(self, i: u8) -> Turn
-        requires { ⌜ (self .count ≤ 8) × (i < self .count) ⌝ }
-        ensures { λ t. ⌜ t ≡ turnOf (succeeded self i) ⌝ }
-    {
-        let set = self.set;
-        match engine::code_moved(sets::code_at(&set, i), self.bits) {
-            Moved::Record(r) => self.answering(i, r),
-            Moved::NotAllowed(_) => self.unmoved(Answer::NowNotAllowed),
-            Moved::IllFormed => self.unmoved(Answer::NowNotAllowed),
-        }
-    }
-
     // The end of a result: 0 failed, else done.
     fn ended(self, i: u8, done: u8) -> Turn
         requires { ⌜ (self .count ≤ 8) × (i < self .count) ⌝ }
@@ -63,7 +50,8 @@ impl Station {
         if done == 0 {
             return self.answering(i, self.bits);
         }
-        self.succeeded(i)
+        let set = self.set;
+        self.answering(i, held::after(sets::code_at(&set, i), self.bits))
     }
 
     // Whether the set has an instruction of this number.

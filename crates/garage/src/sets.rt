@@ -6,7 +6,7 @@ ghost use Prim.Native.Nat.{_*_, _-_};
 ghost use lib.Dec.{eqb, ltb};
 ghost use lib.ListN.{length, getD, take, replicate};
 ghost use Rattle.bits.specs.Search.{every, least};
-ghost use Rattle.garage.specs.Held.{codeAt, bad, overlapsEarlier, barred, liftIn, crossesDrive};
+ghost use Rattle.garage.specs.Held.{codeAt, bad, overlapsEarlier, stranded, liftIn};
 ghost use Rattle.garage.specs.Turns.{keptSet};
 ghost use Rattle.garage.specs.Private.{areas, firstOf};
 use crate::held;
@@ -37,21 +37,6 @@ pub fn code_at(set: &[u8; 40], i: u8) -> Code
     }
 }
 
-// The least instruction of the first n that is bad, or n.
-pub fn least_bad(set: [u8; 40], n: u8) -> u8
-    ensures { λ p. ⌜ p ≡ least n (bad set) ⌝ }
-{
-    let mut i = 0;
-    while i < n {
-        let x = code_at(&set, i);
-        if !held::good(x) {
-            return i;
-        }
-        i += 1;
-    }
-    n
-}
-
 // What a search upward has found, with i at fault or not: the least one, or n.
 fn first(found: u8, n: u8, here: bool, i: u8) -> u8
     ensures { λ p. ⌜ p ≡ firstOf found n here i ⌝ }
@@ -62,8 +47,8 @@ fn first(found: u8, n: u8, here: bool, i: u8) -> u8
     found
 }
 
-// Of the first n instructions the least that is bad, the least that overlaps an earlier one and the least that is not allowed on the
-// record r, or n; and whether one has the lift in its area. Each is read once.
+// Of the first n instructions the least that is bad, the least that overlaps an earlier one and, of those without a mark, the least that is
+// not allowed on the record r, or n; and whether one has the lift in its area. Each is read once.
 pub struct Faults {
     pub bad: u8,
     pub overlap: u8,
@@ -71,20 +56,22 @@ pub struct Faults {
     pub lift: bool,
 }
 
-pub fn search(set: [u8; 40], n: u8, r: u64) -> Faults
-    ensures { λ f. ⌜ (f .bad ≡ least n (bad set)) × (f .overlap ≡ least n (overlapsEarlier set)) × (f .barred ≡ least n (barred set r)) × (f .lift ≡ liftIn set n) ⌝ }
+pub fn search(set: [u8; 40], n: u8, marks: u8, r: u64) -> Faults
+    ensures { λ f. ⌜ (f .bad ≡ least n (bad set)) × (f .overlap ≡ least n (overlapsEarlier set)) × (f .barred ≡ least n (stranded marks set r)) × (f .lift ≡ liftIn set n) ⌝ }
 {
     let mut seen: u64 = 0;
     let mut bad = n;
     let mut overlap = n;
     let mut barred = n;
+    let mut rest = marks;
     let mut i = 0;
     while i < n {
         let x = held::judge(code_at(&set, i), r);
         bad = first(bad, n, !x.good, i);
         overlap = first(overlap, n, x.area & seen != 0, i);
-        barred = first(barred, n, !x.allowed, i);
+        barred = first(barred, n, (rest % 2 != 1) & !x.allowed, i);
         seen = seen | x.area;
+        rest = rest / 2;
         i += 1;
     }
     Faults {
@@ -115,16 +102,6 @@ pub fn lift_in(set: [u8; 40], n: u8) -> bool
     ensures { λ b. ⌜ b ≡ liftIn set n ⌝ }
 {
     areas(set, n) & LIFT != 0
-}
-
-// A drive is under way on the record r, and one of the first n instructions has the lift in its area.
-pub fn crosses_drive(r: u64, set: [u8; 40], n: u8) -> bool
-    ensures { λ b. ⌜ b ≡ crossesDrive r set n ⌝ }
-{
-    if !floor::under_way(r) {
-        return false;
-    }
-    lift_in(set, n)
 }
 
 // The places past the first n instructions are zero.

@@ -9,7 +9,7 @@ use native.Mathlib.Omega.{arith}
 use lib.Dec.{eqb}
 use borrow.Author.Tests.{ne-eqb, eqb-true, eqb-false}
 use Rattle.bits.specs.Bits.{bit, image, digit}
-use Rattle.bits.specs.Search.{some}
+use Rattle.bits.specs.Search.{some, every}
 use Rattle.bits.proofs.Cases.{split, clash}
 use Rattle.bits.proofs.Digits.{packed-lt}
 use Rattle.floor.specs.Floor.{driveIn, driveOut}
@@ -28,13 +28,14 @@ use Rattle.garage.specs.Held.{codeAt, heldNext, liftIn, crossesDrive}
 use Rattle.garage.specs.Station.{fit, holding}
 use Rattle.garage_laws.specs.Runs as run
 use Rattle.garage_laws.specs.Runs.{Call, said, left, calls, Begins, atStart, byImage, NoImages, driveAt, drove, driven}
-use Rattle.garage_laws.specs.Demands.{AlwaysLaidOut, CarsCounted, FitStays, NeverUnfit}
+use Rattle.garage_laws.specs.Demands.{AlwaysLaidOut, CarsCounted, FitStays, NeverUnfit, StillAllowed}
 use Rattle.garage_laws.proofs.Reach.{under-way-kept, crosses-none, clear-is}
 use Rattle.garage_laws.proofs.Instance.{possibleAs, afterAs, next-sound, after-sound, next-cars}
-use Rattle.garage_laws.proofs.Fits.{fit-has, fit-start, fit-holding, fit-opened, fit-answering}
+use Rattle.garage_laws.proofs.Fits.{Ready, fit-has, fit-start, fit-holding, fit-opened, fit-answering, waits-allowed}
 use Rattle.garage_laws.proofs.Calls.{following, answering-bits, event-is, image-has, image-is}
 use Rattle.garage_laws.proofs.EachCall.{untouched, unfit-is, fit-says}
 use Rattle.garage_laws.proofs.Steps.{Step, refuses, opens, fails, succeeds, drives, tells, steps, parts}
+use Rattle.garage_laws.proofs.Link.{ready-step}
 
 -- ---- fit
 
@@ -48,18 +49,27 @@ none-clear : (s : Station) (r : ℕ) → s .count ≡ 0 → crossesDrive r (s .s
 unfolding liftIn some
 none-clear s r e = clear-is r (s .set) (s .count) (inr (rw e))
 
-pub fit-step : (s t : Station) (c : Call) → Step s c t → fit s ≡ true → fit t ≡ true
-fit-step s t c (refuses n) f = f
-fit-step s t c (opens {n} {set} A) f = fit-opened s n set A
-fit-step s t c (fails {i} w) f = let F = fit-has s f in fit-answering s i (s .bits) f (w .1) (F .sound) (F .clear)
-fit-step s t c (succeeds {i} p w a) f =
+-- a step, and what then waits, allowed
+fit-ready : (s t : Station) (c : Call) → Step s c t → Ready t → fit s ≡ true → fit t ≡ true
+fit-ready s t c (refuses n) q f = f
+fit-ready s t c (opens {n} {set} A) q f = fit-opened s n set A
+fit-ready s t c (fails {i} w) q f = let F = fit-has s f in fit-answering s i (s .bits) f (w .1) (F .sound) (F .clear) q
+fit-ready s t c (succeeds {i} p w a) q f =
     let F = fit-has s f in
     let x = codeAt (s .set) i in
     fit-answering s i (following s i) f (w .1) (next-sound x (s .bits) (F .sound) a (crosses-none (s .bits) (s .set) (s .count) (F .clear) i (w .1)))
-    (still-clear s x (F .clear))
-fit-step s t c (drives {e} d) f =
-    fit-holding s _ f (after-sound (readEvent e) (s .bits) (fit-has s f .sound) (d .2)) (clear-is _ (s .set) (s .count) (inr (d .1)))
-fit-step s t c tells f = f
+    (still-clear s x (F .clear)) q
+fit-ready s t c (drives {e} d) q f =
+    fit-holding s _ f (after-sound (readEvent e) (s .bits) (fit-has s f .sound) (d .2)) (clear-is _ (s .set) (s .count) (inr (d .1))) q
+fit-ready s t c tells q f = f
+
+pub fit-step : (s t : Station) (c : Call) → Step s c t → fit s ≡ true → fit t ≡ true
+fit-step s t c p f = fit-ready s t c p (ready-step s t c p f) f
+
+-- no set, nothing that waits
+none-ready : (s : Station) (r : ℕ) → s .count ≡ 0 → Ready (holding s r)
+unfolding every
+none-ready s r e = rw e
 
 -- where it begins, it holds no set, and a record of 64 bits
 pub begins-has : (s : Station) → Begins s → (fit s ≡ true) × (s .count ≡ 0) × (s .bits < 2 ^ 64)
@@ -67,7 +77,7 @@ begins-has s atStart = (fit-start, refl, (omega arith))
 begins-has s (byImage before r h e) =
     let w = image-has before r e in
     let l : left before (run.image r) ≡ holding before r = ap (λ o. o .station) (image-is before r w) in
-    rw l (fit-holding before r (w .0) (w .2) (none-clear before r (w .1)), w .1, h)
+    rw l (fit-holding before r (w .0) (w .2) (none-clear before r (w .1)) (none-ready before r (w .1)), w .1, h)
 
 -- every call keeps a station fit, an image too
 fit-kept : (s : Station) (c : Call) → fit s ≡ true → fit (left s c) ≡ true
@@ -77,7 +87,7 @@ fit-kept s (run.event e) f = fit-step s _ _ (steps s (run.event e) tt) f
 fit-kept s run.ask f = fit-step s _ _ (steps s run.ask tt) f
 fit-kept s (run.pictures p) f = split (eqb (said s (run.pictures p)) 0)
     (λ t. let w = image-has s (p .bits) (eqb-true _ 0 t) in
-    rw (ap (λ o. o .station) (image-is s (p .bits) w)) (fit-holding s (p .bits) f (w .2) (none-clear s (p .bits) (w .1))))
+    rw (ap (λ o. o .station) (image-is s (p .bits) w)) (fit-holding s (p .bits) f (w .2) (none-clear s (p .bits) (w .1)) (none-ready s (p .bits) (w .1))))
     (λ t. rw (untouched s (run.pictures p) (eqb-false _ 0 t)) f)
 
 pub fit-always : (l : List Call) (s : Station) → fit s ≡ true → fit (calls s l) ≡ true
@@ -91,6 +101,9 @@ fit-stays s c = split (fit s)
 
 pub never-unfit : NeverUnfit
 never-unfit s b l = fit-says (calls s l) (fit-always l s (begins-has s b .0))
+
+pub still-allowed : StillAllowed
+still-allowed s b l i h m = waits-allowed (calls s l) i (fit-always l s (begins-has s b .0), h, m)
 
 pub always-laid-out : AlwaysLaidOut
 always-laid-out s b l = sound-exactly _ .0 (fit-has _ (fit-always l s (begins-has s b .0)) .sound)

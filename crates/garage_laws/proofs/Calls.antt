@@ -21,12 +21,12 @@ use Rattle.rules.specs.declared.EventReading.the-variants.{Good as Told, Bad as
 use Rattle.rules.specs.Events.{turn, beginConditions, inTurn, possible, after}
 use Rattle.rules.specs.Codes.{readEvent, most}
 use Rattle.answers.specs.declared.Answer.{Answer}
-use Rattle.answers.specs.declared.Answer.the-variants.{BadField, TooMany, SetOutstanding, EmptySet, Overlap, EventImpossible, NoSet, NotInSet, AlreadyAnswered, NowNotAllowed, Unsound, Unfit, Late, NotIssued, OutOfTurn}
+use Rattle.answers.specs.declared.Answer.the-variants.{BadField, TooMany, SetOutstanding, EmptySet, Overlap, EventImpossible, NoSet, NotInSet, AlreadyAnswered, Unsound, Unfit, Late, NotIssued, OutOfTurn}
 use Rattle.answers.specs.Answers.{numberOf, nowhere}
 use Rattle.garage.specs.declared.Station.{Station}
 use Rattle.garage.specs.declared.Outcome.{Outcome}
 use Rattle.garage.specs.declared.Report.{Report}
-use Rattle.garage.specs.Held.{codeAt, heldAllowed, heldNext, bad, overlapsEarlier, barred, whyNot, liftIn, crossesDrive}
+use Rattle.garage.specs.Held.{codeAt, heldNext, heldAfter, bad, overlapsEarlier, barred, whyNot, liftIn, crossesDrive}
 use Rattle.garage.specs.Station.{inSet, marked, present, behind, late, fit, holding, answering}
 use Rattle.garage.specs.Calls as station
 use Rattle.garage.specs.Calls.{refused, taken, onFit, opening}
@@ -37,7 +37,7 @@ use Rattle.garage_laws.specs.Demands.{Acceptable, Orderly, Waiting}
 use Rattle.garage_laws.proofs.Instance.{onEvent, possibleAs, afterAs, heldAs, replyAs}
 use Rattle.garage_laws.proofs.Reach.{clear-has, clear-is}
 use Rattle.garage_laws.proofs.Reasons.{why-number, least-fault}
-use Rattle.garage_laws.proofs.Fits.{fit-has, after-result}
+use Rattle.garage_laws.proofs.Fits.{fit-has, after-result, waits-allowed}
 
 -- an outcome that is answered 0
 abbrev pub Zero : Outcome → Type 0
@@ -70,15 +70,15 @@ faultless n fault e i h = let l = ltb-false (least n fault) n e in least-below n
 pub no-fault : (n : ℕ) (fault : ℕ → Bool) → ((i : ℕ) → i < n → fault i ≡ false) → ltb (least n fault) n ≡ false
 no-fault n fault none = let e = least-none n fault none in le-ltb (least n fault) n (omega arith)
 
--- a refusal other than 14, 16 and 17
+-- a refusal other than 16 and 17
 abbrev pub Other : Answer → Type 0
-Other a = (numberOf a ≡ 0 → ⊥) × (numberOf a ≡ 14 → ⊥) × (numberOf a ≡ 16 → ⊥) × (numberOf a ≡ 17 → ⊥)
+Other a = (numberOf a ≡ 0 → ⊥) × (numberOf a ≡ 16 → ⊥) × (numberOf a ≡ 17 → ⊥)
 
 -- so is why an instruction that is found is not allowed
 pub barred-other : (s : Station) (n : ℕ) (set : List ℕ) → ltb (least n (barred set (s .bits))) n ≡ true → Other (whyNot set (s .bits) (least n (barred set (s .bits))))
 barred-other s n set t = go (why-number set (s .bits) (least n (barred set (s .bits))) (least-fault n (barred set (s .bits)) t .passes))
   where
-    go : {k : ℕ} → (k ≡ 4) ⊎ ((20 ≤ k) × (k ≤ 28)) → (k ≡ 0 → ⊥) × (k ≡ 14 → ⊥) × (k ≡ 16 → ⊥) × (k ≡ 17 → ⊥)
+    go : {k : ℕ} → (k ≡ 4) ⊎ ((20 ≤ k) × (k ≤ 28)) → (k ≡ 0 → ⊥) × (k ≡ 16 → ⊥) × (k ≡ 17 → ⊥)
     go (inl h) = omega arith
     go (inr h) = let l = h .0 in omega arith
 
@@ -171,12 +171,12 @@ module _ (s : Station) (n : ℕ) (set : List ℕ) where
 -- ---- a result, part by part
 
 module _ (s : Station) (i : ℕ) where
-  numbered-has : (done : ℕ) → Zero (station.numbered s i done) → (i < s .count) × (marked s i ≡ false) × Zero (station.ended s i done)
+  numbered-has : (done : ℕ) → Zero (station.numbered s i done) → (i < s .count) × (marked s i ≡ false)
   unfolding station.numbered
   numbered-has done e =
       let (a, e₁) = passed (not (inSet s i)) s NotInSet _ (λ z. omega arith) e in
       let (b, e₂) = passed (marked s i) s AlreadyAnswered _ (λ z. omega arith) e₁ in
-      (in-set s i (not-false _ a) .1, b, e₂)
+      (in-set s i (not-false _ a) .1, b)
 
   -- a number of a fit station's set
   fit-set : Waiting s i → inSet s i ≡ true
@@ -190,11 +190,10 @@ module _ (s : Station) (i : ℕ) where
   abbrev pub following : ℕ
   following = image (heldNext (codeAt (s .set) i) (bit (s .bits)))
 
-  -- what a success leads to
-  pub success-either : (P : Outcome → Type 0) → (heldAllowed (codeAt (s .set) i) (bit (s .bits)) ≡ true → P (taken (answering s i following)))
-      → (heldAllowed (codeAt (s .set) i) (bit (s .bits)) ≡ false → P (refused s NowNotAllowed)) → P (station.succeeded s i)
-  unfolding station.succeeded
-  success-either P f g = either P (heldAllowed (codeAt (s .set) i) (bit (s .bits))) f g
+  -- it is what a success makes of the record, since what waits is allowed
+  after-following : Waiting s i → heldAfter (codeAt (s .set) i) (s .bits) ≡ following
+  unfolding heldAfter
+  after-following w = rw (waits-allowed s i w)
 
   -- the record after a result
   pub answering-bits : (r : ℕ) → answering s i r .bits ≡ r
@@ -223,14 +222,14 @@ module _ (s : Station) (r : Report) where
       ((let l = ltb-false 1 (r .done) a in omega arith), e₂)
 
   -- whatever is reported, the instruction waits
-  result-has : said s (run.reports r) ≡ 0 → (r .issue ≡ present s) × Waiting s (r .number) × (r .done < 2) × Zero (station.ended s (r .number) (r .done))
+  result-has : said s (run.reports r) ≡ 0 → (r .issue ≡ present s) × Waiting s (r .number) × (r .done < 2)
   unfolding station.result
   result-has e =
       let (a, e₁) = met (fit s) s Unfit (station.resulted s r) (λ z. omega arith) e in
       let (b, e₂) = resulted-has e₁ in
       let (k, e₃) = timely-has e₂ in
-      let (c, d, e₄) = numbered-has s (r .number) (r .done) e₃ in
-      (k, (a, c, d), b, e₄)
+      let (c, d) = numbered-has s (r .number) (r .done) e₃ in
+      (k, (a, c, d), b)
 
   resulted-is : r .done < 2 → Waiting s (r .number) → station.resulted s r ≡ station.timely s r
   unfolding station.resulted
@@ -249,16 +248,15 @@ module _ (s : Station) (k i : ℕ) where
   abbrev reported : ℕ → Report
   reported done = record { issue = k; number = i; done = done }
 
-  pub success-has : said s (run.result k i 1) ≡ 0 → (k ≡ present s) × Waiting s i × (heldAllowed (codeAt (s .set) i) (bit (s .bits)) ≡ true)
-  unfolding station.ended station.succeeded
-  success-has e = let (p, w, b, e₁) = result-has s (reported 1) e in (p, w, met (heldAllowed (codeAt (s .set) i) (bit (s .bits))) s NowNotAllowed _ (λ z. omega arith) e₁ .0)
+  pub success-has : said s (run.result k i 1) ≡ 0 → (k ≡ present s) × Waiting s i
+  success-has e = let (p, w, b) = result-has s (reported 1) e in (p, w)
 
-  pub success-is : k ≡ present s → Waiting s i → heldAllowed (codeAt (s .set) i) (bit (s .bits)) ≡ true → call s (run.result k i 1) ≡ taken (answering s i (following s i))
-  unfolding station.ended station.succeeded
-  success-is p w t = result-is s (reported 1) p (omega arith) w ∙ rw t
+  pub success-is : k ≡ present s → Waiting s i → call s (run.result k i 1) ≡ taken (answering s i (following s i))
+  unfolding station.ended
+  success-is p w = result-is s (reported 1) p (omega arith) w ∙ ap (λ (r : ℕ). taken (answering s i r)) (after-following s i w)
 
   pub failure-has : said s (run.result k i 0) ≡ 0 → (k ≡ present s) × Waiting s i
-  failure-has e = let (p, w, b, e₁) = result-has s (reported 0) e in (p, w)
+  failure-has e = let (p, w, b) = result-has s (reported 0) e in (p, w)
 
   pub failure-is : k ≡ present s → Waiting s i → call s (run.result k i 0) ≡ taken (answering s i (s .bits))
   unfolding station.ended

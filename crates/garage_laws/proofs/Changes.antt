@@ -45,7 +45,7 @@ kept-step : (s t : Station) (c : Call) → Step s c t → Kept s c t
 kept-step s t c (refuses n) = inl refl
 kept-step s t c (opens A) = inl refl
 kept-step s t c (fails {i} w) = inl (answering-bits s i (s .bits))
-kept-step s t c (succeeds {i} {k} p w a) = inr (rw (success-is s k i p w a), refl)
+kept-step s t c (succeeds {i} {k} p w a) = inr (rw (success-is s k i p w), refl)
 kept-step s t c (drives {e} d) = inr (rw (event-is s e d), tt)
 kept-step s t c tells = inl refl
 

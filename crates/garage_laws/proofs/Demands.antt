@@ -7,7 +7,7 @@ use Rattle.garage.specs.declared.Station.{Station}
 use Rattle.garage.specs.declared.Outcome.{Outcome}
 use Rattle.garage_laws.specs.Runs as run
 use Rattle.garage_laws.specs.Runs.{call}
-use Rattle.garage_laws.specs.Demands.{RefusedUntouched, CallsInTable, AcceptedExactly, ReasonExactly, ResultRecord, FailureKeeps, LateExactly, IssuesInTurn, FirstIsZero, ImageKeepsCount, BehindCounts, EventRecord, ImageTaken, AskKeeps, ResultTaken, EventTaken, EventRefused, LiftRefused, EndTaken, NobodyMovesTheLift, OnlySuccessChanges, PlacesRight, PlacesElse, PlacesInRange, AlwaysLaidOut, CarsCounted, AnyOrder, OrdersExist, AnyOrderAmid, AmidUnmoved, AmidExists, AmidCovers, NeverFourteen, FitStays, NeverUnfit}
+use Rattle.garage_laws.specs.Demands.{RefusedUntouched, CallsInTable, AcceptedExactly, ReasonExactly, ResultRecord, FailureKeeps, LateExactly, IssuesInTurn, FirstIsZero, ImageKeepsCount, BehindCounts, EventRecord, ImageTaken, AskKeeps, ResultTaken, EventTaken, EventRefused, LiftRefused, EndTaken, NobodyMovesTheLift, OnlySuccessChanges, PlacesRight, PlacesElse, PlacesInRange, AlwaysLaidOut, CarsCounted, AnyOrder, OrdersExist, AnyOrderAmid, AmidUnmoved, AmidExists, AmidCovers, StillAllowed, FitStays, NeverUnfit}
 use Rattle.garage_laws.proofs.EachCall as each
 use Rattle.garage_laws.proofs.Calls.{request-has, request-is, success-has, success-is, failure-has, failure-is, answering-bits, image-has, image-is, ask-has, ask-is}
 use Rattle.garage_laws.proofs.Places as places
@@ -17,7 +17,6 @@ use Rattle.garage_laws.proofs.Steps.{asked}
 use Rattle.garage_laws.proofs.Changes as changes
 use Rattle.garage_laws.proofs.Always as always
 use Rattle.garage_laws.proofs.Drivers as drivers
-use Rattle.garage_laws.proofs.Link as link
 use Rattle.garage_laws.proofs.Lists as lists
 use Rattle.garage_laws.proofs.AnyOrder as orders
 use Rattle.garage_laws.proofs.Amid as amid
@@ -47,8 +46,8 @@ reason-exactly = refusals.reason-exactly
 
 pub result-record : ResultRecord
 result-record s k i = (
-  (success-has s k i, λ w. ap number (success-is s k i (w .0) (w .1) (w .2))),
-  λ e. let (q, w, t) = success-has s k i e in let p = ap rest (success-is s k i q w t) in (p, ap (λ (t : Station). t .bits) p ∙ answering-bits s i _),
+  (success-has s k i, λ w. ap number (success-is s k i (w .0) (w .1))),
+  λ e. let (q, w) = success-has s k i e in let p = ap rest (success-is s k i q w) in (p, ap (λ (t : Station). t .bits) p ∙ answering-bits s i _),
 )
 
 pub failure-keeps : FailureKeeps
@@ -67,7 +66,7 @@ pub first-is-zero : FirstIsZero
 first-is-zero = issues.first-is-zero
 
 pub image-keeps-count : ImageKeepsCount
-image-keeps-count s r = issues.issues-in-turn s (run.image r) .1
+image-keeps-count s r = issues.in-turn s (run.image r) .1
 
 pub behind-counts : BehindCounts
 behind-counts = issues.behind-counts
@@ -140,8 +139,8 @@ amid-exists = amid.amid-exists
 pub amid-covers : AmidCovers
 amid-covers = amid.amid-covers
 
-pub never-fourteen : NeverFourteen
-never-fourteen = link.never-fourteen
+pub still-allowed : StillAllowed
+still-allowed = always.still-allowed
 
 pub fit-stays : FitStays
 fit-stays = always.fit-stays

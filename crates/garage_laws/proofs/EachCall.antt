@@ -1,12 +1,10 @@
--- Every call is refused since the station is unfit, or with a number that is none of 0, 14, 16 and 17, or taken, or a success of an
--- instruction that waits. Assumes nothing.
+-- Every call is refused since the station is unfit, or with a number that is none of 0, 16 and 17, or taken. Assumes nothing.
 use mathlib.Core.Path.{_≡_, refl}
 use mathlib.Core.Bool.{Bool, true, false, not, cond}
 use mathlib.Core.List.{List}
 use Prim.Native.Nat.{ℕ}
 use native.Mathlib.Omega.{arith}
 use lib.Dec.{eqb, ltb}
-use borrow.Author.Tests.{not-false}
 use Rattle.bits.specs.Bits.{bit}
 use Rattle.bits.specs.Search.{least}
 use Rattle.bits.proofs.Cases.{clash}
@@ -22,16 +20,14 @@ use Rattle.garage.specs.declared.Station.{Station}
 use Rattle.garage.specs.declared.Outcome.{Outcome}
 use Rattle.garage.specs.declared.Report.{Report}
 use Rattle.garage.specs.Held.{bad, overlapsEarlier, barred, liftIn, crossesDrive}
-use Rattle.garage.specs.Station.{inSet, marked, present, late, fit, holding, answering}
+use Rattle.garage.specs.Station.{inSet, marked, present, late, fit, holding}
 use Rattle.garage.specs.Calls as station
 use Rattle.garage.specs.Calls.{refused, taken, onFit, opening}
-use Rattle.garage.proofs.Marks.{in-set}
 use Rattle.garage_laws.specs.Runs as run
 use Rattle.garage_laws.specs.Runs.{Call, call, said, left}
-use Rattle.garage_laws.specs.Demands.{Waiting}
-use Rattle.garage_laws.proofs.Calls.{either, Other, barred-other, success-either, drivenAs, event-as, Zero}
+use Rattle.garage_laws.proofs.Calls.{either, Other, barred-other, drivenAs, event-as, Zero}
 
-module _ (P : Outcome → Type 0) (s : Station) (unfit : fit s ≡ false → P (refused s Unfit)) (no : (a : Answer) → Other a → P (refused s a)) (done : (t : Station) → P (taken t)) (begun : (n : ℕ) (set : List ℕ) → P (opening s n set)) (told : (i : ℕ) → Waiting s i → P (station.succeeded s i)) where
+module _ (P : Outcome → Type 0) (s : Station) (unfit : fit s ≡ false → P (refused s Unfit)) (no : (a : Answer) → Other a → P (refused s a)) (done : (t : Station) → P (taken t)) (begun : (n : ℕ) (set : List ℕ) → P (opening s n set)) where
   unless : (t : Bool) (a : Answer) {o : Outcome} → Other a → (t ≡ false → P o) → P (cond t (refused s a) o)
   unless t a other f = either P t (λ e. no a other) f
 
@@ -55,22 +51,19 @@ module _ (P : Outcome → Type 0) (s : Station) (unfit : fit s ≡ false → P (
       (λ d. unless (crossesDrive (s .bits) set n) OutOfTurn (omega arith)
       (λ f. accepting n set)))))
 
-  numbering : (i d : ℕ) → fit s ≡ true → P (station.numbered s i d)
+  numbering : (i d : ℕ) → P (station.numbered s i d)
   unfolding station.numbered station.ended
-  numbering i d f =
-      unless (not (inSet s i)) NotInSet (omega arith)
-      (λ a. unless (marked s i) AlreadyAnswered (omega arith)
-      (λ m. either P (eqb d 0) (λ z. done (answering s i (s .bits))) (λ z. told i (f, in-set s i (not-false _ a) .1, m))))
+  numbering i d = unless (not (inSet s i)) NotInSet (omega arith) (λ a. unless (marked s i) AlreadyAnswered (omega arith) (λ m. done _))
 
-  timing : (r : Report) → fit s ≡ true → P (station.timely s r)
+  timing : (r : Report) → P (station.timely s r)
   unfolding station.timely
-  timing r f =
+  timing r =
       unless (late s (r .issue)) Late (omega arith)
-      (λ a. either P (eqb (r .issue) (present s)) (λ b. numbering (r .number) (r .done) f) (λ b. no NotIssued (omega arith)))
+      (λ a. either P (eqb (r .issue) (present s)) (λ b. numbering (r .number) (r .done)) (λ b. no NotIssued (omega arith)))
 
-  resulting : (r : Report) → fit s ≡ true → P (station.resulted s r)
+  resulting : (r : Report) → P (station.resulted s r)
   unfolding station.resulted
-  resulting r f = unless (ltb 1 (r .done)) (BadField nowhere) (omega arith) (λ a. unless (eqb (s .count) 0) NoSet (omega arith) (λ b. timing r f))
+  resulting r = unless (ltb 1 (r .done)) (BadField nowhere) (omega arith) (λ a. unless (eqb (s .count) 0) NoSet (omega arith) (λ b. timing r))
 
   driving : (v : EventReading) → P (drivenAs s v)
   unfolding station.driven station.occurred
@@ -84,15 +77,14 @@ module _ (P : Outcome → Type 0) (s : Station) (unfit : fit s ≡ false → P (
   pub each-call : (c : Call) → P (call s c)
   unfolding station.request station.result station.takeImage station.imaged station.ask
   each-call (run.request n set) = fitting (λ f. requesting n set)
-  each-call (run.reports r) = fitting (λ f. resulting r f)
+  each-call (run.reports r) = fitting (λ f. resulting r)
   each-call (run.event e) = rw (event-as s e) (driving (readEvent e))
   each-call (run.pictures p) = fitting (λ f. unless (ltb 0 (s .count)) SetOutstanding (omega arith) (λ a. either P (sound (p .bits)) (λ b. done (holding s (p .bits))) (λ b. no Unsound (omega arith))))
   each-call run.ask = fitting (λ f. done s)
 
 -- a refused call leaves the station as it was
 pub untouched : (s : Station) (c : Call) → (said s c ≡ 0 → ⊥) → left s c ≡ s
-untouched s c = each-call (λ o. (Zero o → ⊥) → o .station ≡ s) s (λ e n. refl) (λ a h n. refl) (λ t n. absurd (n refl)) (λ n set m. absurd (m refl))
-    (λ i w. success-either s i (λ o. (Zero o → ⊥) → o .station ≡ s) (λ t n. absurd (n refl)) (λ t n. refl)) c
+untouched s c = each-call (λ o. (Zero o → ⊥) → o .station ≡ s) s (λ e n. refl) (λ a h n. refl) (λ t n. absurd (n refl)) (λ n set m. absurd (m refl)) c
 
 -- on a station that is not fit
 pub unfit-is : (s : Station) → fit s ≡ false → (c : Call) → call s c ≡ refused s Unfit
@@ -105,10 +97,8 @@ unfit-is s e run.ask = rw e
 
 -- a fit one never answers 16
 pub fit-says : (s : Station) → fit s ≡ true → (c : Call) → said s c ≡ 16 → ⊥
-fit-says s f = each-call (λ o. numberOf (o .answer) ≡ 16 → ⊥) s (λ e. clash f e) (λ a h. h .2) (λ t z. omega arith) (λ n set z. omega arith)
-    (λ i w. success-either s i (λ o. numberOf (o .answer) ≡ 16 → ⊥) (λ t z. omega arith) (λ t z. omega arith))
+fit-says s f = each-call (λ o. numberOf (o .answer) ≡ 16 → ⊥) s (λ e. clash f e) (λ a h. h .1) (λ t z. omega arith) (λ n set z. omega arith)
 
 -- none is answered with 17, which is for lent room
 pub not-seventeen : (s : Station) (c : Call) → said s c ≡ 17 → ⊥
-not-seventeen s = each-call (λ o. numberOf (o .answer) ≡ 17 → ⊥) s (λ e z. omega arith) (λ a h. h .3) (λ t z. omega arith) (λ n set z. omega arith)
-    (λ i w. success-either s i (λ o. numberOf (o .answer) ≡ 17 → ⊥) (λ t z. omega arith) (λ t z. omega arith))
+not-seventeen s = each-call (λ o. numberOf (o .answer) ≡ 17 → ⊥) s (λ e z. omega arith) (λ a h. h .2) (λ t z. omega arith) (λ n set z. omega arith)

@@ -4,28 +4,33 @@ use mathlib.Core.Path.{_≡_, refl, ap, _∙_}
 use mathlib.Core.Bool.{Bool, true, false, not, _&&_, _||_, and-false, or-true}
 use mathlib.Core.List.{List}
 use Prim.Native.Nat.{ℕ, zero, suc, _*_, _-_, _^_, _≤_, _<_}
+use native.Mathlib.Omega.{arith}
 use lib.Bits.{bitOr}
 use lib.Dec.{eqb, ltb}
 use lib.ListN.{getD}
-use borrow.Author.Tests.{leb-true, le-leb, lt-ltb, ltb-false, eqb-true, not-true}
+use borrow.Author.Tests.{leb-true, le-leb, lt-ltb, ltb-false, eqb-true, not-true, not-false}
 use Rattle.bits.specs.Bits.{bit}
 use Rattle.bits.specs.Places.{share}
 use Rattle.bits.specs.Search.{some, every}
 use Rattle.bits.proofs.Cases.{split, both}
 use Rattle.bits.proofs.Digits.{bit-none}
-use Rattle.bits.proofs.Search.{every-at, every-is, some-at, some-same}
+use Rattle.bits.proofs.Search.{every-at, every-is, none-is, some-at, some-same}
 use Rattle.floor.specs.Floor.{lift}
 use Rattle.floor.specs.Tests.{holds, underWay}
 use Rattle.floor.specs.Sound.{paired, sound}
 use Rattle.rules.specs.declared.Code.{Code}
 use Rattle.rules.specs.Codes.{most}
 use Rattle.garage.specs.declared.Station.{Station}
-use Rattle.garage.specs.Held.{heldArea, bad, liftIn, crossesDrive}
+use Rattle.garage.specs.Held.{codeAt, heldArea, heldAllowed, bad, overlapsEarlier, stranded, liftIn, crossesDrive}
 use Rattle.garage.specs.Station.{fit, marked, used, closed, startOf, noting, holding, opened, answering}
 use Rattle.sets.proofs.Marks.{marks}
-use Rattle.garage_laws.specs.Demands.{Acceptable}
+use Rattle.garage_laws.specs.Demands.{Acceptable, Waiting}
 use Rattle.garage.proofs.Padding.{kept-code, zero-past}
 use Rattle.garage_laws.proofs.Reach.{clear-is}
+
+-- each unanswered instruction of its set is allowed
+abbrev pub Ready : Station → Type 0
+Ready s = every (s .count) (λ i. not (stranded (s .answered) (s .set) (s .bits) i)) ≡ true
 
 pub record Fit (s : Station) : Type 0 where
   pub sound : sound (s .bits) ≡ true
@@ -35,6 +40,8 @@ pub record Fit (s : Station) : Type 0 where
   pub blank : every 40 (λ k. used s k || eqb (getD (s .set) k 0) 0) ≡ true
   pub owed : eqb (s .count) 0 || some (s .count) (λ i. not (marked s i)) ≡ true
   pub clear : crossesDrive (s .bits) (s .set) (s .count) ≡ false
+  pub apart : every (s .count) (λ i. not (overlapsEarlier (s .set) i)) ≡ true
+  pub ready : Ready s
 
 pub fit-has : (s : Station) → fit s ≡ true → Fit s
 unfolding fit
@@ -44,12 +51,14 @@ fit-has s e =
     let (c, e₃) = both _ _ e₂ in
     let (d, e₄) = both _ _ e₃ in
     let (f, e₅) = both _ _ e₄ in
-    let (g, h) = both _ _ e₅ in
-    record { sound = a; few = leb-true (s .count) most b; good = c; marks = d; blank = f; owed = g; clear = not-true _ h }
+    let (g, e₆) = both _ _ e₅ in
+    let (h, e₇) = both _ _ e₆ in
+    let (x, y) = both _ _ e₇ in
+    record { sound = a; few = leb-true (s .count) most b; good = c; marks = d; blank = f; owed = g; clear = not-true _ h; apart = x; ready = y }
 
 has-fit : (s : Station) → Fit s → fit s ≡ true
 unfolding fit
-has-fit s F = rw (F .sound, le-leb (s .count) most (F .few), F .good, F .marks, F .blank, F .owed, F .clear)
+has-fit s F = rw (F .sound, le-leb (s .count) most (F .few), F .good, F .marks, F .blank, F .owed, F .clear, F .apart, F .ready)
 
 -- ---- no set
 
@@ -63,10 +72,21 @@ fit-start = fit-closed (startOf .bits) 0 refl
 
 -- ---- another record
 
-pub fit-holding : (s : Station) (r : ℕ) → fit s ≡ true → sound r ≡ true → crossesDrive r (s .set) (s .count) ≡ false → fit (holding s r) ≡ true
-fit-holding s r f e c =
+pub fit-holding : (s : Station) (r : ℕ) → fit s ≡ true → sound r ≡ true → crossesDrive r (s .set) (s .count) ≡ false → Ready (holding s r)
+    → fit (holding s r) ≡ true
+fit-holding s r f e c q =
     let F = fit-has s f in
-    has-fit (holding s r) (record { sound = e; few = F .few; good = F .good; marks = F .marks; blank = F .blank; owed = F .owed; clear = c })
+    has-fit (holding s r) (record {
+      sound = e;
+      few = F .few;
+      good = F .good;
+      marks = F .marks;
+      blank = F .blank;
+      owed = F .owed;
+      clear = c;
+      apart = F .apart;
+      ready = q;
+    })
 
 -- ---- a set
 
@@ -78,6 +98,12 @@ kept-clear s n set o =
     (some-same n _ _ (λ i h. ap (λ (x : Code). share (heldArea x) lift) (kept-code n (40 - 5 * n) set i h)))
     ∙ o
 
+-- and overlaps where it did
+kept-apart : (s : Station) (n : ℕ) (set : List ℕ) → Acceptable s n set → (i : ℕ) → i < n → overlapsEarlier (opened s n set .set) i ≡ false
+unfolding overlapsEarlier
+kept-apart s n set A i h =
+    none-is i _ (λ j l. rw (kept-code n (40 - 5 * n) set i h, kept-code n (40 - 5 * n) set j (omega arith)) (A .apart i j h l))
+
 pub fit-opened : (s : Station) (n : ℕ) (set : List ℕ) → Acceptable s n set → fit (opened s n set) ≡ true
 fit-opened s n set A = has-fit (opened s n set) (record {
   sound = fit-has s (A .fits) .sound;
@@ -87,6 +113,8 @@ fit-opened s n set A = has-fit (opened s n set) (record {
   blank = every-is 40 _ (λ k h. split (ltb k (5 * n)) (λ t. rw t) (λ t. rw (t, zero-past (5 * n) (40 - 5 * n) set k (ltb-false k (5 * n) t))));
   owed = rw (some-at n (λ i. not (bit 0 i)) 0 (A .some) refl) (or-true (eqb n 0));
   clear = kept-clear s n set (clear-is (s .bits) set n (A .clear));
+  apart = every-is n _ (λ i h. rw (kept-apart s n set A i h));
+  ready = every-is n _ (λ i h. rw (bit-none i, kept-code n (40 - 5 * n) set i h, A .allowed i h));
 })
 
 -- ---- a result
@@ -110,8 +138,9 @@ pub after-result : (P : Station → Type 0) (s : Station) (i r : ℕ)
 unfolding answering
 after-result P s i r last more = split (every (s .count) (bit (marksWith s i))) (λ t. rw t (last t)) (λ t. rw t (more t))
 
-pub fit-answering : (s : Station) (i r : ℕ) → fit s ≡ true → i < s .count → sound r ≡ true → crossesDrive r (s .set) (s .count) ≡ false → fit (answering s i r) ≡ true
-fit-answering s i r f h e c = after-result (λ t. fit t ≡ true) s i r (λ t. fit-closed r (s .next) e) more
+pub fit-answering : (s : Station) (i r : ℕ) → fit s ≡ true → i < s .count → sound r ≡ true → crossesDrive r (s .set) (s .count) ≡ false
+    → Ready (answering s i r) → fit (answering s i r) ≡ true
+fit-answering s i r f h e c = after-result (λ t. Ready t → fit t ≡ true) s i r (λ t q. fit-closed r (s .next) e) more
   where
     F : Fit s
     F = fit-has s f
@@ -122,8 +151,8 @@ fit-answering s i r f h e c = after-result (λ t. fit t ≡ true) s i r (λ t. f
         (λ t. rw (t, ← eqb-true i j t, lt-ltb i (s .count) h))
         (λ t. rw t (every-at 8 _ (F .marks) j l)))
 
-    more : every (s .count) (bit (marksWith s i)) ≡ false → fit (noted s i r) ≡ true
-    more t = has-fit _ (record {
+    more : every (s .count) (bit (marksWith s i)) ≡ false → Ready (noted s i r) → fit (noted s i r) ≡ true
+    more t q = has-fit _ (record {
       sound = e;
       few = F .few;
       good = F .good;
@@ -131,4 +160,13 @@ fit-answering s i r f h e c = after-result (λ t. fit t ≡ true) s i r (λ t. f
       blank = F .blank;
       owed = rw (some-every (s .count) (bit (marksWith s i)), t) (or-true (eqb (s .count) 0));
       clear = c;
+      apart = F .apart;
+      ready = q;
     })
+
+-- ---- what waits is allowed
+
+pub waits-allowed : (s : Station) (i : ℕ) → Waiting s i → heldAllowed (codeAt (s .set) i) (bit (s .bits)) ≡ true
+waits-allowed s i w =
+    let e : stranded (s .answered) (s .set) (s .bits) i ≡ false = not-true _ (every-at (s .count) _ (fit-has s (w .0) .ready) i (w .1)) in
+    not-false _ (rw (w .2) at e)

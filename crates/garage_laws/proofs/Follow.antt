@@ -26,7 +26,7 @@ use Rattle.garage_laws.proofs.Instance.{rules, possibleAs, allowed-has}
 use Rattle.garage_laws.proofs.Calls.{success-is, failure-is, event-has, event-is, event-number}
 use Rattle.garage_laws.proofs.EachCall.{untouched}
 use Rattle.garage_laws.proofs.Steps.{steps}
-use Rattle.garage_laws.proofs.Issues.{issues-in-turn}
+use Rattle.garage_laws.proofs.Issues.{in-turn}
 use Rattle.garage_laws.proofs.Always.{fit-step}
 use Rattle.garage_laws.proofs.Link.{view, blocked-lift, drivable, resulting, result-view}
 use Rattle.garage_laws.proofs.Lists.{told, asCall, Unstuck}
@@ -36,7 +36,7 @@ use Rattle.garage_laws.proofs.Lists.{told, asCall, Unstuck}
 result-is : (s : Station) (k i : ℕ) (o : Outcome) → k ≡ present s → sticks o ≡ false → Waiting s i → (moves o ≡ true → heldAllowed (codeAt (s .set) i) (bit (s .bits)) ≡ true)
     → call s (run.result k i (told o)) ≡ taken (answering s i (resulting s i o))
 result-is s k i failed p u w ok = failure-is s k i p w
-result-is s k i finished p u w ok = success-is s k i p w (ok refl)
+result-is s k i finished p u w ok = success-is s k i p w
 result-is s k i stuck p u w ok = clash refl u
 
 -- only a success is told as 1
@@ -70,8 +70,8 @@ module _ (s : Station) (f : fit s ≡ true) (e : ℕ) where
 -- results and events keep the issue of the next set
 pub next-kept : (k : ℕ) (l : List (Act ℕ)) (s : Station) → calls s (map (asCall k) l) .next ≡ s .next
 next-kept k [] s = refl
-next-kept k (result i o ∷ l) s = next-kept k l (left s (run.result k i (told o))) ∙ issues-in-turn s (run.result k i (told o)) .1
-next-kept k (event e ∷ l) s = next-kept k l (left s (run.event e)) ∙ issues-in-turn s (run.event e) .1
+next-kept k (result i o ∷ l) s = next-kept k l (left s (run.result k i (told o))) ∙ in-turn s (run.result k i (told o)) .1
+next-kept k (event e ∷ l) s = next-kept k l (left s (run.event e)) ∙ in-turn s (run.event e) .1
 
 -- so the present one is the same
 present-kept : (k : ℕ) (s : Station) (a : Act ℕ) → k ≡ present s → k ≡ present (left s (asCall k a))

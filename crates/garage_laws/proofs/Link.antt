@@ -1,5 +1,5 @@
 -- The station shows the machine of the crate `sets`: what a station holds is a machine's station (`view`), and each call that is taken is
--- the machine's. So a station that is reached is in good order, and never answers 14. Assumes nothing.
+-- the machine's. A fit station is in good order, and so is what a call leaves of it. Assumes nothing.
 use mathlib.Core.Path.{_≡_, refl, sym, ap, subst, fun-ext, _∙_}
 use mathlib.Core.Bool.{Bool, true, false, not, cond, _&&_}
 use mathlib.Core.List.{List, _++_}
@@ -7,38 +7,35 @@ use Prim.Native.Nat.{ℕ, _+_, _*_, _-_, _<_}
 use native.Mathlib.Omega.{arith}
 use lib.ListN.{take, replicate}
 use lib.Dec.{eqb}
-use borrow.Author.Tests.{lt-ltb, eqb-true}
+use borrow.Author.Tests.{lt-ltb, eqb-true, not-true}
 use Rattle.bits.specs.Bits.{bit}
 use Rattle.bits.specs.Search.{some}
 use Rattle.bits.proofs.Cases.{split, clash}
-use Rattle.bits.proofs.Search.{some-same}
+use Rattle.bits.proofs.Search.{every-at, every-is, none-at, some-same}
 use Rattle.floor.specs.Floor.{lift, drives as drivePlaces}
 use Rattle.floor.specs.Sound.{sound}
 use Rattle.rules.specs.declared.Code.{Code}
 use Rattle.rules.specs.Codes.{readEvent}
 use Rattle.bits.proofs.Sharing.{share-some}
-use Rattle.answers.specs.Answers.{numberOf}
 use Rattle.sets.proofs.Machine as machine
 use Rattle.sets.proofs.Machine.{Batch, Outcome, failed, finished, stuck, moves, sticks, result, event, request, act, nowhere, mark, outstanding, blocks, blocked, accepted, released, empty, idle, takes, does}
 use Rattle.sets.proofs.Rules.{blind}
 use Rattle.sets.proofs.GoodOrder.{Good}
 use Rattle.sets.proofs.Jams.{jam}
-use Rattle.sets.proofs.Facts.{is-accepted, meets-nowhere}
+use Rattle.sets.proofs.Facts.{apart-is, is-accepted, meets-nowhere}
 use Rattle.sets.proofs.Marks.{marks, unmarked}
 use Rattle.sets.proofs.KeptGood.{call-good}
 use Rattle.garage.specs.declared.Station.{Station}
-use Rattle.garage.specs.Held.{codeAt, heldArea, liftIn}
-use Rattle.garage.specs.Station.{fit, closed, opened, answering}
-use Rattle.garage_laws.specs.Runs.{Call, Begins}
-use Rattle.garage_laws.specs.Demands.{Acceptable, Waiting, NeverFourteen}
+use Rattle.garage.specs.Held.{codeAt, overlapsEarlier, liftIn}
+use Rattle.garage.specs.Station.{fit, marked, closed, opened, answering}
+use Rattle.garage_laws.specs.Runs.{Call}
+use Rattle.garage_laws.specs.Demands.{Acceptable, Waiting}
 use Rattle.garage_laws.proofs.Reach.{reach, reach-small, reach-apart, reach-lift, crosses-none, clear-is}
 use Rattle.garage_laws.proofs.Instance.{rules, framed, blank, possibleAs, allowed-has}
 use Rattle.garage.proofs.Padding.{five-at, zeros-at, kept-code}
-use Rattle.garage_laws.proofs.Fits.{fit-has, some-every, marksWith, after-result}
-use Rattle.garage_laws.proofs.Calls.{following, success-either}
-use Rattle.garage_laws.proofs.EachCall.{each-call}
-use Rattle.garage_laws.proofs.Always.{begins-has}
-use Rattle.garage_laws.proofs.Steps.{Step, refuses, opens, fails, succeeds, drives, tells, reached}
+use Rattle.garage_laws.proofs.Fits.{Ready, fit-has, some-every, marksWith, after-result, waits-allowed}
+use Rattle.garage_laws.proofs.Calls.{following}
+use Rattle.garage_laws.proofs.Steps.{Step, refuses, opens, fails, succeeds, drives, tells}
 
 -- ---- what a station holds
 
@@ -125,6 +122,33 @@ drivable s f e = rw (blocked-lift s f, meets-nowhere rules (rules .lift))
 abbrev Sane : Station → Type 0
 Sane s = Good rules (empty rules) (view s)
 
+module _ (s : Station) (f : fit s ≡ true) where
+  -- no two overlap
+  fit-apart : machine.apart rules (view s .set) ≡ true
+  unfolding overlapsEarlier
+  fit-apart = every-is (s .count) _ (λ i h. every-is i _ (λ j l. ap not (beside i j h l)))
+    where
+      beside : (i j : ℕ) → i < s .count → j < i → machine.meets rules (rules .area (codeAt (s .set) i)) (rules .area (codeAt (s .set) j)) ≡ false
+      beside i j h l =
+          let x = codeAt (s .set) i in
+          let y = codeAt (s .set) j in
+          sym (share-some (reach x) (reach y) (reach-small x))
+          ∙ reach-apart x y (none-at i _ (not-true _ (every-at (s .count) _ (fit-has s f .apart) i h)) j l)
+
+  fit-sane : Sane s
+  fit-sane = record {
+    sound = fit-has s f .sound;
+    apart = apart-is rules (view s .set) fit-apart;
+    allowed = λ j w. rw (waits-allowed s j (f, w .0, w .1), crosses-none (s .bits) (s .set) (s .count) (fit-has s f .clear) j (w .0));
+    jammed = record { apart = λ i j h. absurd (omega arith); allowed = λ j h. absurd (omega arith) };
+    inside = λ i h. absurd (omega arith);
+    free = λ j w i h. absurd (omega arith);
+  }
+
+-- in good order, each unanswered instruction is allowed
+sane-ready : (s : Station) → Sane s → Ready s
+sane-ready s G = every-is (s .count) _ (λ i h. split (marked s i) (λ m. rw m) (λ m. rw (m, allowed-has (codeAt (s .set) i) (s .bits) (G .allowed i (h, m)) .0)))
+
 module _ (s : Station) (G : Sane s) where
   -- what the machine takes leaves it so
   takes-good : (c : machine.Call ℕ Code ℕ) → takes rules (view s) c ≡ true → Good rules (jam rules (view s) c (empty rules)) (does rules (view s) c)
@@ -139,22 +163,6 @@ module _ (s : Station) (G : Sane s) where
   good-step t c (drives {e} d) = takes-good (act (event e)) (drivable s (d .0) e ∙ rw (d .1, d .2))
   good-step t c tells = G
 
--- ---- a station that is reached
-
-begins-good : (s : Station) → Begins s → Sane s
-begins-good s b =
-    let (f, n, h) = begins-has s b in
-    record {
-      sound = fit-has s f .sound;
-      apart = λ i j h. absurd (omega arith);
-      allowed = λ j w. absurd (let h = w .0 in omega arith);
-      jammed = record { apart = λ i j h. absurd (omega arith); allowed = λ j h. absurd (omega arith) };
-      inside = λ i h. absurd (omega arith);
-      free = λ j w i h. absurd (omega arith);
-    }
-
-pub never-fourteen : NeverFourteen
-never-fourteen s R =
-    let G = reached Sane (λ t u c p g. good-step t g u c p) begins-good s R in
-    each-call (λ o. numberOf (o .answer) ≡ 14 → ⊥) s (λ e z. omega arith) (λ a h. h .1) (λ t z. omega arith) (λ n set z. omega arith)
-    (λ i w. success-either s i (λ o. numberOf (o .answer) ≡ 14 → ⊥) (λ t z. omega arith) (λ t. clash (allowed-has _ (s .bits) (G .allowed i (w .1, w .2)) .0) t))
+-- so after each call on a fit station what still waits is allowed
+pub ready-step : (s t : Station) (c : Call) → Step s c t → fit s ≡ true → Ready t
+ready-step s t c p f = sane-ready t (good-step s (fit-sane s f) t c p)

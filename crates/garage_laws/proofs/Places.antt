@@ -16,7 +16,7 @@ use Rattle.rules.specs.Events.{inTurn, possible}
 use Rattle.rules.specs.Codes.{readEvent, most}
 use Rattle.answers.specs.declared.Reason.{Reason}
 use Rattle.answers.specs.declared.Answer.{Answer}
-use Rattle.answers.specs.declared.Answer.the-variants.{Taken, Opened, TooFewBytes, BadLength, UnknownKind, BadField, TooMany, SetOutstanding, EmptySet, Overlap, NotAllowed, EventImpossible, NoSet, NotInSet, AlreadyAnswered, NowNotAllowed, Unsound, Unfit, NoRoom, Late, NotIssued, OutOfTurn}
+use Rattle.answers.specs.declared.Answer.the-variants.{Taken, Opened, TooFewBytes, BadLength, UnknownKind, BadField, TooMany, SetOutstanding, EmptySet, Overlap, NotAllowed, EventImpossible, NoSet, NotInSet, AlreadyAnswered, Unsound, Unfit, NoRoom, Late, NotIssued, OutOfTurn}
 use Rattle.answers.specs.Answers.{reasonNumber, numberOf, placeOf, nowhere}
 use Rattle.answers.proofs.Promises.{reason-from, reason-to}
 use Rattle.garage.specs.declared.Station.{Station}
@@ -29,7 +29,7 @@ use Rattle.garage.specs.Calls as station
 use Rattle.garage_laws.specs.Runs as run
 use Rattle.garage_laws.specs.Runs.{call}
 use Rattle.garage_laws.specs.Demands.{PlacesRight, PlacesElse, PlacesInRange}
-use Rattle.garage_laws.proofs.Calls.{either, faultless, success-either, event-as, drivenAs}
+use Rattle.garage_laws.proofs.Calls.{either, faultless, event-as, drivenAs}
 use Rattle.garage_laws.proofs.Reasons.{least-fault, good-refused}
 
 -- the number and the place of an outcome
@@ -119,7 +119,6 @@ answer-nowhere EventImpossible other = refl
 answer-nowhere NoSet other = refl
 answer-nowhere NotInSet other = refl
 answer-nowhere AlreadyAnswered other = refl
-answer-nowhere NowNotAllowed other = refl
 answer-nowhere Unsound other = refl
 answer-nowhere Unfit other = refl
 answer-nowhere NoRoom other = refl
@@ -140,7 +139,7 @@ flatly e = record { flat = e }
 module _ (s : Station) where
   ended-flat : (i done : ℕ) → Flat (station.ended s i done)
   unfolding station.ended
-  ended-flat i done = fork (eqb done 0) (flatly refl) (success-either s i Flat (λ t. flatly refl) (λ t. flatly refl))
+  ended-flat i done = flatly refl
 
   numbered-flat : (i done : ℕ) → Flat (station.numbered s i done)
   unfolding station.numbered

@@ -23,6 +23,7 @@ use Rattle.garage_laws.specs.Demands.{Acceptable, Waiting}
 use Rattle.garage_laws.proofs.Instance.{afterAs}
 use Rattle.garage_laws.proofs.Calls.{request-has, request-is, following, success-has, success-is, failure-has, failure-is, done-has, Drivable, event-has, event-is}
 use Rattle.garage_laws.proofs.EachCall.{untouched}
+use Rattle.garage_laws.proofs.Fits.{waits-allowed}
 
 -- a call leads from the station s to another
 pub data Step (s : Station) : Call → Station → Type 0 where
@@ -55,7 +56,7 @@ module _ (s : Station) where
 
   result-step : (k i done : ℕ) → said s (run.result k i done) ≡ 0 → Step s (run.result k i done) (left s (run.result k i done))
   result-step k i zero e = let (p, w) = failure-has s k i e in leads (ap station-of (failure-is s k i p w)) (fails w)
-  result-step k i (suc zero) e = let (p, w, t) = success-has s k i e in leads (ap station-of (success-is s k i p w t)) (succeeds p w t)
+  result-step k i (suc zero) e = let (p, w) = success-has s k i e in leads (ap station-of (success-is s k i p w)) (succeeds p w (waits-allowed s i w))
   result-step k i (suc (suc done)) e = absurd (omega (arith, done-has s (record { issue = k; number = i; done = suc (suc done) }) e))
 
   pub asked : left s run.ask ≡ s

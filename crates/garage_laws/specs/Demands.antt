@@ -89,12 +89,11 @@ ReasonExactly =
 abbrev pub Waiting : Station → ℕ → Type 0
 Waiting s i = (fit s ≡ true) × (i < s .count) × (marked s i ≡ false)
 
--- a success is taken exactly if it is of the present set, and its instruction waits and is allowed now; the record is then what its rule
--- makes of the present one
+-- a success is taken exactly if it is of the present set and its instruction waits; the record is then what its rule makes of the present one
 abbrev pub ResultRecord : Type 0
 ResultRecord =
     (s : Station) (k i : ℕ)
-    → ((said s (run.result k i 1) ≡ 0) ↔ ((k ≡ present s) × Waiting s i × (heldAllowed (codeAt (s .set) i) (bit (s .bits)) ≡ true)))
+    → ((said s (run.result k i 1) ≡ 0) ↔ ((k ≡ present s) × Waiting s i))
     × (said s (run.result k i 1) ≡ 0
     → (left s (run.result k i 1) ≡ answering s i (image (heldNext (codeAt (s .set) i) (bit (s .bits)))))
     × (left s (run.result k i 1) .bits ≡ image (heldNext (codeAt (s .set) i) (bit (s .bits)))))
@@ -297,9 +296,11 @@ AmidExists = (s : Station) (l : List Call) → Amid s l (interrupted l)
 abbrev pub AmidCovers : Type 0
 AmidCovers = (s : Station) (l : List Call) → Amid s (takenOf s l) l
 
--- a station reached so never answers 14
-abbrev pub NeverFourteen : Type 0
-NeverFourteen = (s : Station) → Reached s → (c : Call) → said s c ≡ 14 → ⊥
+-- whatever calls came before, images too: an instruction that has no result yet is still allowed on the present record
+abbrev pub StillAllowed : Type 0
+StillAllowed =
+    (s : Station) → Begins s → (l : List Call) (i : ℕ) → i < calls s l .count → marked (calls s l) i ≡ false
+    → heldAllowed (codeAt (calls s l .set) i) (bit (calls s l .bits)) ≡ true
 
 -- a call leaves a fit station fit, and one that isn't unfit
 abbrev pub FitStays : Type 0

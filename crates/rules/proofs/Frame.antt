@@ -23,7 +23,7 @@ use Rattle.rules.specs.Events.{turn, beginConditions, eventConditions, e
 use Rattle.rules.proofs.Every.{everywhere, each}
 
 -- each condition reads only the area, and each change stands in it and reads only it
-abbrev framed : Instruction → Bool
+abbrev pub framed : Instruction → Bool
 framed i = allReadIn (areaOf i) (conditions i) && changeIn (areaOf i) (changes i)
 
 all-framed : T (everywhere framed)

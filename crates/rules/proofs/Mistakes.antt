@@ -3,10 +3,12 @@
 use mathlib.Core.Path.{_≡_, refl}
 use mathlib.Core.Bool.{true, false}
 use Prim.Native.Nat.{ℕ}
+use lib.Dec.{T}
 use Rattle.bits.specs.Bits.{bit, packed, image}
 use Rattle.rules.specs.declared.Instruction.{Instruction}
-use Rattle.rules.specs.declared.Instruction.the-variants.{Belts, Shuttles, Tilt, Lift}
+use Rattle.rules.specs.declared.Instruction.the-variants.{Belts, Shuttles, Tilt, Lift, Rotate}
 use Rattle.rules.specs.Rules.{allowed, next}
+use Rattle.rules.proofs.Frame.{framed}
 
 -- the instruction is allowed on one image, and gives the other
 abbrev pub Gives : ℕ → Instruction → ℕ → Type 0
@@ -43,3 +45,13 @@ half-a-car = refl
 pub three-lowered : Gives 0x00003F0000000000 (Tilt 0 3 0) 0x00013B0000000000 × Refused 0x00091B0000000000 (Tilt 0 1 0)
 unfolding allowed next packed
 three-lowered = ((refl, refl), refl)
+
+-- cells that are only read belong to the area: those on both sides of the lift, those that it turns over, and those of a shuttle's position
+pub lift-reads : T (framed (Lift 1))
+lift-reads = tt
+
+pub rotate-reads : T (framed Rotate)
+rotate-reads = tt
+
+pub tilt-reads : T (framed (Tilt 0 1 0))
+tilt-reads = tt

@@ -121,11 +121,15 @@ module _ (f : Bits) (s : Sound f) (ok : T (allHold (eventConditions EndDone) f))
   pub done-cars : (n : ℕ) → n + digit (holds (set (driveIn ∷ [])) f) + digit (f driveOut) ≡ n + digit (f raisedCar) + digit (f driveIn)
   done-cars n = drove n (f raisedCar) (f driveIn) (f driveOut) (T→true (allHold (eventConditions EndDone) f) ok) (rule 12) (rule 14) (rule 15)
 
-pub event-cars : EventCars
+ended-cars : (f : Bits) → Sound f → possible EndDone f ≡ true → Counted EndDone f (cars (after EndDone f)) (cars f)
 unfolding possible after cars
+ended-cars f s ok = done-cars f s (true→T ok) (count (rowCells 1) f / 2 + count (rowCells 2 ++ rowCells 3) f)
+
+pub event-cars : EventCars
+unfolding after cars
 event-cars BeginIn f s ok = refl
 event-cars BeginOut f s ok = refl
-event-cars EndDone f s ok = done-cars f s (true→T ok) (count (rowCells 1) f / 2 + count (rowCells 2 ++ rowCells 3) f)
+event-cars EndDone f s ok = ended-cars f s ok
 event-cars EndNotDone f s ok = refl
 
 -- ---- the same of records as the numbers that the station keeps

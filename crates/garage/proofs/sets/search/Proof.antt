@@ -1,18 +1,18 @@
 -- `garage::sets::search` meets its contract: three searches in one, with the areas passed gathered in one mask. Assumes nothing.
+use Rattle.garage.proofs.Loops.{Searched, search-starts, searches, search-ends}
 use Prim.Native.Nat.{_-_}
 use borrow.Author.Needs.{needs}
-use Rattle.garage.proofs.Loops.{Searched, search-starts, searches, search-ends}
 use Rattle.garage.proofs.sets.search.Statement.{statement}
 use Rattle.garage.proofs.sets.search.Tie as tie
 
 abbrev Inv-loop : tie.InvT-loop
-Inv-loop n r set seen₀ bad₀ overlap₀ barred₀ i₀ seen bad overlap barred i = Searched set n r seen bad overlap barred i
+Inv-loop n marks r set seen₀ bad₀ overlap₀ barred₀ rest₀ i₀ seen bad overlap barred rest i = Searched set n marks r seen bad overlap barred rest i
 
 abbrev μ-loop : tie.MeasureT-loop
-μ-loop n r set seen₀ bad₀ overlap₀ barred₀ i₀ seen bad overlap barred i = n - i
+μ-loop n marks r set seen₀ bad₀ overlap₀ barred₀ rest₀ i₀ seen bad overlap barred rest i = n - i
 
 loop-holds : tie.Need-loop-holds Inv-loop μ-loop
-loop-holds c = search-starts _ _ _
+loop-holds c = search-starts _ _ _ _
 
 code-at-requires : tie.Need-code-at-requires Inv-loop μ-loop
 code-at-requires c κs = search needs

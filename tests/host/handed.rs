@@ -1,0 +1,86 @@
+//! Stations that are handed in, not reached by calls: what their sets have that decides whether they are fit, so that a run can say that
+//! it was called on all there is. Each has one such thing, and all else about it is as it must be.
+#![allow(dead_code)] // each driver uses its own part of this module
+
+use crate::reference::{drive_under_way, sound, Instruction, Station};
+use crate::traffic::{allowed_set, good_five, Numbers};
+
+/// What a handed-in station has.
+#[derive(Clone, Copy, Debug, PartialEq, Eq, PartialOrd, Ord)]
+pub enum Handed {
+    /// Unfit: a drive under way beside a set with the lift in an area; whether that instruction still waits for its result.
+    Drive { waits: bool },
+    /// Unfit: two instructions overlap; how many of the two still wait, and whether they stand beside each other.
+    Overlap { waiting: usize, beside: bool },
+    /// Unfit: an instruction that waits is not allowed on the record.
+    Barred,
+    /// Fit: an instruction that was answered is not allowed any more.
+    Past,
+}
+use Handed::{Barred, Drive, Overlap, Past};
+
+pub const ALL: [Handed; 10] = [
+    Drive { waits: false },
+    Drive { waits: true },
+    Overlap { waiting: 0, beside: false },
+    Overlap { waiting: 0, beside: true },
+    Overlap { waiting: 1, beside: false },
+    Overlap { waiting: 1, beside: true },
+    Overlap { waiting: 2, beside: false },
+    Overlap { waiting: 2, beside: true },
+    Barred,
+    Past,
+];
+
+impl Handed {
+    /// Whether a call's answer shows it: an unfit station's, or one that is given past the test of fitness alone.
+    pub fn shown_by(self, number: u8) -> bool {
+        match self {
+            Past => matches!(number, 0 | 6 | 10..=13 | 29..),
+            _ => number == 16,
+        }
+    }
+}
+
+/// What a station has, if it is one of these.
+pub fn handed(station: &Station) -> Option<Handed> {
+    let (held, count): (Vec<Instruction>, usize) = (station.held().collect(), station.count.into());
+    let formed = sound(station.record)
+        && (1..=8).contains(&count)
+        && held.len() == count
+        && usize::from(station.answered) + 1 < 1 << count
+        && station.set[5 * count..].iter().all(|&byte| byte == 0);
+    if !formed { return None; }
+    let waits = |at: usize| station.answered >> at & 1 == 0;
+    let barred = |waiting| (0..count).any(|at| waits(at) == waiting && !held[at].allowed(station.record));
+    let pairs = (0..count).flat_map(|later| (0..later).map(move |earlier| (earlier, later)));
+    let overlaps: Vec<_> = pairs.filter(|&(earlier, later)| held[earlier].area() & held[later].area() != 0).collect();
+    let lift = held.iter().position(Instruction::takes_lift).filter(|_| drive_under_way(station.record));
+    match (lift, &overlaps[..], barred(true)) {
+        (Some(lift), [], false) => Some(Drive { waits: waits(lift) }),
+        (None, &[(earlier, later)], false) => {
+            let waiting = [earlier, later].into_iter().filter(|&at| waits(at)).count();
+            Some(Overlap { waiting, beside: earlier + 1 == later })
+        }
+        (None, [], true) => Some(Barred),
+        (None, [], false) if barred(false) => Some(Past),
+        _ => None,
+    }
+}
+
+/// A station that has one of these, which is picked beforehand, so that none is rare; found in some tries, from the record of another.
+pub fn made(numbers: &mut Numbers, station: &Station) -> Option<Station> {
+    let wanted = ALL[numbers.below(ALL.len() as u64) as usize];
+    let mut record = station.record & !(3 << 55);
+    if let Drive { .. } = wanted { record |= 1 << (55 + (record >> 52 & 1)); }
+    let wanted_others = 1 + numbers.below(4) as usize;
+    let others = allowed_set(numbers, record, 0, wanted_others);
+    (0..100).find_map(|_| {
+        let (mut set, at) = (others.clone(), 5 * numbers.below(others.len() as u64 / 5 + 1) as usize);
+        set.splice(at..at, good_five(numbers));
+        let count = (set.len() / 5) as u8;
+        let mut made = Station { record, count, answered: numbers.byte() & 0xFF >> (8 - count), set: [0; 40], ..*station };
+        made.set[..set.len()].copy_from_slice(&set);
+        (handed(&made) == Some(wanted)).then_some(made)
+    })
+}

@@ -1,0 +1,23 @@
+//! The station's entries as the archive has them (include/station.h).
+#![allow(dead_code)] // each driver uses its own part of this module
+
+extern "C" {
+    pub fn station_start(room: *mut u8, room_length: usize) -> u32;
+    pub fn station_request(room: *mut u8, room_length: usize, count: u8, set: *const u8, set_length: usize) -> u32;
+    pub fn station_event(room: *mut u8, room_length: usize, way: u8) -> u32;
+    pub fn station_result(room: *mut u8, room_length: usize, issue: u16, number: u8, done: u8) -> u32;
+    pub fn station_image(room: *mut u8, room_length: usize, image: u64) -> u32;
+    pub fn station_ask(room: *const u8, room_length: usize, image: *mut u8, image_length: usize) -> u32;
+    pub fn station_message(
+        room: *mut u8,
+        room_length: usize,
+        message: *const u8,
+        message_length: usize,
+        reply: *mut u8,
+        reply_length: usize,
+    ) -> u32;
+    pub fn garage_sound(image: u64) -> bool;
+    pub fn garage_cars(image: u64) -> u32;
+    pub fn garage_allowed(image: u64, five: *const u8, five_length: usize) -> u32;
+    pub fn garage_next(image: u64, five: *const u8, five_length: usize, next: *mut u8, next_length: usize) -> u32;
+}
