@@ -66,7 +66,7 @@ enum { REPORT_NONE = 255 };
 #define REPORT_KIND(kind) ((kind) - 1)       /* messages of kind 1 to 5: places 0 to 4 */
 #define REPORT_ANSWER(number) (5 + (number)) /* answers with number 0 to 33: places 5 to 38 */
 #define REPORT_DONE(op) (38 + (op))          /* results taken as done, by opcode 1 to 5: places 39 to 43 */
-#define REPORT_FAILED(op) (43 + (op))        /* results taken as failed: places 44 to 48 */
+#define REPORT_FAILED(op) (43 + (op))        /* results taken as failed or stuck: places 44 to 48 */
 enum {
     REPORT_CARS_IN = 49,  /* drives in that were done */
     REPORT_CARS_OUT = 50, /* drives out that were done */
