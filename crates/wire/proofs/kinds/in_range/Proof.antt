@@ -1,6 +1,6 @@
 use borrow.Author.Needs.{needs}
-use Rattle.wire.proofs.in_range.Statement.{statement}
-use Rattle.wire.proofs.in_range.Tie as tie
+use Rattle.wire.proofs.kinds.in_range.Statement.{statement}
+use Rattle.wire.proofs.kinds.in_range.Tie as tie
 
 enum-told : tie.Need-enum-told
 enum-told c = search needs

@@ -1,11 +1,9 @@
-use Rattle.wire.proofs.Parts.{at-four}
 use Rattle.wire.specs.Reads.{readWhole}
 use borrow.Author.Tests.{ne-eqb}
 use mathlib.Core.Path.{_∙_, sym}
-use denote.Ref.{now}
 use borrow.Author.Needs.{needs}
-use Rattle.wire.proofs.whole_asked.Statement.{statement}
-use Rattle.wire.proofs.whole_asked.Tie as tie
+use Rattle.wire.proofs.kinds.whole_asked.Statement.{statement}
+use Rattle.wire.proofs.kinds.whole_asked.Tie as tie
 
 shared-slice-read-word : tie.Need-shared-slice-read-word
 shared-slice-read-word c = search needs
@@ -25,23 +23,11 @@ read-event-requires c κs = search needs
 read-result-requires : tie.Need-read-result-requires
 read-result-requires c κs = search needs
 
-sub-image-of : tie.Need-sub-image-of
-sub-image-of c = search needs
-
-part-image-of-start : tie.Need-part-image-of-start
-part-image-of-start c = search needs
-
-part-image-of-end : tie.Need-part-image-of-end
-part-image-of-end c = search needs
-
-image-of-requires : tie.Need-image-of-requires
-image-of-requires c κs = search needs
+read-image-requires : tie.Need-read-image-requires
+read-image-requires c κs = search needs
 
 sized-requires : tie.Need-sized-requires
 sized-requires c κs = search needs
-
-sized-requires-2 : tie.Need-sized-requires-2
-sized-requires-2 c κs = search needs
 
 refused-requires : tie.Need-refused-requires
 refused-requires c κs = search needs
@@ -60,11 +46,11 @@ returns-3 c = rw (sym (c .before .before .word .ensures) ∙ c .before .match .k
 
 returns-4 : tie.Need-returns-4
 unfolding readWhole
-returns-4 c = rw (sym (c .before .before .before .before .word .ensures) ∙ c .before .before .before .match .keys4) (c .sized .ensures ∙ rw (c .before .image-of .ensures, at-four (now (c .before .before .before .before .before .before .before .before .args .m))))
+returns-4 c = rw (sym (c .before .before .word .ensures) ∙ c .before .match .keys4) (c .read-image .ensures)
 
 returns-5 : tie.Need-returns-5
 unfolding readWhole
-returns-5 c = rw (sym (c .before .before .word .ensures) ∙ c .before .match .keys5) (c .sized2 .ensures)
+returns-5 c = rw (sym (c .before .before .word .ensures) ∙ c .before .match .keys5) (c .sized .ensures)
 
 returns-6 : tie.Need-returns-6
 unfolding readWhole
@@ -81,12 +67,8 @@ whole-asked-spec =
     read-request-requires
     read-event-requires
     read-result-requires
-    sub-image-of
-    part-image-of-start
-    part-image-of-end
-    image-of-requires
+    read-image-requires
     sized-requires
-    sized-requires-2
     refused-requires
     returns
     returns-2

@@ -1,8 +1,8 @@
 use borrow.Author.Tests.{ne-eqb, eq-eqb}
 use mathlib.Core.Path.{_∙_}
 use borrow.Author.Needs.{needs}
-use Rattle.wire.proofs.sized.Statement.{statement}
-use Rattle.wire.proofs.sized.Tie as tie
+use Rattle.wire.proofs.kinds.sized.Statement.{statement}
+use Rattle.wire.proofs.kinds.sized.Tie as tie
 
 refused-requires : tie.Need-refused-requires
 refused-requires c κs = search needs

@@ -4,8 +4,8 @@ use borrow.Author.Tests.{lt-ltb, le-ltb, ne-eqb, eq-eqb}
 use mathlib.Core.Path.{_∙_}
 use denote.Ref.{now}
 use borrow.Author.Needs.{needs}
-use Rattle.wire.proofs.read_request.Statement.{statement}
-use Rattle.wire.proofs.read_request.Tie as tie
+use Rattle.wire.proofs.kinds.read_request.Statement.{statement}
+use Rattle.wire.proofs.kinds.read_request.Tie as tie
 
 refused-requires : tie.Need-refused-requires
 refused-requires c κs = search needs

@@ -1,7 +1,7 @@
 use mathlib.Core.Path.{_∙_}
 use borrow.Author.Needs.{needs}
-use Rattle.wire.proofs.read_result.Statement.{statement}
-use Rattle.wire.proofs.read_result.Tie as tie
+use Rattle.wire.proofs.kinds.read_result.Statement.{statement}
+use Rattle.wire.proofs.kinds.read_result.Tie as tie
 
 issue-at-requires : tie.Need-issue-at-requires
 issue-at-requires c κs = search needs

@@ -8,8 +8,8 @@ use denote.Ref.{now}
 use Prim.Native.Nat.{_-_}
 use native.Mathlib.Omega.{arith}
 use borrow.Author.Needs.{needs}
-use Rattle.wire.proofs.least_bad.Statement.{statement}
-use Rattle.wire.proofs.least_bad.Tie as tie
+use Rattle.wire.proofs.kinds.least_bad.Statement.{statement}
+use Rattle.wire.proofs.kinds.least_bad.Tie as tie
 
 abbrev Inv-loop : tie.InvT-loop
 Inv-loop m n i₀ i = Passed (badIn (drop 5 m)) n i

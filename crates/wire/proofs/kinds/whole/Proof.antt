@@ -1,11 +1,9 @@
-use Rattle.wire.proofs.Parts.{at-four}
 use Rattle.wire.specs.Reads.{readWhole}
 use borrow.Author.Tests.{ne-eqb}
 use mathlib.Core.Path.{_∙_, sym}
-use denote.Ref.{now}
 use borrow.Author.Needs.{needs}
-use Rattle.wire.proofs.whole.Statement.{statement}
-use Rattle.wire.proofs.whole.Tie as tie
+use Rattle.wire.proofs.kinds.whole.Statement.{statement}
+use Rattle.wire.proofs.kinds.whole.Tie as tie
 
 shared-slice-read-word : tie.Need-shared-slice-read-word
 shared-slice-read-word c = search needs
@@ -19,20 +17,8 @@ word-requires c κs = search needs
 read-answer-requires : tie.Need-read-answer-requires
 read-answer-requires c κs = search needs
 
-sub-image-of : tie.Need-sub-image-of
-sub-image-of c = search needs
-
-part-image-of-start : tie.Need-part-image-of-start
-part-image-of-start c = search needs
-
-part-image-of-end : tie.Need-part-image-of-end
-part-image-of-end c = search needs
-
-image-of-requires : tie.Need-image-of-requires
-image-of-requires c κs = search needs
-
-sized-requires : tie.Need-sized-requires
-sized-requires c κs = search needs
+read-held-requires : tie.Need-read-held-requires
+read-held-requires c κs = search needs
 
 whole-asked-requires : tie.Need-whole-asked-requires
 whole-asked-requires c κs = search needs
@@ -43,7 +29,7 @@ returns c = rw (sym (c .before .before .word .ensures) ∙ c .before .match .key
 
 returns-2 : tie.Need-returns-2
 unfolding readWhole
-returns-2 c = rw (sym (c .before .before .before .before .word .ensures) ∙ c .before .before .before .match .keys2) (c .sized .ensures ∙ rw (c .before .image-of .ensures, at-four (now (c .before .before .before .before .before .before .before .before .args .m))))
+returns-2 c = rw (sym (c .before .before .word .ensures) ∙ c .before .match .keys2) (c .read-held .ensures)
 
 returns-3 : tie.Need-returns-3
 unfolding readWhole
@@ -57,11 +43,7 @@ whole-spec =
     shared-slice-read-word-2
     word-requires
     read-answer-requires
-    sub-image-of
-    part-image-of-start
-    part-image-of-end
-    image-of-requires
-    sized-requires
+    read-held-requires
     whole-asked-requires
     returns
     returns-2

@@ -1,7 +1,7 @@
 use mathlib.Core.Path.{_∙_}
 use borrow.Author.Needs.{needs}
-use Rattle.wire.proofs.read_event.Statement.{statement}
-use Rattle.wire.proofs.read_event.Tie as tie
+use Rattle.wire.proofs.kinds.read_event.Statement.{statement}
+use Rattle.wire.proofs.kinds.read_event.Tie as tie
 
 byte-requires : tie.Need-byte-requires
 byte-requires c κs = search needs
