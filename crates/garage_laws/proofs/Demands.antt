@@ -75,7 +75,7 @@ pub first-is-zero : FirstIsZero
 first-is-zero = issues.first-is-zero
 
 pub image-keeps-count : ImageKeepsCount
-image-keeps-count s r apart = issues.issues-in-turn s (run.image r apart) .1
+image-keeps-count s r apart = issues.in-turn s (run.image r apart) .1
 
 pub behind-counts : BehindCounts
 behind-counts = issues.behind-counts

@@ -25,7 +25,7 @@ use Rattle.garage_laws.proofs.Instance.{rules, possibleAs, allowed-has}
 use Rattle.garage_laws.proofs.Calls.{success-is, failure-is, stuck-is, event-has, event-is, event-number}
 use Rattle.garage_laws.proofs.EachCall.{untouched}
 use Rattle.garage_laws.proofs.Steps.{steps}
-use Rattle.garage_laws.proofs.Issues.{issues-in-turn}
+use Rattle.garage_laws.proofs.Issues.{in-turn}
 use Rattle.garage_laws.proofs.Always.{fit-step}
 use Rattle.garage_laws.proofs.Apart.{lost-lift}
 use Rattle.garage_laws.proofs.Link.{view, blocked-lift, drivable, resulted, result-view}
@@ -70,8 +70,8 @@ module _ (s : Station) (f : fit s ≡ true) (e : ℕ) where
 -- results and events keep the issue of the next set
 pub next-kept : (k : ℕ) (l : List (Act ℕ)) (s : Station) → calls s (map (asCall k) l) .next ≡ s .next
 next-kept k [] s = refl
-next-kept k (result i o ∷ l) s = next-kept k l (left s (run.result k i (ending o))) ∙ issues-in-turn s (run.result k i (ending o)) .1
-next-kept k (event e ∷ l) s = next-kept k l (left s (run.event e)) ∙ issues-in-turn s (run.event e) .1
+next-kept k (result i o ∷ l) s = next-kept k l (left s (run.result k i (ending o))) ∙ in-turn s (run.result k i (ending o)) .1
+next-kept k (event e ∷ l) s = next-kept k l (left s (run.event e)) ∙ in-turn s (run.event e) .1
 
 -- so the present one is the same
 present-kept : (k : ℕ) (s : Station) (a : Act ℕ) → k ≡ present s → k ≡ present (left s (asCall k a))

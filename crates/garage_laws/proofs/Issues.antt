@@ -74,20 +74,27 @@ module _ (s : Station) where
   result-keeps k i (suc (suc zero)) e = let (p, w) = stuck-has s k i e in by-taken (run.result k i 2) (stuck-is s k i p w) (answered-next i (s .bits) (apartWith s i))
   result-keeps k i (suc (suc (suc n))) e = absurd (omega (arith, ending-has s (record { issue = k; number = i; ending = suc (suc (suc n)) }) e))
 
-  request-turns : (n : ℕ) (set : List ℕ) → let c = run.request n set in
-      (carried s c ≡ cond (opens s c) (s .next) 0) × (left s c .next ≡ cond (opens s c) (issueAfter (s .next)) (s .next))
+  -- what a call carries, and the next that it leaves
+  abbrev pub InTurn : Call → Type 0
+  InTurn c = (carried s c ≡ cond (opens s c) (s .next) 0) × (left s c .next ≡ cond (opens s c) (issueAfter (s .next)) (s .next))
+
+  request-turns : (n : ℕ) (set : List ℕ) → InTurn (run.request n set)
   request-turns n set = split (eqb (said s (run.request n set)) 0)
       (λ t. let e = request-is s n set (request-has s n set (eqb-true _ 0 t)) in
       (rw t (ap (λ (o : Outcome). issueOf (o .answer)) e), rw t (ap (λ (o : Outcome). o .station .next) e)))
       (λ t. let x = eqb-false _ 0 t in
       (rw t (refusal-none (call s (run.request n set) .answer) x), rw t (ap (λ (t : Station). t .next) (untouched s (run.request n set) x))))
 
+  -- what follows rests on this, so that a wrong law of it is refused alone
+  pub in-turn : (c : Call) → InTurn c
+  in-turn (run.request n set) = request-turns n set
+  in-turn (run.reports r) = by-said (run.reports r) (result-keeps (r .issue) (r .number) (r .ending))
+  in-turn (run.event e) = by-said (run.event e) (λ z. by-taken (run.event e) (event-is s e (event-has s e z)) refl)
+  in-turn (run.pictures p) = by-said (run.pictures p) (λ z. by-taken (run.pictures p) (image-is s (p .bits) (p .apart) (image-has s (p .bits) (p .apart) z)) refl)
+  in-turn run.ask = by-said run.ask (λ z. by-taken run.ask (ask-is s (ask-has s z)) refl)
+
 pub issues-in-turn : IssuesInTurn
-issues-in-turn s (run.request n set) = request-turns s n set
-issues-in-turn s (run.reports r) = by-said s (run.reports r) (result-keeps s (r .issue) (r .number) (r .ending))
-issues-in-turn s (run.event e) = by-said s (run.event e) (λ z. by-taken s (run.event e) (event-is s e (event-has s e z)) refl)
-issues-in-turn s (run.pictures p) = by-said s (run.pictures p) (λ z. by-taken s (run.pictures p) (image-is s (p .bits) (p .apart) (image-has s (p .bits) (p .apart) z)) refl)
-issues-in-turn s run.ask = by-said s run.ask (λ z. by-taken s run.ask (ask-is s (ask-has s z)) refl)
+issues-in-turn = in-turn
 
 -- ---- after several calls
 
@@ -96,13 +103,13 @@ none-opened : (l : List Call) (s : Station) → setsOpened s l ≡ 0 → calls s
 none-opened [] s e = refl
 none-opened (c ∷ l) s e = split (opens s c)
     (λ t. let one : digit (opens s c) ≡ 1 = rw t in absurd (omega arith))
-    (λ t. none-opened l (left s c) (omega arith) ∙ issues-in-turn s c .1 ∙ rw t)
+    (λ t. none-opened l (left s c) (omega arith) ∙ in-turn s c .1 ∙ rw t)
 
 pub first-is-zero : FirstIsZero
 first-is-zero l e n set z =
     let s = calls startOf l in
     let first : s .next ≡ 0 = none-opened l startOf e in
-    let (a, b) = issues-in-turn s (run.request n set) in
+    let (a, b) = in-turn s (run.request n set) in
     let taken : opens s (run.request n set) ≡ true = eq-eqb _ 0 z in
     let second : left s (run.request n set) .next ≡ 1 = b ∙ rw (taken, first) in
     (a ∙ rw taken first, ap (λ (k : ℕ). (k + 65535) % 65536) second)
@@ -111,9 +118,9 @@ first-is-zero l e n set z =
 present-moves : (l : List Call) (s : Station) → present (calls s l) ≡ (present s + setsOpened s l) % 65536
 present-moves [] s = omega arith
 present-moves (c ∷ l) s = present-moves l (left s c) ∙ split (opens s c)
-    (λ t. let p : left s c .next ≡ issueAfter (s .next) = issues-in-turn s c .1 ∙ rw t in
+    (λ t. let p : left s c .next ≡ issueAfter (s .next) = in-turn s c .1 ∙ rw t in
     let one : digit (opens s c) ≡ 1 = rw t in omega arith)
-    (λ t. let p : left s c .next ≡ s .next = issues-in-turn s c .1 ∙ rw t in
+    (λ t. let p : left s c .next ≡ s .next = in-turn s c .1 ∙ rw t in
     let none : digit (opens s c) ≡ 0 = rw t in omega arith)
 
 pub behind-counts : BehindCounts
