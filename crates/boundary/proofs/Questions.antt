@@ -21,7 +21,7 @@ use Rattle.rules.specs.Rules.{areaOf, allowed, next}
 use Rattle.rules.specs.Codes.{readCode, readBytes, codeFrom}
 use Rattle.rules.specs.Verdicts.{isAllowed, verdictOf, movedBy, movedOf, answerFor, onCode, codeVerdict}
 use Rattle.rules.proofs.Reasons.{allows-is}
-use Rattle.garage.specs.Held.{codeAt, isGood, heldArea, heldAllowed, overlapsEarlier, liftIn, crossesDrive, crosses}
+use Rattle.garage.specs.Held.{codeAt, touches, isGood, heldArea, heldAllowed, overlapsEarlier, liftIn, crossesDrive, crosses}
 use Rattle.garage.specs.Station.{closed}
 use Rattle.garage.specs.Calls as station
 use Rattle.garage_laws.specs.Runs.{request, said}
@@ -37,14 +37,14 @@ module _ (r after : ℕ) (five : List ℕ) (e : sound r ≡ true) (h : 5 ≤ len
   told (NotAllowed why) x = refl
   told IllFormed x = refl
 
-  pub asked : (g : Reading) → readCode (codeFrom five) ≡ g → numberOf (judgement r five) ≡ said (closed r after) (request 1 five)
-  unfolding station.request station.requested station.cleared station.accepted least some codeAt isGood heldArea heldAllowed overlapsEarlier liftIn crossesDrive crosses codeVerdict moved movedOf readBytes
-  asked Bad p = ap numberOf (clear-says r five h (rw p (and-false (holds underWay (bit r))))) ∙ rw (le-ltb (length five) 5 h, p, fit-closed r after e)
+  pub asked : (g : Reading) → readCode (codeFrom five) ≡ g → numberOf (judgement r five) ≡ said (closed r after 0) (request 1 five)
+  unfolding station.request station.requested station.cleared station.spared station.accepted touches least some codeAt isGood heldArea heldAllowed overlapsEarlier liftIn crossesDrive crosses codeVerdict moved movedOf readBytes
+  asked Bad p = ap numberOf (clear-says r five h (rw p (and-false (holds underWay (bit r))))) ∙ rw (le-ltb (length five) 5 h, p, fit-closed r after 0 e (omega arith))
   asked (Good i) p = split (holds underWay (bit r) && share (areaOf i) lift)
       (λ c. let (u, l) = both (holds underWay (bit r)) (share (areaOf i) lift) c in
-      ap numberOf (crossed-says r five h (rw p c)) ∙ rw (p, fit-closed r after e, u, l))
+      ap numberOf (crossed-says r five h (rw p c)) ∙ rw (p, fit-closed r after 0 e (omega arith), u, l))
       (λ c. ap numberOf (clear-says r five h (rw p c))
-      ∙ rw (le-ltb (length five) 5 h, p, fit-closed r after e, or-false (share (areaOf i) lift), c)
+      ∙ rw (le-ltb (length five) 5 h, p, fit-closed r after 0 e (omega arith), or-false (share (areaOf i) lift), c)
       (told (verdictOf i r) (image (next i (bit r))) ∙ rw (allows-is i r) (split (allowed i (bit r)) (λ a. rw a) (λ a. rw (a, p)))))
 
 pub question-is-request : QuestionIsRequest
