@@ -118,7 +118,8 @@ every-whole : T (everywhere wholeOrNone)
 unfolding everywhere every
 every-whole = tt
 
-same-as : (a b : Bool) → cond a b (not b) ≡ true → b ≡ a
+-- two tests that are found alike by computation
+pub same-as : (a b : Bool) → cond a b (not b) ≡ true → b ≡ a
 same-as true b e = e
 same-as false b e = not-true b e
 

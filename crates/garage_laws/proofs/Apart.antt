@@ -2,7 +2,7 @@
 -- places and the drives. A stuck instruction adds its reach, and an instruction or an event meets it exactly where the station says so.
 -- Assumes nothing.
 use mathlib.Core.Path.{_≡_, refl, sym, ap, ap₂, fun-ext, _∙_}
-use mathlib.Core.Bool.{Bool, true, false, not, cond, _&&_, _||_, and-false, or-comm}
+use mathlib.Core.Bool.{Bool, true, false, not, cond, _&&_, _||_, and-false, or-false, or-comm}
 use mathlib.Core.List.{[], _++_}
 use Prim.Native.Nat.{ℕ, _+_, _-_, _^_, _≤_, _<_}
 use native.Mathlib.Omega.{arith}
@@ -12,7 +12,7 @@ use borrow.Author.Tests.{ltb-true, ltb-false, lt-ltb, le-ltb, eqb-true, not-true
 use Rattle.bits.specs.Bits.{bit}
 use Rattle.bits.specs.Places.{elem, share}
 use Rattle.bits.specs.Search.{some, every}
-use Rattle.bits.proofs.Cases.{split, clash, off, both, alike, and-intro}
+use Rattle.bits.proofs.Cases.{split, off, both, alike, and-intro}
 use Rattle.bits.proofs.Digits.{bit-image, bit-none, bit-ext}
 use Rattle.bits.proofs.Lists.{elem-append}
 use Rattle.bits.proofs.Operations.{bit-or}
@@ -22,7 +22,7 @@ use Rattle.floor.specs.Floor.{lift, drives}
 use Rattle.rules.specs.declared.Code.{Code}
 use Rattle.sets.proofs.Machine.{meets, lost}
 use Rattle.garage.specs.Held.{heldArea, partsIn, heldParts}
-use Rattle.garage.proofs.Areas.{held-small, held-upper}
+use Rattle.garage.proofs.Areas.{same-as, held-small, held-upper}
 use Rattle.garage_laws.proofs.Reach.{reach}
 use Rattle.garage_laws.proofs.Instance.{rules}
 
@@ -31,12 +31,6 @@ abbrev pub awayOf : ℕ → ℕ → Bool
 awayOf a k = cond (ltb k 52) (bit a k) (ltb k 57 && bit a 52)
 
 -- ---- a reach, place by place
-
--- a law of two tests below 64 by computation
-same-as : (a b : Bool) → cond a b (not b) ≡ true → b ≡ a
-same-as true b e = e
-same-as false true e = clash e refl
-same-as false false e = refl
 
 -- the lift and the drives are the places 52 to 56
 abbrev liftPlace : ℕ → Bool
@@ -75,15 +69,11 @@ module _ (x : Code) where
 
   pub reach-at : (k : ℕ) → k < 64 → elem k (reach x) ≡ cond (ltb k 52) (elem k (heldArea x)) (ltb k 57 && lifts)
   reach-at k h = elem-append k (heldArea x) (cond lifts drives []) ∙ split (ltb k 52)
-      (λ t. rw t (split lifts (λ u. rw (u, drive-places k h) (low k (ltb-true k 52 t))) (λ u. rw u (or-none (elem k (heldArea x))))))
+      (λ t. rw t (split lifts (λ u. rw (u, drive-places k h) (low k (ltb-true k 52 t))) (λ u. rw u (or-false (elem k (heldArea x))))))
       (λ t. rw (t, upper k h t) (split lifts (λ u. rw (u, drive-places k h) (high k)) (λ u. rw u (none k))))
     where
-      or-none : (b : Bool) → b || false ≡ b
-      or-none true = refl
-      or-none false = refl
-
       low : (k : ℕ) → k < 52 → elem k (heldArea x) || (not (ltb k 55) && ltb k 57) ≡ elem k (heldArea x)
-      low k l = rw (lt-ltb k 55 (omega arith)) (or-none (elem k (heldArea x)))
+      low k l = rw (lt-ltb k 55 (omega arith)) (or-false (elem k (heldArea x)))
 
       high : (k : ℕ) → (ltb k 55 && true) || (not (ltb k 55) && ltb k 57) ≡ ltb k 57 && true
       high k = split (ltb k 55)
@@ -91,7 +81,7 @@ module _ (x : Code) where
           (λ u. rw u (split (ltb k 57) (λ v. rw v) (λ v. rw v)))
 
       none : (k : ℕ) → (ltb k 55 && false) || false ≡ ltb k 57 && false
-      none k = or-none (ltb k 55 && false) ∙ and-false (ltb k 55) ∙ sym (and-false (ltb k 57))
+      none k = or-false (ltb k 55 && false) ∙ and-false (ltb k 55) ∙ sym (and-false (ltb k 57))
 
   -- ---- a stuck instruction
 

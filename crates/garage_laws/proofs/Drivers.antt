@@ -2,7 +2,7 @@
 -- Assumes nothing.
 use mathlib.Core.Path.{_≡_, refl, sym, ap, subst, _∙_}
 use mathlib.Core.Logic.{_⊎_, inl, inr, ⊎-elim}
-use mathlib.Core.Bool.{Bool, true, false, cond, not, _&&_, _||_}
+use mathlib.Core.Bool.{Bool, true, false, cond, not, _&&_, or-false}
 use mathlib.Core.List.{List, [], _∷_}
 use Prim.Native.Nat.{ℕ, _+_, _≤_, _<_}
 use native.Mathlib.Omega.{arith}
@@ -214,11 +214,7 @@ beside-drive : (s : Station) (i : ℕ) → fit s ≡ true → i < s .count → h
 unfolding crosses
 beside-drive s i f h u =
     let o : share (heldArea (codeAt (s .set) i)) lift ≡ false = rw u at (crosses-none (s .bits) (s .set) (s .count) (fit-has s f .clear) i h) in
-    bit-or (s .apart) (heldParts (codeAt (s .set) i)) 52 ∙ rw (part-lift (codeAt (s .set) i), o) (or-none (bit (s .apart) 52))
-  where
-    or-none : (b : Bool) → b || false ≡ b
-    or-none true = refl
-    or-none false = refl
+    bit-or (s .apart) (heldParts (codeAt (s .set) i)) 52 ∙ rw (part-lift (codeAt (s .set) i), o) (or-false (bit (s .apart) 52))
 
 free-step : (s t : Station) (c : Call) → Step s c t → fit s ≡ true → Free s → Free t
 free-step s t c (refuses n) f F = F
