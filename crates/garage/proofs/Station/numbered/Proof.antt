@@ -1,9 +1,11 @@
 -- `garage::Station::numbered` meets its contract: a chain of refusals in the order of the definition. Assumes nothing.
 use native.Mathlib.Omega.{arith}
-use mathlib.Core.Path.{_∙_}
+use mathlib.Core.Path.{_≡_, _∙_}
+use mathlib.Core.Bool.{true, false}
 use borrow.Author.Tests.{eq-eqb, ne-eqb}
 use borrow.Author.Needs.{needs}
 use Rattle.bits.proofs.Cases.{failed, passed}
+use Rattle.garage.specs.Station.{marked}
 use Rattle.garage.specs.Calls.{numbered}
 use Rattle.garage.proofs.Marks.{in-set}
 use Rattle.garage.proofs.Station.numbered.Statement.{statement}
@@ -27,14 +29,20 @@ unmoved-requires-2 c κs = search needs
 
 returns-2 : tie.Need-returns-2
 unfolding numbered
-returns-2 c = c .unmoved2 .ensures ∙ rw (passed (c .before .before .before .before .in-set .ensures) (c .before .before .before .if1 .left), eq-eqb _ _ (c .before .if2 .taken))
+returns-2 c =
+    let a = c .before .before .before .before .before .args in
+    let answered : marked (a .self) (a .i) ≡ true = eq-eqb _ _ (c .before .if2 .taken) in
+    c .unmoved2 .ensures ∙ rw (passed (c .before .before .before .before .in-set .ensures) (c .before .before .before .if1 .left), answered)
 
 ended-requires : tie.Need-ended-requires
 ended-requires c κs = let a = c .before .before .before .before .args in in-set (a .self) (a .i) (passed (c .before .before .before .in-set .ensures) (c .before .before .if1 .left))
 
 returns-3 : tie.Need-returns-3
 unfolding numbered
-returns-3 c = c .ended .ensures ∙ rw (passed (c .before .before .before .before .in-set .ensures) (c .before .before .before .if1 .left), ne-eqb _ _ (c .before .if2 .left))
+returns-3 c =
+    let a = c .before .before .before .before .before .args in
+    let waits : marked (a .self) (a .i) ≡ false = ne-eqb _ _ (c .before .if2 .left) in
+    c .ended .ensures ∙ rw (passed (c .before .before .before .before .in-set .ensures) (c .before .before .before .if1 .left), waits)
 
 pub numbered-spec : {M : Type 1} → statement M
 numbered-spec =
