@@ -23,7 +23,7 @@ pub read-tail : (n i x : ℕ) (s : List ℕ) → fromLittleEndian n (suc i) (x �
 read-tail zero i x s = refl
 read-tail (suc n) i x s = rw (read-tail n (suc i) x s)
 
-read-from : (n k : ℕ) (s : List ℕ) → n ≤ length s → fromLittleEndian k n s ≡ fromLittleEndian k 0 (drop n s)
+pub read-from : (n k : ℕ) (s : List ℕ) → n ≤ length s → fromLittleEndian k n s ≡ fromLittleEndian k 0 (drop n s)
 read-from zero k s h = refl
 read-from (suc n) k [] h = absurd (omega arith)
 read-from (suc n) k (x ∷ s) h = read-tail k n x s ∙ read-from n k s (omega arith)
