@@ -80,7 +80,7 @@ AskWrites =
 -- a message writes its reply, a refusal too
 abbrev pub MessageWrites : Type 0
 MessageWrites =
-    (room m out : List ℕ) → stationSize ≤ length room → 12 ≤ length out
+    (room m out : List ℕ) → stationSize ≤ length room → 20 ≤ length out
     → let b = answerBytes (reply (stationOf room) (heard m) .answer) in exchange room m out .reply ≡ b ++ drop (length b) out
 
 -- ---- so what is promised of calls holds of bytes
