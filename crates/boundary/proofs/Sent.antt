@@ -65,8 +65,7 @@ images-sized input b = sized-for (length input) input b
 pub program-sound : ProgramSound
 program-sound pieces =
     let l = callsIn (heardIn (join pieces)) in
-    let e = sym (pieces-are-calls startOf pieces .1) in
-    (
+    let e = sym (pieces-are-calls startOf pieces .1) in (
       subst (λ (t : Station). fit t ≡ true) e (start-fit l),
       λ p h. subst (λ (t : Station). Sound (bit (applied (stuck startOf l) p (t .bits)))) e (always-laid-out startOf atStart l p h),
     )
