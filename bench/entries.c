@@ -12,7 +12,7 @@
 enum { CALLS = 200000 };
 
 static uint8_t start[STATION_SIZE], outstanding[STATION_SIZE], with_eight[STATION_SIZE], room[STATION_SIZE];
-static uint8_t image[STATION_IMAGE_SIZE], answer[STATION_REPLY_MOST];
+static uint8_t image[STATION_SHOWN_SIZE], answer[STATION_REPLY_MOST];
 static uint16_t issue; /* the outstanding set's */
 static const uint8_t left_belt[STATION_CODE_SIZE] = {GARAGE_BELTS, 1, 2, GARAGE_LOWER, GARAGE_FULL};
 static const uint8_t shuttle[STATION_CODE_SIZE] = {GARAGE_SHUTTLES, GARAGE_LEFT, 2, GARAGE_LOWERED, GARAGE_HIGHER};
@@ -33,7 +33,7 @@ CALL(request) { memcpy(room, start, STATION_SIZE); station_request(room, STATION
 CALL(eight) { memcpy(room, start, STATION_SIZE); station_request(room, STATION_SIZE, STATION_MOST, eight, sizeof eight); }
 CALL(event) { memcpy(room, start, STATION_SIZE); station_event(room, STATION_SIZE, STATION_BEGIN_IN); }
 CALL(result) { memcpy(room, outstanding, STATION_SIZE); station_result(room, STATION_SIZE, issue, 0, STATION_DONE); }
-CALL(image) { memcpy(room, start, STATION_SIZE); station_image(room, STATION_SIZE, STATION_START_IMAGE); }
+CALL(image) { memcpy(room, start, STATION_SIZE); station_image(room, STATION_SIZE, STATION_START_IMAGE, 0); }
 CALL(ask) { station_ask(start, STATION_SIZE, image, sizeof image); }
 CALL(message) { memcpy(room, start, STATION_SIZE); station_message(room, STATION_SIZE, request, sizeof request, answer, sizeof answer); }
 CALL(result_of_eight) { memcpy(room, with_eight, STATION_SIZE); station_result(room, STATION_SIZE, issue, 0, STATION_DONE); }
@@ -42,7 +42,7 @@ CALL(ask_beside_eight) { station_ask(with_eight, STATION_SIZE, image, sizeof ima
 CALL(sound) { garage_sound(STATION_START_IMAGE); }
 CALL(cars) { garage_cars(STATION_START_IMAGE); }
 CALL(allowed) { garage_allowed(STATION_START_IMAGE, left_belt, sizeof left_belt); }
-#define NEXT(name) CALL(next_##name) { garage_next(STATION_START_IMAGE, name, sizeof name, image, sizeof image); }
+#define NEXT(name) CALL(next_##name) { garage_next(STATION_START_IMAGE, name, sizeof name, image, STATION_IMAGE_SIZE); }
 NEXT(left_belt)
 NEXT(shuttle)
 NEXT(tilt)

@@ -53,7 +53,7 @@ fn main() {
     time("station_request", || lent(&start, |station| station.request(black_box(1), black_box(&LEFT_BELT))));
     time("station_event", || lent(&start, |station| station.event(black_box(1))));
     time("station_result", || lent(&outstanding, |station| station.result(black_box(issue), black_box(0), black_box(1))));
-    time("station_image", || lent(&start, |station| station.image(black_box(START))));
+    time("station_image", || lent(&start, |station| station.image(black_box(START), black_box(0))));
     time("station_ask", || lent(&start, |station| station.ask()));
     time("station_message", || lent(&start, |station| match reference::read_call(black_box(&REQUEST)) {
         Ok((call @ Call::Request { .. }, _)) => station.take(call),

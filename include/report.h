@@ -66,7 +66,7 @@ enum { REPORT_NONE = 255 };
 #define REPORT_KIND(kind) ((kind) - 1)       /* messages of kind 1 to 5: places 0 to 4 */
 #define REPORT_ANSWER(number) (5 + (number)) /* answers with number 0 to 33: places 5 to 38 */
 #define REPORT_DONE(op) (38 + (op))          /* results taken as done, by opcode 1 to 5: places 39 to 43 */
-#define REPORT_FAILED(op) (43 + (op))        /* results taken as failed: places 44 to 48 */
+#define REPORT_FAILED(op) (43 + (op))        /* results taken as failed or stuck: places 44 to 48 */
 enum {
     REPORT_CARS_IN = 49,  /* drives in that were done */
     REPORT_CARS_OUT = 50, /* drives out that were done */
@@ -79,7 +79,7 @@ enum {
     (REPORT_BYTE(totals, place, 0) | REPORT_BYTE(totals, place, 1) | REPORT_BYTE(totals, place, 2) | REPORT_BYTE(totals, place, 3))
 
 /* The bytes of stack that a call may take on x86-64, below the frame that makes it. No theorem says so: it is added up over the archive's
- * instructions for every path. That comes to about 2620 for report_lines, 1460 for report_message and 140 for report_start; the C
+ * instructions for every path. That comes to about 2620 for report_lines, 1560 for report_message and 140 for report_start; the C
  * library's memcpy and the like are left out. */
 enum { REPORT_STACK_MOST = 3072 };
 

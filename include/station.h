@@ -3,8 +3,8 @@
  * The station keeps the record of one garage: which cells are occupied, where the shuttles stand, the lift's height. A planner
  * sends it sets of up to eight instructions; the station accepts a set or says why not, and changes its record only when an
  * instruction is reported done. It is told when a driver begins to drive in or out and how that ended; in between nothing may move the
- * lift. The entries below are proved to answer what the definitions in crates/station_c/specs/Entries.antt
- * say, on every input; nothing proves this header or its caller right, so:
+ * lift. What is reported stuck is set apart: nothing may be run into it until somebody has looked. The entries below are proved to answer
+ * what the definitions in crates/station_c/specs/Entries.antt say, on every input; nothing proves this header or its caller right, so:
  *
  * What the caller must see to
  *   - Each pointer goes with the length that follows it, and is valid for that many bytes: to read where it is `const`, to read and
@@ -18,24 +18,26 @@
  *   - Bytes that are no station are refused with STATION_UNFIT, by every call but station_start: the record must be sound and what
  *     stands beside it well formed. A drive under way and a set with the lift in an area are no station together; nor is a set of which
  *     two instructions overlap, answered or not, or of which one that still waits for its result is not allowed on the record. One that
- *     is answered need not be.
+ *     is answered need not be. What is set apart may be anything, but has no bit above 52.
  *   - Bytes that station_start wrote, and after it these entries alone, are a station with all that is promised: each call answers by
  *     the rules, an accepted set is safe in any order of its results, and the record is what the results and events since the start,
- *     or since the last image that was taken, have made of it. They may be copied, kept, and put back as they are; the record and the
- *     count of sets are then those of when they were kept.
+ *     or since the last image that was taken, have made of it; whichever of the instructions that got stuck since then did in fact
+ *     finish, the record on which these are done has a layout of as many cars. They may be copied, kept, and put back as they are; the
+ *     record, the count of sets and what is set apart are then those of when they were kept.
  *   - Other bytes that happen to be a station, another garage's or made by hand, are answered as that station: each call still answers
  *     by the rules and leaves a station whose record is sound. But the record need not be this garage's, and the set that they say is
  *     outstanding need never have been accepted.
  *
  * A station is lent as STATION_SIZE bytes, `room`: the record in eight bytes, the lowest first; how many instructions the
  * outstanding set has; a bit for each of them that is answered; five bytes for each, and zeros in the unused places; the issue of the
- * next set in two bytes, the lowest first, which may be any. A longer room is fine, and what stands past those bytes keeps its value.
+ * next set in two bytes, the lowest first, which may be any; what is set apart in eight bytes, the lowest first. A longer room is fine, and
+ * what stands past those bytes keeps its value.
  *
  * Answers. An entry that returns uint32_t answers with a number of the table below, a place and an issue: STATION_NUMBER,
  * STATION_PLACE and STATION_SET take them apart. The place is the instruction at fault, counted from 0, in a request for
- * STATION_BAD_FIELD, STATION_OVERLAP and the reasons, 20 to 28; else it is STATION_NOWHERE. The issue is that of the set where a
- * request was taken, else 0. A call that isn't taken writes nothing; of a message that isn't, only the refusal is written, as the
- * message that answers it (station_message).
+ * STATION_BAD_FIELD, STATION_SET_APART, STATION_OVERLAP and the reasons, 20 to 28; else it is STATION_NOWHERE. The issue is that of the
+ * set where a request was taken, else 0. A call that isn't taken writes nothing; of a message that isn't, only the refusal is written, as
+ * the message that answers it (station_message).
  *
  * Issues. Each accepted set has a number of 16 bits, its issue: 0 for the first set since station_start, then one more for each set,
  * and 0 again after 65535. A request that is refused takes none, and an event or an image leaves the count as it is. A result says of
@@ -48,6 +50,13 @@
  * in the area of any of its instructions while one is, are refused with STATION_OUT_OF_TURN. The lift is in the area of GARAGE_LIFT, of
  * GARAGE_ROTATE, and of GARAGE_BELTS in row 1 with the lift's belt. Everything else goes on meanwhile. An end that is done moves the car
  * on or off the raised lift (bit 52); one that isn't leaves it where it was. An image in the middle of a drive replaces it.
+ *
+ * Jams. A motor may leave its load between two places: its instruction is reported stuck (STATION_STUCK). That answers it, and no other
+ * result of it is taken. The record stays, but what is in fact there is not known, so everything in the instruction's area is set apart:
+ * cells, shuttles' slots, and the lift. A number of 64 bits shows it, bits 0 to 51 as in the record and bit 52 for the lift. It grows by
+ * each such result, outlives the set, and is cleared by an image that is taken and by nothing else (station_image). Until then a set that
+ * touches a part set apart is refused with STATION_SET_APART and the least such instruction as its place, whether it would be allowed or
+ * not, and an event is while the lift is one. Everything else goes on meanwhile. The questions on a record know nothing of it.
  *
  * Reasons. An instruction that the record doesn't allow is refused for the first of its conditions that fails, in this order; a request,
  * for its least instruction that isn't allowed, whatever a later one has:
@@ -88,7 +97,7 @@ enum {
     STATION_NO_SET = 11,            /* a result, and no set is outstanding */
     STATION_NOT_IN_SET = 12,        /* a result for an instruction that the set doesn't have */
     STATION_ALREADY_ANSWERED = 13,  /* a second result for one instruction */
-    STATION_UNSOUND = 15,           /* the image is no possible garage */
+    STATION_UNSOUND = 15,           /* the image is no possible garage, or sets something apart */
     STATION_UNFIT = 16,             /* the lent bytes are no station */
     STATION_NO_ROOM = 17,           /* lent room is too short */
     STATION_NOTHING_NAMED = 20,     /* an instruction names no belt, or no row */
@@ -102,7 +111,8 @@ enum {
     STATION_CELLS_NOT_FREE = 28,    /* cells that must be free for the tilt or the rotation aren't */
     STATION_LATE = 29,              /* a result of a set 1 to 32767 before the outstanding one */
     STATION_NOT_ISSUED = 30,        /* a result of a set that is neither that nor the outstanding one */
-    STATION_OUT_OF_TURN = 31        /* a drive is under way, for a begin or a set with the lift in an area; none is, for an end */
+    STATION_OUT_OF_TURN = 31,       /* a drive is under way, for a begin or a set with the lift in an area; none is, for an end */
+    STATION_SET_APART = 32          /* an instruction touches a part that is set apart; for an event, the lift is */
 };
 
 /* The place where an answer names no instruction. */
@@ -110,18 +120,18 @@ enum { STATION_NOWHERE = 255 };
 
 /* Sizes in bytes, and the largest set. */
 enum {
-    STATION_SIZE = 52,         /* a station */
+    STATION_SIZE = 60,         /* a station */
     STATION_IMAGE_SIZE = 8,    /* a record, the lowest byte first */
+    STATION_SHOWN_SIZE = 16,   /* a record, then what is set apart, each with its lowest byte first */
     STATION_CODE_SIZE = 5,     /* an instruction */
     STATION_MOST = 8,          /* instructions in a set */
     STATION_MESSAGE_MOST = 45, /* the longest message */
-    STATION_REPLY_MOST = 12    /* the longest message that station_message writes */
+    STATION_REPLY_MOST = 20    /* the longest message that station_message writes */
 };
 
 /* The bytes of stack that a call may take on x86-64, below the frame that makes it. No theorem says so: it is measured on many calls, and
- * added up over the archive's instructions for every path. That comes to about 1050 for station_message, 950 for station_request, 820 for
- * station_result, 810 for station_event, and less than 750 for each other; the C library's memcpy and the like are left out. */
-enum { STATION_STACK_MOST = 1280 };
+ * added up over the archive's instructions for every path; the C library's memcpy and the like are left out. */
+enum { STATION_STACK_MOST = 2048 };
 
 /* The record of the start: no cars, rows 1 and 2 lowered and row 3 tilted on both sides, the lift at street height. */
 #define STATION_START_IMAGE UINT64_C(0x00091B0000000000)
@@ -147,7 +157,11 @@ enum {
     STATION_END_DONE = 3,    /* the drive has ended, and the car did come or go */
     STATION_END_NOT_DONE = 4 /* it has ended, and the car did not */
 };
-enum { STATION_FAILED = 0, STATION_DONE = 1 };
+enum {
+    STATION_FAILED = 0, /* nothing moved */
+    STATION_DONE = 1,   /* it is done */
+    STATION_STUCK = 2   /* it got stuck on the way, and what is in its area is not known */
+};
 
 /* Kinds of messages: those that a station reads, and the two that it answers with. */
 enum {
@@ -169,23 +183,26 @@ enum {
 uint32_t station_start(uint8_t *room, size_t room_length);
 
 /* Requests a set of `count` instructions: the first 5 * count bytes of `set`, and none past them. 17; 1 if count is at most eight and
- * `set` is shorter than that; 16; then 6, 5, 7, 4, 31, 8, 20 to 28. Taken, the set is outstanding, the record is as it was, and the
+ * `set` is shorter than that; 16; then 6, 5, 7, 4, 31, 32, 8, 20 to 28. Taken, the set is outstanding, the record is as it was, and the
  * answer has the set's issue: STATION_SET. */
 uint32_t station_request(uint8_t *room, size_t room_length, uint8_t count, const uint8_t *set, size_t set_length);
 
 /* A drive begins (STATION_BEGIN_IN, STATION_BEGIN_OUT) or ends (STATION_END_DONE, STATION_END_NOT_DONE). A begin leaves cars as they are;
- * with an end the drive is no longer under way. 17, 16, then 4, 6, 31 and, of a begin, 10. */
+ * with an end the drive is no longer under way. 17, 16, then 4, 6, 31, 32 and, of a begin, 10. */
 uint32_t station_event(uint8_t *room, size_t room_length, uint8_t way);
 
-/* The result of instruction `number`, counted from 0, of the set that was given `issue`: STATION_DONE applies it to the record,
- * STATION_FAILED leaves the record as it is. With the last result the set is no longer outstanding. 17, 16, then 4, 11, 29, 30, 12, 13. */
-uint32_t station_result(uint8_t *room, size_t room_length, uint16_t issue, uint8_t number, uint8_t done);
+/* The result of instruction `number`, counted from 0, of the set that was given `issue`: with STATION_DONE as its `ending` it is applied to
+ * the record; STATION_FAILED leaves the record as it is; STATION_STUCK does too, and sets the instruction's area apart. With the last
+ * result the set is no longer outstanding. 17, 16, then 4, 11, 29, 30, 12, 13. */
+uint32_t station_result(uint8_t *room, size_t room_length, uint16_t issue, uint8_t number, uint8_t ending);
 
 /* Takes an image as the record, as after somebody looked for themselves; whoever looks must see too whether a driver is in the lift, since
- * a drive is under way from now on only if the image says so. 17, 16, then 6, 15. */
-uint32_t station_image(uint8_t *room, size_t room_length, uint64_t image);
+ * a drive is under way from now on only if the image says so. Nothing is set apart from now on, and so `apart` must be zero: whoever looks
+ * must have cleared what was stuck. 17, 16, then 6, 15. */
+uint32_t station_image(uint8_t *room, size_t room_length, uint64_t image, uint64_t apart);
 
-/* Writes the record's eight bytes to `image`; the station stays. 17 where either room is too short, 16. */
+/* Writes the record's eight bytes to `image`, and behind them the eight of what is set apart: STATION_SHOWN_SIZE bytes; the station stays.
+ * 17 where either room is too short, 16. */
 uint32_t station_ask(const uint8_t *room, size_t room_length, uint8_t *image, size_t image_length);
 
 /* Answers the first message of `message`, as the program does: the message that answers is written to `reply` (its first two bytes

@@ -56,6 +56,7 @@ static struct {
     uint8_t lift[32];
     uint8_t shuttles[2][64];
     uint8_t outstanding[STATION_MOST + 1][STATION_MOST + 1];
+    uint8_t apart[64];
 } reached __attribute__((section("__libfuzzer_extra_counters")));
 
 /* A call, the sort of station that it was made on (past the last, none of them), and its answer. */
@@ -124,8 +125,8 @@ static void show(const char *name, const uint8_t *bytes, size_t size) {
 
 static void show_call(void) {
     static const char *const names[RUNS] = {"room", "in", "out"};
-    fprintf(stderr, "found in a call of entry %d with %d, %d, %d, %#llx; expected %#x and to leave\n", under_way->entry, under_way->first,
-            under_way->second, under_way->issue, (unsigned long long)under_way->image, expected);
+    fprintf(stderr, "found in a call of entry %d with %d, %d, %d, %#llx, %#llx; expected %#x and to leave\n", under_way->entry, under_way->first,
+            under_way->second, under_way->issue, (unsigned long long)under_way->image, (unsigned long long)under_way->apart, expected);
     for (int run = 0; run < RUNS; run++) {
         struct lent *after = run_of(under_way, run);
         show(names[run], before[run], after->size);
@@ -218,9 +219,14 @@ static void one_call(uint8_t entry, unsigned places, bool unusual) {
     case RESULT: {
         uint8_t byte = take();
         command.first = byte & 15, command.second = byte >> 7 ? STATION_FAILED : STATION_DONE;
+        if (command.first >= 12)
+            command.first -= 12, command.second = STATION_STUCK;
         command.issue = take_issue(byte >> 4 & 7);
         break;
     }
+    case ASK:
+        command.out.size = STATION_SHOWN_SIZE;
+        break;
     case MESSAGE:
         command.in.size = take_message(in);
         command.out.size = STATION_REPLY_MOST;
@@ -248,6 +254,7 @@ static void one_call(uint8_t entry, unsigned places, bool unusual) {
         if (which & 16) command.second = take();
         if (which & 32) damage(in, 64);
         if (which & 64) damage(kept, 64);
+        if (which & 128) command.apart = take_number();
     }
     compare(&command, places);
 }
@@ -292,7 +299,7 @@ static void report_call(uint8_t entry, unsigned places) {
     compare(&command, places);
 }
 
-/* Damage that no call does, marks or the next issue among it, calls in a row, and the report's calls; numbered behind the entries. */
+/* Damage that no call does, marks, the next issue or what is set apart among it, calls in a row, and the report's calls; numbered behind the entries. */
 enum { NEW_RECORD = ENTRIES, NEW_SET, NEW_MARKS, NEW_STATION, SETTLE };
 
 static void one_step(void) {
@@ -317,6 +324,8 @@ static void one_step(void) {
     case NEW_MARKS:
         if (pick >> 7)
             take_run(kept + ISSUE_AT, 2);
+        else if (places & 1)
+            take_run(kept + APART_AT, STATION_SIZE - APART_AT);
         else
             kept[MARKS_AT] = take();
         break;
@@ -340,6 +349,9 @@ static void tell_station(void) {
     reached.lift[record >> LIFT_AT & 31] = 1;
     for (int side = 0; side < 2; side++)
         reached.shuttles[side][(record >> (SLOTS_AT + 3 * side) & 7) | (record >> (SLOTS_AT + 6 + 3 * side) & 7) << 3] = 1;
+    uint64_t apart = number_of(kept + APART_AT);
+    for (int part = 0; part < 64; part++)
+        reached.apart[part] |= (uint8_t)(apart >> part & 1);
     if (kept[SET_AT] <= STATION_MOST)
         reached.outstanding[kept[SET_AT]][marks] = 1;
 }

@@ -9,8 +9,8 @@
 /* Runs are lent up to lengths that no longer fit a byte, and that the report's longest text fits. */
 enum { RUN_MOST = 1200 };
 
-/* Where a station's room has its set and the next issue. */
-enum { SET_AT = 8, MARKS_AT = 9, CODES_AT = 10, ISSUE_AT = 50 };
+/* Where a station's room has its set, the next issue and what is set apart. */
+enum { SET_AT = 8, MARKS_AT = 9, CODES_AT = 10, ISSUE_AT = 50, APART_AT = 52 };
 
 /* Where the record has the cells of row 1, and of the middle belts of the others. */
 #define ROW_1 UINT64_C(0xFFFFF)
@@ -70,15 +70,22 @@ static void put_number(uint8_t *eight, uint64_t image) {
         eight[at] = (uint8_t)(image >> (8 * at));
 }
 
+/* Any number. */
+static uint64_t take_number(void) {
+    uint8_t eight[STATION_IMAGE_SIZE];
+    take_run(eight, sizeof eight);
+    return number_of(eight);
+}
+
 /* An image: mostly the station's record, with one thing changed; or many cars more, other drives under way and another raised car. */
 static uint64_t take_image(void) {
     uint64_t record = number_of(kept);
-    uint8_t eight[STATION_IMAGE_SIZE], pick = take();
+    uint8_t pick = take();
     switch (pick >> 6) {
     case 0: return record ^ UINT64_C(3) << pick % 19; /* a car of row 1 */
     case 1: return record ^ UINT64_C(1) << pick % 64;
     case 2: return (record | (pick & 1 ? ROW_1 : 0) | (pick & 2 ? MIDDLES : 0)) ^ (pick & 4 ? RAISED : 0) ^ (uint64_t)(pick >> 3 & 3) << DRIVES_AT;
-    default: take_run(eight, sizeof eight); return number_of(eight);
+    default: return take_number();
     }
 }
 
@@ -146,7 +153,8 @@ static size_t take_message(uint8_t *message) {
     }
     case STATION_KIND_IMAGE:
         put_number(body, take_image());
-        size = STATION_IMAGE_SIZE;
+        put_number(body + STATION_IMAGE_SIZE, pick >> 7 ? take_number() : 0);
+        size = STATION_SHOWN_SIZE;
         break;
     case STATION_KIND_ASK:
         break;

@@ -36,6 +36,7 @@ pub struct Command {
     second: u8,
     issue: u16,
     image: u64,
+    apart: u64,
     room: Lent,
     input: Lent,
     output: Lent,
@@ -45,13 +46,14 @@ impl Command {
     /// # Safety
     /// Each run is valid for its size, and overlaps no other.
     unsafe fn lent(&self) -> command::Command<'_> {
-        let &Command { entry, first, second, issue, image, ref room, ref input, ref output } = self;
+        let &Command { entry, first, second, issue, image, apart, ref room, ref input, ref output } = self;
         command::Command {
             entry,
             first,
             second,
             issue,
             image,
+            apart,
             room: from_raw_parts_mut(room.bytes, room.size),
             input: from_raw_parts(input.bytes, input.size),
             output: from_raw_parts_mut(output.bytes, output.size),

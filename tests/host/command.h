@@ -15,7 +15,7 @@ struct command {
     uint8_t entry;
     uint8_t first, second; /* its byte arguments: a count, an event, or a number and an outcome */
     uint16_t issue;        /* the set that a result is of */
-    uint64_t image;
+    uint64_t image, apart; /* a record, and what it sets apart */
     struct lent room, in, out; /* the station; a run of bytes to read; a run to write */
 };
 
@@ -31,7 +31,7 @@ static uint32_t call_entry(const struct command *c) {
     case REQUEST: return station_request(LENT(c->room), c->first, LENT(c->in));
     case EVENT: return station_event(LENT(c->room), c->first);
     case RESULT: return station_result(LENT(c->room), c->issue, c->first, c->second);
-    case IMAGE: return station_image(LENT(c->room), c->image);
+    case IMAGE: return station_image(LENT(c->room), c->image, c->apart);
     case ASK: return station_ask(LENT(c->room), LENT(c->out));
     case MESSAGE: return station_message(LENT(c->room), LENT(c->in), LENT(c->out));
     case SOUND: return garage_sound(c->image);

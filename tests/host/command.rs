@@ -1,18 +1,20 @@
 //! What each entry for C must return and leave, by the reference. command.h makes the same calls on the entries.
 #![allow(dead_code)] // each driver uses its own part of this module
 
-use crate::reference::{answer, answer_message, cars, lent, read_call, sound, Answer, Call, Instruction, Station, REASON_NUMBERS};
+use crate::reference::{
+    answer, answer_message, cars, lent, read_call, shown_message, sound, Answer, Call, Instruction, Station, REASON_NUMBERS,
+};
 
 /// The entries in the order of their numbers, each with the answer numbers that it can give: no others, and a long run gives them
 /// all. (What garage_cars returns is not of the table.)
 pub const ENTRIES: [(&str, &[u8]); 11] = [
     ("station_start", &[0, 17]),
-    ("station_request", &[0, 1, 4, 5, 6, 7, 8, 16, 17, 20, 21, 22, 23, 24, 25, 26, 27, 28, 31]),
-    ("station_event", &[0, 4, 6, 10, 16, 17, 31]),
+    ("station_request", &[0, 1, 4, 5, 6, 7, 8, 16, 17, 20, 21, 22, 23, 24, 25, 26, 27, 28, 31, 32]),
+    ("station_event", &[0, 4, 6, 10, 16, 17, 31, 32]),
     ("station_result", &[0, 4, 11, 12, 13, 16, 17, 29, 30]),
     ("station_image", &[0, 6, 15, 16, 17]),
     ("station_ask", &[0, 16, 17]),
-    ("station_message", &[0, 1, 2, 3, 4, 5, 6, 7, 8, 10, 11, 12, 13, 15, 16, 17, 20, 21, 22, 23, 24, 25, 26, 27, 28, 29, 30, 31]),
+    ("station_message", &[0, 1, 2, 3, 4, 5, 6, 7, 8, 10, 11, 12, 13, 15, 16, 17, 20, 21, 22, 23, 24, 25, 26, 27, 28, 29, 30, 31, 32]),
     ("garage_sound", &[0, 1]),
     ("garage_cars", &[]),
     ("garage_allowed", &[0, 1, 4, 20, 21, 22, 23, 24, 25, 26, 27, 28, 31]),
@@ -28,13 +30,16 @@ pub struct Command<'a> {
     /// The set that a result is of.
     pub issue: u16,
     pub image: u64,
+    /// What an image sets apart.
+    pub apart: u64,
     pub room: &'a mut [u8],
     pub input: &'a [u8],
     pub output: &'a mut [u8],
 }
 
-/// The bytes of a record and of an instruction.
+/// The bytes of a record, of a record with what is set apart, and of an instruction.
 const RECORD: usize = 8;
+const SHOWN: usize = 16;
 const CODE: usize = 5;
 
 /// An answer as a number: from the lowest, a byte for its number, one for its place, and two for its issue.
@@ -63,12 +68,12 @@ fn request(room: &mut [u8], count: u8, set: &[u8]) -> Answer {
     on_station(room, count > 8 || set.len() >= CODE * usize::from(count), |station| station.request(count, set))
 }
 
-/// The record of the lent station, put to a room for an image.
-fn ask(room: &[u8], image: &mut [u8]) -> Answer {
-    lent(room.len() >= Station::SIZE && image.len() >= RECORD, true, || {
+/// The record of the lent station and what is set apart, put to a room for both.
+fn ask(room: &[u8], shown: &mut [u8]) -> Answer {
+    lent(room.len() >= Station::SIZE && shown.len() >= SHOWN, true, || {
         let mut station = station_in(room);
         let answer = station.ask();
-        if answer.number == 0 { put(image, &station.record.to_le_bytes()); }
+        if answer.number == 0 { put(shown, &[station.record.to_le_bytes(), station.apart_number().to_le_bytes()].concat()); }
         answer
     })
 }
@@ -79,11 +84,7 @@ fn reply(station: &mut Station, message: &[u8]) -> (Answer, Vec<u8>) {
         Err(refused) => (refused.answer, false),
         Ok((call, _)) => (station.take(call), call == Call::Ask),
     };
-    let bytes = if asked && answer.number == 0 {
-        [&[10, 0, 129, 0], &station.record.to_le_bytes()[..]].concat()
-    } else {
-        answer_message(answer).to_vec()
-    };
+    let bytes = if asked && answer.number == 0 { shown_message(station).to_vec() } else { answer_message(answer).to_vec() };
     (answer, bytes)
 }
 
@@ -133,13 +134,13 @@ pub fn reason_told(command: &Command, answer: u32) -> Option<(u8, u8)> {
 
 /// What the call returns; its rooms are left as it must leave them.
 pub fn call(command: &mut Command) -> u32 {
-    let &mut Command { entry, first, second, issue, image, ref mut room, input, ref mut output } = command;
+    let &mut Command { entry, first, second, issue, image, apart, ref mut room, input, ref mut output } = command;
     said(match entry {
         0 => on_station(room, true, |station| { *station = Station::start(); answer(0) }),
         1 => request(room, first, input),
         2 => on_station(room, true, |station| station.event(first)),
         3 => on_station(room, true, |station| station.result(issue, first, second)),
-        4 => on_station(room, true, |station| station.image(image)),
+        4 => on_station(room, true, |station| station.image(image, apart)),
         5 => ask(room, output),
         6 => message(room, input, output),
         7 => return sound(image).into(),

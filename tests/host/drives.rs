@@ -1,7 +1,7 @@
 //! What calls meet of drives, so that a long run can say that it met all there is: events at every moment, sets of every kind while a
 //! drive is under way, images in its middle and with it, results beside it.
 use crate::pipes::messages_in;
-use crate::reference::{drive_under_way, read_call, sound, Call, Instruction, Station, END_DONE, REASON_NUMBERS};
+use crate::reference::{drive_under_way, read_call, sound, Call, Instruction, Station, DONE, END_DONE, FAILED, REASON_NUMBERS, STUCK};
 use std::collections::BTreeSet;
 
 /// Which drive is under way by an image; both is what no sound one says.
@@ -52,7 +52,7 @@ fn met(station: &Station, call: Call, number: u8) -> Option<Met> {
     let drive = drive_of(station.record);
     match call {
         Call::Event(event) => Some(Met::Event { event, drive, outstanding: outstanding(station), number }),
-        Call::Request { count, bytes } if drive != No && matches!(number, 0 | 8 | 20..=28 | 31) => {
+        Call::Request { count, bytes } if drive != No && matches!(number, 0 | 8 | 20..=28 | 31 | 32) => {
             let reason = |number| if REASON_NUMBERS.contains(&number) { *REASON_NUMBERS.start() } else { number };
             let mut nobody = Station { record: station.record & !DRIVES, ..*station };
             let without = reason(nobody.request(count, bytes).number);
@@ -66,7 +66,7 @@ fn met(station: &Station, call: Call, number: u8) -> Option<Met> {
         Call::Result { number: at, outcome, .. } if drive != No && number == 0 => {
             Some(Met::Result { drive, opcode: station.set[5 * usize::from(at)], outcome })
         }
-        Call::Image(image) if number == 0 || number == 15 && drive_under_way(image) && sound(image & !DRIVES) => {
+        Call::Image { image, apart: 0 } if number == 0 || number == 15 && drive_under_way(image) && sound(image & !DRIVES) => {
             let (says, height, car) = (drive_of(image), (image >> 53 & 3) as u8, image >> 52 & 1 == 1);
             Some(Met::Image { drive, says, height, car, number })
         }
@@ -88,19 +88,19 @@ fn all() -> BTreeSet<Met> {
         let begins = event < END_DONE;
         all.insert(Met::Event { event, drive: No, outstanding: WithLift, number: 6 });
         for outstanding in [Nothing, Others] {
-            let idle: &[u8] = if begins { &[0, 10] } else { &[31] };
+            let idle: &[u8] = if begins { &[0, 10, 32] } else { &[31] };
             all.extend(idle.iter().map(|&number| Met::Event { event, drive: No, outstanding, number }));
             all.extend([In, Out].map(|drive| Met::Event { event, drive, outstanding, number: if begins { 31 } else { 0 } }));
         }
     }
     for drive in [In, Out] {
-        for without in [0, 8, *REASON_NUMBERS.start()] {
+        for without in [0, 8, 32, *REASON_NUMBERS.start()] {
             all.insert(Met::Request { drive, lift: Lift::Nowhere, without, number: without });
             all.extend([Lift::First, Lift::Later].map(|lift| Met::Request { drive, lift, without, number: 31 }));
         }
         // belts, shuttles and a tilt; the lift and its turning can't be
         for opcode in 1..=3 {
-            all.extend([0, 1].map(|outcome| Met::Result { drive, opcode, outcome }));
+            all.extend([FAILED, DONE, STUCK].map(|outcome| Met::Result { drive, opcode, outcome }));
         }
     }
     for drive in [No, In, Out] {

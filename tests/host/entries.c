@@ -1,6 +1,6 @@
 /* Runs the entries of station.h on commands from standard input and writes what each returned and left, so that another program
- * can compare. A command: its number, two byte arguments, an issue of two bytes, an image of eight, and three lent runs of bytes, each with a
- * byte for its length. An answer: four bytes, how many bytes of stack the call took in four more, then the two rooms that an entry may write.
+ * can compare. A command: its number, two byte arguments, an issue of two bytes, an image of eight, what it sets apart in eight more, and
+ * three lent runs of bytes, each with a byte for its length. An answer: four bytes, how many bytes of stack the call took in four more, then the two rooms that an entry may write.
  * All numbers have the lowest byte first. */
 #include "command.h"
 #include "stack.h"
@@ -71,6 +71,7 @@ int main(void) {
         it.command.second = take_byte();
         it.command.issue = (uint16_t)take_number(2);
         it.command.image = take_number(8);
+        it.command.apart = take_number(8);
         take_run(&it.command.room, room);
         take_run(&it.command.in, in);
         take_run(&it.command.out, out);

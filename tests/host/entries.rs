@@ -28,6 +28,7 @@ struct Given {
     second: u8,
     issue: u16,
     image: u64,
+    apart: u64,
     room: Vec<u8>,
     input: Vec<u8>,
     output: Vec<u8>,
@@ -48,14 +49,15 @@ impl Given {
         let mut sent = vec![self.entry, self.first, self.second];
         sent.extend(self.issue.to_le_bytes());
         sent.extend(self.image.to_le_bytes());
+        sent.extend(self.apart.to_le_bytes());
         for run in [&self.room, &self.input, &self.output] {
             sent.push(run.len() as u8);
             sent.extend(run);
         }
         let handed = self.room.first_chunk().and_then(|room| handed(&Station::from_bytes(room)));
-        let Given { entry, first, second, issue, image, .. } = self;
+        let Given { entry, first, second, issue, image, apart, .. } = self;
         let (room, input, output) = (&mut self.room[..], &self.input[..], &mut self.output[..]);
-        let mut command = Command { entry, first, second, issue, image, room, input, output };
+        let mut command = Command { entry, first, second, issue, image, apart, room, input, output };
         let answer = command::call(&mut command);
         let reason = command::reason_told(&command, answer);
         Trial { entry, sent, answer, left: [self.room, self.output].concat(), reason, handed }
@@ -90,13 +92,16 @@ fn station_call(numbers: &mut Numbers, station: &Station) -> Given {
         }
         4 | 5 => {
             let number = if numbers.one_in(8) { numbers.byte() } else { numbers.below(4) as u8 };
-            let done = if numbers.one_in(20) { numbers.byte() } else { numbers.below(2) as u8 };
+            let ending = if numbers.one_in(20) { numbers.byte() } else { numbers.below(3) as u8 };
             let issue = traffic::some_issue(numbers, station);
-            Given { entry: 3, first: number, second: done, issue, room, ..Given::default() }
+            Given { entry: 3, first: number, second: ending, issue, room, ..Given::default() }
         }
-        6 => Given { entry: 4, image: traffic::near_record(numbers, station.record), room, ..Given::default() },
+        6 => {
+            let (image, apart) = traffic::near_image(numbers, station);
+            Given { entry: 4, image, apart, room, ..Given::default() }
+        }
         _ => {
-            let size = numbers.below(12) as usize;
+            let size = if numbers.one_in(4) { numbers.below(16) } else { 16 + numbers.below(4) } as usize;
             Given { entry: 5, room, output: any_bytes(numbers, size), ..Given::default() }
         }
     }
@@ -105,7 +110,7 @@ fn station_call(numbers: &mut Numbers, station: &Station) -> Given {
 fn message_call(numbers: &mut Numbers, station: &Station) -> Given {
     let room = station_room(numbers, station);
     let message = traffic::any_message(numbers, station);
-    let size = if numbers.one_in(10) { numbers.below(14) } else { 12 + numbers.below(4) } as usize;
+    let size = if numbers.one_in(10) { numbers.below(22) } else { 20 + numbers.below(4) } as usize;
     Given { entry: 6, room, input: message, output: any_bytes(numbers, size), ..Given::default() }
 }
 

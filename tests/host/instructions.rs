@@ -90,40 +90,39 @@ impl Instruction {
     }
 
     /// All the instruction reads or writes, the same on every record. (Ill-formed: nothing.)
-    pub fn area(&self) -> u64 {
+    pub fn area(&self) -> Parts {
         match *self {
-            _ if !self.well_formed() => 0,
+            _ if !self.well_formed() => Parts::NONE,
             // The belts' cells, the lowered slots of shuttle belts, the lift with its belt.
-            Belts { row, mask, .. } => (0..5).filter(|&belt| named(mask, belt)).fold(0, |area, belt| {
-                let below = match shuttle_side(row, belt) {
-                    Some(side) => 1 << slot(side, row, LOWERED),
-                    None => if (row, belt) == (1, 2) { LIFT } else { 0 },
-                };
-                area | mask_of(belt_cells(row, belt)) | below
+            Belts { row, mask, .. } => (0..5).filter(|&belt| named(mask, belt)).fold(Parts::NONE, |area, belt| {
+                let area = area.and_cells(belt_cells(row, belt));
+                match shuttle_side(row, belt) {
+                    Some(side) => area.and_slot(side, row, LOWERED),
+                    None => if (row, belt) == (1, 2) { area.and(Parts::LIFT) } else { area },
+                }
             }),
             // The named slots and for each the one a row toward d; lowered, their cells too.
             Shuttles { side, mask, orientation, d } => {
                 let reached = rows(mask).flat_map(|row| [Some(row), next_row(row, d)]).flatten();
-                reached.fold(0, |area, row| {
-                    let cells = if orientation == LOWERED { mask_of(position(side, row)) } else { 0 };
-                    area | 1 << slot(side, row, orientation) | cells
+                reached.fold(Parts::NONE, |area, row| {
+                    let area = area.and_slot(side, row, orientation);
+                    if orientation == LOWERED { area.and_cells(position(side, row)) } else { area }
                 })
             }
             // Both slots and the cells of the position; from lowered, the side's three lowered slots.
             Tilt { side, row, orientation } => {
-                let both = 1 << slot(side, row, LOWERED) | 1 << slot(side, row, TILTED);
-                let three = if orientation == LOWERED { 0b111 << slot(side, 1, LOWERED) } else { 0 };
-                both | three | mask_of(position(side, row))
+                let both = Parts::NONE.and_cells(position(side, row)).and_slot(side, row, LOWERED).and_slot(side, row, TILTED);
+                if orientation == LOWERED { (1..=3).fold(both, |area, row| area.and_slot(side, row, LOWERED)) } else { both }
             }
             // The lift and all of row 1.
-            Lift { .. } => LIFT | mask_of(ROW_1),
+            Lift { .. } => Parts::LIFT.and_cells(ROW_1),
             // The lift and its six cells.
-            Rotate => ROTATION_CELLS.into_iter().fold(LIFT, |area, cells| area | mask_of(cells)),
+            Rotate => ROTATION_CELLS.into_iter().fold(Parts::LIFT, Parts::and_cells),
         }
     }
 
     /// Whether the lift is in its area.
-    pub fn takes_lift(&self) -> bool { self.area() & LIFT != 0 }
+    pub fn takes_lift(&self) -> bool { self.area().lift }
 
     /// Whether the instruction is allowed on this record. (Ill-formed: never.)
     pub fn allowed(&self, image: u64) -> bool { self.judge(image).is_ok() }
@@ -245,15 +244,21 @@ impl Instruction {
     }
 }
 
-/// The least of some instructions whose area shares a part with that of an earlier one, if there is one.
-pub fn overlap(set: impl Iterator<Item = Instruction>) -> Option<u8> {
-    let mut earlier = 0;
-    for (instruction, place) in set.zip(0..) {
-        let area = instruction.area();
-        if area & earlier != 0 { return Some(place); }
-        earlier |= area;
-    }
-    None
+/// The areas of up to eight instructions; behind them nothing.
+pub fn areas(set: impl Iterator<Item = Instruction>) -> [Parts; LARGEST_SET] {
+    let mut areas = [Parts::NONE; LARGEST_SET];
+    areas.iter_mut().zip(set).for_each(|(area, instruction)| *area = instruction.area());
+    areas
+}
+
+/// The least of some areas that shares a part with an earlier one, if there is one.
+pub fn overlap(areas: &[Parts]) -> Option<usize> {
+    let mut earlier = Parts::NONE;
+    areas.iter().position(|area| {
+        let met = earlier.meet(area);
+        earlier = earlier.and(*area);
+        met
+    })
 }
 
 /// Reads up to eight instructions of five bytes each, or gives the place of the least bad one.

@@ -11,7 +11,7 @@ use pipes::{answer_in, answers, messages_in};
 use reference::{read_call, Call, START};
 use std::collections::BTreeSet;
 use std::process::exit;
-use traffic::{message, request, result, Numbers, BEHIND};
+use traffic::{image, message, request, result, Numbers, BEHIND};
 
 const FEWEST: usize = 70_000;
 /// There are so many issues.
@@ -31,7 +31,7 @@ fn between(numbers: &mut Numbers) -> Vec<u8> {
         0 => request(&[]),
         1 => request(&[SET[0], SET[0]].concat()),
         2 => message(2, &[1 + numbers.below(4) as u8]),
-        _ => message(4, &START.to_le_bytes()),
+        _ => image(START, 0),
     }
 }
 

@@ -1,15 +1,17 @@
 //! The reference's messages and its program: what bytes say, the bytes of a message, and a whole session answered.
-use super::{answer, answer_at, read_set, Answer, Call, Station, BEGIN_IN, BEGIN_OUT, END_DONE, END_NOT_DONE, NO_PLACE};
+use super::{
+    answer, answer_at, read_set, Answer, Call, Station, BEGIN_IN, BEGIN_OUT, DONE, END_DONE, END_NOT_DONE, FAILED, NO_PLACE, STUCK,
+};
 use std::io::{self, ErrorKind, Read, Write};
 
 // ---- Messages ----------------------------------------------------------------------------------
 
-/// Any message: a call (kinds 1 to 5), an answer (128), an image answered (129).
+/// Any message: a call (kinds 1 to 5), an answer (128), an image answered with what is set apart (129).
 #[derive(Clone, Copy, Debug, PartialEq, Eq)]
 pub enum Message<'a> {
     Call(Call<'a>),
     Answer(Answer),
-    Image(u64),
+    Image { image: u64, apart: u64 },
 }
 
 /// Why a message isn't read, and how many bytes it took where its length frames it.
@@ -41,23 +43,36 @@ fn call_body(kind: u16, body: &[u8]) -> Result<Call<'_>, Answer> {
             Err(place) => Err(answer_at(4, place)),
         },
         (2, &[event @ (BEGIN_IN | BEGIN_OUT | END_DONE | END_NOT_DONE)]) => Ok(Call::Event(event)),
-        (3, &[low, high, number, outcome @ (0 | 1)]) => Ok(Call::Result { issue: u16::from_le_bytes([low, high]), number, outcome }),
+        (3, &[low, high, number, outcome @ (FAILED | DONE | STUCK)]) => Ok(Call::Result { issue: u16::from_le_bytes([low, high]), number, outcome }),
         (2, [_]) | (3, [_, _, _, _]) => Err(answer(4)),
-        (4, &[a, b, c, d, e, f, g, h]) => Ok(Call::Image(u64::from_le_bytes([a, b, c, d, e, f, g, h]))),
+        (4, _) if body.len() == 16 => {
+            let (image, apart) = two_numbers(body);
+            Ok(Call::Image { image, apart })
+        }
         (5, []) => Ok(Call::Ask),
         (1..=5, _) => Err(answer(2)),
         _ => Err(answer(3)),
     }
 }
 
+/// The number of the first eight bytes, and that of the rest, each with its lowest byte first.
+fn two_numbers(body: &[u8]) -> (u64, u64) {
+    let number = |bytes: &[u8]| bytes.iter().rev().fold(0, |number, &byte| number << 8 | u64::from(byte));
+    let (first, second) = body.split_at(8);
+    (number(first), number(second))
+}
+
 /// The same for every kind. An answer has a number of the table, an instruction's place or none, and any issue.
 fn message_body(kind: u16, body: &[u8]) -> Result<Message<'_>, Answer> {
     match (kind, body) {
-        (128, &[number @ (0..=8 | 10..=13 | 15..=17 | 20..=31), place @ (0..=7 | NO_PLACE), low, high]) => {
+        (128, &[number @ (0..=8 | 10..=13 | 15..=17 | 20..=32), place @ (0..=7 | NO_PLACE), low, high]) => {
             Ok(Message::Answer(Answer { number, place, issue: u16::from_le_bytes([low, high]) }))
         }
         (128, [_, _, _, _]) => Err(answer(4)),
-        (129, &[a, b, c, d, e, f, g, h]) => Ok(Message::Image(u64::from_le_bytes([a, b, c, d, e, f, g, h]))),
+        (129, _) if body.len() == 16 => {
+            let (image, apart) = two_numbers(body);
+            Ok(Message::Image { image, apart })
+        }
         (128 | 129, _) => Err(answer(2)),
         _ => call_body(kind, body).map(Message::Call),
     }
@@ -90,6 +105,16 @@ pub fn answer_message(answer: Answer) -> [u8; 8] {
     [6, 0, 128, 0, number, place, low, high]
 }
 
+/// A record's bytes, then those of what is set apart.
+fn image_body(image: u64, apart: u64) -> [u8; 16] { ((u128::from(apart) << 64) | u128::from(image)).to_le_bytes() }
+
+/// The message that tells a station's record and what is set apart.
+pub fn shown_message(station: &Station) -> [u8; 20] {
+    let mut bytes = [18, 0, 129, 0, 0, 0, 0, 0, 0, 0, 0, 0, 0, 0, 0, 0, 0, 0, 0, 0];
+    bytes[4..].copy_from_slice(&image_body(station.record, station.apart_number()));
+    bytes
+}
+
 /// The library's writer, giving the bytes written: refuses more than eight instructions, then a bad
 /// field, then a room shorter than the message. The room past the message keeps its bytes, after a
 /// refusal all of it does.
@@ -104,10 +129,10 @@ pub fn write_message(message: &Message, room: &mut [u8]) -> Result<usize, Answer
             let [low, high] = issue.to_le_bytes();
             (3, &[low, high, number, outcome], &[])
         }
-        Message::Call(Call::Image(image)) => (4, &image.to_le_bytes(), &[]),
+        Message::Call(Call::Image { image, apart }) => (4, &image_body(image, apart), &[]),
         Message::Call(Call::Ask) => (5, &[], &[]),
         Message::Answer(answer) => (128, &answer_body(answer), &[]),
-        Message::Image(image) => (129, &image.to_le_bytes(), &[]),
+        Message::Image { image, apart } => (129, &image_body(image, apart), &[]),
     };
     let mut body = [0; 41];
     let size = fields.len() + set.len();
@@ -137,8 +162,7 @@ fn run(
             Ok((call, took)) => {
                 let answer = take(station, call);
                 if call == Call::Ask && answer.number == 0 {
-                    output.extend_from_slice(&[10, 0, 129, 0]);
-                    output.extend_from_slice(&station.record.to_le_bytes());
+                    output.extend_from_slice(&shown_message(station));
                     at += took;
                     continue;
                 }

@@ -1,6 +1,7 @@
 /* A small planner over station.h. It lets one car in, parks it on row 2, fetches it again and lets it out. Before each set it
- * works out the record that must follow; after the motors' results (here every one succeeds at once) it holds the station's record
- * against that. How far a car goes along a row it learns from the reason why the next move is not allowed. Drivers take their time, and
+ * works out the record that must follow; after the motors' results (here all but one succeed at once) it holds the station's record
+ * against that. One belt jams with the car on it: what it takes along is set apart, the planner goes on elsewhere, and no set that touches
+ * it is taken until somebody has looked and the station was told what is there. How far a car goes along a row it learns from the reason why the next move is not allowed. Drivers take their time, and
  * the first of them gives up: while one is in the lift the planner may run a belt, but not the lift. A slow motor board says its result
  * once more when the next set has begun, which must be late. Every answer is checked: the first refusal that it doesn't count on ends
  * the run with a message. */
@@ -66,6 +67,7 @@ static const char *const numbers[] = {
     [STATION_LATE] = "late: of a set before the present one",
     [STATION_NOT_ISSUED] = "of a set that was not issued",
     [STATION_OUT_OF_TURN] = "out of turn",
+    [STATION_SET_APART] = "a part is set apart",
 };
 
 static const char *words(unsigned number) {
@@ -130,17 +132,35 @@ static uint64_t number_of(const uint8_t *eight) {
 
 static int bit(uint64_t image, unsigned k) { return (int)(image >> k & 1u); }
 
-/* A row as twenty signs: the cells of rows 2 and 3 are as wide as two of row 1. */
-static void show_row(uint64_t image, unsigned row) {
+/* What the station holds: the record, and what is set apart. */
+typedef struct {
+    uint64_t image, apart;
+} Held;
+
+/* A row as twenty signs: the cells of rows 2 and 3 are as wide as two of row 1. One that is set apart has a sign of its own, by the record,
+ * since what stands there is not known. */
+static void show_row(Held held, unsigned row) {
     printf("  row %u ", row);
-    for (unsigned k = 0; k < 20; k++) putchar(bit(image, row == 1 ? k : 10 * row + k / 2) ? '#' : '.');
+    for (unsigned k = 0; k < 20; k++) {
+        unsigned cell = row == 1 ? k : 10 * row + k / 2;
+        putchar(bit(held.image, cell) ? (bit(held.apart, cell) ? '?' : '#') : (bit(held.apart, cell) ? ':' : '.'));
+    }
     putchar('\n');
 }
 
-static void show(uint64_t image) {
-    for (unsigned row = 1; row <= 3; row++) show_row(image, row);
+static void show_slots(uint64_t apart) {
+    for (unsigned k = 0; k < 12; k++) {
+        if (bit(apart, 40 + k)) printf("  apart %s %s slot of row %u\n", sides[k / 3 % 2], k < 6 ? "lowered" : "tilted", k % 3 + 1);
+    }
+}
+
+static void show(Held held) {
+    uint64_t image = held.image;
+    for (unsigned row = 1; row <= 3; row++) show_row(held, row);
     printf("  lift  %s%s", heights[image >> 53 & 3u], bit(image, 52) ? ", with a car" : "");
-    printf("%s%s\n", bit(image, 55) ? ", a drive in under way" : "", bit(image, 56) ? ", a drive out under way" : "");
+    printf("%s%s", bit(image, 55) ? ", a drive in under way" : "", bit(image, 56) ? ", a drive out under way" : "");
+    printf("%s\n", bit(held.apart, 52) ? ", set apart" : "");
+    show_slots(held.apart);
     printf("  cars  %" PRIu32 "\n", garage_cars(image));
 }
 
@@ -155,11 +175,13 @@ static void must(const char *call, uint32_t answer) {
     exit(1);
 }
 
-static uint64_t record_now(void) {
-    uint8_t eight[STATION_IMAGE_SIZE];
-    must("ask", station_ask(room, sizeof room, eight, sizeof eight));
-    return number_of(eight);
+static Held held_now(void) {
+    uint8_t both[STATION_SHOWN_SIZE];
+    must("ask", station_ask(room, sizeof room, both, sizeof both));
+    return (Held){number_of(both), number_of(both + STATION_IMAGE_SIZE)};
 }
+
+static uint64_t record_now(void) { return held_now().image; }
 
 /* Whether the record allows an instruction. The planner counts on one reason why not, and says it; any other ends the run. */
 static bool allows(Instruction i, unsigned reason) {
@@ -192,7 +214,7 @@ static void drive(const char *what, uint8_t event) {
     headline(what);
     must("event", station_event(room, sizeof room, event));
     printf("  answer 0 (taken)\n");
-    show(record_now());
+    show(held_now());
 }
 
 static uint32_t report_done(Report report) { return station_result(room, sizeof room, report.issue, report.number, STATION_DONE); }
@@ -230,7 +252,7 @@ static void carry_out(const char *what, const Instruction *set, uint8_t count) {
         printf("stopped: the record isn't the planned one\n");
         exit(1);
     }
-    show(planned);
+    show(held_now());
 }
 
 static void one(const char *what, Instruction i) { carry_out(what, &i, 1); }
@@ -240,6 +262,48 @@ static void two(const char *what, Instruction i, Instruction j) {
     set[0] = i;
     set[1] = j;
     carry_out(what, set, 2);
+}
+
+/* A set of one instruction whose motor gets stuck: it is answered, so that a second result is none, and the record stays. */
+static void gets_stuck(const char *what, Instruction i) {
+    uint64_t before = record_now();
+    headline(what);
+    printf("  0: ");
+    say_instruction(&i);
+    uint32_t answer = station_request(room, sizeof room, 1, i.five, sizeof i.five);
+    must("request", answer);
+    must("result", station_result(room, sizeof room, STATION_SET(answer), 0, STATION_STUCK));
+    printf("  answer 0 (taken) as set %u, 1 stuck\n", STATION_SET(answer));
+    if (record_now() != before || held_now().apart == 0 || STATION_NUMBER(report_done((Report){STATION_SET(answer), 0})) != STATION_NO_SET) {
+        printf("stopped: what is stuck isn't set apart\n");
+        exit(1);
+    }
+    show(held_now());
+}
+
+/* The planner counts on it that a set of two is refused for its second, which touches what is set apart. */
+static void must_keep_off(Instruction i, Instruction j) {
+    uint8_t bytes[2 * STATION_CODE_SIZE];
+    for (int k = 0; k < STATION_CODE_SIZE; k++) bytes[k] = i.five[k], bytes[STATION_CODE_SIZE + k] = j.five[k];
+    uint32_t answer = station_request(room, sizeof room, 2, bytes, sizeof bytes);
+    if (STATION_NUMBER(answer) != STATION_SET_APART || STATION_PLACE(answer) != 1) {
+        printf("stopped: answered %u at %u\n", STATION_NUMBER(answer), STATION_PLACE(answer));
+        exit(1);
+    }
+    printf("refused with %u (%s) at 1: ", STATION_SET_APART, words(STATION_SET_APART));
+    say_instruction(&j);
+}
+
+/* Somebody has looked, and set right what was stuck: the image says what is there. One that still sets something apart is not taken. */
+static void somebody_looked(const char *what, uint64_t seen) {
+    headline(what);
+    if (STATION_NUMBER(station_image(room, sizeof room, seen, held_now().apart)) != STATION_UNSOUND) {
+        printf("stopped: an image that sets something apart is taken\n");
+        exit(1);
+    }
+    must("image", station_image(room, sizeof room, seen, 0));
+    printf("  answer 0 (taken)\n");
+    show(held_now());
 }
 
 /* ---- the plan */
@@ -258,6 +322,20 @@ static void along_row_1(int toward) {
     one("half a cell more", belts(1, TO_SHUTTLE_1, toward, GARAGE_HALF));
 }
 
+/* The belts take the car off the shuttle and jam: it may stand on the shuttle still, or on the belt. Beside it the lift goes up and down;
+ * nothing touches those belts until somebody has looked. They find that the belts had finished. */
+static void jam(void) {
+    uint8_t eight[STATION_IMAGE_SIZE];
+    Instruction off = belts(2, TO_SHUTTLE_2, GARAGE_LOWER, GARAGE_FULL);
+    must("plan", garage_next(record_now(), off.five, sizeof off.five, eight, sizeof eight));
+    gets_stuck("off the shuttle, but the belts jam", off);
+    must_keep_off(lift(GARAGE_STREET), belts(2, MIDDLE_2, GARAGE_LOWER, GARAGE_FULL));
+    must_keep_off(lift(GARAGE_STREET), shuttles(GARAGE_RIGHT, ROWS_2_3, GARAGE_LOWER));
+    one("meanwhile the lift up", lift(GARAGE_STREET));
+    one("and down again", lift(GARAGE_BASEMENT));
+    somebody_looked("somebody looks: the car had come off the shuttle", number_of(eight));
+}
+
 static void park(void) {
     drive("a driver begins to drive in", STATION_BEGIN_IN);
     must_refuse(lift(GARAGE_BASEMENT), STATION_OUT_OF_TURN);
@@ -269,7 +347,7 @@ static void park(void) {
     along_row_1(GARAGE_HIGHER);
     /* rows 1 and 2 go together, since row 2 has a shuttle of its own; row 3's is tilted and out of the way */
     one("by the shuttle to row 2", shuttles(GARAGE_RIGHT, ROWS_1_2, GARAGE_HIGHER));
-    one("off the shuttle", belts(2, TO_SHUTTLE_2, GARAGE_LOWER, GARAGE_FULL));
+    jam();
     two("further in, and the lift up for the next driver", belts(2, MIDDLE_2, GARAGE_LOWER, GARAGE_FULL), lift(GARAGE_STREET));
     one("the shuttles back", shuttles(GARAGE_RIGHT, ROWS_2_3, GARAGE_LOWER));
 }
@@ -288,7 +366,7 @@ static void fetch(void) {
 int main(void) {
     must("start", station_start(room, sizeof room));
     printf("start\n");
-    show(record_now());
+    show(held_now());
     park();
     printf("parked\n");
     fetch();

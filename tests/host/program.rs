@@ -2,17 +2,19 @@
 //! pieces of many sizes, and many short ones, damaged and cut: what the program writes must be what the reference answers, and that
 //! what the papers say of their examples.
 //! Every number that can come through the program must have come, and no other: 16 (the program's station is always fit) and 17 (its
-//! room is always enough) can't. So must every reason that each opcode can be refused for, and all that calls can meet of drives.
+//! room is always enough) can't. So must every reason that each opcode can be refused for, and all that calls can meet of drives and of
+//! jams. In the long inputs, after each message, every choice is looked at of which stuck instructions finished (jams.rs).
 
 mod drives;
+mod jams;
 mod pipes;
 mod reference;
 mod traffic;
 
 use pipes::{answer_in, answers, messages_in};
 use reference::{
-    answer, answer_at, cars, read_message, sound, write_message, Answer, Instruction, Message, Station, BEGIN_IN, BEGIN_OUT, END_DONE,
-    END_NOT_DONE, REASON_NUMBERS, START,
+    answer, answer_at, cars, read_message, sound, write_message, Answer, Instruction, Message, Station, BEGIN_IN, BEGIN_OUT, DONE, END_DONE,
+    END_NOT_DONE, FAILED, REASON_NUMBERS, START, STUCK,
 };
 use std::collections::BTreeSet;
 use std::process::exit;
@@ -41,7 +43,7 @@ fn examples() {
     assert_eq!(Station::start().request(2, &[half, gap].concat()), answer_at(25, 0));
     assert_eq!(Station::start().request(3, &[[1, 1, 2, 0, 1], gap, half].concat()), answer_at(21, 1));
     for number in 0..=255 {
-        let known = !matches!(number, 9 | 14 | 18 | 19 | 32..);
+        let known = !matches!(number, 9 | 14 | 18 | 19 | 33..);
         assert_eq!(read_message(&[6, 0, 128, 0, number, 255, 1, 2]).err().map(|refused| refused.answer), (!known).then_some(answer(4)));
     }
 }
@@ -51,17 +53,17 @@ fn issues() {
     let belt = [1, 1, 2, 0, 1];
     let with_issue = |issue| Answer { issue, ..answer(0) };
     let session = reference::serve(&[3, 0, 2, 0, 1, 2, 0, 5, 0]);
-    assert_eq!(session, [6, 0, 128, 0, 0, 255, 0, 0, 10, 0, 129, 0, 0, 0, 0, 0, 0, 0x1B, 0x89, 0]);
+    assert_eq!(session, [6, 0, 128, 0, 0, 255, 0, 0, 18, 0, 129, 0, 0, 0, 0, 0, 0, 0x1B, 0x89, 0, 0, 0, 0, 0, 0, 0, 0, 0]);
     // the first set has 0; with it present the numbers from 65535 down to 32769 are late, though none was issued
     let mut station = Station::start();
     assert_eq!((station.result(0, 0, 1), station.request(1, &belt)), (answer(11), with_issue(0)));
     let told = [65535, 32769, 32768, 1].map(|issue| station.result(issue, 0, 1).number);
     assert_eq!(told, [29, 29, 30, 30]);
     // 4 before 29, and 29 before 12
-    assert_eq!((station.result(65535, 0, 2), station.result(65535, 8, 1)), (answer(4), answer(29)));
+    assert_eq!((station.result(65535, 0, 3), station.result(65535, 8, 1)), (answer(4), answer(29)));
     // a refused request, an event and an image keep the count; after 65535 comes 0
     assert_eq!((station.request(1, &belt), station.result(0, 0, 1)), (answer(6), answer(0)));
-    assert_eq!((station.request(0, &[]), station.event(1), station.image(START)), (answer(7), answer(0), answer(0)));
+    assert_eq!((station.request(0, &[]), station.event(1), station.image(START, 0)), (answer(7), answer(0), answer(0)));
     assert_eq!((station.request(1, &belt), station.result(0, 0, 1).number, station.result(1, 0, 0)), (with_issue(1), 29, answer(0)));
     station.next_issue = 65535;
     assert_eq!((station.request(1, &belt), station.next_issue), (with_issue(65535), 0));
@@ -126,7 +128,7 @@ fn driving() {
     assert!(!unsound.into_iter().chain([turned | 1 << 52 | 1 << 56, GOING | 1 << 63]).any(sound));
     let mut station = Station::start();
     for image in [COMING, GOING, PARKED] {
-        assert_eq!((station.image(image), station.record), (answer(0), image));
+        assert_eq!((station.image(image, 0), station.record), (answer(0), image));
     }
 }
 
@@ -138,7 +140,7 @@ fn handed_in() {
         station.set[..5 * set.len()].copy_from_slice(&set.concat());
         // every call tests it, a result that failed, an event and an ask too
         let mut calls = [station; 5];
-        let told = [calls[0].result(65535, 7, 0), calls[1].event(0), calls[2].ask(), calls[3].image(0), calls[4].request(0, &[])];
+        let told = [calls[0].result(65535, 7, 0), calls[1].event(0), calls[2].ask(), calls[3].image(0, 0), calls[4].request(0, &[])];
         assert_eq!(told.map(|answer| answer.number == 16), [!station.fit(); 5]);
         station.fit()
     };
@@ -150,6 +152,42 @@ fn handed_in() {
     // what waits must be allowed, what is answered need not be
     assert!(!fit(START, &[turn], 0) && !fit(START, &[tilt, turn], 1) && fit(START, &[tilt, turn], 2));
     assert!(fit(START | 2 << 53, &[down, [1, 2, 2, 0, 1]], 1), "the lift is down, and a belt still waits");
+}
+
+/// The same of jams: what is set apart, until when, and what is refused for it.
+fn jamming() {
+    let [turn, down, up, belt, tilt] = [[5, 0, 0, 0, 0], [4, 2, 0, 0, 0], [4, 1, 0, 0, 0], [1, 2, 2, 0, 1], [3, 0, 3, 1, 0]];
+    let middle: u64 = 0xFF << 21; // of row 2
+    let mut station = Station::start();
+    // the whole area of a belt, from its result on and when its set has closed; the record stays, and it is answered
+    assert_eq!((station.request(2, &[belt, tilt].concat()).number, station.result(0, 0, STUCK), station.record), (0, answer(0), START));
+    assert_eq!((station.apart_number(), [FAILED, DONE, STUCK].map(|ending| station.result(0, 0, ending).number)), (middle, [13; 3]));
+    assert_eq!((station.result(0, 0, 3), station.result(0, 1, DONE), station.count, station.apart_number()), (answer(4), answer(0), 0, middle));
+    // the least that touches it is told, before an overlap and whatever the record allows; 31 comes before it
+    assert_eq!(station.request(4, &[tilt, tilt, [1, 2, 7, 0, 0], belt].concat()), answer_at(32, 2));
+    assert_eq!((station.request(2, &[up, turn].concat()), station.request(1, &[4, 3, 0, 0, 0])), (answer_at(8, 1), answer_at(4, 0)));
+    assert_eq!((station.event(BEGIN_IN), station.request(2, &[belt, down].concat()), station.event(END_NOT_DONE)), (answer(0), answer(31), answer(0)));
+    // the lift has one bit; a begin is told of it before that it is impossible, and an end that none is under way
+    assert_eq!((station.request(1, &up).number, station.result(1, 0, DONE), station.request(1, &turn).number), (0, answer(0), 0));
+    assert_eq!((station.event(BEGIN_IN), station.result(2, 0, STUCK), station.apart_number()), (answer(6), answer(0), middle | 1 << 52 | 0xE700));
+    assert_eq!([BEGIN_IN, BEGIN_OUT, END_DONE, END_NOT_DONE].map(|event| station.event(event).number), [32, 32, 31, 31]);
+    let slots = Instruction::read([2, 1, 1, 0, 1]).map(|shuttle| shuttle.area().number());
+    assert_eq!(slots, Some(3 << 18 | 1 << 29 | 0b11 << 43), "the slots of rows 1 and 2 on the right, and their cells");
+    // an image must set nothing apart, and clears it all
+    assert_eq!((station.image(START, 1), station.image(START, 1 << 63), station.image(1, 0)), (answer(15), answer(15), answer(15)));
+    assert_eq!((station.image(START, 0), station.apart_number(), station.request(1, &belt).number), (answer(0), 0, 0));
+    assert_eq!((station.image(START, 1), station.result(3, 0, FAILED), station.apart_number()), (answer(6), answer(0), 0));
+    // handed in: any parts are fit, also beside a driver in the lift, who can't leave it then; no bit above the lift's is
+    let parts = |number| { let mut bytes = Station { record: START | 1 << 55, ..Station::start() }.to_bytes(); bytes[52..].copy_from_slice(&u64::to_le_bytes(number)); Station::from_bytes(&bytes) };
+    let mut lift = parts(1 << 52);
+    assert_eq!((lift.event(END_DONE), lift.event(BEGIN_IN), parts((1 << 53) - 1).ask()), (answer(32), answer(31), answer(0)));
+    assert!((53..64).all(|bit| parts(1 << bit).ask() == answer(16) && parts(1 << bit).to_bytes()[52..] == u64::to_le_bytes(1 << bit)));
+    // in bytes: the record, then what is set apart, any two numbers
+    let mut shown = [0; 20];
+    let both = Message::Image { image: 0x0807_0605_0403_0201, apart: 0x100F_0E0D_0C0B_0A09 };
+    assert_eq!((write_message(&both, &mut shown), shown[..4].to_vec()), (Ok(20), vec![18, 0, 129, 0]));
+    assert!(shown[4..].iter().copied().eq(1..=16) && read_message(&shown).is_ok_and(|read| read == (both, 20)));
+    assert_eq!(read_message(&[10, 0, 4, 0, 0, 0, 0, 0, 0, 0x1B, 9, 0]).err().map(|refused| refused.answer), Some(answer(2)));
 }
 
 /// What the instructions were refused for that the record didn't allow, each with its opcode: each message has one answer.
@@ -169,8 +207,15 @@ fn main() {
     issues();
     driving();
     handed_in();
+    jamming();
     let (mut seen, mut reasons, mut met) = (BTreeSet::new(), BTreeSet::new(), BTreeSet::new());
-    let long = (0..2).map(|seed| (seed, traffic::input(seed, messages))).inspect(|(_, input)| met.extend(drives::met_in(input)));
+    let (mut jams_met, mut choices, mut most) = (BTreeSet::new(), 0, 0);
+    let long = (0..2).map(|seed| (seed, traffic::input(seed, messages))).inspect(|(_, input)| {
+        met.extend(drives::met_in(input));
+        let (jams, looked_at, at_once) = jams::met_in(input);
+        jams_met.extend(jams);
+        (choices, most) = (choices + looked_at, most.max(at_once));
+    });
     let short = (0..sessions).map(|seed| (seed, traffic::damaged_input(1000 + seed, (seed % 40) as usize)));
     let mut compared = 0;
     for (seed, input) in long.chain(short) {
@@ -185,13 +230,14 @@ fn main() {
         reasons.extend(reasons_in(&input, &got));
         compared += 1;
     }
-    let wanted: BTreeSet<u8> = (0..=8).chain(10..=13).chain([15]).chain(20..=31).collect();
+    let wanted: BTreeSet<u8> = (0..=8).chain(10..=13).chain([15]).chain(20..=32).collect();
     if seen != wanted {
         eprintln!("the numbers that came are {seen:?}, expected {wanted:?}");
         exit(1);
     }
-    if !traffic::every_reason("program", &reasons) || !drives::every_drive("program", &met) { exit(1); }
+    if !traffic::every_reason("program", &reasons) || !drives::every_drive("program", &met) || !jams::every_jam("program", &jams_met) { exit(1); }
     println!("program: {compared} inputs, {} messages in the long ones, each answer as the reference's; numbers {seen:?}", 2 * messages);
     println!("program: {} pairs of opcode and reason, all that can come", reasons.len());
-    println!("program: {} ways to meet a drive, all that there are", met.len());
+    println!("program: {} ways to meet a drive and {} to meet a jam, all that there are", met.len(), jams_met.len());
+    println!("program: {choices} choices of which stuck instructions finished, of up to {most} at once, each with a layout of the same cars");
 }

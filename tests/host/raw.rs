@@ -5,8 +5,8 @@ extern "C" {
     pub fn station_start(room: *mut u8, room_length: usize) -> u32;
     pub fn station_request(room: *mut u8, room_length: usize, count: u8, set: *const u8, set_length: usize) -> u32;
     pub fn station_event(room: *mut u8, room_length: usize, way: u8) -> u32;
-    pub fn station_result(room: *mut u8, room_length: usize, issue: u16, number: u8, done: u8) -> u32;
-    pub fn station_image(room: *mut u8, room_length: usize, image: u64) -> u32;
+    pub fn station_result(room: *mut u8, room_length: usize, issue: u16, number: u8, ending: u8) -> u32;
+    pub fn station_image(room: *mut u8, room_length: usize, image: u64, apart: u64) -> u32;
     pub fn station_ask(room: *const u8, room_length: usize, image: *mut u8, image_length: usize) -> u32;
     pub fn station_message(
         room: *mut u8,

@@ -22,7 +22,7 @@ static void line(const char *name, int number, int place) {
         snprintf(at, left, "%s-%d %" PRIu32 "\n", name, number, value);
 }
 
-static bool in_force(int number) { return number != 9 && number != 14 && number != 18 && number != 19 && number <= STATION_OUT_OF_TURN; }
+static bool in_force(int number) { return number != 9 && number != 14 && number != 18 && number != 19 && number <= STATION_SET_APART; }
 
 static void lines(void) {
     for (int kind = 1; kind <= 5; kind++)

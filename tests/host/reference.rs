@@ -13,11 +13,14 @@ mod floor;
 mod instructions;
 #[path = "messages.rs"]
 mod messages;
+#[path = "parts.rs"]
+mod parts;
 
 use floor::{LEFT_BELT, LIFT_CELLS, OTHER_ROWS, RIGHT_BELT, ROW_1};
 pub use instructions::{Instruction, REASONS, REASON_NUMBERS};
-use instructions::{named, overlap, read_set};
-pub use messages::{answer_message, read_call, read_message, serve, stream, write_message, Message, Refused};
+use instructions::{areas, named, overlap, read_set};
+pub use messages::{answer_message, read_call, read_message, serve, shown_message, stream, write_message, Message, Refused};
+pub use parts::Parts;
 
 /// What a call answers: a number of the table, the place of the instruction that it names or none, and the issue of a set that was
 /// taken; with all that isn't a request taken, 0.
@@ -44,14 +47,12 @@ const BASEMENT: u8 = 2;
 const HIGHER: u8 = 1; // d
 const FULL: u8 = 1; // size
 const LIFT_CAR: u32 = 52;
-const LIFT: u64 = 0b111 << LIFT_CAR; // its car and its height
 const DRIVE_IN: u32 = 55; // under way
 const DRIVE_OUT: u32 = 56;
 
 fn bit(image: u64, at: u32) -> bool { image >> at & 1 == 1 }
 fn with(image: u64, at: u32, value: bool) -> u64 { image & !(1 << at) | u64::from(value) << at }
 fn with_all(image: u64, cells: Range<u32>, value: bool) -> u64 { cells.fold(image, |now, cell| with(now, cell, value)) }
-fn mask_of(cells: Range<u32>) -> u64 { with_all(0, cells, true) }
 fn occupied(image: u64, cells: Range<u32>) -> u32 { cells.map(|cell| u32::from(bit(image, cell))).sum() }
 fn free(image: u64, mut cells: Range<u32>) -> bool { cells.all(|cell| !bit(image, cell)) }
 fn even(image: u64, cells: Range<u32>) -> bool { occupied(image, cells) % 2 == 0 }
@@ -147,9 +148,15 @@ pub enum Call<'a> {
     Request { count: u8, bytes: &'a [u8] },
     Event(u8),
     Result { issue: u16, number: u8, outcome: u8 },
-    Image(u64),
+    /// A record, and what is set apart by whoever sends it.
+    Image { image: u64, apart: u64 },
     Ask,
 }
+
+// How an instruction ended.
+pub const FAILED: u8 = 0;
+pub const DONE: u8 = 1;
+pub const STUCK: u8 = 2;
 
 // The events: a drive begins, into the lift or out of it, and ends.
 pub const BEGIN_IN: u8 = 1;
@@ -157,8 +164,8 @@ pub const BEGIN_OUT: u8 = 2;
 pub const END_DONE: u8 = 3;
 pub const END_NOT_DONE: u8 = 4;
 
-/// The record; the outstanding set: its size, a bit for each answered one, five bytes for each; and the issue of the set that is taken
-/// next, any at all.
+/// The record; the outstanding set: its size, a bit for each answered one, five bytes for each; the issue of the set that is taken next,
+/// any at all; and the parts that are set apart since something got stuck, or a number that was handed in for them and shows none.
 #[derive(Clone, Copy, Debug, PartialEq, Eq)]
 pub struct Station {
     pub record: u64,
@@ -166,19 +173,21 @@ pub struct Station {
     pub answered: u8,
     pub set: [u8; 40],
     pub next_issue: u16,
+    pub apart: Result<Parts, u64>,
 }
 
 pub fn answer(number: u8) -> Answer { answer_at(number, NO_PLACE) }
 pub fn answer_at(number: u8, place: u8) -> Answer { Answer { number, place, issue: 0 } }
 
 impl Station {
-    pub const SIZE: usize = 52;
+    pub const SIZE: usize = 60;
 
-    pub fn start() -> Self { Station { record: START, count: 0, answered: 0, set: [0; 40], next_issue: 0 } }
+    pub fn start() -> Self { Station { record: START, count: 0, answered: 0, set: [0; 40], next_issue: 0, apart: Ok(Parts::NONE) } }
 
     /// Record sound; up to eight instructions, all well-formed; marks on no others, and not on every
     /// one of a set; unused places zero; not both a drive under way and a set with the lift in an area;
-    /// no two that overlap, answered or not; and what still waits for its result is allowed on the record.
+    /// no two that overlap, answered or not; what still waits for its result is allowed on the record; and
+    /// what is set apart is any parts that there are.
     pub fn fit(&self) -> bool {
         let Some((held, unused)) = self.set.split_at_checked(5 * usize::from(self.count)) else { return false };
         sound(self.record)
@@ -187,8 +196,9 @@ impl Station {
             && unused.iter().all(|&byte| byte == 0)
             && (self.count == 0 || self.answered != self.all_marks())
             && !(drive_under_way(self.record) && self.holds_lift())
-            && overlap(self.held()).is_none()
+            && overlap(&areas(self.held())).is_none()
             && self.waiting().all(|instruction| instruction.allowed(self.record))
+            && self.apart.is_ok()
     }
 
     fn all_marks(&self) -> u8 { (0..8).filter(|&at| at < self.count).fold(0, |marks, at| marks | 1 << at) }
@@ -198,12 +208,18 @@ impl Station {
     }
 
     /// Of those held, the ones that have no result yet.
-    fn waiting(&self) -> impl Iterator<Item = Instruction> + '_ {
+    pub fn waiting(&self) -> impl Iterator<Item = Instruction> + '_ {
         self.held().zip(0..).filter(|&(_, at)| !named(self.answered, at)).map(|(instruction, _)| instruction)
     }
 
     /// Whether the outstanding set has the lift in an area, answered or not.
     fn holds_lift(&self) -> bool { self.held().any(|instruction| instruction.takes_lift()) }
+
+    /// Whether some parts share any with what is set apart.
+    pub fn is_apart(&self, parts: &Parts) -> bool { self.apart.is_ok_and(|apart| apart.meet(parts)) }
+
+    /// What is set apart, as the number that shows it.
+    pub fn apart_number(&self) -> u64 { self.apart.map_or_else(|number| number, |apart| apart.number()) }
 
     /// The issue of the set taken last, which is the outstanding one's.
     pub fn present_issue(&self) -> u16 { self.next_issue.checked_sub(1).unwrap_or(u16::MAX) }
@@ -214,13 +230,13 @@ impl Station {
         if given <= present { present - given } else { present + ISSUES - given }
     }
 
-    // The calls; where an ask is taken, the image asked for is `record`.
+    // The calls; where an ask is taken, the image asked for is `record`, and beside it what is set apart.
     pub fn request(&mut self, count: u8, bytes: &[u8]) -> Answer { self.take(Call::Request { count, bytes }) }
     pub fn event(&mut self, event: u8) -> Answer { self.take(Call::Event(event)) }
     pub fn result(&mut self, issue: u16, number: u8, outcome: u8) -> Answer {
         self.take(Call::Result { issue, number, outcome })
     }
-    pub fn image(&mut self, image: u64) -> Answer { self.take(Call::Image(image)) }
+    pub fn image(&mut self, image: u64, apart: u64) -> Answer { self.take(Call::Image { image, apart }) }
     pub fn ask(&mut self) -> Answer { self.take(Call::Ask) }
 
     /// Any call; a station that isn't fit refuses before all else.
@@ -234,11 +250,13 @@ impl Station {
             Call::Request { count, bytes } => self.take_request(count, bytes),
             Call::Event(event) => self.take_event(event),
             Call::Result { issue, number, outcome } => self.take_result(issue, number, outcome),
-            // A sound image becomes the record while no set is outstanding.
-            Call::Image(_) if self.count != 0 => answer(6),
-            Call::Image(image) if !sound(image) => answer(15),
-            Call::Image(image) => {
+            // A sound image that sets nothing apart becomes the record while no set is outstanding; from
+            // now on nothing is.
+            Call::Image { .. } if self.count != 0 => answer(6),
+            Call::Image { image, apart } if !sound(image) || apart != 0 => answer(15),
+            Call::Image { image, .. } => {
                 self.record = image;
+                self.apart = Ok(Parts::NONE);
                 answer(0)
             }
             Call::Ask => answer(0),
@@ -246,9 +264,9 @@ impl Station {
     }
 
     /// A set is taken if none is outstanding, it has one to eight well-formed instructions, none has the
-    /// lift in its area while a drive is under way, no two share a part of their areas, and each is allowed
-    /// on the record, which stays as it is; of those that are not, the least tells why. Taken, it has the
-    /// issue whose turn it is.
+    /// lift in its area while a drive is under way, none touches a part that is set apart, no two share a part
+    /// of their areas, and each is allowed on the record, which stays as it is; of those that are not, the
+    /// least tells why. Taken, it has the issue whose turn it is.
     fn take_request(&mut self, count: u8, bytes: &[u8]) -> Answer {
         if self.count != 0 { return answer(6); }
         if count > 8 { return answer(5); }
@@ -258,8 +276,10 @@ impl Station {
             Ok(set) => set,
             Err(place) => return answer_at(4, place),
         };
-        if drive_under_way(self.record) && set.iter().take(count.into()).any(Instruction::takes_lift) { return answer(31); }
-        if let Some(place) = overlap(set.into_iter().take(count.into())) { return answer_at(8, place); }
+        let areas = &areas(set.into_iter().take(count.into()))[..count.into()];
+        if drive_under_way(self.record) && areas.iter().any(|area| area.lift) { return answer(31); }
+        if let Some(place) = areas.iter().position(|area| self.is_apart(area)) { return answer_at(32, place as u8); }
+        if let Some(place) = overlap(areas) { return answer_at(8, place as u8); }
         for (place, instruction) in (0..count).zip(&set) {
             if let Err(number) = instruction.judge(self.record) { return answer_at(number, place); }
         }
@@ -272,12 +292,14 @@ impl Station {
 
     /// A drive begins at street, into an empty lift or out of an occupied one, and with its end the car did
     /// come or go, or did not. No event is taken while an outstanding set has the lift in one of its areas,
-    /// answered or not; nor a begin while a drive is under way, nor an end while none is.
+    /// answered or not; nor a begin while a drive is under way, nor an end while none is; nor any while the
+    /// lift is set apart.
     fn take_event(&mut self, event: u8) -> Answer {
         if !matches!(event, BEGIN_IN | BEGIN_OUT | END_DONE | END_NOT_DONE) { return answer(4); }
         if self.holds_lift() { return answer(6); }
         let begins = matches!(event, BEGIN_IN | BEGIN_OUT);
         if begins == drive_under_way(self.record) { return answer(31); }
+        if self.is_apart(&Parts::LIFT) { return answer(32); }
         if begins {
             let comes = event == BEGIN_IN;
             if height(self.record) != STREET || bit(self.record, LIFT_CAR) == comes { return answer(10); }
@@ -290,42 +312,46 @@ impl Station {
     }
 
     /// One result for each instruction: success applies its rule to the record as it is now, which allows
-    /// it since the station is fit; failure only marks; with the last one nothing is held or marked any
-    /// more. It must be of the outstanding set: one of up to 32767 sets before is late, any other was not
-    /// issued.
+    /// it since the station is fit; failure only marks; one that is stuck marks too, and from now on its whole
+    /// area is set apart. With the last result nothing is held or marked any more, but what is set apart stays
+    /// so. It must be of the outstanding set: one of up to 32767 sets before is late, any other was not issued.
     fn take_result(&mut self, issue: u16, number: u8, outcome: u8) -> Answer {
-        if outcome > 1 { return answer(4); }
+        if !matches!(outcome, FAILED | DONE | STUCK) { return answer(4); }
         if self.count == 0 { return answer(11); }
         match self.behind(issue) {
             0 => {}
             1..=32767 => return answer(29),
             _ => return answer(30),
         }
-        if number >= self.count { return answer(12); }
+        let Some(instruction) = self.held().nth(number.into()) else { return answer(12) };
         if named(self.answered, number.into()) { return answer(13); }
-        let instruction = self.held().nth(number.into());
-        if let (1, Some(done)) = (outcome, instruction) { self.record = done.next(self.record); }
+        if outcome == DONE { self.record = instruction.next(self.record); }
+        if outcome == STUCK { self.apart = self.apart.map(|apart| apart.and(instruction.area())); }
         self.answered |= 1 << number;
-        if self.answered == self.all_marks() { *self = Station { record: self.record, next_issue: self.next_issue, ..Self::start() }; }
+        if self.answered == self.all_marks() {
+            *self = Station { record: self.record, next_issue: self.next_issue, apart: self.apart, ..Self::start() };
+        }
         answer(0)
     }
 
-    /// Record (little-endian), count, marks, set, next issue (little-endian).
+    /// Record, count, marks, set, next issue, what is set apart; each number with its lowest byte first.
     pub fn to_bytes(&self) -> [u8; Self::SIZE] {
         let mut bytes = [0; Self::SIZE];
         bytes[..8].copy_from_slice(&self.record.to_le_bytes());
         bytes[8..10].copy_from_slice(&[self.count, self.answered]);
         bytes[10..50].copy_from_slice(&self.set);
-        bytes[50..].copy_from_slice(&self.next_issue.to_le_bytes());
+        bytes[50..52].copy_from_slice(&self.next_issue.to_le_bytes());
+        bytes[52..].copy_from_slice(&self.apart_number().to_le_bytes());
         bytes
     }
 
     pub fn from_bytes(bytes: &[u8; Self::SIZE]) -> Self {
-        let (mut record, mut set) = ([0; 8], [0; 40]);
+        let (mut record, mut set, mut apart) = ([0; 8], [0; 40], [0; 8]);
         record.copy_from_slice(&bytes[..8]);
         set.copy_from_slice(&bytes[10..50]);
-        let next_issue = u16::from_le_bytes([bytes[50], bytes[51]]);
-        Station { record: u64::from_le_bytes(record), count: bytes[8], answered: bytes[9], set, next_issue }
+        apart.copy_from_slice(&bytes[52..]);
+        let (record, apart) = (u64::from_le_bytes(record), Parts::shown_by(u64::from_le_bytes(apart)));
+        Station { record, count: bytes[8], answered: bytes[9], set, next_issue: u16::from_le_bytes([bytes[50], bytes[51]]), apart }
     }
 }
 

@@ -49,6 +49,8 @@ fn station_message(room: &mut [u8], message: &[u8], reply: &mut [u8]) -> u32 {
     unsafe { raw::station_message(room.as_mut_ptr(), room.len(), message.as_ptr(), message.len(), reply.as_mut_ptr(), reply.len()) }
 }
 
+/// The longest message that a station answers with.
+const REPLY: usize = 20;
 /// What is always room enough for a report, by the header.
 const TEXT: usize = 1092;
 
@@ -210,7 +212,7 @@ fn text_of(room: &[u8], full: u8) -> Vec<u8> {
 /// A host: it counts each message before its station answers it, and goes on whatever comes.
 fn long_run(seed: u64, messages: usize) {
     let mut numbers = Numbers(seed);
-    let (mut room, mut station_room, mut reply) = ([0xFF; SIZE], [0xFF; Station::SIZE], [0; 12]);
+    let (mut room, mut station_room, mut reply) = ([0xFF; SIZE], [0xFF; Station::SIZE], [0; REPLY]);
     let (mut week, mut station) = (Week::default(), Station::start());
     assert_eq!((report_start(&mut room), station_start(&mut station_room)), (TAKEN, TAKEN));
     for at in 0..messages {
@@ -230,7 +232,7 @@ fn long_run(seed: u64, messages: usize) {
 /// The program and the entries on one input: the same text.
 fn as_the_program(program: &str) {
     let input = traffic::input(21, 20_000);
-    let (mut room, mut station_room, mut reply, mut rest) = ([0; SIZE], [0; Station::SIZE], [0; 12], &input[..]);
+    let (mut room, mut station_room, mut reply, mut rest) = ([0; SIZE], [0; Station::SIZE], [0; REPLY], &input[..]);
     station_start(&mut station_room);
     while !rest.is_empty() {
         assert_eq!(report_message(&mut room, &station_room, rest), TAKEN);

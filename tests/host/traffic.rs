@@ -2,7 +2,9 @@
 //! What is plausible next is judged by the reference station, which takes each message as it is made.
 #![allow(dead_code)] // each driver uses its own part of this module
 
-use crate::reference::{drive_under_way, Instruction, Station, BEGIN_IN, BEGIN_OUT, END_DONE, END_NOT_DONE, REASONS};
+use crate::reference::{
+    drive_under_way, Instruction, Parts, Station, BEGIN_IN, BEGIN_OUT, DONE, END_DONE, END_NOT_DONE, FAILED, REASONS, STUCK,
+};
 use std::collections::BTreeSet;
 
 /// A seeded generator of numbers (splitmix64).
@@ -68,7 +70,7 @@ pub fn refused_five(numbers: &mut Numbers, record: u64) -> Option<[u8; 5]> {
 
 /// Instructions that the record allows and that overlap neither each other nor what is taken, as many as are found in some tries. While a
 /// drive is under way they mostly leave the lift alone.
-pub fn allowed_set(numbers: &mut Numbers, record: u64, mut taken: u64, wanted: usize) -> Vec<u8> {
+pub fn allowed_set(numbers: &mut Numbers, record: u64, mut taken: Parts, wanted: usize) -> Vec<u8> {
     let mut bytes = Vec::new();
     let lift_too = !drive_under_way(record) || numbers.one_in(4);
     for _ in 0..40 * wanted {
@@ -76,8 +78,8 @@ pub fn allowed_set(numbers: &mut Numbers, record: u64, mut taken: u64, wanted: u
         let five = good_five(numbers);
         let instruction = Instruction::read(five).expect("good_five is well formed");
         let area = instruction.area();
-        if area & taken == 0 && instruction.allowed(record) && (lift_too || !instruction.takes_lift()) {
-            taken |= area;
+        if !taken.meet(&area) && instruction.allowed(record) && (lift_too || !instruction.takes_lift()) {
+            taken = taken.and(area);
             bytes.extend_from_slice(&five);
         }
     }
@@ -96,6 +98,8 @@ pub fn request(bytes: &[u8]) -> Vec<u8> {
     message(1, &body)
 }
 
+pub fn image(record: u64, apart: u64) -> Vec<u8> { message(4, &[record.to_le_bytes(), apart.to_le_bytes()].concat()) }
+
 pub fn result(issue: u16, number: u8, outcome: u8) -> Vec<u8> {
     let [low, high] = issue.to_le_bytes();
     message(3, &[low, high, number, outcome])
@@ -111,12 +115,14 @@ pub fn refused_request(numbers: &mut Numbers, record: u64, wanted: usize) -> Opt
     Some(request(&bytes))
 }
 
-/// A request: mostly one that is allowed, of one to three instructions, now and then of up to eight.
-fn some_request(numbers: &mut Numbers, record: u64) -> Vec<u8> {
+/// A request: mostly one that is allowed, of one to three instructions, now and then of up to eight. Of what is set apart it mostly touches
+/// nothing.
+fn some_request(numbers: &mut Numbers, station: &Station) -> Vec<u8> {
+    let (record, apart) = (station.record, if numbers.one_in(8) { Parts::NONE } else { station.apart.unwrap_or(Parts::NONE) });
     let wanted = if numbers.one_in(12) { 8 } else { 1 + numbers.below(3) as usize };
     let refused = if numbers.one_in(24) { refused_request(numbers, record, wanted) } else { None };
     if let Some(request) = refused { return request; }
-    let mut bytes = allowed_set(numbers, record, 0, wanted);
+    let mut bytes = allowed_set(numbers, record, apart, wanted);
     if numbers.one_in(8) {
         for _ in 0..=numbers.below(2) {
             if bytes.len() < 40 { bytes.extend_from_slice(&any_five(numbers)); }
@@ -137,7 +143,20 @@ pub fn some_issue(numbers: &mut Numbers, station: &Station) -> u16 {
     station.present_issue().wrapping_sub(behind)
 }
 
-/// A result: mostly of an instruction that waits, mostly a success.
+/// Whether the motors are in a bad time: so many sets with jams follow so many without.
+fn jams(station: &Station) -> bool { station.next_issue >> 6 & 1 == 1 }
+
+/// How an instruction ended: mostly it is done; in a bad time one of five is stuck.
+fn some_ending(numbers: &mut Numbers, station: &Station) -> u8 {
+    match numbers.below(60) {
+        0 => numbers.byte(),
+        1..=12 if jams(station) => STUCK,
+        13..=22 => FAILED,
+        _ => DONE,
+    }
+}
+
+/// A result: mostly of an instruction that waits.
 fn some_result(numbers: &mut Numbers, station: &Station) -> Vec<u8> {
     let waiting: Vec<u8> = (0..station.count).filter(|at| station.answered >> at & 1 == 0).collect();
     let number = match waiting.len() {
@@ -145,8 +164,8 @@ fn some_result(numbers: &mut Numbers, station: &Station) -> Vec<u8> {
         n if !numbers.one_in(16) => waiting[numbers.below(n as u64) as usize],
         _ => numbers.below(10) as u8,
     };
-    let outcome = if numbers.one_in(60) { numbers.byte() } else { u8::from(!numbers.one_in(6)) };
-    result(some_issue(numbers, station), number, outcome)
+    let ending = some_ending(numbers, station);
+    result(some_issue(numbers, station), number, ending)
 }
 
 /// An event: mostly one whose turn it is, else any of the four, or a byte that is none.
@@ -174,16 +193,29 @@ pub fn near_record(numbers: &mut Numbers, record: u64) -> u64 {
     }
 }
 
+/// An image near the present record, and what it sets apart: mostly nothing, else what is set apart now, one bit, or any.
+pub fn near_image(numbers: &mut Numbers, station: &Station) -> (u64, u64) {
+    let apart = match numbers.below(16) {
+        0 => station.apart_number(),
+        1 => 1 << numbers.below(64),
+        2 => numbers.next(),
+        _ => 0,
+    };
+    (near_record(numbers, station.record), apart)
+}
+
 /// One message whose length is in its range, made for the station as it is.
 pub fn framed_message(numbers: &mut Numbers, station: &Station) -> Vec<u8> {
     let idle = station.count == 0;
     let mut bytes = match numbers.below(32) {
-        0..=17 if idle => some_request(numbers, station.record),
+        // somebody has looked
+        0 | 1 if idle && station.apart_number() != 0 => image(near_record(numbers, station.record), 0),
+        0..=17 if idle => some_request(numbers, station),
         0..=22 if !idle => some_result(numbers, station),
-        18 => some_request(numbers, station.record),
+        18 => some_request(numbers, station),
         19 => some_result(numbers, station),
         20..=26 => some_event(numbers, station.record),
-        27 => message(4, &near_record(numbers, station.record).to_le_bytes()),
+        27 => { let (record, apart) = near_image(numbers, station); image(record, apart) }
         28 => { let bytes: Vec<u8> = (0..numbers.below(9)).flat_map(|_| any_five(numbers)).collect(); request(&bytes) }
         29 => { let size = numbers.below(42) as usize; let body: Vec<u8> = (0..size).map(|_| numbers.byte()).collect(); message(numbers.below(7) as u8, &body) }
         _ => message(5, &[]),
@@ -210,7 +242,7 @@ pub fn any_message(numbers: &mut Numbers, station: &Station) -> Vec<u8> {
 /// A station that is not always one reached by calls.
 pub fn damaged_station(numbers: &mut Numbers, station: &Station) -> Station {
     let mut other = *station;
-    match numbers.below(7) {
+    match numbers.below(8) {
         0 => other.record = near_record(numbers, station.record),
         1 => {
             // instructions that need not be allowed, some of them answered; a drive beside them makes it unfit, or is left out
@@ -226,6 +258,8 @@ pub fn damaged_station(numbers: &mut Numbers, station: &Station) -> Station {
         2 => other.count = numbers.below(12) as u8,
         3 => other.answered = numbers.byte(),
         4 => other.set[numbers.below(40) as usize] = numbers.byte(),
+        // any parts are fit, and no bit above them is
+        6 => other.apart = Parts::shown_by(match numbers.below(4) { 0 => 1 << 52, 1 => 1 << numbers.below(64), _ => numbers.next() >> (11 + numbers.below(50)) }),
         // any next issue is fit; every other time one round the end
         5 => other.next_issue = (if numbers.one_in(2) { numbers.next() } else { 65535 + numbers.below(3) }) as u16,
         _ => {}

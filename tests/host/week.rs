@@ -2,7 +2,7 @@
 //! totals is that of the cases below, which is the report's; those that are 0 are not kept.
 #![allow(dead_code)] // each driver uses its own part of this module
 
-use crate::reference::{cars, read_call, Call, Station, END_DONE};
+use crate::reference::{self, cars, read_call, Call, Station, END_DONE};
 use std::collections::BTreeMap;
 use std::fmt::{self, Display, Formatter};
 
@@ -26,7 +26,7 @@ impl Display for Total {
 }
 
 /// The numbers that an answer can have.
-fn in_force() -> impl Iterator<Item = u8> { (0..=8).chain(10..=13).chain(15..=17).chain(20..=31) }
+fn in_force() -> impl Iterator<Item = u8> { (0..=8).chain(10..=13).chain(15..=17).chain(20..=32) }
 
 /// The totals that a report has a line for, in its order.
 pub fn totals() -> impl Iterator<Item = Total> {
@@ -65,7 +65,7 @@ pub fn happened(station: &mut Station, input: &[u8]) -> Happened {
     match taken {
         Some(Call::Result { number, outcome, .. }) => {
             let op = before.set[5 * usize::from(number)];
-            raised.push(if outcome == 1 { Done(op) } else { Failed(op) });
+            raised.push(if outcome == reference::DONE { Done(op) } else { Failed(op) }); // what is stuck has failed
         }
         // a drive that is done has brought a car or taken one away
         Some(Call::Event(END_DONE)) => raised.push(if cars(station.record) > cars(before.record) { CarsIn } else { CarsOut }),
@@ -125,11 +125,18 @@ const BELT: [u8; 10] = [8, 0, 1, 0, 1, 1, 1, 2, 0, 1];
 const BELT_AND_TILT: [u8; 15] = [13, 0, 1, 0, 2, 1, 1, 2, 0, 1, 3, 0, 3, 1, 0];
 const SHUTTLE: [u8; 10] = [8, 0, 1, 0, 1, 2, 0, 2, 0, 1];
 const ROTATE: [u8; 10] = [8, 0, 1, 0, 1, 5, 0, 0, 0, 0];
-const TWO_CARS: [u8; 12] = [10, 0, 4, 0, 0, 0x3C, 0, 0, 0, 0x1B, 0x49, 0];
-const HALF_A_CAR: [u8; 12] = [10, 0, 4, 0, 1, 0, 0, 0, 0, 0x1B, 0x09, 0];
-const NO_CARS: [u8; 12] = [10, 0, 4, 0, 0, 0, 0, 0, 0, 0x1B, 0x09, 0];
+const TWO_CARS: [u8; 20] = image([0, 0x3C, 0, 0, 0, 0x1B, 0x49, 0], 0);
+const HALF_A_CAR: [u8; 20] = image([1, 0, 0, 0, 0, 0x1B, 0x09, 0], 0);
+const NO_CARS: [u8; 20] = image([0, 0, 0, 0, 0, 0x1B, 0x09, 0], 0);
+const A_CELL_APART: [u8; 20] = image([0, 0, 0, 0, 0, 0x1B, 0x09, 0], 1);
+const WITHOUT_WHAT_IS_APART: [u8; 12] = [10, 0, 4, 0, 0, 0, 0, 0, 0, 0x1B, 0x09, 0];
 
 const fn lift(height: u8) -> [u8; 10] { [8, 0, 1, 0, 1, 4, height, 0, 0, 0] }
+
+/// An image, and the lowest byte of what it sets apart.
+const fn image([a, b, c, d, e, f, g, h]: [u8; 8], apart: u8) -> [u8; 20] {
+    [18, 0, 4, 0, a, b, c, d, e, f, g, h, apart, 0, 0, 0, 0, 0, 0, 0]
+}
 
 /// The result of a set's instruction.
 const fn result(issue: u8, number: u8, outcome: u8) -> [u8; 8] { [6, 0, 3, 0, issue, 0, number, outcome] }
@@ -170,8 +177,13 @@ pub const EXAMPLES: &[(&str, &[&[u8]], &str)] = &[
     // one that is refused counts as a message and as an answer alone
     ("late", &[&BELT, &result(0, 0, 1), &BELT, &result(0, 0, 1)], "kind-1 2 kind-3 2 answer-0 3 answer-29 1 done-1 1"),
     ("not issued", &[&BELT, &result(1, 0, 1)], "kind-1 1 kind-3 1 answer-0 1 answer-30 1"),
-    ("refused results", &[&result(0, 0, 1), &BELT_AND_TILT, &result(0, 2, 1), &result(0, 1, 0), &result(0, 1, 1), &result(0, 0, 2)],
+    ("refused results", &[&result(0, 0, 1), &BELT_AND_TILT, &result(0, 2, 1), &result(0, 1, 0), &result(0, 1, 1), &result(0, 0, 3)],
         "kind-1 1 kind-3 5 answer-0 2 answer-4 1 answer-11 1 answer-12 1 answer-13 1 failed-3 1"),
+    // what is stuck has failed, and its second result is none; what touches it is refused until an image clears it
+    ("stuck", &[&BELT_AND_TILT, &result(0, 0, 2), &result(0, 0, 1), &result(0, 1, 0), &BELT, &SHUTTLE, &result(1, 0, 1), &A_CELL_APART, &NO_CARS, &BELT],
+        "kind-1 4 kind-3 4 kind-4 2 answer-0 7 answer-13 1 answer-15 1 answer-32 1 done-2 1 failed-1 1 failed-3 1"),
+    ("a lift that is stuck", &[&lift(1), &result(0, 0, 2), &BEGIN_IN, &DONE, &ROTATE], "kind-1 2 kind-2 2 kind-3 1 answer-0 2 answer-31 1 answer-32 2 failed-4 1"),
+    ("an image of another length", &[&WITHOUT_WHAT_IS_APART], "kind-4 1 answer-2 1"),
     // the most cars are the largest number after any message, also of an image, and stay so when cars go
     ("images", &[&TWO_CARS, &HALF_A_CAR, &NO_CARS], "kind-4 3 answer-0 2 answer-15 1 most-cars 2"),
     ("an image that is refused", &[&BELT, &TWO_CARS], "kind-1 1 kind-4 1 answer-0 1 answer-6 1"),

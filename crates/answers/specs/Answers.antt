@@ -1,5 +1,5 @@
--- The table of numbers of document 01, with document 02's reasons, late results and drives: the number and the place of each answer, and
--- the issue that it carries. Assumes nothing.
+-- The table of numbers of document 01, with document 02's reasons, late results, drives and jams: the number and the place of each
+-- answer, and the issue that it carries. Assumes nothing.
 use mathlib.Core.Path.{_≡_}
 use mathlib.Core.Bool.{Bool, _&&_, _||_}
 use Prim.Native.Nat.{ℕ}
@@ -7,7 +7,7 @@ use lib.Dec.{leb}
 use Rattle.answers.specs.declared.Reason.{Reason}
 use Rattle.answers.specs.declared.Reason.the-variants.{NothingNamed, Gap, NotAvailable, NotFree, OddCount, HalfMove, SameHeight, NotAtRotation, CellsNotFree}
 use Rattle.answers.specs.declared.Answer.{Answer}
-use Rattle.answers.specs.declared.Answer.the-variants.{Taken, Opened, TooFewBytes, BadLength, UnknownKind, BadField, TooMany, SetOutstanding, EmptySet, Overlap, NotAllowed, EventImpossible, NoSet, NotInSet, AlreadyAnswered, Unsound, Unfit, NoRoom, Late, NotIssued, OutOfTurn}
+use Rattle.answers.specs.declared.Answer.the-variants.{Taken, Opened, TooFewBytes, BadLength, UnknownKind, BadField, TooMany, SetOutstanding, EmptySet, Overlap, NotAllowed, EventImpossible, NoSet, NotInSet, AlreadyAnswered, Unsound, Unfit, NoRoom, Late, NotIssued, OutOfTurn, SetApart}
 
 -- the number of a reason
 abbrev pub reasonNumber : Reason → ℕ
@@ -44,20 +44,22 @@ numberOf NoRoom = 17
 numberOf Late = 29
 numberOf NotIssued = 30
 numberOf OutOfTurn = 31
+numberOf (SetApart p) = 32
 
 -- a number of the table: some answer has it
 abbrev pub OfTable : ℕ → Type 0
 OfTable n = (a : Answer) × (n ≡ numberOf a)
 
--- the same as a test: 0 to 8, 10 to 13, 15 to 17, 20 to 31
+-- the same as a test: 0 to 8, 10 to 13, 15 to 17, 20 to 32
 abbrev pub inTable : ℕ → Bool
-inTable n = leb n 8 || (leb 10 n && leb n 13 || (leb 15 n && leb n 17 || leb 20 n && leb n 31))
+inTable n = leb n 8 || (leb 10 n && leb n 13 || (leb 15 n && leb n 17 || leb 20 n && leb n 32))
 
 -- the place where an answer names no instruction
 abbrev pub nowhere : ℕ
 nowhere = 255
 
--- the place of an answer: the least instruction that is bad, overlaps an earlier one or is not allowed; else nowhere
+-- the place of an answer: the least instruction that is bad, touches a part that is set apart, overlaps an earlier one or is not allowed;
+-- else nowhere
 abbrev pub placeOf : Answer → ℕ
 placeOf Taken = nowhere
 placeOf (Opened k) = nowhere
@@ -80,6 +82,7 @@ placeOf NoRoom = nowhere
 placeOf Late = nowhere
 placeOf NotIssued = nowhere
 placeOf OutOfTurn = nowhere
+placeOf (SetApart p) = p
 
 -- the issue that an answer carries: the number of the set that it opens, zero unless a request was taken
 abbrev pub issueOf : Answer → ℕ
@@ -104,3 +107,4 @@ issueOf NoRoom = 0
 issueOf Late = 0
 issueOf NotIssued = 0
 issueOf OutOfTurn = 0
+issueOf (SetApart p) = 0

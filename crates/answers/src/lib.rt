@@ -67,6 +67,8 @@ pub enum Answer {
     NotIssued,
     // 31: a begin while a drive is under way, an end while none is, a set with the lift in an area while one is
     OutOfTurn,
+    // 32: touches a part that is set apart: an instruction of a request, or an event, which has the place 255
+    SetApart(u8),
 }
 
 // The place that an answer gives where it names no instruction.
@@ -76,7 +78,7 @@ pub const NOWHERE: u8 = 255;
 pub fn in_table(n: u8) -> bool
     ensures { λ b. ⌜ b ≡ inTable n ⌝ }
 {
-    (n <= 8) | ((10 <= n) & (n <= 13) | ((15 <= n) & (n <= 17) | (20 <= n) & (n <= 31)))
+    (n <= 8) | ((10 <= n) & (n <= 13) | ((15 <= n) & (n <= 17) | (20 <= n) & (n <= 32)))
 }
 
 impl Reason {
@@ -125,6 +127,7 @@ impl Answer {
             Answer::Late => 29,
             Answer::NotIssued => 30,
             Answer::OutOfTurn => 31,
+            Answer::SetApart(_) => 32,
         }
     }
 
@@ -154,6 +157,7 @@ impl Answer {
             Answer::Late => NOWHERE,
             Answer::NotIssued => NOWHERE,
             Answer::OutOfTurn => NOWHERE,
+            Answer::SetApart(p) => p,
         }
     }
 

@@ -56,21 +56,22 @@ by-meaning : (P : Reply → Type 0) (s : Station) → P (meant s start) → ((h 
 by-meaning P s b f start p = b
 by-meaning P s b f (request n set) p = f (heardRequest n set) (asked-fine n set)
 by-meaning P s b f (event e) p = f (makes (run.event e)) tt
-by-meaning P s b f (result k i done) p = f (makes (run.result k i done)) tt
-by-meaning P s b f (image r) p = f (makes (run.image r)) p
+by-meaning P s b f (result k i ending) p = f (makes (run.result k i ending)) tt
+by-meaning P s b f (image r apart) p = f (makes (run.image r apart)) p
 by-meaning P s b f (ask out) p = f (makes run.ask) tt
 by-meaning P s b f (message m out) p = f (heard m) (heard-fine m p)
 
 start-typed : Typed startOf
-start-typed = record { image = omega arith; places = refl; issue = omega arith }
+start-typed = record { image = omega arith; places = refl; issue = omega arith; apart = omega arith }
 
 -- a room of bytes holds a station as code holds it
-room-typed : (room : List ℕ) → Bytes room → 52 ≤ length room → Typed (stationOf room)
+room-typed : (room : List ℕ) → Bytes room → 60 ≤ length room → Typed (stationOf room)
 unfolding stationOf
 room-typed room b h = record {
   image = below 8 0 room b;
   places = length-take-le 40 (drop 10 room) (rw (length-drop 10 room) (omega arith));
   issue = below 2 50 room b;
+  apart = below 8 52 room b;
 }
 
 meant-typed : (s : Station) → Typed s → (u : Use) → AsPassed u → Typed (meant s u .station)
@@ -79,16 +80,16 @@ meant-typed s T = by-meaning (λ (x : Reply). Typed (x .station)) s start-typed 
 -- ---- what it leaves and returns
 
 record Done (e : Entry) (x : Reply) : Type 0 where
-  long : 52 ≤ length (e .leaves)
+  long : 60 ≤ length (e .leaves)
   holds : stationOf (e .leaves) ≡ x .station
   returns : e .says ≡ returnedOf (x .answer)
 
 -- a station written over the first bytes of a room
-written-long : (s : Station) (past : List ℕ) → Typed s → 52 ≤ length (stationBytes s ++ past)
+written-long : (s : Station) (past : List ℕ) → Typed s → 60 ≤ length (stationBytes s ++ past)
 written-long s past T = let l = station-fits s T in rw (length-append (stationBytes s) past) (omega arith)
 
 -- a call's entry
-entered : (c : Station → Outcome) (room : List ℕ) (x : Reply) → 52 ≤ length room → Typed (x .station) → c (stationOf room) .station ≡ x .station
+entered : (c : Station → Outcome) (room : List ℕ) (x : Reply) → 60 ≤ length room → Typed (x .station) → c (stationOf room) .station ≡ x .station
     → returned (c (stationOf room) .answer) ≡ returnedOf (x .answer) → ((numberOf (c (stationOf room) .answer) ≡ 0 → ⊥) → x .station ≡ stationOf room)
     → Done (entry c room) x
 unfolding entry writes
@@ -98,22 +99,22 @@ entered c room x h T e f k =
     let U : Typed (o .station) = subst Typed (sym e) T in
     split (eqb (numberOf (o .answer)) 0)
     (λ t. record {
-      long = rw (le-ltb (length room) 52 h, t) (written-long (o .station) past U);
-      holds = rw (le-ltb (length room) 52 h, t) (station-reads-back (o .station) past U ∙ e);
-      returns = rw (le-ltb (length room) 52 h) f;
+      long = rw (le-ltb (length room) 60 h, t) (written-long (o .station) past U);
+      holds = rw (le-ltb (length room) 60 h, t) (station-reads-back (o .station) past U ∙ e);
+      returns = rw (le-ltb (length room) 60 h) f;
     })
     (λ t. record {
-      long = rw (le-ltb (length room) 52 h, t) h;
-      holds = rw (le-ltb (length room) 52 h, t) (sym (k (eqb-false _ 0 t)));
-      returns = rw (le-ltb (length room) 52 h) f;
+      long = rw (le-ltb (length room) 60 h, t) h;
+      holds = rw (le-ltb (length room) 60 h, t) (sym (k (eqb-false _ 0 t)));
+      returns = rw (le-ltb (length room) 60 h) f;
     })
 
-by-call : (c : Call) (room : List ℕ) → 52 ≤ length room → Typed (left (stationOf room) c) → Done (entry (λ s. call s c) room) (reply (stationOf room) (makes c))
+by-call : (c : Call) (room : List ℕ) → 60 ≤ length room → Typed (left (stationOf room) c) → Done (entry (λ s. call s c) room) (reply (stationOf room) (makes c))
 by-call c room h T =
     let s = stationOf room in
     entered (λ s. call s c) room (reply s (makes c)) h T refl (returned-reply s c) (untouched s c)
 
-by-request : (n : ℕ) (set room : List ℕ) → 52 ≤ length room → Typed (reply (stationOf room) (heardRequest n set) .station)
+by-request : (n : ℕ) (set room : List ℕ) → 60 ≤ length room → Typed (reply (stationOf room) (heardRequest n set) .station)
     → Done (entry (requestOf n set) room) (reply (stationOf room) (heardRequest n set))
 unfolding requestOf
 by-request n set room h T = let (e, f, k) = as-call in entered (requestOf n set) room (reply s (heardRequest n set)) h T e f k
@@ -129,14 +130,14 @@ by-request n set room h T = let (e, f, k) = as-call in entered (requestOf n set)
         split (leb n most && ltb (length set) (5 * n)) (λ t. rw t (refl, refl, λ _. refl)) (λ t. rw t (refl, returned-reply s c, untouched s c))
 
 -- an ask
-by-ask : (room out : List ℕ) → 52 ≤ length room → ltb (length out) 8 ≡ false → Done (used room (ask out)) (reply (stationOf room) (makes run.ask))
+by-ask : (room out : List ℕ) → 60 ≤ length room → ltb (length out) 16 ≡ false → Done (used room (ask out)) (reply (stationOf room) (makes run.ask))
 unfolding asking writes station.ask
 by-ask room out h l =
     let s = stationOf room in
     record {
       long = h;
       holds = split (fit s) (λ t. rw t) (λ t. rw t);
-      returns = rw (le-ltb (length room) 52 h, l) (returned-reply s run.ask);
+      returns = rw (le-ltb (length room) 60 h, l) (returned-reply s run.ask);
     }
 
 -- a message that is refused leaves the station
@@ -148,14 +149,14 @@ kept s bytes n = go (respond s bytes .answer) refl (always-answered s bytes)
         let (b, f) = a .0 in
         let l = number-byte b in
         refused-keeps s bytes number place issue e (λ z. n (ap (λ (w : What). returnedOf w % 256) e ∙ omega arith))
-    go (Held r) e a = absurd (n (ap (λ (w : What). returnedOf w % 256) e))
+    go (Held r apart) e a = absurd (n (ap (λ (w : What). returnedOf w % 256) e))
     go Request e a = absurd a
     go (Event way) e a = absurd a
-    go (Result issue number done) e a = absurd a
-    go (Image r) e a = absurd a
+    go (Result issue number ending) e a = absurd a
+    go (Image r apart) e a = absurd a
     go Ask e a = absurd a
 
-by-message : (room m out : List ℕ) → 52 ≤ length room → ltb (length out) (length (answerBytes (respond (stationOf room) m .answer))) ≡ false
+by-message : (room m out : List ℕ) → 60 ≤ length room → ltb (length out) (length (answerBytes (respond (stationOf room) m .answer))) ≡ false
     → Typed (reply (stationOf room) (heard m) .station) → Done (used room (message m out)) (reply (stationOf room) (heard m))
 unfolding exchange
 by-message room m out h l T =
@@ -167,14 +168,14 @@ by-message room m out h l T =
     let U : Typed (o .station) = subst Typed (sym e) T in
     split (eqb (returnedOf (o .answer) % 256) 0)
     (λ t. record {
-      long = rw (le-ltb (length room) 52 h, l, t) (written-long (o .station) (drop 52 room) U);
-      holds = rw (le-ltb (length room) 52 h, l, t) (station-reads-back (o .station) (drop 52 room) U ∙ e);
-      returns = rw (le-ltb (length room) 52 h, l) f;
+      long = rw (le-ltb (length room) 60 h, l, t) (written-long (o .station) (drop 60 room) U);
+      holds = rw (le-ltb (length room) 60 h, l, t) (station-reads-back (o .station) (drop 60 room) U ∙ e);
+      returns = rw (le-ltb (length room) 60 h, l) f;
     })
     (λ t. record {
-      long = rw (le-ltb (length room) 52 h, l, t) h;
-      holds = rw (le-ltb (length room) 52 h, l, t) (sym (kept s m (eqb-false _ 0 t)) ∙ e);
-      returns = rw (le-ltb (length room) 52 h, l) f;
+      long = rw (le-ltb (length room) 60 h, l, t) h;
+      holds = rw (le-ltb (length room) 60 h, l, t) (sym (kept s m (eqb-false _ 0 t)) ∙ e);
+      returns = rw (le-ltb (length room) 60 h, l) f;
     })
 
 -- the room for an image or a reply is too short
@@ -182,38 +183,38 @@ abbrev short : List ℕ → Use → Bool
 short room start = false
 short room (request n set) = false
 short room (event e) = false
-short room (result k i done) = false
-short room (image r) = false
-short room (ask out) = ltb (length out) 8
+short room (result k i ending) = false
+short room (image r apart) = false
+short room (ask out) = ltb (length out) 16
 short room (message m out) = ltb (length out) (length (answerBytes (respond (stationOf room) m .answer)))
 
-done : (room : List ℕ) → 52 ≤ length room → Typed (stationOf room) → (u : Use) → AsPassed u → short room u ≡ false → Done (used room u) (meant (stationOf room) u)
+done : (room : List ℕ) → 60 ≤ length room → Typed (stationOf room) → (u : Use) → AsPassed u → short room u ≡ false → Done (used room u) (meant (stationOf room) u)
 done room h T start p l = entered (λ s. station.taken startOf) room (meant (stationOf room) start) h start-typed refl refl (λ n. absurd (n refl))
 done room h T (request n set) p l = by-request n set room h (meant-typed (stationOf room) T (request n set) p)
 done room h T (event e) p l = by-call (run.event e) room h (meant-typed (stationOf room) T (event e) p)
 done room h T (result k i d) p l = by-call (run.result k i d) room h (meant-typed (stationOf room) T (result k i d) p)
-done room h T (image r) p l = by-call (run.image r) room h (meant-typed (stationOf room) T (image r) p)
+done room h T (image r apart) p l = by-call (run.image r apart) room h (meant-typed (stationOf room) T (image r apart) p)
 done room h T (ask out) p l = by-ask room out h l
 done room h T (message m out) p l = by-message room m out h l (meant-typed (stationOf room) T (message m out) p)
 
 -- then nothing is done
-skipped : (room : List ℕ) → 52 ≤ length room → (u : Use) → short room u ≡ true → (used room u .leaves ≡ room) × (used room u .says ≡ returned NoRoom)
+skipped : (room : List ℕ) → 60 ≤ length room → (u : Use) → short room u ≡ true → (used room u .leaves ≡ room) × (used room u .says ≡ returned NoRoom)
 unfolding asking exchange
 skipped room h start l = clash l refl
 skipped room h (request n set) l = clash l refl
 skipped room h (event e) l = clash l refl
 skipped room h (result k i d) l = clash l refl
-skipped room h (image r) l = clash l refl
-skipped room h (ask out) l = (refl, rw (le-ltb (length room) 52 h, l))
-skipped room h (message m out) l = rw (le-ltb (length room) 52 h, l) (refl, refl)
+skipped room h (image r apart) l = clash l refl
+skipped room h (ask out) l = (refl, rw (le-ltb (length room) 60 h, l))
+skipped room h (message m out) l = rw (le-ltb (length room) 60 h, l) (refl, refl)
 
 long-enough : (room : List ℕ) (u : Use) → Roomy u → short room u ≡ false
 long-enough room start r = refl
 long-enough room (request n set) r = refl
 long-enough room (event e) r = refl
 long-enough room (result k i d) r = refl
-long-enough room (image x) r = refl
-long-enough room (ask out) r = le-ltb (length out) 8 r
+long-enough room (image x apart) r = refl
+long-enough room (ask out) r = le-ltb (length out) 16 r
 long-enough room (message m out) r = let w = respond (stationOf room) m .answer in le-ltb (length out) (length (answerBytes w)) (omega (arith, answer-bytes-length w))
 
 pub entry-is-call : EntryIsCall
@@ -223,9 +224,9 @@ pub ask-writes : AskWrites
 unfolding asking writes
 ask-writes room out h l z =
     let a = station.ask (stationOf room) .answer in
-    let e : asking room out .says ≡ returned a = rw (le-ltb (length room) 52 h, le-ltb (length out) 8 l) in
+    let e : asking room out .says ≡ returned a = rw (le-ltb (length room) 60 h, le-ltb (length out) 16 l) in
     let n : numberOf a ≡ 0 = sym (returned-reads-back a .0) ∙ ap (λ (k : ℕ). k % 256) (sym e) ∙ z in
-    rw (le-ltb (length room) 52 h, le-ltb (length out) 8 l, eq-eqb (numberOf a) 0 n)
+    rw (le-ltb (length room) 60 h, le-ltb (length out) 16 l, eq-eqb (numberOf a) 0 n)
 
 pub message-writes : MessageWrites
 unfolding exchange
@@ -233,14 +234,14 @@ message-writes room m out h l =
     let s = stationOf room in
     let w = respond s m .answer in
     let k : length (answerBytes w) ≤ length out = omega (arith, answer-bytes-length w) in
-    rw (le-ltb (length room) 52 h, le-ltb (length out) (length (answerBytes w)) k)
+    rw (le-ltb (length room) 60 h, le-ltb (length out) (length (answerBytes w)) k)
     (ap (λ (x : Reply). answerBytes (x .answer) ++ drop (length (answerBytes (x .answer))) out) (message-is-call s m))
 
 -- ---- whatever entries follow
 
 -- a room that holds a station which was reached
 record Lent (room : List ℕ) : Type 0 where
-  long : 52 ≤ length room
+  long : 60 ≤ length room
   typed : Typed (stationOf room)
   reached : Reached (stationOf room)
 
@@ -263,14 +264,14 @@ begun : (room : List ℕ) → Begun room → Lent room
 begun room (started before h) =
     let s = stationOf before in
     held before (meant s start) (entered (λ s. station.taken startOf) before (meant s start) h start-typed refl refl (λ n. absurd (n refl))) start-typed start-reached
-begun room (imaged before r b h m z) =
+begun room (imaged before r apart b h m z) =
     let s = stationOf before in
     let T = room-typed before b h in
-    let D = done before h T (image r) m refl in
-    let a = call s (run.image r) .answer in
+    let D = done before h T (image r apart) m refl in
+    let a = call s (run.image r apart) .answer in
     let taken : numberOf a ≡ 0 = sym (returned-reads-back a .0) ∙ ap (λ (k : ℕ). k % 256) (sym (D .returns)) ∙ z in
-    held before (meant s (image r)) D (meant-typed s T (image r) m)
-    (record { origin = left s (run.image r); begins = byImage s r m taken; since = []; noImages = tt; here = refl })
+    held before (meant s (image r apart)) D (meant-typed s T (image r apart) m)
+    (record { origin = left s (run.image r apart); begins = byImage s r apart m taken; since = []; noImages = tt; here = refl })
 
 pub lent-sound : LentSound
 lent-sound room b l p =

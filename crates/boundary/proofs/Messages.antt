@@ -37,11 +37,11 @@ use Rattle.boundary.specs.Statements.{MessageIsCall, WrittenIsHeard}
 replied : (w : What) (s : Station) (n : ℕ) (set : List ℕ) → replyOf w (called w s n set) ≡ reply s (heardAs w n set)
 replied Request s n set = refl
 replied (Event way) s n set = refl
-replied (Result issue number done) s n set = refl
-replied (Image r) s n set = refl
+replied (Result issue number ending) s n set = refl
+replied (Image r apart) s n set = refl
 replied Ask s n set = refl
 replied (What.Answer number place issue) s n set = refl
-replied (Held r) s n set = refl
+replied (Held r apart) s n set = refl
 
 pub message-is-call : MessageIsCall
 unfolding respond heard
@@ -54,11 +54,11 @@ message-is-call s bytes =
 kind-written : (w : What) (count : ℕ) (set t : List ℕ) → kindAt (messageBytes (record { what = w; count = count; set = set }) ++ t) ≡ kindOf w
 kind-written Request count set t = refl
 kind-written (Event way) count set t = refl
-kind-written (Result issue number done) count set t = refl
-kind-written (Image r) count set t = refl
+kind-written (Result issue number ending) count set t = refl
+kind-written (Image r apart) count set t = refl
 kind-written Ask count set t = refl
 kind-written (What.Answer number place issue) count set t = refl
-kind-written (Held r) count set t = refl
+kind-written (Held r apart) count set t = refl
 
 pub written-is-heard : WrittenIsHeard
 unfolding heard
@@ -122,7 +122,7 @@ whole-fine m b =
     ways Received-fine (eqb (kindAt m) 1) (λ _. request-fine m)
     (λ _. ways Received-fine (eqb (kindAt m) 2) (λ _. sized-fine m 5 (Event (getD m 4 0)) tt)
     (λ _. ways Received-fine (eqb (kindAt m) 3) (λ _. sized-fine m 8 (Result (fromLittleEndian 2 4 m) (getD m 6 0) (getD m 7 0)) tt)
-    (λ _. ways Received-fine (eqb (kindAt m) 4) (λ _. sized-fine m 12 (Image (fromLittleEndian 8 4 m)) (below 8 4 m b))
+    (λ _. ways Received-fine (eqb (kindAt m) 4) (λ _. sized-fine m 20 (Image (fromLittleEndian 8 4 m) (fromLittleEndian 8 12 m)) (below 8 4 m b))
     (λ _. ways Received-fine (eqb (kindAt m) 5) (λ _. sized-fine m 4 Ask tt) (λ _. record { made = tt; low = omega arith })))))
 
 framed-fine : (f : Frame) (s : List ℕ) → Bytes s → Received-fine (readFramed asked f s)

@@ -50,7 +50,7 @@ returned-placed a h = rw (returned-reads-back a .1 (byte-placed (placeOf a) h) .
 
 entry-placed : (c : Station → Outcome) (room : List ℕ) → Placed (placeOf (c (stationOf room) .answer)) → Placed (entry c room .says / 256 % 256)
 unfolding entry writes
-entry-placed c room h = split (ltb (length room) 52) (λ t. rw t (inr refl)) (λ t. rw t (returned-placed (c (stationOf room) .answer) h))
+entry-placed c room h = split (ltb (length room) 60) (λ t. rw t (inr refl)) (λ t. rw t (returned-placed (c (stationOf room) .answer) h))
 
 request-placed : (n : ℕ) (set : List ℕ) (s : Station) → Placed (placeOf (requestOf n set s .answer))
 unfolding requestOf
@@ -64,11 +64,11 @@ reply-placed (What.Answer number place issue) a =
     let l = byte-placed place (a .1) in
     let p : (number + 256 * place + 65536 * issue) / 256 % 256 ≡ place = omega arith in
     rw p (a .1)
-reply-placed (Held r) a = inr refl
+reply-placed (Held r apart) a = inr refl
 reply-placed Request a = absurd a
 reply-placed (Event way) a = absurd a
-reply-placed (Result issue number done) a = absurd a
-reply-placed (Image r) a = absurd a
+reply-placed (Result issue number ending) a = absurd a
+reply-placed (Image r apart) a = absurd a
 reply-placed Ask a = absurd a
 
 pub entry-places-in-range : EntryPlacesInRange
@@ -76,12 +76,12 @@ unfolding asking writes exchange
 entry-places-in-range room start = entry-placed (λ s. station.taken startOf) room (inr refl)
 entry-places-in-range room (request n set) = entry-placed (requestOf n set) room (request-placed n set (stationOf room))
 entry-places-in-range room (event e) = entry-placed (λ s. station.event s e) room (call-placed (stationOf room) (run.event e))
-entry-places-in-range room (result k i d) = entry-placed (λ s. station.result s (record { issue = k; number = i; done = d })) room (call-placed (stationOf room) (run.result k i d))
-entry-places-in-range room (image r) = entry-placed (λ s. station.takeImage s (record { bits = r })) room (call-placed (stationOf room) (run.image r))
+entry-places-in-range room (result k i d) = entry-placed (λ s. station.result s (record { issue = k; number = i; ending = d })) room (call-placed (stationOf room) (run.result k i d))
+entry-places-in-range room (image r apart) = entry-placed (λ s. station.takeImage s (record { bits = r; apart = apart })) room (call-placed (stationOf room) (run.image r apart))
 entry-places-in-range room (ask out) =
     let s = stationOf room in
-    split (ltb (length room) 52 || ltb (length out) 8) (λ t. rw t (inr refl))
+    split (ltb (length room) 60 || ltb (length out) 16) (λ t. rw t (inr refl))
     (λ t. rw t (returned-placed (station.ask s .answer) (call-placed s run.ask)))
 entry-places-in-range room (message m out) =
     let w = respond (stationOf room) m .answer in
-    split (ltb (length room) 52 || ltb (length out) (length (answerBytes w))) (λ t. rw t (inr refl)) (λ t. rw t (reply-placed w (always-answered (stationOf room) m)))
+    split (ltb (length room) 60 || ltb (length out) (length (answerBytes w))) (λ t. rw t (inr refl)) (λ t. rw t (reply-placed w (always-answered (stationOf room) m)))

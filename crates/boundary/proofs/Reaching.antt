@@ -6,6 +6,7 @@ use mathlib.Core.List.{List, [], _∷_, _++_}
 use Prim.Native.Nat.{ℕ, _+_, _*_, _-_, _%_, _≤_, _^_, _<_}
 use native.Mathlib.Omega.{arith}
 use borrow.Author.Tests.{eqb-true, eqb-false}
+use lib.Bits.{or-lt}
 use lib.Dec.{eqb}
 use lib.ListN.{length, take, replicate, length-append, length-replicate}
 use lib.Seq.{length-take-le}
@@ -16,16 +17,18 @@ use Rattle.answers.specs.declared.Answer.{Answer}
 use Rattle.answers.specs.Answers.{numberOf}
 use Rattle.garage.specs.declared.Station.{Station}
 use Rattle.garage.specs.declared.Outcome.{Outcome}
-use Rattle.garage.specs.Station.{startOf, issueAfter, fit}
+use Rattle.garage.specs.Held.{codeAt, heldParts}
+use Rattle.garage.specs.Station.{startOf, issueAfter, fit, apartWith}
 use Rattle.garage.specs.Calls as station
 use Rattle.garage_laws.specs.Runs as run
 use Rattle.garage_laws.specs.Runs.{Call, call, said, left, calls, atStart, byImage, NoImages, Reached}
-use Rattle.garage_laws.proofs.Fits.{fit-start, after-result}
+use Rattle.garage_laws.proofs.Fits.{fit-start, after-result, parts-small}
 use Rattle.garage_laws.proofs.Issues.{issues-in-turn}
-use Rattle.garage_laws.proofs.Calls.{image-has, image-is, following}
+use Rattle.garage_laws.proofs.Calls.{image-has, image-is, following, answering-apart}
 use Rattle.garage_laws.proofs.EachCall.{untouched, fit-says}
-use Rattle.garage_laws.proofs.Steps.{Step, refuses, opens, fails, succeeds, drives, tells, steps, reached}
-use Rattle.garage_laws.proofs.Always.{begins-has, fit-step, small-step, fit-stays, always-laid-out}
+use Rattle.garage_laws.proofs.Steps.{Step, refuses, opens, fails, succeeds, sticks, drives, tells, steps, reached}
+use Rattle.garage_laws.proofs.Always.{begins-has, fit-step, small-step, fit-stays}
+use Rattle.garage_laws.proofs.Jammed.{always-laid-out}
 use Rattle.station_c.specs.Entries.{returned, returnedOf}
 use Rattle.station_c.specs.Promises.{Typed}
 use Rattle.station_c.proofs.Promises.{returned-reads-back}
@@ -78,7 +81,7 @@ module _ (s : Station) (R : Reached s) where
   reached-call (run.reports r) m = by-plain (run.reports r) tt
   reached-call (run.event e) m = by-plain (run.event e) tt
   reached-call (run.pictures p) m = split (eqb (said s (run.pictures p)) 0)
-      (λ t. record { origin = left s (run.pictures p); begins = byImage s (p .bits) (m .0) (eqb-true _ 0 t); since = []; noImages = tt; here = refl })
+      (λ t. record { origin = left s (run.pictures p); begins = byImage s (p .bits) (p .apart) (m .0) (eqb-true _ 0 t); since = []; noImages = tt; here = refl })
       (λ t. subst Reached (sym (untouched s (run.pictures p) (eqb-false _ 0 t))) R)
   reached-call run.ask m = by-plain run.ask tt
 
@@ -99,7 +102,7 @@ pub reached-fit : ReachedFit
 reached-fit s R = reached (λ t. fit t ≡ true) fit-step (λ t b. begins-has t b .0) s R
 
 pub reached-sound : (s : Station) → Reached s → Sound (bit (s .bits))
-reached-sound s R = subst (λ (t : Station). Sound (bit (t .bits))) (sym (R .here)) (always-laid-out (R .origin) (R .begins) (R .since))
+reached-sound s R = subst (λ (t : Station). Sound (bit (t .bits))) (sym (R .here)) (always-laid-out (R .origin) (R .begins) (R .since) [] tt)
 
 fit-calls : (l : List Call) (s : Station) → fit (calls s l) ≡ fit s
 fit-calls [] s = refl
@@ -138,10 +141,22 @@ places-step s t c (opens {n} {set} A) m h =
     let k = length-take-le (5 * n) set (m (A .few)) in
     let l = A .few in
     length-append (take (5 * n) set) (replicate (40 - 5 * n) 0) ∙ rw (k, length-replicate {A = ℕ} (40 - 5 * n) 0) (omega arith)
-places-step s t c (fails {i} w) m h = after-result (λ (x : Station). length (x .set) ≡ 40) s i (s .bits) (λ _. refl) (λ _. h)
-places-step s t c (succeeds {i} p w a) m h = after-result (λ (x : Station). length (x .set) ≡ 40) s i (following s i) (λ _. refl) (λ _. h)
+places-step s t c (fails {i} w) m h = after-result (λ (x : Station). length (x .set) ≡ 40) s i (s .bits) (s .apart) (λ _. refl) (λ _. h)
+places-step s t c (succeeds {i} p w a) m h = after-result (λ (x : Station). length (x .set) ≡ 40) s i (following s i) (s .apart) (λ _. refl) (λ _. h)
+places-step s t c (sticks {i} p w) m h = after-result (λ (x : Station). length (x .set) ≡ 40) s i (s .bits) (apartWith s i) (λ _. refl) (λ _. h)
 places-step s t c (drives d) m h = h
 places-step s t c tells m h = h
+
+-- what is set apart stays a number of 64 bits
+apart-step : (s t : Station) (c : Call) → Step s c t → s .apart < 2 ^ 64 → t .apart < 2 ^ 64
+apart-step s t c (refuses n) h = h
+apart-step s t c (opens A) h = h
+apart-step s t c (fails {i} w) h = rw (answering-apart s i (s .bits) (s .apart)) h
+apart-step s t c (succeeds {i} p w a) h = rw (answering-apart s i (following s i) (s .apart)) h
+apart-step s t c (sticks {i} p w) h = rw (answering-apart s i (s .bits) (apartWith s i))
+    (or-lt 64 (s .apart) (heldParts (codeAt (s .set) i)) h (let l = parts-small (codeAt (s .set) i) in omega arith))
+apart-step s t c (drives d) h = h
+apart-step s t c tells h = h
 
 module _ (s : Station) (T : Typed s) where
   -- the next issue starts over before it needs more bits
@@ -153,14 +168,14 @@ module _ (s : Station) (T : Typed s) where
   by-step : (c : Call) → NoImages (c ∷ []) → AsMade c → Typed (left s c)
   by-step c p m =
       let q = steps s c p in
-      record { image = small-step s (left s c) c q (T .image); places = places-step s (left s c) c q m (T .places); issue = next-small c }
+      record { image = small-step s (left s c) c q (T .image); places = places-step s (left s c) c q m (T .places); issue = next-small c; apart = apart-step s (left s c) c q (T .apart) }
 
   pub typed-call : (c : Call) → AsMade c → Typed (left s c)
   typed-call (run.request n set) m = by-step (run.request n set) tt m
   typed-call (run.reports r) m = by-step (run.reports r) tt m
   typed-call (run.event e) m = by-step (run.event e) tt m
   typed-call (run.pictures p) m = split (eqb (said s (run.pictures p)) 0)
-      (λ t. let w = image-has s (p .bits) (eqb-true _ 0 t) in subst Typed (sym (ap (λ (o : Outcome). o .station) (image-is s (p .bits) w))) (record { image = m; places = T .places; issue = T .issue }))
+      (λ t. let w = image-has s (p .bits) (p .apart) (eqb-true _ 0 t) in subst Typed (sym (ap (λ (o : Outcome). o .station) (image-is s (p .bits) (p .apart) w))) (record { image = m; places = T .places; issue = T .issue; apart = omega arith }))
       (λ t. subst Typed (sym (untouched s (run.pictures p) (eqb-false _ 0 t))) T)
   typed-call run.ask m = by-step run.ask tt m
 

@@ -13,7 +13,8 @@ use Rattle.garage.specs.declared.Station.{Station}
 use Rattle.garage.specs.Station.{startOf, fit}
 use Rattle.garage_laws.specs.Runs as run
 use Rattle.garage_laws.specs.Runs.{atStart, Reached}
-use Rattle.garage_laws.proofs.Always.{always-laid-out}
+use Rattle.garage_laws.specs.Jams.{stuck, applied}
+use Rattle.garage_laws.proofs.Jammed.{always-laid-out}
 use Rattle.wire.specs.declared.What.{What}
 use Rattle.wire.specs.declared.Frame.{Frame}
 use Rattle.wire.specs.declared.Frame.the-variants.{Cut, Wrong, Whole}
@@ -64,8 +65,10 @@ images-sized input b = sized-for (length input) input b
 pub program-sound : ProgramSound
 program-sound pieces =
     let l = callsIn (heardIn (join pieces)) in
-    let e = sym (pieces-are-calls startOf pieces .1) in
-    (subst (λ (t : Station). fit t ≡ true) e (start-fit l), subst (λ (t : Station). Sound (bit (t .bits))) e (always-laid-out startOf atStart l))
+    let e = sym (pieces-are-calls startOf pieces .1) in (
+      subst (λ (t : Station). fit t ≡ true) e (start-fit l),
+      λ p h. subst (λ (t : Station). Sound (bit (applied (stuck startOf l) p (t .bits)))) e (always-laid-out startOf atStart l p h),
+    )
 
 -- ---- neither 16 nor 17
 

@@ -29,11 +29,11 @@ pub data Heard : Type 0 where
 abbrev pub heardAs : What → ℕ → List ℕ → Heard
 heardAs Request count set = makes (run.request count set)
 heardAs (Event way) count set = makes (run.event way)
-heardAs (Result issue number done) count set = makes (run.result issue number done)
-heardAs (Image r) count set = makes (run.image r)
+heardAs (Result issue number ending) count set = makes (run.result issue number ending)
+heardAs (Image r apart) count set = makes (run.image r apart)
 heardAs Ask count set = makes run.ask
 heardAs (What.Answer number place issue) count set = refuses UnknownKind
-heardAs (Held r) count set = refuses UnknownKind
+heardAs (Held r apart) count set = refuses UnknownKind
 
 -- by its bytes: what the station's reader refuses makes no call
 unfoldable pub heard : List ℕ → Heard
@@ -50,9 +50,9 @@ asks (run.event e) = false
 asks (run.pictures p) = false
 asks run.ask = true
 
--- a call's answer as a message: the record after an ask that is taken
+-- a call's answer as a message: the record, and what is set apart, after an ask that is taken
 abbrev pub replyTo : Station → Call → What
-replyTo s c = cond (asks c && eqb (said s c) 0) (Held (left s c .bits)) (answerMessage (call s c .answer))
+replyTo s c = cond (asks c && eqb (said s c) 0) (Held (left s c .bits) (left s c .apart)) (answerMessage (call s c .answer))
 
 -- the answer and the station after it: the call's, or the refusal and the station as it was
 abbrev pub reply : Station → Heard → Reply

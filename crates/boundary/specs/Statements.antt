@@ -14,6 +14,7 @@ use Rattle.answers.specs.Answers.{numberOf, nowhere}
 use Rattle.garage.specs.declared.Station.{Station}
 use Rattle.garage.specs.Station.{closed, startOf, fit}
 use Rattle.garage_laws.specs.Runs.{Call, request, said, calls, Reached}
+use Rattle.garage_laws.specs.Jams.{stuck, applied, Chosen}
 use Rattle.wire.specs.declared.What.{What}
 use Rattle.wire.specs.declared.Message.{Message}
 use Rattle.wire.specs.Kinds.{littleEndian, kindOf}
@@ -53,10 +54,11 @@ WrittenIsHeard =
     (m : Message) (room : List ℕ) → Typed m → kindOf (m .what) ≤ 5 → writing m room .says .answer ≡ Taken
     → let f = oneForm m in heard (writing m room .leaves) ≡ heardAs (f .what) (f .count) (f .set)
 
--- a question says the number that a request of its one instruction would be told, by a station that holds that sound record and no set
+-- a question says the number that a request of its one instruction would be told, by a station that holds that sound record, no set and
+-- nothing set apart
 abbrev pub QuestionIsRequest : Type 0
 QuestionIsRequest =
-    (r next : ℕ) (five : List ℕ) → sound r ≡ true → 5 ≤ length five → numberOf (judgement r five) ≡ said (closed r next) (request 1 five)
+    (r next : ℕ) (five : List ℕ) → sound r ≡ true → 5 ≤ length five → numberOf (judgement r five) ≡ said (closed r next 0) (request 1 five)
 
 -- an entry leaves in the room the station that its call leaves, and returns that call's number and place
 abbrev pub EntryIsCall : Type 0
@@ -69,16 +71,16 @@ EntryIsCall =
 abbrev pub EntryPlacesInRange : Type 0
 EntryPlacesInRange = (room : List ℕ) (u : Use) → (used room u .says / 256 % 256 ≤ 7) ⊎ (used room u .says / 256 % 256 ≡ nowhere)
 
--- an ask that is taken writes the record's eight bytes
+-- an ask that is taken writes the record's eight bytes, and eight of what is set apart
 abbrev pub AskWrites : Type 0
 AskWrites =
-    (room out : List ℕ) → stationSize ≤ length room → 8 ≤ length out → asking room out .says % 256 ≡ 0
-    → asking room out .leaves ≡ littleEndian 8 (stationOf room .bits) ++ drop 8 out
+    (room out : List ℕ) → stationSize ≤ length room → 16 ≤ length out → asking room out .says % 256 ≡ 0
+    → asking room out .leaves ≡ (littleEndian 8 (stationOf room .bits) ++ littleEndian 8 (stationOf room .apart)) ++ drop 16 out
 
 -- a message writes its reply, a refusal too
 abbrev pub MessageWrites : Type 0
 MessageWrites =
-    (room m out : List ℕ) → stationSize ≤ length room → 12 ≤ length out
+    (room m out : List ℕ) → stationSize ≤ length room → 20 ≤ length out
     → let b = answerBytes (reply (stationOf room) (heard m) .answer) in exchange room m out .reply ≡ b ++ drop (length b) out
 
 -- ---- so what is promised of calls holds of bytes
@@ -91,11 +93,14 @@ StaysReached = (s : Station) → Reached s → (l : List Call) → Sized l → R
 abbrev pub ReachedFit : Type 0
 ReachedFit = (s : Station) → Reached s → fit s ≡ true
 
--- whatever the program is sent, and however it is cut, its station is fit and its record sound
+-- whatever the program is sent, and however it is cut, its station is fit; and for every choice of which stuck instructions did in fact
+-- finish, its record with those applied is sound
 abbrev pub ProgramSound : Type 0
 ProgramSound =
     (pieces : List (List ℕ))
-    → (fit (fedStation startOf [] pieces) ≡ true) × Sound (bit (fedStation startOf [] pieces .bits))
+    → let l = callsIn (heardIn (join pieces)) in
+    (fit (fedStation startOf [] pieces) ≡ true)
+    × ((p : List ℕ) → Chosen startOf l p → Sound (bit (applied (stuck startOf l) p (fedStation startOf [] pieces .bits))))
 
 -- each of some replies is no answer 16 or 17
 abbrev pub NoSuch : List What → Type 0

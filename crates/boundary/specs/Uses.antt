@@ -17,13 +17,13 @@ use Rattle.service.specs.Service.{answerMessage}
 use Rattle.station_c.specs.Entries.{stationSize, Entry, entry, requestOf, asking, exchange}
 use Rattle.boundary.specs.Calls.{Heard, makes, refuses, heard, reply}
 
--- an entry with what it is given: a set of so many instructions; an event; a result with its issue; an image; the image's room; a message and the reply's room
+-- an entry with what it is given: a set of so many instructions; an event; a result with its issue; an image with what it says is set apart; the image's room; a message and the reply's room
 pub data Use : Type 0 where
   start : Use
   request : ℕ → List ℕ → Use
   event : ℕ → Use
   result : ℕ → ℕ → ℕ → Use
-  image : ℕ → Use
+  image : ℕ → ℕ → Use
   ask : List ℕ → Use
   message : List ℕ → List ℕ → Use
 
@@ -32,8 +32,8 @@ abbrev pub used : List ℕ → Use → Entry
 used room start = entry (λ s. station.taken startOf) room
 used room (request n set) = entry (requestOf n set) room
 used room (event e) = entry (λ s. station.event s e) room
-used room (result k i done) = entry (λ s. station.result s (record { issue = k; number = i; done = done })) room
-used room (image r) = entry (λ s. station.takeImage s (record { bits = r })) room
+used room (result k i ending) = entry (λ s. station.result s (record { issue = k; number = i; ending = ending })) room
+used room (image r apart) = entry (λ s. station.takeImage s (record { bits = r; apart = apart })) room
 used room (ask out) = record { says = asking room out .says; leaves = room }
 used room (message m out) = record { says = exchange room m out .says; leaves = exchange room m out .station }
 
@@ -51,8 +51,8 @@ abbrev pub meant : Station → Use → Reply
 meant s start = record { station = startOf; answer = answerMessage Taken }
 meant s (request n set) = reply s (heardRequest n set)
 meant s (event e) = reply s (makes (run.event e))
-meant s (result k i done) = reply s (makes (run.result k i done))
-meant s (image r) = reply s (makes (run.image r))
+meant s (result k i ending) = reply s (makes (run.result k i ending))
+meant s (image r apart) = reply s (makes (run.image r apart))
 meant s (ask out) = reply s (makes run.ask)
 meant s (message m out) = reply s (heard m)
 
@@ -61,8 +61,8 @@ abbrev pub AsPassed : Use → Type 0
 AsPassed start = Unit {0}
 AsPassed (request n set) = Unit {0}
 AsPassed (event e) = Unit {0}
-AsPassed (result k i done) = Unit {0}
-AsPassed (image r) = r < 2 ^ 64
+AsPassed (result k i ending) = Unit {0}
+AsPassed (image r apart) = r < 2 ^ 64
 AsPassed (ask out) = Unit {0}
 AsPassed (message m out) = Bytes m
 
@@ -76,13 +76,13 @@ abbrev pub Roomy : Use → Type 0
 Roomy start = Unit {0}
 Roomy (request n set) = Unit {0}
 Roomy (event e) = Unit {0}
-Roomy (result k i done) = Unit {0}
-Roomy (image r) = Unit {0}
-Roomy (ask out) = 8 ≤ length out
-Roomy (message m out) = 12 ≤ length out
+Roomy (result k i ending) = Unit {0}
+Roomy (image r apart) = Unit {0}
+Roomy (ask out) = 16 ≤ length out
+Roomy (message m out) = 20 ≤ length out
 
 -- a room where a lent station begins: after station_start, or after a station_image that was taken
 pub data Begun : List ℕ → Type 0 where
   started : (room : List ℕ) → stationSize ≤ length room → Begun (used room start .leaves)
-  imaged : (room : List ℕ) (r : ℕ) → Bytes room → stationSize ≤ length room → r < 2 ^ 64
-      → used room (image r) .says % 256 ≡ 0 → Begun (used room (image r) .leaves)
+  imaged : (room : List ℕ) (r apart : ℕ) → Bytes room → stationSize ≤ length room → r < 2 ^ 64
+      → used room (image r apart) .says % 256 ≡ 0 → Begun (used room (image r apart) .leaves)

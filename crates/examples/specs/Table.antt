@@ -22,11 +22,13 @@ use Rattle.garage_laws.specs.Runs.{Call, request, result, event, image, call}
 
 -- ---- what an example is
 
--- a step of an example: a call that is answered with this number and place; the record is now this image; it is sound with so many cars
+-- a step of an example: a call that is answered with this number and place; the record is now this image; it is sound with so many cars; this
+-- is set apart
 pub data Step : Type 0 where
   answers : Call → ℕ → ℕ → Step
   holds : ℕ → Step
   cars : ℕ → Step
+  apart : ℕ → Step
 
 -- a record's total is so many cars, so it is sound
 abbrev pub isTotal : Total → ℕ → Bool
@@ -43,6 +45,7 @@ stepsRight s [] = true
 stepsRight s (answers c number place ∷ l) = isAnswer (call s c) number place && stepsRight (call s c .station) l
 stepsRight s (holds r ∷ l) = eqb (s .bits) r && stepsRight s l
 stepsRight s (cars n ∷ l) = isTotal (total (s .bits)) n && stepsRight s l
+stepsRight s (apart a ∷ l) = eqb (s .apart) a && stepsRight s l
 
 -- each example of a table is right from the start
 unfoldable pub allRight : List (List Step) → Bool
@@ -81,6 +84,13 @@ done k i = result k i 1
 
 abbrev pub failed : ℕ → ℕ → Call
 failed k i = result k i 0
+
+abbrev pub stuck : ℕ → ℕ → Call
+stuck k i = result k i 2
+
+-- an image that sets nothing apart
+abbrev pub sees : ℕ → Call
+sees r = image r 0
 
 -- an instruction alone is accepted under issue k and done, and makes this record; alone, it is refused with a reason's number
 abbrev pub makes : ℕ → Instruction → ℕ → List Step
@@ -127,17 +137,17 @@ table =
     -- P5: then row 1 mask 6, lower, half; lift to street now
     ∷ (p4 ++ makes 1 (Belts 1 6 0 0) 0x00491B0000000C00 ++ barred (Lift street) 24 ∷ [])
     -- P6: sound, 2 cars; lift up
-    ∷ (taken (image 0x00491B0000003C00) ∷ cars 2 ∷ barred (Lift rotation) 24 ∷ barred (Lift street) 24 ∷ [])
+    ∷ (taken (sees 0x00491B0000003C00) ∷ cars 2 ∷ barred (Lift rotation) 24 ∷ barred (Lift street) 24 ∷ [])
     -- P7: half a car
-    ∷ (refused (image 0x00091B0000000001) 15 ∷ [])
+    ∷ (refused (sees 0x00091B0000000001) 15 ∷ [])
     -- P8: left lowered rows 1 and 2 higher
-    ∷ (taken (image 0x00091B0000000003) ∷ makes 0 (Shuttles left 3 lowered 1) 0x00091E0000100000)
+    ∷ (taken (sees 0x00091B0000000003) ∷ makes 0 (Shuttles left 3 lowered 1) 0x00091E0000100000)
     -- P9: the same with 06 first
-    ∷ (taken (image 0x00091B0000000006) ∷ barred (Shuttles left 3 lowered 1) 24 ∷ [])
+    ∷ (taken (sees 0x00091B0000000006) ∷ barred (Shuttles left 3 lowered 1) 24 ∷ [])
     -- P10: on S, lower both row-3 shuttles in one set; right one failing
-    ∷ (p10 0 (done 0 1) 0x00003F0000000000 ++ taken (image S) ∷ p10 1 (failed 1 1) 0x00081F0000000000)
+    ∷ (p10 0 (done 0 1) 0x00003F0000000000 ++ taken (sees S) ∷ p10 1 (failed 1 1) 0x00081F0000000000)
     -- P11: rotate, allowed; then with a car on one of its cells
-    ∷ (taken (image 0x00291B00000000C0) ∷ makes 0 Rotate 0x00291B00000000C0 ++ taken (image 0x00291B0000000180) ∷ barred Rotate 28 ∷ [])
+    ∷ (taken (sees 0x00291B00000000C0) ∷ makes 0 Rotate 0x00291B00000000C0 ++ taken (sees 0x00291B0000000180) ∷ barred Rotate 28 ∷ [])
     -- P12: same tilt twice
     ∷ (answers (asking (lowers left ∷ lowers left ∷ [])) 8 1 ∷ [])
     -- while a driver is in the lift: a second begin, a set with the lift at any place, and one without; the driver gives up, and the lift goes
@@ -147,6 +157,13 @@ table =
     ∷ (taken (asking (Lift rotation ∷ [])) ∷ refused beginIn 6 ∷ taken (failed 0 0) ∷ p2Begun)
     -- a car is driven out: it counts until its done end
     ∷ (p2 ++ taken beginOut ∷ cars 1 ∷ holds 0x01191B0000000000 ∷ taken endDone ∷ cars 0 ∷ holds S ∷ [])
+    -- after P4 the lift's belt and the left one jam: the record stays, their cells and the lift are apart, and nothing touches them, the least
+    -- place told before an overlap; an image that sets something apart is none; after one that doesn't, the move is made
+    ∷ (p4 ++ taken (asking (Belts 1 6 0 1 ∷ lowers left ∷ [])) ∷ taken (stuck 1 0) ∷ taken (done 1 1) ∷ holds 0x00481F0000001800 ∷ cars 1 ∷ apart 0x0010000000001FFC
+    ∷ refused (image 0x00481F0000001800 1) 15 ∷ answers (asking (Tilt right 3 tilted ∷ Lift street ∷ Lift street ∷ [])) 32 1 ∷ apart 0x0010000000001FFC
+    ∷ taken (sees 0x00481F0000001800) ∷ apart 0 ∷ makes 2 (Belts 1 6 0 1) 0x00481F0000000600)
+    -- the lift is stuck at rotation: no drive begins
+    ∷ (taken (asking (Lift rotation ∷ [])) ∷ taken (stuck 0 0) ∷ refused endDone 31 ∷ refused beginIn 32 ∷ taken (sees S) ∷ taken beginIn ∷ [])
     ∷ []
 
 -- ---- the claim

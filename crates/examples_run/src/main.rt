@@ -98,14 +98,14 @@ fn asked(s: Station, name: &[u8], i: Instruction) -> Station {
 }
 
 // The result of an instruction of the present set.
-fn ended(s: Station, name: &[u8], number: u8, done: u8) -> Station {
+fn ended(s: Station, name: &[u8], number: u8, ending: u8) -> Station {
     let issue = wrapping_sub_u16(s.next, 1);
     told(
         name,
         s.result(Report {
             issue,
             number,
-            done,
+            ending,
         }),
     )
 }
@@ -121,7 +121,10 @@ fn moved(s: Station, name: &[u8], i: Instruction) -> Station {
 // A start with this image.
 fn placed(r: u64) -> Station {
     show(r);
-    told(b"image", Station::start().image(Picture { bits: r }))
+    told(
+        b"image",
+        Station::start().image(Picture { bits: r, apart: 0 }),
+    )
 }
 
 // ---- the examples
@@ -225,12 +228,12 @@ fn lowers(side: u8) -> Instruction {
 }
 
 // The second of the set with this result.
-fn p10(name: &[u8], done: u8) {
+fn p10(name: &[u8], ending: u8) {
     text(b"P10");
     let set = pair_of(lowers(0), lowers(1));
     let s = told(b"both lowered", Station::start().request(2, set));
     let t = ended(s, b"done", 0, 1);
-    let u = ended(t, name, 1, done);
+    let u = ended(t, name, 1, ending);
     show(u.bits);
     text(b"\n");
 }

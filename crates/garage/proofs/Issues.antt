@@ -14,7 +14,7 @@ use Rattle.garage.specs.Station.{present, behind, late}
 use Rattle.garage.specs.Calls.{refused, numbered, timely}
 
 module _ (s : Station) (r : Report) (small : r .issue < 65536) where
-  pub is-present : behind s (r .issue) ≡ 0 → numbered s (r .number) (r .done) ≡ timely s r
+  pub is-present : behind s (r .issue) ≡ 0 → numbered s (r .number) (r .ending) ≡ timely s r
   unfolding timely
   is-present e =
       let same : r .issue ≡ present s = omega arith in

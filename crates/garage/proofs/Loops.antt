@@ -18,12 +18,12 @@ use Rattle.bits.proofs.Digits.{bit-none}
 use Rattle.bits.proofs.Masks.{half}
 use Rattle.bits.proofs.Least.{Sought, sought-start, sought-turn, sought-end}
 use Rattle.rules.specs.declared.Code.{Code}
-use Rattle.garage.specs.Held.{codeAt, isGood, heldAllowed, bad, overlapsEarlier, barred, stranded, liftIn}
+use Rattle.garage.specs.Held.{codeAt, isGood, heldAllowed, bad, touches, overlapsEarlier, barred, stranded, liftIn}
 use Rattle.garage.specs.Private.{heldMask, areas, firstOf}
-use Rattle.garage.proofs.Areas.{areas-start, areas-turn, overlapping, liftMask, lift-in}
+use Rattle.garage.proofs.Areas.{areas-start, areas-turn, overlapping, partsMask, touching, liftMask, lift-in}
 use Rattle.garage.proofs.Padding.{five-at}
 
--- ---- three searches in one
+-- ---- four searches in one
 
 -- a test picks what stands for its answer
 pub where-true : (b : Bool) (x y : ℕ) → b ≡ true → x ≡ cond b x y
@@ -32,45 +32,49 @@ where-true b x y e = rw e
 pub where-false : (b : Bool) (x y : ℕ) → b ≡ false → y ≡ cond b x y
 where-false b x y e = rw e
 
--- the areas of the instructions below i, and of these the least that is bad, that overlaps an earlier one, that has no mark and is not
--- allowed; and the marks from i on
-pub record Searched (set : List ℕ) (n marks r seen worst overlap closed rest i : ℕ) : Type 0 where
+-- the areas of the instructions below i, and of these the least that is bad, that touches what is apart, that overlaps an earlier one, that
+-- has no mark and is not allowed; and the marks from i on
+pub record Searched (set : List ℕ) (n marks r apart seen worst touched overlap closed rest i : ℕ) : Type 0 where
   pub gathered : seen ≡ areas set i
   pub worse : Sought (bad set) n i worst
+  pub met : Sought (touches set apart) n i touched
   pub over : Sought (overlapsEarlier set) n i overlap
   pub shut : Sought (stranded marks set r) n i closed
   pub unread : rest ≡ marks / 2 ^ i
 
-pub search-starts : (set : List ℕ) (n marks r : ℕ) → Searched set n marks r 0 n n n marks 0
-search-starts set n marks r = record {
+pub search-starts : (set : List ℕ) (n marks r apart : ℕ) → Searched set n marks r apart 0 n n n n marks 0
+search-starts set n marks r apart = record {
   gathered = areas-start set;
   worse = sought-start _ n;
+  met = sought-start _ n;
   over = sought-start _ n;
   shut = sought-start _ n;
   unread = omega arith;
 }
 
-pub searches : {set : List ℕ} {n marks r seen worst overlap closed rest i m p q u : ℕ} {x : Code} {good ok : Bool}
-    → Searched set n marks r seen worst overlap closed rest i → i < n
+pub searches : {set : List ℕ} {n marks r apart seen worst touched overlap closed rest i m p t q u : ℕ} {x : Code} {good ok : Bool}
+    → Searched set n marks r apart seen worst touched overlap closed rest i → i < n
     → x ≡ codeAt set i → good ≡ isGood x → m ≡ heldMask x → ok ≡ heldAllowed x (bit r)
-    → p ≡ firstOf worst n (not good) i → q ≡ firstOf overlap n (not (eqb (bitAnd m seen) 0)) i
+    → p ≡ firstOf worst n (not good) i → t ≡ firstOf touched n (not (eqb (bitAnd (bitAnd m partsMask) apart) 0)) i → q ≡ firstOf overlap n (not (eqb (bitAnd m seen) 0)) i
     → u ≡ firstOf closed n (not (eqb (rest % 2) 1) && not ok) i
-    → Searched set n marks r (bitOr seen m) p q u (rest / 2) (i + 1)
-searches {set} {n} {marks} {r} {rest = rest} {i = i} v h e g a o d₁ d₂ d₃ = record {
+    → Searched set n marks r apart (bitOr seen m) p t q u (rest / 2) (i + 1)
+searches {set} {n} {marks} {r} {apart} {rest = rest} {i = i} v h e g a o d₁ d₄ d₂ d₃ = record {
   gathered = areas-turn set i (v .gathered) e a;
   worse = rw d₁ (sought-turn (v .worse) h (ap not (g ∙ ap isGood e)));
+  met = rw d₄ (sought-turn (v .met) h (sym (touching set apart i e a)));
   over = rw d₂ (sought-turn (v .over) h (sym (overlapping set i (v .gathered) e a)));
   shut = rw d₃ (sought-turn (v .shut) h
       (ap₂ (λ (y b : Bool). not y && not b) (ap (λ (y : ℕ). eqb (y % 2) 1) (v .unread)) (o ∙ ap (λ (y : Code). heldAllowed y (bit r)) e)));
   unread = ap (λ (y : ℕ). y / 2) (v .unread) ∙ half marks i ∙ ap (λ (y : ℕ). marks / 2 ^ y) (sym (add-one i));
 }
 
-pub search-ends : {set : List ℕ} {n marks r seen worst overlap closed rest i : ℕ} → Searched set n marks r seen worst overlap closed rest i → n ≤ i
-    → (worst ≡ least n (bad set)) × (overlap ≡ least n (overlapsEarlier set)) × (closed ≡ least n (stranded marks set r))
+pub search-ends : {set : List ℕ} {n marks r apart seen worst touched overlap closed rest i : ℕ}
+    → Searched set n marks r apart seen worst touched overlap closed rest i → n ≤ i
+    → (worst ≡ least n (bad set)) × (touched ≡ least n (touches set apart)) × (overlap ≡ least n (overlapsEarlier set)) × (closed ≡ least n (stranded marks set r))
     × (not (eqb (bitAnd seen liftMask) 0) ≡ liftIn set n)
 search-ends {set} {n} {seen = seen} {i = i} v h =
     let end : i ≡ n = omega (arith, v .worse .within) in
-    (sought-end (v .worse) h, sought-end (v .over) h, sought-end (v .shut) h, lift-in set n (v .gathered ∙ ap (areas set) end))
+    (sought-end (v .worse) h, sought-end (v .met) h, sought-end (v .over) h, sought-end (v .shut) h, lift-in set n (v .gathered ∙ ap (areas set) end))
 
 -- with no marks, each instruction is asked for
 pub none-marked : (set : List ℕ) (n r : ℕ) → least n (stranded 0 set r) ≡ least n (barred set r)

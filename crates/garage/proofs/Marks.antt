@@ -19,7 +19,7 @@ use Rattle.bits.proofs.Least.{every-least}
 use Rattle.floor.specs.Tests.{holds, underWay}
 use Rattle.floor.specs.Sound.{sound}
 use Rattle.garage.specs.declared.Station.{Station}
-use Rattle.garage.specs.Held.{bad, overlapsEarlier, stranded, liftIn, crossesDrive}
+use Rattle.garage.specs.Held.{bad, touches, overlapsEarlier, stranded, liftIn, crossesDrive}
 use Rattle.garage.specs.Station.{closed, inSet, used, fit, noting, answering}
 
 -- n marks are a byte
@@ -80,54 +80,55 @@ pub in-set : (s : Station) (i : ℕ) → inSet s i ≡ true → (s .count ≤ 8)
 in-set s i e = let (a, b) = both (leb (s .count) 8) (ltb i (s .count)) e in (leb-true _ _ a, ltb-true _ _ b)
 
 -- all marks stand: the set is closed
-pub last-answer : (s : Station) (i r : ℕ) {mark all : ℕ} → mark ≡ 2 ^ i → all ≡ 2 ^ s .count - 1 → bitAnd (bitOr (s .answered) mark) all ≡ all
-    → closed r (s .next) ≡ answering s i r
+pub last-answer : (s : Station) (i r apart : ℕ) {mark all : ℕ} → mark ≡ 2 ^ i → all ≡ 2 ^ s .count - 1 → bitAnd (bitOr (s .answered) mark) all ≡ all
+    → closed r (s .next) apart ≡ answering s i r apart
 unfolding answering
-last-answer s i r m a e = rw (all-marked (s .count) (bitOr (s .answered) (2 ^ i)), ← m, ← a, eq-eqb _ _ e)
+last-answer s i r apart m a e = rw (all-marked (s .count) (bitOr (s .answered) (2 ^ i)), ← m, ← a, eq-eqb _ _ e)
 
 -- one is missing
-pub one-answer : (s : Station) (i r : ℕ) {mark all : ℕ} → mark ≡ 2 ^ i → all ≡ 2 ^ s .count - 1
+pub one-answer : (s : Station) (i r apart : ℕ) {mark all : ℕ} → mark ≡ 2 ^ i → all ≡ 2 ^ s .count - 1
     → (bitAnd (bitOr (s .answered) mark) all ≡ all → ⊥)
-    → noting s (bitOr (s .answered) mark) r ≡ answering s i r
+    → noting s (bitOr (s .answered) mark) r apart ≡ answering s i r apart
 unfolding answering
-one-answer s i r m a e = rw (all-marked (s .count) (bitOr (s .answered) (2 ^ i)), ← m, ← a, ne-eqb _ _ e)
+one-answer s i r apart m a e = rw (all-marked (s .count) (bitOr (s .answered) (2 ^ i)), ← m, ← a, ne-eqb _ _ e)
 
 -- ---- a fit station
 
 -- the code's conjunction, grouped as the definition's
-and-assoc-8 : (a b c d e f g h : Bool) → a && b && c && d && e && f && g && h ≡ a && (b && (c && (d && (e && (f && (g && h))))))
-and-assoc-8 false b c d e f g h = refl
-and-assoc-8 true false c d e f g h = refl
-and-assoc-8 true true false d e f g h = refl
-and-assoc-8 true true true false e f g h = refl
-and-assoc-8 true true true true false f g h = refl
-and-assoc-8 true true true true true f g h = and-assoc f g h
+and-assoc-9 : (a b c d e f g h i : Bool) → a && b && c && d && e && f && g && h && i ≡ a && (b && (c && (d && (e && (f && (g && (h && i)))))))
+and-assoc-9 false b c d e f g h i = refl
+and-assoc-9 true false c d e f g h i = refl
+and-assoc-9 true true false d e f g h i = refl
+and-assoc-9 true true true false e f g h i = refl
+and-assoc-9 true true true true false f g h i = refl
+and-assoc-9 true true true true true false g h i = refl
+and-assoc-9 true true true true true true g h i = and-assoc g h i
 
 -- none below n is bad
 all-good : (n : ℕ) (p : ℕ → Bool) → eqb (least n p) n ≡ every n (λ i. not (p i))
 all-good n p = rw (← ap (λ (q : ℕ → Bool). least n q) (fun-ext (λ i. Bool·not-not (p i)))) (every-least n (λ i. not (p i)))
 
 -- what the code tests
-pub fit-is : (s : Station) {fine rest driving lifts : Bool} {worst over shut all : ℕ} → s .count ≤ 8 → s .answered < 2 ^ 8
+pub fit-is : (s : Station) {fine rest driving lifts : Bool} {worst touched over shut all : ℕ} → s .count ≤ 8 → s .answered < 2 ^ 8
     → fine ≡ sound (s .bits) → all ≡ 2 ^ s .count - 1 → rest ≡ every 40 (λ k. used s k || eqb (getD (s .set) k 0) 0)
     → driving ≡ holds underWay (bit (s .bits))
-    → (worst ≡ least (s .count) (bad (s .set))) × (over ≡ least (s .count) (overlapsEarlier (s .set)))
+    → (worst ≡ least (s .count) (bad (s .set))) × (touched ≡ least (s .count) (touches (s .set) 0)) × (over ≡ least (s .count) (overlapsEarlier (s .set)))
     × (shut ≡ least (s .count) (stranded (s .answered) (s .set) (s .bits))) × (lifts ≡ liftIn (s .set) (s .count))
     → fine && eqb worst (s .count) && leb (s .answered) all && rest && (eqb (s .count) 0 || not (eqb (bitAnd (s .answered) all) all))
-    && not (driving && lifts) && eqb over (s .count) && eqb shut (s .count) ≡ fit s
+    && not (driving && lifts) && eqb over (s .count) && eqb shut (s .count) && ltb (s .apart) (2 ^ 53) ≡ fit s
 unfolding fit crossesDrive
-fit-is s {fine} {rest} {driving} {lifts} {worst} {over} {shut} {all} h l e₁ e₂ e₃ e₄ found =
-    and-assoc-8 fine (eqb worst (s .count)) (leb (s .answered) all) rest (eqb (s .count) 0 || not (eqb (bitAnd (s .answered) all) all))
-    (not (driving && lifts)) (eqb over (s .count)) (eqb shut (s .count))
+fit-is s {fine} {rest} {driving} {lifts} {worst} {touched} {over} {shut} {all} h l e₁ e₂ e₃ e₄ found =
+    and-assoc-9 fine (eqb worst (s .count)) (leb (s .answered) all) rest (eqb (s .count) 0 || not (eqb (bitAnd (s .answered) all) all))
+    (not (driving && lifts)) (eqb over (s .count)) (eqb shut (s .count)) (ltb (s .apart) (2 ^ 53))
     ∙ rw (
       e₁,
       e₂,
       e₃,
       e₄,
       found .0,
-      found .1,
       found .2,
       found .3,
+      found .4,
       all-good (s .count) (bad (s .set)),
       all-good (s .count) (overlapsEarlier (s .set)),
       all-good (s .count) (stranded (s .answered) (s .set) (s .bits)),

@@ -2,9 +2,10 @@
 -- Assumes nothing.
 use Prim.Native.Nat.{ℕ}
 use mathlib.Core.Path.{_≡_, refl, ap, _∙_}
-use mathlib.Core.Bool.{Bool, true, false, cond}
+use mathlib.Core.Bool.{Bool, true, false, not, cond, _&&_}
 use mathlib.Core.List.{[]}
 use lib.Dec.{eqb}
+use borrow.Author.Tests.{not-true, not-false}
 use Rattle.bits.specs.Bits.{bit, packed, image}
 use Rattle.bits.specs.Places.{elem}
 use Rattle.bits.proofs.Cases.{split}
@@ -24,12 +25,15 @@ use Rattle.rules.specs.Codes.{readCode, readEvent}
 use Rattle.rules.specs.Verdicts.{onCode, maskOf, codeMask, verdictOf, codeVerdict, isAllowed, movedBy, movedOf, codeMoved, drivenOf}
 use Rattle.rules.proofs.CodeLaws.{one-form}
 use Rattle.rules.proofs.Reasons.{allows-is}
-use Rattle.answers.specs.declared.Answer.the-variants.{BadField, EventImpossible, OutOfTurn}
+use Rattle.answers.specs.declared.Answer.the-variants.{BadField, EventImpossible, OutOfTurn, SetApart}
 use Rattle.answers.specs.Answers.{nowhere}
 use Rattle.garage.specs.declared.Station.{Station}
-use Rattle.garage.specs.Held.{isGood, heldArea, heldAllowed, heldNext, heldAfter}
+use Rattle.garage.specs.declared.Outcome.{Outcome}
+use Rattle.garage.specs.declared.Turn.{Turn}
+use Rattle.garage.specs.Held.{isGood, heldArea, heldAllowed, heldNext, heldAfter, liftApart}
 use Rattle.garage.specs.Station.{holding}
 use Rattle.garage.specs.Calls.{refused, taken, occurred, driven, evented}
+use Rattle.garage.specs.Turns.{turnOf}
 use Rattle.garage.specs.Private.{heldMask, maskIn}
 
 -- ---- areas and verdicts
@@ -103,6 +107,15 @@ pub held-after : (x : Code) (r : ℕ) {m : Moved} → m ≡ codeMoved x r → on
 unfolding heldAfter
 held-after x r e = ap (onMoved (λ n. n) r) e ∙ held-moved (λ n. n) r x r
 
+-- an outcome, unless a part of the lift is set apart
+abbrev pub unlessApart : Station → Outcome → Outcome
+unlessApart s o = cond (liftApart (s .apart)) (refused s (SetApart nowhere)) o
+
+-- as a turn
+pub unless-apart : (s : Station) (o : Outcome) {x t : Turn} → x ≡ cond (liftApart (s .apart)) (turnOf (refused s (SetApart nowhere))) t
+    → t ≡ turnOf o → x ≡ turnOf (unlessApart s o)
+unless-apart s o e d = e ∙ rw d (split (liftApart (s .apart)) (λ t. rw t) (λ t. rw t))
+
 -- one answer where a car event is possible, others where it doesn't come in turn and where it isn't possible
 abbrev pub onDriven : {A : Type 0} → (ℕ → A) → A → A → Driven → A
 onDriven made untimely unmade (Driven.Record r) = made r
@@ -111,10 +124,21 @@ onDriven made untimely unmade Driven.Impossible = unmade
 
 -- a car event
 pub moved-event : (s : Station) (e : Event) {d : Driven} → d ≡ drivenOf e (s .bits)
-    → onDriven (λ r. taken (holding s r)) (refused s OutOfTurn) (refused s EventImpossible) d ≡ occurred s e
+    → onDriven (λ r. unlessApart s (taken (holding s r))) (refused s OutOfTurn) (unlessApart s (refused s EventImpossible)) d ≡ occurred s e
 unfolding drivenOf occurred
 moved-event s e d =
-    rw d (split (inTurn e (bit (s .bits))) (λ t. rw t (split (possible e (bit (s .bits))) (λ u. rw u) (λ u. rw u))) (λ t. rw t))
+    rw d (split (inTurn e (bit (s .bits)))
+    (λ t. rw t (split (possible e (bit (s .bits))) (λ u. rw u) (λ u. rw u)))
+    (λ t. rw t))
+
+-- ---- an image
+
+-- the code's test of an image: it is refused, or passes
+pub image-fails : (apart : ℕ) {fine ok : Bool} → ok ≡ fine → not (ok && eqb apart 0) ≡ true → fine && eqb apart 0 ≡ false
+image-fails apart e t = rw (← e) (not-true _ t)
+
+pub image-passes : (apart : ℕ) {fine ok : Bool} → ok ≡ fine → not (ok && eqb apart 0) ≡ false → fine && eqb apart 0 ≡ true
+image-passes apart e t = rw (← e) (not-false _ t)
 
 -- ---- an event's byte
 

@@ -1,6 +1,6 @@
 -- A call's turn and the set that it leaves are its outcome: call by call, what becomes of the set. Assumes nothing.
 use mathlib.Core.Path.{_≡_, refl, sym, ap, _∙_}
-use mathlib.Core.Bool.{Bool, true, false, not, cond}
+use mathlib.Core.Bool.{Bool, true, false, not, cond, _&&_}
 use mathlib.Core.List.{List, _++_}
 use Prim.Native.Nat.{ℕ, _*_, _-_, _^_, _<_}
 use native.Mathlib.Omega.{arith}
@@ -22,9 +22,9 @@ use Rattle.garage.specs.declared.Outcome.{Outcome}
 use Rattle.garage.specs.declared.Report.{Report}
 use Rattle.garage.specs.declared.Picture.{Picture}
 use Rattle.garage.specs.declared.Turn.{Turn}
-use Rattle.garage.specs.Held.{bad, overlapsEarlier, barred, liftIn, crossesDrive}
-use Rattle.garage.specs.Station.{inSet, marked, present, late, holding, answering}
-use Rattle.garage.specs.Calls.{refused, taken, accepted, cleared, requested, occurred, driven, evented, ended, numbered, timely, resulted, imaged}
+use Rattle.garage.specs.Held.{liftApart, touches, bad, overlapsEarlier, barred, liftIn, crossesDrive}
+use Rattle.garage.specs.Station.{inSet, marked, present, late, noting, answering}
+use Rattle.garage.specs.Calls.{refused, taken, accepted, spared, cleared, requested, occurred, driven, evented, ended, numbered, timely, resulted, imaged}
 use Rattle.garage.specs.Turns.{turnOf, keptSet, afterTurn}
 use Rattle.garage.proofs.Marks.{in-set}
 
@@ -44,8 +44,8 @@ module _ (s : Station) (fresh : List ℕ) where
   pub kept-refused : (a : Answer) → Kept (refused s a)
   kept-refused a = record { kept = held }
 
-  kept-holding : (r : ℕ) → Kept (taken (holding s r))
-  kept-holding r = record { kept = held }
+  kept-noting : (r apart : ℕ) → Kept (taken (noting s (s .answered) r apart))
+  kept-noting r apart = record { kept = held }
 
   either : (t : Bool) {o p : Outcome} → (t ≡ true → Kept o) → (t ≡ false → Kept p) → Kept (cond t o p)
   either true f g = f refl
@@ -64,7 +64,7 @@ module _ (s : Station) (fresh : List ℕ) where
       (λ b. record { kept = rw (lt-ltb (s .count) n h) (sym e) }))
 
   pub kept-requested : (n : ℕ) (set : List ℕ) → fresh ≡ take (5 * n) set ++ replicate (40 - 5 * n) 0 → Kept (requested s n set)
-  unfolding requested cleared
+  unfolding requested cleared spared
   kept-requested n set e =
       unless (ltb 0 (s .count)) _
       (λ a. let h = ltb-false 0 (s .count) a in
@@ -73,7 +73,8 @@ module _ (s : Station) (fresh : List ℕ) where
       (λ c. let ne : n ≡ 0 → ⊥ = eqb-false n 0 c in
       unless (ltb (least n (bad set)) n) _
       (λ d. unless (crossesDrive (s .bits) set n) _
-      (λ f. kept-accepted n set e (omega arith))))))
+      (λ x. unless (ltb (least n (touches set (s .apart))) n) _
+      (λ f. kept-accepted n set e (omega arith)))))))
 
   -- ---- a car event
 
@@ -81,7 +82,7 @@ module _ (s : Station) (fresh : List ℕ) where
   unfolding occurred
   kept-occurred e =
       either (inTurn e (bit (s .bits)))
-      (λ t. either (possible e (bit (s .bits))) (λ a. kept-holding _) (λ a. kept-refused _))
+      (λ t. unless (liftApart (s .apart)) _ (λ l. either (possible e (bit (s .bits))) (λ a. kept-noting _ _) (λ a. kept-refused _)))
       (λ t. kept-refused _)
 
   kept-driven : (e : Event) → Kept (driven s e)
@@ -98,32 +99,32 @@ module _ (s : Station) (fresh : List ℕ) where
 
   -- ---- a result
 
-  kept-answering : (i r : ℕ) → i < s .count → Kept (taken (answering s i r))
+  kept-answering : (i r apart : ℕ) → i < s .count → Kept (taken (answering s i r apart))
   unfolding answering keptSet
-  kept-answering i r h = record {
+  kept-answering i r apart h = record {
     kept = split (every (s .count) (bit (bitOr (s .answered) (2 ^ i))))
         (λ e. rw (e, le-ltb (s .count) 0 (omega arith), lt-ltb 0 (s .count) (omega arith)))
         (λ e. rw (e, le-ltb (s .count) (s .count) (omega arith)));
   }
 
-  kept-ended : (i done : ℕ) → i < s .count → Kept (ended s i done)
+  kept-ended : (i ending : ℕ) → i < s .count → Kept (ended s i ending)
   unfolding ended
-  kept-ended i done h = kept-answering i _ h
+  kept-ended i ending h = kept-answering i _ _ h
 
-  kept-numbered : (i done : ℕ) → Kept (numbered s i done)
+  kept-numbered : (i ending : ℕ) → Kept (numbered s i ending)
   unfolding numbered
-  kept-numbered i done = unless (not (inSet s i)) _ (λ a. unless (marked s i) _ (λ b. kept-ended i done (in-set s i (not-false _ a) .1)))
+  kept-numbered i ending = unless (not (inSet s i)) _ (λ a. unless (marked s i) _ (λ b. kept-ended i ending (in-set s i (not-false _ a) .1)))
 
   kept-timely : (r : Report) → Kept (timely s r)
   unfolding timely
-  kept-timely r = unless (late s (r .issue)) _ (λ a. either (eqb (r .issue) (present s)) (λ b. kept-numbered (r .number) (r .done)) (λ b. kept-refused _))
+  kept-timely r = unless (late s (r .issue)) _ (λ a. either (eqb (r .issue) (present s)) (λ b. kept-numbered (r .number) (r .ending)) (λ b. kept-refused _))
 
   pub kept-resulted : (r : Report) → Kept (resulted s r)
   unfolding resulted
-  kept-resulted r = unless (ltb 1 (r .done)) _ (λ a. unless (eqb (s .count) 0) _ (λ b. kept-timely r))
+  kept-resulted r = unless (ltb 2 (r .ending)) _ (λ a. unless (eqb (s .count) 0) _ (λ b. kept-timely r))
 
   -- ---- an image
 
   pub kept-imaged : (p : Picture) → Kept (imaged s p)
   unfolding imaged
-  kept-imaged p = unless (ltb 0 (s .count)) _ (λ a. either (sound (p .bits)) (λ b. kept-holding (p .bits)) (λ b. kept-refused _))
+  kept-imaged p = unless (ltb 0 (s .count)) _ (λ a. either (sound (p .bits) && eqb (p .apart) 0) (λ b. kept-noting (p .bits) 0) (λ b. kept-refused _))

@@ -1,6 +1,6 @@
 -- The five calls, each a chain of tests in the documents' order of refusals, in parts, the last of them first. What stands past the test
 -- of fitness is said of unfit stations too. Assumes nothing.
-use mathlib.Core.Bool.{Bool, not, cond}
+use mathlib.Core.Bool.{Bool, not, cond, _&&_}
 use mathlib.Core.List.{List}
 use Prim.Native.Nat.{ℕ}
 use lib.Dec.{eqb, ltb}
@@ -12,14 +12,14 @@ use Rattle.rules.specs.declared.Event.the-variants.{BeginIn, BeginOut, EndDone,
 use Rattle.rules.specs.Events.{inTurn, possible, after}
 use Rattle.rules.specs.Codes.{most}
 use Rattle.answers.specs.declared.Answer.{Answer}
-use Rattle.answers.specs.declared.Answer.the-variants.{Taken, Opened, BadField, TooMany, SetOutstanding, EmptySet, Overlap, EventImpossible, NoSet, NotInSet, AlreadyAnswered, Unsound, Unfit, Late, NotIssued, OutOfTurn}
+use Rattle.answers.specs.declared.Answer.the-variants.{Taken, Opened, BadField, TooMany, SetOutstanding, EmptySet, Overlap, EventImpossible, NoSet, NotInSet, AlreadyAnswered, Unsound, Unfit, Late, NotIssued, OutOfTurn, SetApart}
 use Rattle.answers.specs.Answers.{nowhere}
 use Rattle.garage.specs.declared.Station.{Station}
 use Rattle.garage.specs.declared.Outcome.{Outcome}
 use Rattle.garage.specs.declared.Report.{Report}
 use Rattle.garage.specs.declared.Picture.{Picture}
-use Rattle.garage.specs.Held.{codeAt, heldAfter, bad, overlapsEarlier, barred, whyNot, liftIn, crossesDrive}
-use Rattle.garage.specs.Station.{inSet, marked, present, late, fit, holding, opened, answering}
+use Rattle.garage.specs.Held.{codeAt, heldAfter, bad, overlapsEarlier, barred, whyNot, liftIn, touches, liftApart, crossesDrive}
+use Rattle.garage.specs.Station.{inSet, marked, present, late, fit, holding, seeing, opened, answering, apartWith}
 
 -- the station as it was, and why; the next station, taken
 abbrev pub refused : Station → Answer → Outcome
@@ -47,9 +47,13 @@ accepted s n set =
     (unlessAny n (barred set (s .bits)) s (whyNot set (s .bits))
     (opening s n set))
 
+-- before it: none of the n touches a part that is set apart
+unfoldable pub spared : Station → ℕ → List ℕ → Outcome
+spared s n set = unlessAny n (touches set (s .apart)) s SetApart (accepted s n set)
+
 -- a request of n well-formed instructions: while a drive is under way, none has the lift in its area
 unfoldable pub cleared : Station → ℕ → List ℕ → Outcome
-cleared s n set = cond (crossesDrive (s .bits) set n) (refused s OutOfTurn) (accepted s n set)
+cleared s n set = cond (crossesDrive (s .bits) set n) (refused s OutOfTurn) (spared s n set)
 
 -- a request past the test of fitness: no set is outstanding, and 1 to 8 instructions, five bytes each, are well formed
 unfoldable pub requested : Station → ℕ → List ℕ → Outcome
@@ -64,11 +68,13 @@ requested s n set =
 unfoldable pub request : Station → ℕ → List ℕ → Outcome
 request s n set = onFit s (requested s n set)
 
--- the end of a car event: it comes in turn and is possible on the present record, which becomes the one after it
+-- the end of a car event: it comes in turn, no part of the lift is set apart, and it is possible on the present record, which becomes the
+-- one after it
 unfoldable pub occurred : Station → Event → Outcome
 occurred s e =
     cond (inTurn e (bit (s .bits)))
-    (cond (possible e (bit (s .bits))) (taken (holding s (image (after e (bit (s .bits)))))) (refused s EventImpossible))
+    (cond (liftApart (s .apart)) (refused s (SetApart nowhere))
+    (cond (possible e (bit (s .bits))) (taken (holding s (image (after e (bit (s .bits)))))) (refused s EventImpossible)))
     (refused s OutOfTurn)
 
 -- a car event that is known: no set is outstanding with the lift in any of its areas
@@ -89,28 +95,29 @@ unfoldable pub event : Station → ℕ → Outcome
 event s e = onFit s (evented s e)
 
 -- the end of a result: instruction i failed, which changes nothing but the mark, or is done, and its rule is applied to the record at that
--- moment
+-- moment, or is stuck, and everything in its area is set apart
 unfoldable pub ended : Station → ℕ → ℕ → Outcome
-ended s i done = taken (answering s i (cond (eqb done 0) (s .bits) (heldAfter (codeAt (s .set) i) (s .bits))))
+ended s i ending =
+    taken (answering s i (cond (eqb ending 1) (heldAfter (codeAt (s .set) i) (s .bits)) (s .bits)) (cond (eqb ending 2) (apartWith s i) (s .apart)))
 
 -- a result by its instruction's number: it is in the set, and not answered yet
 unfoldable pub numbered : Station → ℕ → ℕ → Outcome
-numbered s i done =
+numbered s i ending =
     cond (not (inSet s i)) (refused s NotInSet)
     (cond (marked s i) (refused s AlreadyAnswered)
-    (ended s i done))
+    (ended s i ending))
 
 -- a result by the issue of its set: it isn't late, and is the present one
 unfoldable pub timely : Station → Report → Outcome
 timely s r =
     cond (late s (r .issue)) (refused s Late)
-    (cond (eqb (r .issue) (present s)) (numbered s (r .number) (r .done))
+    (cond (eqb (r .issue) (present s)) (numbered s (r .number) (r .ending))
     (refused s NotIssued))
 
--- a result past the test of fitness: 0 failed or 1 done, and a set is outstanding
+-- a result past the test of fitness: 0 failed, 1 done or 2 stuck, and a set is outstanding
 unfoldable pub resulted : Station → Report → Outcome
 resulted s r =
-    cond (ltb 1 (r .done)) (refused s (BadField nowhere))
+    cond (ltb 2 (r .ending)) (refused s (BadField nowhere))
     (cond (eqb (s .count) 0) (refused s NoSet)
     (timely s r))
 
@@ -118,9 +125,11 @@ resulted s r =
 unfoldable pub result : Station → Report → Outcome
 result s r = onFit s (resulted s r)
 
--- an image past the test of fitness: no set is outstanding, and it is sound; it becomes the record
+-- an image past the test of fitness: no set is outstanding, and it is sound and sets nothing apart; it becomes the record
 unfoldable pub imaged : Station → Picture → Outcome
-imaged s p = cond (ltb 0 (s .count)) (refused s SetOutstanding) (cond (sound (p .bits)) (taken (holding s (p .bits))) (refused s Unsound))
+imaged s p =
+    cond (ltb 0 (s .count)) (refused s SetOutstanding)
+    (cond (sound (p .bits) && eqb (p .apart) 0) (taken (seeing s (p .bits))) (refused s Unsound))
 
 -- an image
 unfoldable pub takeImage : Station → Picture → Outcome

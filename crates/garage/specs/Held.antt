@@ -5,9 +5,10 @@ use mathlib.Core.List.{List, []}
 use Prim.Native.Nat.{ℕ, _*_}
 use lib.ListN.{drop}
 use Rattle.bits.specs.Bits.{Bits, bit, image}
-use Rattle.bits.specs.Places.{share}
+use lib.Dec.{eqb, ltb}
+use Rattle.bits.specs.Places.{elem, share}
 use Rattle.bits.specs.Search.{some}
-use Rattle.floor.specs.Floor.{lift}
+use Rattle.floor.specs.Floor.{lift, raisedCar}
 use Rattle.floor.specs.Tests.{holds, underWay}
 use Rattle.answers.specs.declared.Answer.{Answer}
 use Rattle.rules.specs.declared.Code.{Code}
@@ -58,7 +59,23 @@ whyNot set r i = answerFor (codeVerdict (codeAt set i) r) i
 unfoldable pub liftIn : List ℕ → ℕ → Bool
 liftIn set n = some n (λ j. share (heldArea (codeAt set j)) lift)
 
--- and a drive is under way on the record with this image; the same of one instruction alone
+-- an area as the number that shows what is set apart has it: its cells and slots in the record's own bits, the lift as bit 52 alone
+unfoldable pub partsIn : List ℕ → Bits
+partsIn a k = cond (ltb k raisedCar) (elem k a) (eqb k raisedCar && share a lift)
+
+-- what is set apart where an instruction is stuck: everything in its area
+unfoldable pub heldParts : Code → ℕ
+heldParts x = image (partsIn (heldArea x))
+
+-- instruction i of a set touches a part that is set apart
+unfoldable pub touches : List ℕ → ℕ → ℕ → Bool
+touches set apart i = some 64 (λ k. bit (heldParts (codeAt set i)) k && bit apart k)
+
+-- a part of the lift is set apart
+abbrev pub liftApart : ℕ → Bool
+liftApart apart = bit apart raisedCar
+
+-- one of the first n instructions has the lift in its area and a drive is under way on the record with this image; the same of one alone
 unfoldable pub crossesDrive : ℕ → List ℕ → ℕ → Bool
 crossesDrive r set n = holds underWay (bit r) && liftIn set n
 

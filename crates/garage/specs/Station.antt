@@ -1,5 +1,5 @@
--- The station: its record, the outstanding set, a mark for each instruction of it that is answered, and the issue of the next set; and
--- when a station is fit.
+-- The station: its record, the outstanding set, a mark for each instruction of it that is answered, the issue of the next set, and what is
+-- set apart; and when a station is fit.
 -- Assumes nothing.
 use mathlib.Core.Bool.{Bool, not, cond, _&&_, _||_}
 use mathlib.Core.List.{List, _++_}
@@ -12,15 +12,15 @@ use Rattle.bits.specs.Search.{some, every}
 use Rattle.floor.specs.Sound.{sound}
 use Rattle.rules.specs.Codes.{most}
 use Rattle.garage.specs.declared.Station.{Station}
-use Rattle.garage.specs.Held.{bad, overlapsEarlier, stranded, crossesDrive}
+use Rattle.garage.specs.Held.{codeAt, heldParts, bad, overlapsEarlier, stranded, crossesDrive}
 
--- no set is outstanding, no instruction and no mark: the record, and the issue that the next set will have
-abbrev pub closed : ℕ → ℕ → Station
-closed r next = record { bits = r; count = 0; answered = 0; set = replicate 40 0; next = next }
+-- no set is outstanding, no instruction and no mark: the record, the issue that the next set will have, and what is set apart
+abbrev pub closed : ℕ → ℕ → ℕ → Station
+closed r next apart = record { bits = r; count = 0; answered = 0; set = replicate 40 0; next = next; apart = apart }
 
--- the start: no cars, rows 1 and 2 lowered and row 3 tilted on both sides, lift at street, no set; the first has issue 0
+-- the start: no cars, rows 1 and 2 lowered and row 3 tilted on both sides, lift at street, no set; the first has issue 0; nothing is apart
 abbrev pub startOf : Station
-startOf = closed 0x00091B0000000000 0
+startOf = closed 0x00091B0000000000 0 0
 
 -- the issue after this one: it starts over at zero after 65535
 abbrev pub issueAfter : ℕ → ℕ
@@ -51,7 +51,8 @@ abbrev pub used : Station → ℕ → Bool
 used s k = ltb k (5 * s .count)
 
 -- the record is sound; 0 to 8 instructions, well formed; marks only those; unused places zero; a non-empty set has one unanswered; while a
--- drive is under way, none of them has the lift in its area; no two of them overlap, answered or not; each unanswered one is allowed
+-- drive is under way, none of them has the lift in its area; no two of them overlap, answered or not; each unanswered one is allowed; what
+-- is set apart has zeros above bit 52
 unfoldable pub fit : Station → Bool
 fit s =
     sound (s .bits)
@@ -62,23 +63,39 @@ fit s =
     && ((eqb (s .count) 0 || some (s .count) (λ i. not (marked s i)))
     && (not (crossesDrive (s .bits) (s .set) (s .count))
     && (every (s .count) (λ i. not (overlapsEarlier (s .set) i))
-    && every (s .count) (λ i. not (stranded (s .answered) (s .set) (s .bits) i)))))))))
+    && (every (s .count) (λ i. not (stranded (s .answered) (s .set) (s .bits) i))
+    && ltb (s .apart) (2 ^ 53)))))))))
 
--- the same set with these marks, the record now r
-abbrev pub noting : Station → ℕ → ℕ → Station
-noting s marks r = record { bits = r; count = s .count; answered = marks; set = s .set; next = s .next }
+-- the same set with these marks, the record now r, and this set apart
+abbrev pub noting : Station → ℕ → ℕ → ℕ → Station
+noting s marks r apart = record { bits = r; count = s .count; answered = marks; set = s .set; next = s .next; apart = apart }
 
 -- the same station with another record
 abbrev pub holding : Station → ℕ → Station
-holding s r = noting s (s .answered) r
+holding s r = noting s (s .answered) r (s .apart)
 
--- a set of n instructions is outstanding, none answered, under the next issue; the record stays
+-- the same with the record that somebody saw: nothing is set apart
+abbrev pub seeing : Station → ℕ → Station
+seeing s r = noting s (s .answered) r 0
+
+-- a set of n instructions is outstanding, none answered, under the next issue; the record stays, and what is set apart
 abbrev pub opened : Station → ℕ → List ℕ → Station
 opened s n set =
-    record { bits = s .bits; count = n; answered = 0; set = take (5 * n) set ++ replicate (40 - 5 * n) 0; next = issueAfter (s .next) }
+    record {
+      bits = s .bits;
+      count = n;
+      answered = 0;
+      set = take (5 * n) set ++ replicate (40 - 5 * n) 0;
+      next = issueAfter (s .next);
+      apart = s .apart;
+    }
 
--- instruction i answered, the record now r; with the last of them the station holds no instruction and no mark
-unfoldable pub answering : Station → ℕ → ℕ → Station
-answering s i r =
+-- instruction i answered, the record now r, and this set apart; with the last of them the station holds no instruction and no mark
+unfoldable pub answering : Station → ℕ → ℕ → ℕ → Station
+answering s i r apart =
     let marks = bitOr (s .answered) (2 ^ i) in
-    cond (every (s .count) (bit marks)) (closed r (s .next)) (noting s marks r)
+    cond (every (s .count) (bit marks)) (closed r (s .next) apart) (noting s marks r apart)
+
+-- what is set apart once instruction i is stuck: all that was, and everything in its area
+abbrev pub apartWith : Station → ℕ → ℕ
+apartWith s i = bitOr (s .apart) (heldParts (codeAt (s .set) i))

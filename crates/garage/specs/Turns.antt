@@ -11,7 +11,7 @@ use Rattle.garage.specs.declared.Turn.{Turn}
 
 -- the turn of an outcome
 abbrev pub turnOf : Outcome → Turn
-turnOf o = record { answer = o .answer; bits = o .station .bits; count = o .station .count; answered = o .station .answered; next = o .station .next }
+turnOf o = record { answer = o .answer; bits = o .station .bits; count = o .station .count; answered = o .station .answered; next = o .station .next; apart = o .station .apart }
 
 -- the set after a call: where instructions came, the new one; where the last was answered, none; else the one that was held
 unfoldable pub keptSet : List ℕ → ℕ → ℕ → List ℕ → List ℕ
@@ -21,6 +21,13 @@ keptSet held before after fresh = cond (ltb before after) fresh (cond (ltb after
 abbrev pub afterTurn : Station → Turn → List ℕ → Outcome
 afterTurn s t fresh =
     record {
-      station = record { bits = t .bits; count = t .count; answered = t .answered; set = keptSet (s .set) (s .count) (t .count) fresh; next = t .next };
+      station = record {
+        bits = t .bits;
+        count = t .count;
+        answered = t .answered;
+        set = keptSet (s .set) (s .count) (t .count) fresh;
+        next = t .next;
+        apart = t .apart;
+      };
       answer = t .answer;
     }

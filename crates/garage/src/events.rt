@@ -1,6 +1,10 @@
 // Car events.
 ghost use mathlib.Core.Path.{_≡_};
-ghost use Rattle.garage.specs.Calls.{occurred, driven, evented, event};
+ghost use mathlib.Core.Bool.{cond};
+ghost use Rattle.answers.specs.declared.Answer.the-variants.{SetApart};
+ghost use Rattle.answers.specs.Answers.{nowhere};
+ghost use Rattle.garage.specs.Held.{liftApart};
+ghost use Rattle.garage.specs.Calls.{refused, occurred, driven, evented, event};
 ghost use Rattle.garage.specs.Turns.{turnOf};
 use super::Outcome;
 use super::Station;
@@ -9,19 +13,30 @@ use super::refused;
 use super::sets;
 use answers::Answer;
 use answers::NOWHERE;
+use floor::masks::RAISED;
 use rules::Driven;
 use rules::Event;
 use rules::EventReading;
 
 impl Station {
-    // The end of a car event: the record after it, if it comes in turn and is possible.
+    // What an event in its turn comes to, unless a part of the lift is set apart.
+    fn unless_apart(self, t: Turn) -> Turn
+        ensures { λ x. ⌜ x ≡ cond (liftApart (self .apart)) (turnOf (refused self (SetApart nowhere))) t ⌝ }
+    {
+        if bits::bit(self.apart, RAISED) {
+            return self.unmoved(Answer::SetApart(NOWHERE));
+        }
+        t
+    }
+
+    // The end of a car event: the record after it, if it comes in turn, no part of the lift is set apart and it is possible.
     fn occurred(self, e: Event) -> Turn
         ensures { λ t. ⌜ t ≡ turnOf (occurred self e) ⌝ }
     {
         match engine::driven(e, self.bits) {
-            Driven::Record(r) => self.holding(r),
+            Driven::Record(r) => self.unless_apart(self.holding(r, self.apart)),
             Driven::OutOfTurn => self.unmoved(Answer::OutOfTurn),
-            Driven::Impossible => self.unmoved(Answer::EventImpossible),
+            Driven::Impossible => self.unless_apart(self.unmoved(Answer::EventImpossible)),
         }
     }
 

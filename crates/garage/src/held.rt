@@ -2,7 +2,7 @@
 ghost use mathlib.Core.Path.{_≡_};
 ghost use Rattle.bits.specs.Bits.{bit};
 ghost use Rattle.rules.specs.Verdicts.{isAllowed};
-ghost use Rattle.garage.specs.Held.{isGood, heldAllowed, heldAfter};
+ghost use Rattle.garage.specs.Held.{isGood, heldAllowed, heldAfter, heldParts};
 ghost use Rattle.garage.specs.Private.{heldMask, maskIn};
 use rules::Area;
 use rules::Code;
@@ -36,6 +36,18 @@ pub fn area(x: Code) -> u64
     ensures { λ m. ⌜ m ≡ heldMask x ⌝ }
 {
     mask_in(areas::code_area(x))
+}
+
+// The bits of what is set apart, 0 to 52: the cells and slots of the record, and one for the lift; and the first number that has more.
+pub const PARTS: u64 = 0x1F_FFFF_FFFF_FFFF;
+
+pub const PARTS_END: u64 = 0x20_0000_0000_0000;
+
+// What is set apart where it is stuck.
+pub fn parts(x: Code) -> u64
+    ensures { λ m. ⌜ m ≡ heldParts x ⌝ }
+{
+    area(x) & PARTS
 }
 
 // What one reading of the bytes tells: whether they say an instruction, its area, and whether the record allows it.

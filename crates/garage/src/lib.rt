@@ -3,11 +3,12 @@
 ghost use mathlib.Core.Path.{_≡_};
 ghost use Prim.Native.Nat.{_-_, _^_, _≤_};
 ghost use Rattle.garage.specs.Held.{crosses};
-ghost use Rattle.garage.specs.Station.{startOf, fit, holding};
+ghost use Rattle.garage.specs.Station.{startOf, fit, noting};
 ghost use Rattle.garage.specs.Calls.{refused, taken, imaged, takeImage, ask};
 ghost use Rattle.garage.specs.Turns.{turnOf, afterTurn};
 use answers::Answer;
 use floor::masks::LIFT;
+use held::PARTS_END;
 use rules::Code;
 
 mod events;
@@ -17,25 +18,28 @@ mod results;
 mod sets;
 
 // The station: its record, how many instructions the outstanding set has, a mark for each that is answered, the instructions as the
-// request's own five bytes each, unused places zero, and the issue that the next set will have.
+// request's own five bytes each, unused places zero, the issue that the next set will have, and what is set apart: bits 0 to 51 as in the
+// record, bit 52 for the lift.
 pub struct Station {
     pub bits: u64,
     pub count: u8,
     pub answered: u8,
     pub set: [u8; 40],
     pub next: u16,
+    pub apart: u64,
 }
 
-// What a result says: the issue of its set, the instruction's number from 0, and 0 failed or 1 done.
+// What a result says: the issue of its set, the instruction's number from 0, and 0 failed, 1 done or 2 stuck.
 pub struct Report {
     pub issue: u16,
     pub number: u8,
-    pub done: u8,
+    pub ending: u8,
 }
 
-// What an image says: the record.
+// What an image says: the record, and what is set apart.
 pub struct Picture {
     pub bits: u64,
+    pub apart: u64,
 }
 
 // What a call hands back.
@@ -51,6 +55,7 @@ pub struct Turn {
     pub count: u8,
     pub answered: u8,
     pub next: u16,
+    pub apart: u64,
 }
 
 // The marks of n instructions when all are answered.
@@ -102,6 +107,7 @@ impl Station {
             answered: 0,
             set: [0; 40],
             next: 0,
+            apart: 0,
         }
     }
 
@@ -116,7 +122,7 @@ impl Station {
             return false;
         }
         let all = all_marks(n);
-        let found = sets::search(set, n, marks, self.bits);
+        let found = sets::search(set, n, marks, self.bits, 0);
         floor::sound(self.bits)
             & (found.bad == n)
             & (marks <= all)
@@ -125,6 +131,7 @@ impl Station {
             & !(floor::under_way(self.bits) & found.lift)
             & (found.overlap == n)
             & (found.barred == n)
+            & (self.apart < PARTS_END)
     }
 
     // The station as it was, and the answer.
@@ -137,12 +144,13 @@ impl Station {
             count: self.count,
             answered: self.answered,
             next: self.next,
+            apart: self.apart,
         }
     }
 
-    // The record now r.
-    fn holding(self, r: u64) -> Turn
-        ensures { λ t. ⌜ t ≡ turnOf (taken (holding self r)) ⌝ }
+    // The record now r, and this set apart.
+    fn holding(self, r: u64, apart: u64) -> Turn
+        ensures { λ t. ⌜ t ≡ turnOf (taken (noting self (self .answered) r apart)) ⌝ }
     {
         Turn {
             answer: Answer::Taken,
@@ -150,6 +158,7 @@ impl Station {
             count: self.count,
             answered: self.answered,
             next: self.next,
+            apart,
         }
     }
 
@@ -165,22 +174,23 @@ impl Station {
             answered: t.answered,
             set,
             next: t.next,
+            apart: t.apart,
         };
         let answer = t.answer;
         Outcome { station, answer }
     }
 
-    // An image, which becomes the record, past the test of fitness.
+    // An image, which becomes the record with nothing set apart, past the test of fitness.
     pub fn imaged(self, picture: Picture) -> Turn
         ensures { λ t. ⌜ t ≡ turnOf (imaged self picture) ⌝ }
     {
         if 0 < self.count {
             return self.unmoved(Answer::SetOutstanding);
         }
-        if !floor::sound(picture.bits) {
+        if !(floor::sound(picture.bits) & (picture.apart == 0)) {
             return self.unmoved(Answer::Unsound);
         }
-        self.holding(picture.bits)
+        self.holding(picture.bits, 0)
     }
 
     // An image.

@@ -1,8 +1,9 @@
-// A request: a set of instructions, taken if no set is outstanding, none moves the lift under a driver, no two overlap and each is allowed.
+// A request: a set of instructions, taken if no set is outstanding, none moves the lift under a driver or touches a part that is set apart,
+// no two overlap and each is allowed.
 ghost use mathlib.Core.Path.{_≡_};
 ghost use Rattle.bits.specs.Search.{least};
-ghost use Rattle.garage.specs.Held.{overlapsEarlier, barred, liftIn};
-ghost use Rattle.garage.specs.Calls.{accepted, cleared, requested, request};
+ghost use Rattle.garage.specs.Held.{touches, overlapsEarlier, barred, liftIn};
+ghost use Rattle.garage.specs.Calls.{accepted, spared, cleared, requested, request};
 ghost use Rattle.garage.specs.Turns.{turnOf};
 use super::Outcome;
 use super::Station;
@@ -32,18 +33,30 @@ impl Station {
             count,
             answered: 0,
             next: wrapping_add_u16(self.next, 1),
+            apart: self.apart,
         }
+    }
+
+    // Before it: none touches a part that is set apart.
+    fn spared(self, count: u8, set: [u8; 40], found: Faults) -> Turn
+        requires { ⌜ (found .touching ≡ least count (touches set (self .apart))) × (found .overlap ≡ least count (overlapsEarlier set)) × (found .barred ≡ least count (barred set (self .bits))) ⌝ }
+        ensures { λ t. ⌜ t ≡ turnOf (spared self count set) ⌝ }
+    {
+        if found.touching < count {
+            return self.unmoved(Answer::SetApart(found.touching));
+        }
+        self.accepted(count, set, found)
     }
 
     // A request of well-formed instructions: while a drive is under way, none has the lift in its area.
     fn cleared(self, count: u8, set: [u8; 40], found: Faults) -> Turn
-        requires { ⌜ (found .overlap ≡ least count (overlapsEarlier set)) × (found .barred ≡ least count (barred set (self .bits))) × (found .lift ≡ liftIn set count) ⌝ }
+        requires { ⌜ (found .touching ≡ least count (touches set (self .apart))) × (found .overlap ≡ least count (overlapsEarlier set)) × (found .barred ≡ least count (barred set (self .bits))) × (found .lift ≡ liftIn set count) ⌝ }
         ensures { λ t. ⌜ t ≡ turnOf (cleared self count set) ⌝ }
     {
         if floor::under_way(self.bits) & found.lift {
             return self.unmoved(Answer::OutOfTurn);
         }
-        self.accepted(count, set, found)
+        self.spared(count, set, found)
     }
 
     // A request of `count` instructions, five bytes each, past the test of fitness; bytes past them are not looked at.
@@ -59,7 +72,7 @@ impl Station {
         if count == 0 {
             return self.unmoved(Answer::EmptySet);
         }
-        let found = sets::search(set, count, 0, self.bits);
+        let found = sets::search(set, count, 0, self.bits, self.apart);
         if found.bad < count {
             return self.unmoved(Answer::BadField(found.bad));
         }

@@ -17,10 +17,10 @@ use answers::NOWHERE;
 use std::num::wrapping_sub_u16;
 
 impl Station {
-    // Instruction i answered, the record now r.
-    fn answering(self, i: u8, r: u64) -> Turn
+    // Instruction i answered, the record now r, and this set apart.
+    fn answering(self, i: u8, r: u64, apart: u64) -> Turn
         requires { ⌜ (self .count ≤ 8) × (i < self .count) ⌝ }
-        ensures { λ t. ⌜ t ≡ turnOf (taken (answering self i r)) ⌝ }
+        ensures { λ t. ⌜ t ≡ turnOf (taken (answering self i r apart)) ⌝ }
     {
         let marks = self.answered | (1u8 << i);
         let all = all_marks(self.count);
@@ -31,6 +31,7 @@ impl Station {
                 count: 0,
                 answered: 0,
                 next: self.next,
+                apart,
             };
         }
         Turn {
@@ -39,19 +40,24 @@ impl Station {
             count: self.count,
             answered: marks,
             next: self.next,
+            apart,
         }
     }
 
-    // The end of a result: 0 failed, else done.
-    fn ended(self, i: u8, done: u8) -> Turn
+    // The end of a result: 0 failed, 1 done, 2 stuck.
+    fn ended(self, i: u8, ending: u8) -> Turn
         requires { ⌜ (self .count ≤ 8) × (i < self .count) ⌝ }
-        ensures { λ t. ⌜ t ≡ turnOf (ended self i done) ⌝ }
+        ensures { λ t. ⌜ t ≡ turnOf (ended self i ending) ⌝ }
     {
-        if done == 0 {
-            return self.answering(i, self.bits);
-        }
         let set = self.set;
-        self.answering(i, held::after(sets::code_at(&set, i), self.bits))
+        let x = sets::code_at(&set, i);
+        if ending == 1 {
+            return self.answering(i, held::after(x, self.bits), self.apart);
+        }
+        if ending == 2 {
+            return self.answering(i, self.bits, self.apart | held::parts(x));
+        }
+        self.answering(i, self.bits, self.apart)
     }
 
     // Whether the set has an instruction of this number.
@@ -62,8 +68,8 @@ impl Station {
     }
 
     // A result by its instruction's number.
-    fn numbered(self, i: u8, done: u8) -> Turn
-        ensures { λ t. ⌜ t ≡ turnOf (numbered self i done) ⌝ }
+    fn numbered(self, i: u8, ending: u8) -> Turn
+        ensures { λ t. ⌜ t ≡ turnOf (numbered self i ending) ⌝ }
     {
         if !self.in_set(i) {
             return self.unmoved(Answer::NotInSet);
@@ -71,7 +77,7 @@ impl Station {
         if (self.answered >> i) % 2 == 1 {
             return self.unmoved(Answer::AlreadyAnswered);
         }
-        self.ended(i, done)
+        self.ended(i, ending)
     }
 
     // How far an issue is behind the present set's, counted round the end.
@@ -86,7 +92,7 @@ impl Station {
         ensures { λ t. ⌜ t ≡ turnOf (timely self report) ⌝ }
     {
         match self.behind(report.issue) {
-            0 => self.numbered(report.number, report.done),
+            0 => self.numbered(report.number, report.ending),
             1..=32767 => self.unmoved(Answer::Late),
             _ => self.unmoved(Answer::NotIssued),
         }
@@ -96,7 +102,7 @@ impl Station {
     pub fn resulted(self, report: Report) -> Turn
         ensures { λ t. ⌜ t ≡ turnOf (resulted self report) ⌝ }
     {
-        if 1 < report.done {
+        if 2 < report.ending {
             return self.unmoved(Answer::BadField(NOWHERE));
         }
         if self.count == 0 {

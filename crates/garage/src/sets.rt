@@ -6,10 +6,11 @@ ghost use Prim.Native.Nat.{_*_, _-_};
 ghost use lib.Dec.{eqb, ltb};
 ghost use lib.ListN.{length, getD, take, replicate};
 ghost use Rattle.bits.specs.Search.{every, least};
-ghost use Rattle.garage.specs.Held.{codeAt, bad, overlapsEarlier, stranded, liftIn};
+ghost use Rattle.garage.specs.Held.{codeAt, bad, touches, overlapsEarlier, stranded, liftIn};
 ghost use Rattle.garage.specs.Turns.{keptSet};
 ghost use Rattle.garage.specs.Private.{areas, firstOf};
 use crate::held;
+use crate::held::PARTS;
 use floor::masks::LIFT;
 use rules::Code;
 
@@ -47,20 +48,22 @@ fn first(found: u8, n: u8, here: bool, i: u8) -> u8
     found
 }
 
-// Of the first n instructions the least that is bad, the least that overlaps an earlier one and, of those without a mark, the least that is
-// not allowed on the record r, or n; and whether one has the lift in its area. Each is read once.
+// Of the first n instructions the least that is bad, the least that touches a part set apart, the least that overlaps an earlier one and, of
+// those without a mark, the least that is not allowed on the record r, or n; and whether one has the lift in its area. Each is read once.
 pub struct Faults {
     pub bad: u8,
+    pub touching: u8,
     pub overlap: u8,
     pub barred: u8,
     pub lift: bool,
 }
 
-pub fn search(set: [u8; 40], n: u8, marks: u8, r: u64) -> Faults
-    ensures { λ f. ⌜ (f .bad ≡ least n (bad set)) × (f .overlap ≡ least n (overlapsEarlier set)) × (f .barred ≡ least n (stranded marks set r)) × (f .lift ≡ liftIn set n) ⌝ }
+pub fn search(set: [u8; 40], n: u8, marks: u8, r: u64, apart: u64) -> Faults
+    ensures { λ f. ⌜ (f .bad ≡ least n (bad set)) × (f .touching ≡ least n (touches set apart)) × (f .overlap ≡ least n (overlapsEarlier set)) × (f .barred ≡ least n (stranded marks set r)) × (f .lift ≡ liftIn set n) ⌝ }
 {
     let mut seen: u64 = 0;
     let mut bad = n;
+    let mut touching = n;
     let mut overlap = n;
     let mut barred = n;
     let mut rest = marks;
@@ -68,6 +71,7 @@ pub fn search(set: [u8; 40], n: u8, marks: u8, r: u64) -> Faults
     while i < n {
         let x = held::judge(code_at(&set, i), r);
         bad = first(bad, n, !x.good, i);
+        touching = first(touching, n, x.area & PARTS & apart != 0, i);
         overlap = first(overlap, n, x.area & seen != 0, i);
         barred = first(barred, n, (rest % 2 != 1) & !x.allowed, i);
         seen = seen | x.area;
@@ -76,6 +80,7 @@ pub fn search(set: [u8; 40], n: u8, marks: u8, r: u64) -> Faults
     }
     Faults {
         bad,
+        touching,
         overlap,
         barred,
         lift: seen & LIFT != 0,

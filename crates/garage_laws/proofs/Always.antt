@@ -1,5 +1,4 @@
--- What holds after any calls: the station is fit, so its record is sound; images apart, the record is a number of 64 bits and the cars
--- are counted. Assumes nothing.
+-- What holds after any calls: the station is fit; images apart, the record is a number of 64 bits and the cars are counted. Assumes nothing.
 use mathlib.Core.Path.{_∙_, _≡_, refl, sym, ap}
 use mathlib.Core.Logic.{inr}
 use mathlib.Core.Bool.{Bool, _&&_, true, false, and-false}
@@ -15,7 +14,6 @@ use Rattle.bits.proofs.Digits.{packed-lt}
 use Rattle.floor.specs.Floor.{driveIn, driveOut}
 use Rattle.floor.specs.Cars.{cars}
 use Rattle.floor.specs.Sound.{sound}
-use Rattle.floor.proofs.Promises.{layout-cars, sound-exactly}
 use Rattle.rules.specs.declared.Event.the-variants.{BeginIn, BeginOut, EndDone, EndNotDone}
 use Rattle.rules.specs.declared.EventReading.{EventReading}
 use Rattle.rules.specs.declared.EventReading.the-variants.{Good as Told, Bad as Untold}
@@ -25,16 +23,16 @@ use Rattle.rules.proofs.CodeLaws.{event-one-form}
 use Rattle.rules_laws.proofs.Laws.{event-image-cars}
 use Rattle.garage.specs.declared.Station.{Station}
 use Rattle.garage.specs.Held.{codeAt, heldNext, liftIn, crossesDrive}
-use Rattle.garage.specs.Station.{fit, holding}
+use Rattle.garage.specs.Station.{fit, seeing, apartWith}
 use Rattle.garage_laws.specs.Runs as run
 use Rattle.garage_laws.specs.Runs.{Call, said, left, calls, Begins, atStart, byImage, NoImages, driveAt, drove, driven}
-use Rattle.garage_laws.specs.Demands.{AlwaysLaidOut, CarsCounted, FitStays, NeverUnfit, StillAllowed}
+use Rattle.garage_laws.specs.Demands.{FitStays, NeverUnfit, StillAllowed}
 use Rattle.garage_laws.proofs.Reach.{under-way-kept, crosses-none, clear-is}
 use Rattle.garage_laws.proofs.Instance.{possibleAs, afterAs, next-sound, after-sound, next-cars}
-use Rattle.garage_laws.proofs.Fits.{Ready, fit-has, fit-start, fit-holding, fit-opened, fit-answering, waits-allowed}
+use Rattle.garage_laws.proofs.Fits.{Ready, fit-has, fit-start, fit-holding, fit-opened, fit-answering, with-small, waits-allowed}
 use Rattle.garage_laws.proofs.Calls.{following, answering-bits, event-is, image-has, image-is}
 use Rattle.garage_laws.proofs.EachCall.{untouched, unfit-is, fit-says}
-use Rattle.garage_laws.proofs.Steps.{Step, refuses, opens, fails, succeeds, drives, tells, steps, parts}
+use Rattle.garage_laws.proofs.Steps.{Step, refuses, opens, fails, succeeds, sticks, drives, tells, steps, parts}
 use Rattle.garage_laws.proofs.Link.{ready-step}
 
 -- ---- fit
@@ -53,41 +51,47 @@ none-clear s r e = clear-is r (s .set) (s .count) (inr (rw e))
 fit-ready : (s t : Station) (c : Call) → Step s c t → Ready t → fit s ≡ true → fit t ≡ true
 fit-ready s t c (refuses n) q f = f
 fit-ready s t c (opens {n} {set} A) q f = fit-opened s n set A
-fit-ready s t c (fails {i} w) q f = let F = fit-has s f in fit-answering s i (s .bits) f (w .1) (F .sound) (F .clear) q
+fit-ready s t c (fails {i} w) q f = let F = fit-has s f in fit-answering s i (s .bits) (s .apart) f (w .1) (F .sound) (F .clear) (F .within) q
 fit-ready s t c (succeeds {i} p w a) q f =
     let F = fit-has s f in
     let x = codeAt (s .set) i in
-    fit-answering s i (following s i) f (w .1) (next-sound x (s .bits) (F .sound) a (crosses-none (s .bits) (s .set) (s .count) (F .clear) i (w .1)))
-    (still-clear s x (F .clear)) q
+    fit-answering s i (following s i) (s .apart) f (w .1) (next-sound x (s .bits) (F .sound) a (crosses-none (s .bits) (s .set) (s .count) (F .clear) i (w .1)))
+    (still-clear s x (F .clear)) (F .within) q
+fit-ready s t c (sticks {i} p w) q f = let F = fit-has s f in fit-answering s i (s .bits) (apartWith s i) f (w .1) (F .sound) (F .clear) (with-small s i f) q
 fit-ready s t c (drives {e} d) q f =
-    fit-holding s _ f (after-sound (readEvent e) (s .bits) (fit-has s f .sound) (d .2)) (clear-is _ (s .set) (s .count) (inr (d .1))) q
+    let F = fit-has s f in
+    fit-holding s _ (s .apart) f (after-sound (readEvent e) (s .bits) (F .sound) (d .3)) (clear-is _ (s .set) (s .count) (inr (d .1))) q (F .within)
 fit-ready s t c tells q f = f
 
 pub fit-step : (s t : Station) (c : Call) → Step s c t → fit s ≡ true → fit t ≡ true
 fit-step s t c p f = fit-ready s t c p (ready-step s t c p f) f
 
 -- no set, nothing that waits
-none-ready : (s : Station) (r : ℕ) → s .count ≡ 0 → Ready (holding s r)
+none-ready : (s : Station) (r : ℕ) → s .count ≡ 0 → Ready (seeing s r)
 unfolding every
 none-ready s r e = rw e
+
+-- an image that is taken leaves a fit station
+fit-seeing : (s : Station) (r : ℕ) → fit s ≡ true → s .count ≡ 0 → sound r ≡ true → fit (seeing s r) ≡ true
+fit-seeing s r f e z = fit-holding s r 0 f z (none-clear s r e) (none-ready s r e) (omega arith)
 
 -- where it begins, it holds no set, and a record of 64 bits
 pub begins-has : (s : Station) → Begins s → (fit s ≡ true) × (s .count ≡ 0) × (s .bits < 2 ^ 64)
 begins-has s atStart = (fit-start, refl, (omega arith))
-begins-has s (byImage before r h e) =
-    let w = image-has before r e in
-    let l : left before (run.image r) ≡ holding before r = ap (λ o. o .station) (image-is before r w) in
-    rw l (fit-holding before r (w .0) (w .2) (none-clear before r (w .1)) (none-ready before r (w .1)), w .1, h)
+begins-has s (byImage before r apart h e) =
+    let w = image-has before r apart e in
+    let l : left before (run.image r apart) ≡ seeing before r = ap (λ o. o .station) (image-is before r apart w) in
+    rw l (fit-seeing before r (w .0) (w .1) (w .2), w .1, h)
 
 -- every call keeps a station fit, an image too
-fit-kept : (s : Station) (c : Call) → fit s ≡ true → fit (left s c) ≡ true
+pub fit-kept : (s : Station) (c : Call) → fit s ≡ true → fit (left s c) ≡ true
 fit-kept s (run.request n set) f = fit-step s _ _ (steps s (run.request n set) tt) f
 fit-kept s (run.reports r) f = fit-step s _ _ (steps s (run.reports r) tt) f
 fit-kept s (run.event e) f = fit-step s _ _ (steps s (run.event e) tt) f
 fit-kept s run.ask f = fit-step s _ _ (steps s run.ask tt) f
 fit-kept s (run.pictures p) f = split (eqb (said s (run.pictures p)) 0)
-    (λ t. let w = image-has s (p .bits) (eqb-true _ 0 t) in
-    rw (ap (λ o. o .station) (image-is s (p .bits) w)) (fit-holding s (p .bits) f (w .2) (none-clear s (p .bits) (w .1)) (none-ready s (p .bits) (w .1))))
+    (λ t. let w = image-has s (p .bits) (p .apart) (eqb-true _ 0 t) in
+    rw (ap (λ o. o .station) (image-is s (p .bits) (p .apart) w)) (fit-seeing s (p .bits) f (w .1) (w .2)))
     (λ t. rw (untouched s (run.pictures p) (eqb-false _ 0 t)) f)
 
 pub fit-always : (l : List Call) (s : Station) → fit s ≡ true → fit (calls s l) ≡ true
@@ -105,9 +109,6 @@ never-unfit s b l = fit-says (calls s l) (fit-always l s (begins-has s b .0))
 pub still-allowed : StillAllowed
 still-allowed s b l i h m = waits-allowed (calls s l) i (fit-always l s (begins-has s b .0), h, m)
 
-pub always-laid-out : AlwaysLaidOut
-always-laid-out s b l = sound-exactly _ .0 (fit-has _ (fit-always l s (begins-has s b .0)) .sound)
-
 -- ---- of 64 bits
 
 -- its record is
@@ -121,15 +122,16 @@ after-small Untold r h = h
 pub small-step : (s t : Station) (c : Call) → Step s c t → Small s → Small t
 small-step s t c (refuses n) h = h
 small-step s t c (opens A) h = h
-small-step s t c (fails {i} w) h = rw (answering-bits s i (s .bits)) h
-small-step s t c (succeeds {i} p w a) h = rw (answering-bits s i (following s i)) (packed-lt 64 0 _)
+small-step s t c (fails {i} w) h = rw (answering-bits s i (s .bits) (s .apart)) h
+small-step s t c (succeeds {i} p w a) h = rw (answering-bits s i (following s i) (s .apart)) (packed-lt 64 0 _)
+small-step s t c (sticks {i} p w) h = rw (answering-bits s i (s .bits) (apartWith s i)) h
 small-step s t c (drives {e} d) h = after-small (readEvent e) (s .bits) h
 small-step s t c tells h = h
 
 -- ---- the cars
 
 -- those of its record
-abbrev carsOf : Station → ℕ
+abbrev pub carsOf : Station → ℕ
 carsOf s = cars (bit (s .bits))
 
 -- a call that is refused drives no car
@@ -156,18 +158,16 @@ event-counted e r Untold p s t = clash t refl
 counted-step : (s t : Station) (c : Call) → Step s c t → carsOf t + drove 2 s c ≡ carsOf s + drove 1 s c
 counted-step s t c (refuses n) = rw (drove-none 2 s c n, drove-none 1 s c n)
 counted-step s t c (opens A) = refl
-counted-step s t c (fails {i} w) = rw (answering-bits s i (s .bits))
-counted-step s t c (succeeds {i} p w a) = rw (answering-bits s i (following s i)) (ap (λ (n : ℕ). n + 0) (next-cars _ (s .bits) (fit-has s (w .0) .sound) a))
+counted-step s t c (fails {i} w) = rw (answering-bits s i (s .bits) (s .apart))
+counted-step s t c (sticks {i} p w) = rw (answering-bits s i (s .bits) (apartWith s i))
+counted-step s t c (succeeds {i} p w a) = rw (answering-bits s i (following s i) (s .apart)) (ap (λ (n : ℕ). n + 0) (next-cars _ (s .bits) (fit-has s (w .0) .sound) a))
 counted-step s t c (drives {e} d) =
     let z : said s (run.event e) ≡ 0 = rw (event-is s e d) in
-    rw (drove-one 2 s e z, drove-one 1 s e z) (event-counted e (s .bits) (readEvent e) refl (fit-has s (d .0) .sound) (d .2))
+    rw (drove-one 2 s e z, drove-one 1 s e z) (event-counted e (s .bits) (readEvent e) refl (fit-has s (d .0) .sound) (d .3))
 counted-step s t c tells = refl
 
-counted : (l : List Call) → NoImages l → (s : Station) → carsOf (calls s l) + driven 2 s l ≡ carsOf s + driven 1 s l
+pub counted : (l : List Call) → NoImages l → (s : Station) → carsOf (calls s l) + driven 2 s l ≡ carsOf s + driven 1 s l
 counted [] p s = refl
 counted (c ∷ l) p s =
     let (a, b) = parts c l p in
     omega (arith, counted-step s (left s c) c (steps s c a), counted l b (left s c))
-
-pub cars-counted : CarsCounted
-cars-counted s l p before after u v = rw (layout-cars _ before u, layout-cars _ after v) (counted l p s)

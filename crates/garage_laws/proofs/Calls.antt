@@ -2,7 +2,7 @@
 -- them, and what is refused leaves the station. Assumes nothing.
 use mathlib.Core.Path.{_≡_, refl, ap, _∙_}
 use mathlib.Core.Logic.{_⊎_, inl, inr}
-use mathlib.Core.Bool.{Bool, true, false, not, cond}
+use mathlib.Core.Bool.{Bool, true, false, not, cond, _&&_}
 use mathlib.Core.List.{List}
 use Prim.Native.Nat.{ℕ, _≤_, _<_}
 use native.Mathlib.Omega.{arith}
@@ -21,13 +21,13 @@ use Rattle.rules.specs.declared.EventReading.the-variants.{Good as Told, Bad as
 use Rattle.rules.specs.Events.{turn, beginConditions, inTurn, possible, after}
 use Rattle.rules.specs.Codes.{readEvent, most}
 use Rattle.answers.specs.declared.Answer.{Answer}
-use Rattle.answers.specs.declared.Answer.the-variants.{BadField, TooMany, SetOutstanding, EmptySet, Overlap, EventImpossible, NoSet, NotInSet, AlreadyAnswered, Unsound, Unfit, Late, NotIssued, OutOfTurn}
+use Rattle.answers.specs.declared.Answer.the-variants.{BadField, TooMany, SetOutstanding, EmptySet, Overlap, EventImpossible, NoSet, NotInSet, AlreadyAnswered, Unsound, Unfit, Late, NotIssued, OutOfTurn, SetApart}
 use Rattle.answers.specs.Answers.{numberOf, nowhere}
 use Rattle.garage.specs.declared.Station.{Station}
 use Rattle.garage.specs.declared.Outcome.{Outcome}
 use Rattle.garage.specs.declared.Report.{Report}
-use Rattle.garage.specs.Held.{codeAt, heldNext, heldAfter, bad, overlapsEarlier, barred, whyNot, liftIn, crossesDrive}
-use Rattle.garage.specs.Station.{inSet, marked, present, behind, late, fit, holding, answering}
+use Rattle.garage.specs.Held.{codeAt, heldNext, heldAfter, bad, overlapsEarlier, barred, whyNot, liftIn, touches, liftApart, crossesDrive}
+use Rattle.garage.specs.Station.{inSet, marked, present, behind, late, fit, holding, seeing, answering, apartWith}
 use Rattle.garage.specs.Calls as station
 use Rattle.garage.specs.Calls.{refused, taken, onFit, opening}
 use Rattle.garage.proofs.Marks.{in-set}
@@ -85,6 +85,10 @@ barred-other s n set t = go (why-number set (s .bits) (least n (barred set (s .b
 -- ---- a request, part by part
 
 module _ (s : Station) (n : ℕ) (set : List ℕ) where
+  spared-has : Zero (station.spared s n set) → (ltb (least n (touches set (s .apart))) n ≡ false) × Zero (station.accepted s n set)
+  unfolding station.spared
+  spared-has e = passed (ltb (least n (touches set (s .apart))) n) s (SetApart (least n (touches set (s .apart)))) _ (λ z. omega arith) e
+
   accepted-has : Zero (station.accepted s n set)
       → (ltb (least n (overlapsEarlier set)) n ≡ false) × (ltb (least n (barred set (s .bits))) n ≡ false)
   unfolding station.accepted
@@ -95,7 +99,7 @@ module _ (s : Station) (n : ℕ) (set : List ℕ) where
 
   requested-has : Zero (station.requested s n set)
       → (ltb 0 (s .count) ≡ false) × (ltb most n ≡ false) × (eqb n 0 ≡ false) × (ltb (least n (bad set)) n ≡ false)
-      × (crossesDrive (s .bits) set n ≡ false) × Zero (station.accepted s n set)
+      × (crossesDrive (s .bits) set n ≡ false) × Zero (station.spared s n set)
   unfolding station.requested station.cleared
   requested-has e =
       let (a, e₁) = passed (ltb 0 (s .count)) s SetOutstanding _ (λ z. omega arith) e in
@@ -107,8 +111,9 @@ module _ (s : Station) (n : ℕ) (set : List ℕ) where
 
   -- past each test but the last it is orderly
   pub orderly-of : fit s ≡ true → ltb 0 (s .count) ≡ false → ltb most n ≡ false → eqb n 0 ≡ false
-      → ltb (least n (bad set)) n ≡ false → crossesDrive (s .bits) set n ≡ false → ltb (least n (overlapsEarlier set)) n ≡ false → Orderly s n set
-  orderly-of a b c d f x g =
+      → ltb (least n (bad set)) n ≡ false → crossesDrive (s .bits) set n ≡ false → ltb (least n (touches set (s .apart))) n ≡ false
+      → ltb (least n (overlapsEarlier set)) n ≡ false → Orderly s n set
+  orderly-of a b c d f x y g =
       record {
         fits = a;
         idle = (let l = ltb-false 0 (s .count) b in omega arith);
@@ -116,6 +121,7 @@ module _ (s : Station) (n : ℕ) (set : List ℕ) where
         few = ltb-false most n c;
         good = faultless n (bad set) f;
         clear = clear-has (s .bits) set n x;
+        spared = faultless n (touches set (s .apart)) y;
         apart = faultless n (overlapsEarlier set) g;
       }
 
@@ -124,8 +130,9 @@ module _ (s : Station) (n : ℕ) (set : List ℕ) where
   request-has e =
       let (a, e₁) = met (fit s) s Unfit (station.requested s n set) (λ z. omega arith) e in
       let (b, c, d, f, x, e₂) = requested-has e₁ in
-      let (g, h) = accepted-has e₂ in
-      let O = orderly-of a b c d f x g in
+      let (y, e₃) = spared-has e₂ in
+      let (g, h) = accepted-has e₃ in
+      let O = orderly-of a b c d f x y g in
       record {
         fits = O .fits;
         idle = O .idle;
@@ -133,6 +140,7 @@ module _ (s : Station) (n : ℕ) (set : List ℕ) where
         few = O .few;
         good = λ i l. not-false _ (O .good i l);
         clear = O .clear;
+        spared = O .spared;
         apart = λ i j l m. none-at i _ (O .apart i l) j (omega arith);
         allowed = λ i l. not-false _ (faultless n (barred set (s .bits)) h i l);
       }
@@ -140,13 +148,14 @@ module _ (s : Station) (n : ℕ) (set : List ℕ) where
   -- an orderly one comes to its last test
   module _ (O : Orderly s n set) where
     requested-is : station.requested s n set ≡ station.accepted s n set
-    unfolding station.requested station.cleared
+    unfolding station.requested station.cleared station.spared
     requested-is = rw (
       le-ltb 0 (s .count) (let z = O .idle in omega arith),
       le-ltb most n (O .few),
       ne-eqb n 0 (λ z. (let l = O .some in omega arith)),
       no-fault n (bad set) (O .good),
       clear-is (s .bits) set n (O .clear),
+      no-fault n (touches set (s .apart)) (O .spared),
     )
 
     pub orderly-is : station.request s n set ≡ station.unlessAny n (barred set (s .bits)) s (whyNot set (s .bits)) (opening s n set)
@@ -165,15 +174,16 @@ module _ (s : Station) (n : ℕ) (set : List ℕ) where
         few = A .few;
         good = λ i h. rw (A .good i h);
         clear = A .clear;
+        spared = A .spared;
         apart = λ i h. none-is i _ (λ j l. A .apart i j h l);
       }
 
 -- ---- a result, part by part
 
 module _ (s : Station) (i : ℕ) where
-  numbered-has : (done : ℕ) → Zero (station.numbered s i done) → (i < s .count) × (marked s i ≡ false)
+  numbered-has : (ending : ℕ) → Zero (station.numbered s i ending) → (i < s .count) × (marked s i ≡ false)
   unfolding station.numbered
-  numbered-has done e =
+  numbered-has ending e =
       let (a, e₁) = passed (not (inSet s i)) s NotInSet _ (λ z. omega arith) e in
       let (b, e₂) = passed (marked s i) s AlreadyAnswered _ (λ z. omega arith) e₁ in
       (in-set s i (not-false _ a) .1, b)
@@ -182,9 +192,9 @@ module _ (s : Station) (i : ℕ) where
   fit-set : Waiting s i → inSet s i ≡ true
   fit-set w = and-intro (le-leb (s .count) most (fit-has s (w .0) .few)) (lt-ltb i (s .count) (w .1))
 
-  numbered-is : (done : ℕ) → Waiting s i → station.numbered s i done ≡ station.ended s i done
+  numbered-is : (ending : ℕ) → Waiting s i → station.numbered s i ending ≡ station.ended s i ending
   unfolding station.numbered
-  numbered-is done w = rw (fit-set w, w .2)
+  numbered-is ending w = rw (fit-set w, w .2)
 
   -- the record that its rule makes
   abbrev pub following : ℕ
@@ -196,11 +206,15 @@ module _ (s : Station) (i : ℕ) where
   after-following w = rw (waits-allowed s i w)
 
   -- the record after a result
-  pub answering-bits : (r : ℕ) → answering s i r .bits ≡ r
-  answering-bits r = after-result (λ t. t .bits ≡ r) s i r (λ t. refl) (λ t. refl)
+  pub answering-bits : (r apart : ℕ) → answering s i r apart .bits ≡ r
+  answering-bits r apart = after-result (λ t. t .bits ≡ r) s i r apart (λ t. refl) (λ t. refl)
+
+  -- and what is set apart
+  pub answering-apart : (r apart : ℕ) → answering s i r apart .apart ≡ apart
+  answering-apart r apart = after-result (λ t. t .apart ≡ apart) s i r apart (λ t. refl) (λ t. refl)
 
 module _ (s : Station) (r : Report) where
-  timely-has : Zero (station.timely s r) → (r .issue ≡ present s) × Zero (station.numbered s (r .number) (r .done))
+  timely-has : Zero (station.timely s r) → (r .issue ≡ present s) × Zero (station.numbered s (r .number) (r .ending))
   unfolding station.timely
   timely-has e =
       let (a, e₁) = passed (late s (r .issue)) s Late _ (λ z. omega arith) e in
@@ -208,59 +222,66 @@ module _ (s : Station) (r : Report) where
       (eqb-true _ _ b, e₂)
 
   -- the present issue is not behind
-  timely-is : r .issue ≡ present s → station.timely s r ≡ station.numbered s (r .number) (r .done)
+  timely-is : r .issue ≡ present s → station.timely s r ≡ station.numbered s (r .number) (r .ending)
   unfolding station.timely
   timely-is e =
       let none : behind s (r .issue) ≡ 0 = omega arith in
       rw (none, eq-eqb (r .issue) (present s) e)
 
-  resulted-has : Zero (station.resulted s r) → (r .done < 2) × Zero (station.timely s r)
+  resulted-has : Zero (station.resulted s r) → (r .ending < 3) × Zero (station.timely s r)
   unfolding station.resulted
   resulted-has e =
-      let (a, e₁) = passed (ltb 1 (r .done)) s (BadField nowhere) _ (λ z. omega arith) e in
+      let (a, e₁) = passed (ltb 2 (r .ending)) s (BadField nowhere) _ (λ z. omega arith) e in
       let (b, e₂) = passed (eqb (s .count) 0) s NoSet _ (λ z. omega arith) e₁ in
-      ((let l = ltb-false 1 (r .done) a in omega arith), e₂)
+      ((let l = ltb-false 2 (r .ending) a in omega arith), e₂)
 
   -- whatever is reported, the instruction waits
-  result-has : said s (run.reports r) ≡ 0 → (r .issue ≡ present s) × Waiting s (r .number) × (r .done < 2)
+  result-has : said s (run.reports r) ≡ 0 → (r .issue ≡ present s) × Waiting s (r .number) × (r .ending < 3)
   unfolding station.result
   result-has e =
       let (a, e₁) = met (fit s) s Unfit (station.resulted s r) (λ z. omega arith) e in
       let (b, e₂) = resulted-has e₁ in
       let (k, e₃) = timely-has e₂ in
-      let (c, d) = numbered-has s (r .number) (r .done) e₃ in
+      let (c, d) = numbered-has s (r .number) (r .ending) e₃ in
       (k, (a, c, d), b)
 
-  resulted-is : r .done < 2 → Waiting s (r .number) → station.resulted s r ≡ station.timely s r
+  resulted-is : r .ending < 3 → Waiting s (r .number) → station.resulted s r ≡ station.timely s r
   unfolding station.resulted
-  resulted-is b w = let h = w .1 in rw (le-ltb 1 (r .done) (omega arith), ne-eqb (s .count) 0 (λ z. omega arith))
+  resulted-is b w = let h = w .1 in rw (le-ltb 2 (r .ending) (omega arith), ne-eqb (s .count) 0 (λ z. omega arith))
 
-  result-is : r .issue ≡ present s → r .done < 2 → Waiting s (r .number) → station.result s r ≡ station.ended s (r .number) (r .done)
+  result-is : r .issue ≡ present s → r .ending < 3 → Waiting s (r .number) → station.result s r ≡ station.ended s (r .number) (r .ending)
   unfolding station.result
-  result-is k b w = rw (w .0) (resulted-is b w ∙ timely-is k ∙ numbered-is s (r .number) (r .done) w)
+  result-is k b w = rw (w .0) (resulted-is b w ∙ timely-is k ∙ numbered-is s (r .number) (r .ending) w)
 
   -- no other result is taken
-  pub done-has : said s (run.reports r) ≡ 0 → r .done < 2
-  done-has e = result-has e .2
+  pub ending-has : said s (run.reports r) ≡ 0 → r .ending < 3
+  ending-has e = result-has e .2
 
 module _ (s : Station) (k i : ℕ) where
   -- a result of this instruction
   abbrev reported : ℕ → Report
-  reported done = record { issue = k; number = i; done = done }
+  reported ending = record { issue = k; number = i; ending = ending }
 
   pub success-has : said s (run.result k i 1) ≡ 0 → (k ≡ present s) × Waiting s i
   success-has e = let (p, w, b) = result-has s (reported 1) e in (p, w)
 
-  pub success-is : k ≡ present s → Waiting s i → call s (run.result k i 1) ≡ taken (answering s i (following s i))
+  pub success-is : k ≡ present s → Waiting s i → call s (run.result k i 1) ≡ taken (answering s i (following s i) (s .apart))
   unfolding station.ended
-  success-is p w = result-is s (reported 1) p (omega arith) w ∙ ap (λ (r : ℕ). taken (answering s i r)) (after-following s i w)
+  success-is p w = result-is s (reported 1) p (omega arith) w ∙ ap (λ (r : ℕ). taken (answering s i r (s .apart))) (after-following s i w)
 
   pub failure-has : said s (run.result k i 0) ≡ 0 → (k ≡ present s) × Waiting s i
   failure-has e = let (p, w, b) = result-has s (reported 0) e in (p, w)
 
-  pub failure-is : k ≡ present s → Waiting s i → call s (run.result k i 0) ≡ taken (answering s i (s .bits))
+  pub failure-is : k ≡ present s → Waiting s i → call s (run.result k i 0) ≡ taken (answering s i (s .bits) (s .apart))
   unfolding station.ended
   failure-is p w = result-is s (reported 0) p (omega arith) w
+
+  pub stuck-has : said s (run.result k i 2) ≡ 0 → (k ≡ present s) × Waiting s i
+  stuck-has e = let (p, w, b) = result-has s (reported 2) e in (p, w)
+
+  pub stuck-is : k ≡ present s → Waiting s i → call s (run.result k i 2) ≡ taken (answering s i (s .bits) (apartWith s i))
+  unfolding station.ended
+  stuck-is p w = result-is s (reported 2) p (omega arith) w
 
 -- ---- a car event, by what its number says
 
@@ -284,7 +305,7 @@ module _ (s : Station) where
 
   -- what a car event must have
   abbrev pub Drivable : EventReading → Type 0
-  Drivable v = (fit s ≡ true) × (liftIn (s .set) (s .count) ≡ false) × (possibleAs v (s .bits) ≡ true)
+  Drivable v = (fit s ≡ true) × (liftIn (s .set) (s .count) ≡ false) × (liftApart (s .apart) ≡ false) × (possibleAs v (s .bits) ≡ true)
 
   driven-has : (v : EventReading) → Zero (drivenAs v) → Drivable v
   unfolding station.driven station.occurred
@@ -292,20 +313,23 @@ module _ (s : Station) where
       let (a, z₁) = met (fit s) s Unfit (station.driven s e) (λ z. omega arith) z in
       let (b, z₂) = passed (liftIn (s .set) (s .count)) s SetOutstanding _ (λ z. omega arith) z₁ in
       let (t, z₃) = met (inTurn e (bit (s .bits))) s OutOfTurn _ (λ z. omega arith) z₂ in
-      let (c, z₄) = met (possible e (bit (s .bits))) s EventImpossible (taken (holding s (image (after e (bit (s .bits)))))) (λ z. omega arith) z₃ in
-      (a, b, c)
+      let (l, z₄) = passed (liftApart (s .apart)) s (SetApart nowhere) _ (λ z. omega arith) z₃ in
+      let (c, z₅) = met (possible e (bit (s .bits))) s EventImpossible (taken (holding s (image (after e (bit (s .bits)))))) (λ z. omega arith) z₄ in
+      (a, b, l, c)
   driven-has Untold z = let (a, z₁) = met (fit s) s Unfit (refused s (BadField nowhere)) (λ z. omega arith) z in absurd (omega arith)
 
   driven-is : (v : EventReading) → Drivable v → drivenAs v ≡ taken (holding s (afterAs v (s .bits)))
   unfolding station.driven station.occurred
-  driven-is (Told e) d = rw (d .0, d .1, possible-turn e (bit (s .bits)) (d .2), d .2)
-  driven-is Untold d = clash (d .2) refl
+  driven-is (Told e) d = rw (d .0, d .1, possible-turn e (bit (s .bits)) (d .3), d .2, d .3)
+  driven-is Untold d = clash (d .3) refl
 
-  driven-number : (v : EventReading) → fit s ≡ true → numberOf (drivenAs v .answer) ≡ cond (liftIn (s .set) (s .count)) (heldAs v) (replyAs v (s .bits))
+  driven-number : (v : EventReading) → fit s ≡ true → numberOf (drivenAs v .answer) ≡ cond (liftIn (s .set) (s .count)) (heldAs v) (replyAs v (liftApart (s .apart)) (s .bits))
   unfolding station.driven station.occurred
   driven-number (Told e) f =
       rw f (split (liftIn (s .set) (s .count)) (λ t. rw t)
-      (λ t. rw t (split (inTurn e (bit (s .bits))) (λ v. rw v (split (possible e (bit (s .bits))) (λ u. rw u) (λ u. rw u))) (λ v. rw v))))
+      (λ t. rw t (split (inTurn e (bit (s .bits)))
+      (λ v. rw v (split (liftApart (s .apart)) (λ l. rw l) (λ l. rw l (split (possible e (bit (s .bits))) (λ u. rw u) (λ u. rw u)))))
+      (λ v. rw v))))
   driven-number Untold f = rw f (split (liftIn (s .set) (s .count)) (λ t. rw t) (λ t. rw t))
 
   module _ (e : ℕ) where
@@ -315,22 +339,23 @@ module _ (s : Station) where
     pub event-is : Drivable (readEvent e) → station.event s e ≡ taken (holding s (afterAs (readEvent e) (s .bits)))
     event-is d = event-as e ∙ driven-is (readEvent e) d
 
-    pub event-number : fit s ≡ true → said s (run.event e) ≡ cond (liftIn (s .set) (s .count)) (heldAs (readEvent e)) (replyAs (readEvent e) (s .bits))
+    pub event-number : fit s ≡ true → said s (run.event e) ≡ cond (liftIn (s .set) (s .count)) (heldAs (readEvent e)) (replyAs (readEvent e) (liftApart (s .apart)) (s .bits))
     event-number f = ap (λ (o : Outcome). numberOf (o .answer)) (event-as e) ∙ driven-number (readEvent e) f
 
 -- ---- an image
 
-pub image-has : (s : Station) (r : ℕ) → said s (run.image r) ≡ 0 → (fit s ≡ true) × (s .count ≡ 0) × (sound r ≡ true)
+pub image-has : (s : Station) (r apart : ℕ) → said s (run.image r apart) ≡ 0 → (fit s ≡ true) × (s .count ≡ 0) × (sound r ≡ true) × (apart ≡ 0)
 unfolding station.takeImage station.imaged
-image-has s r e =
+image-has s r apart e =
     let (a, e₁) = met (fit s) s Unfit _ (λ z. omega arith) e in
     let (b, e₂) = passed (ltb 0 (s .count)) s SetOutstanding _ (λ z. omega arith) e₁ in
-    let (c, e₃) = met (sound r) s Unsound (taken (holding s r)) (λ z. omega arith) e₂ in
-    (a, (let l = ltb-false 0 (s .count) b in omega arith), c)
+    let (c, e₃) = met (sound r && eqb apart 0) s Unsound (taken (seeing s r)) (λ z. omega arith) e₂ in
+    let (d, z) = both (sound r) (eqb apart 0) c in
+    (a, (let l = ltb-false 0 (s .count) b in omega arith), d, eqb-true apart 0 z)
 
-pub image-is : (s : Station) (r : ℕ) → (fit s ≡ true) × (s .count ≡ 0) × (sound r ≡ true) → call s (run.image r) ≡ taken (holding s r)
+pub image-is : (s : Station) (r apart : ℕ) → (fit s ≡ true) × (s .count ≡ 0) × (sound r ≡ true) × (apart ≡ 0) → call s (run.image r apart) ≡ taken (seeing s r)
 unfolding station.takeImage station.imaged
-image-is s r w = rw (w .0, le-ltb 0 (s .count) (let z = w .1 in omega arith), w .2)
+image-is s r apart w = rw (w .0, le-ltb 0 (s .count) (let z = w .1 in omega arith), w .2, eq-eqb apart 0 (w .3))
 
 -- ---- an ask
 

@@ -7,15 +7,17 @@ use Rattle.garage.specs.declared.Station.{Station}
 use Rattle.garage.specs.declared.Outcome.{Outcome}
 use Rattle.garage_laws.specs.Runs as run
 use Rattle.garage_laws.specs.Runs.{call}
-use Rattle.garage_laws.specs.Demands.{RefusedUntouched, CallsInTable, AcceptedExactly, ReasonExactly, ResultRecord, FailureKeeps, LateExactly, IssuesInTurn, FirstIsZero, ImageKeepsCount, BehindCounts, EventRecord, ImageTaken, AskKeeps, ResultTaken, EventTaken, EventRefused, LiftRefused, EndTaken, NobodyMovesTheLift, OnlySuccessChanges, PlacesRight, PlacesElse, PlacesInRange, AlwaysLaidOut, CarsCounted, AnyOrder, OrdersExist, AnyOrderAmid, AmidUnmoved, AmidExists, AmidCovers, StillAllowed, FitStays, NeverUnfit}
+use Rattle.garage_laws.specs.Demands.{RefusedUntouched, CallsInTable, AcceptedExactly, ReasonExactly, ResultRecord, FailureKeeps, StuckSetsApart, LateExactly, IssuesInTurn, FirstIsZero, ImageKeepsCount, BehindCounts, EventRecord, ImageTaken, AskKeeps, ResultTaken, EventTaken, EventRefused, LiftRefused, ApartRefused, EndTaken, NobodyMovesTheLift, OnlySuccessChanges, OnlyStuckSetsApart, PlacesRight, PlacesElse, PlacesInRange, AlwaysLaidOut, CarsCounted, AnyOrder, OrdersExist, AnyOrderAmid, AmidUnmoved, AmidExists, AmidCovers, FinishedAnyOrder, WaitsAnyway, NothingMeetsAJam, StillAllowed, FitStays, NeverUnfit}
 use Rattle.garage_laws.proofs.EachCall as each
-use Rattle.garage_laws.proofs.Calls.{request-has, request-is, success-has, success-is, failure-has, failure-is, answering-bits, image-has, image-is, ask-has, ask-is}
+use Rattle.garage_laws.proofs.Calls.{request-has, request-is, success-has, success-is, failure-has, failure-is, stuck-has, stuck-is, answering-bits, answering-apart, image-has, image-is, ask-has, ask-is}
 use Rattle.garage_laws.proofs.Places as places
 use Rattle.garage_laws.proofs.Refusals as refusals
 use Rattle.garage_laws.proofs.Issues as issues
 use Rattle.garage_laws.proofs.Steps.{asked}
 use Rattle.garage_laws.proofs.Changes as changes
 use Rattle.garage_laws.proofs.Always as always
+use Rattle.garage_laws.proofs.Jammed as jammed
+use Rattle.garage_laws.proofs.Spared as spared
 use Rattle.garage_laws.proofs.Drivers as drivers
 use Rattle.garage_laws.proofs.Lists as lists
 use Rattle.garage_laws.proofs.AnyOrder as orders
@@ -47,13 +49,20 @@ reason-exactly = refusals.reason-exactly
 pub result-record : ResultRecord
 result-record s k i = (
   (success-has s k i, λ w. ap number (success-is s k i (w .0) (w .1))),
-  λ e. let (q, w) = success-has s k i e in let p = ap rest (success-is s k i q w) in (p, ap (λ (t : Station). t .bits) p ∙ answering-bits s i _),
+  λ e. let (q, w) = success-has s k i e in let p = ap rest (success-is s k i q w) in (p, ap (λ (t : Station). t .bits) p ∙ answering-bits s i _ _),
 )
 
 pub failure-keeps : FailureKeeps
 failure-keeps s k i = (
   (failure-has s k i, λ w. ap number (failure-is s k i (w .0) (w .1))),
-  λ e. let (q, w) = failure-has s k i e in let p = ap rest (failure-is s k i q w) in (p, ap (λ (t : Station). t .bits) p ∙ answering-bits s i _),
+  λ e. let (q, w) = failure-has s k i e in let p = ap rest (failure-is s k i q w) in (p, ap (λ (t : Station). t .bits) p ∙ answering-bits s i _ _),
+)
+
+pub stuck-sets-apart : StuckSetsApart
+stuck-sets-apart s k i = (
+  (stuck-has s k i, λ w. ap number (stuck-is s k i (w .0) (w .1))),
+  λ e. let (q, w) = stuck-has s k i e in let p = ap rest (stuck-is s k i q w) in
+      (p, ap (λ (t : Station). t .bits) p ∙ answering-bits s i _ _, ap (λ (t : Station). t .apart) p ∙ answering-apart s i _ _),
 )
 
 pub late-exactly : LateExactly
@@ -66,7 +75,7 @@ pub first-is-zero : FirstIsZero
 first-is-zero = issues.first-is-zero
 
 pub image-keeps-count : ImageKeepsCount
-image-keeps-count s r = issues.in-turn s (run.image r) .1
+image-keeps-count s r apart = issues.in-turn s (run.image r apart) .1
 
 pub behind-counts : BehindCounts
 behind-counts = issues.behind-counts
@@ -80,6 +89,9 @@ event-refused = drivers.event-refused
 pub lift-refused : LiftRefused
 lift-refused = drivers.lift-refused
 
+pub apart-refused : ApartRefused
+apart-refused = spared.apart-refused
+
 pub end-taken : EndTaken
 end-taken = drivers.end-taken
 
@@ -87,9 +99,12 @@ pub nobody-moves-the-lift : NobodyMovesTheLift
 nobody-moves-the-lift = drivers.nobody-moves-the-lift
 
 pub image-taken : ImageTaken
-image-taken s r = (
-  (λ e. let w = image-has s r e in (w .0, w .1, sound-exactly r .0 (w .2)), λ w. ap number (image-is s r (w .0, w .1, sound-exactly r .1 (w .2)))),
-  λ e. ap rest (image-is s r (image-has s r e)),
+image-taken s r apart = (
+  (
+    λ e. let w = image-has s r apart e in (w .0, w .1, sound-exactly r .0 (w .2), w .3),
+    λ w. ap number (image-is s r apart (w .0, w .1, sound-exactly r .1 (w .2), w .3)),
+  ),
+  λ e. let p = ap rest (image-is s r apart (image-has s r apart e)) in (p, ap (λ (t : Station). t .apart) p),
 )
 
 pub ask-keeps : AskKeeps
@@ -104,6 +119,9 @@ event-taken = changes.event-taken
 pub only-success-changes : OnlySuccessChanges
 only-success-changes = changes.only-success-changes
 
+pub only-stuck-sets-apart : OnlyStuckSetsApart
+only-stuck-sets-apart = changes.only-stuck-sets-apart
+
 pub places-right : PlacesRight
 places-right = places.places-right
 
@@ -116,10 +134,10 @@ places-in-range = places.places-in-range
 -- ---- 3. Sets are safe in any order
 
 pub always-laid-out : AlwaysLaidOut
-always-laid-out = always.always-laid-out
+always-laid-out = jammed.always-laid-out
 
 pub cars-counted : CarsCounted
-cars-counted = always.cars-counted
+cars-counted = jammed.cars-counted
 
 pub any-order : AnyOrder
 any-order = orders.any-order
@@ -138,6 +156,15 @@ amid-exists = amid.amid-exists
 
 pub amid-covers : AmidCovers
 amid-covers = amid.amid-covers
+
+pub finished-any-order : FinishedAnyOrder
+finished-any-order = jammed.finished-any-order
+
+pub waits-anyway : WaitsAnyway
+waits-anyway = jammed.waits-anyway
+
+pub nothing-meets-a-jam : NothingMeetsAJam
+nothing-meets-a-jam = spared.nothing-meets-a-jam
 
 pub still-allowed : StillAllowed
 still-allowed = always.still-allowed

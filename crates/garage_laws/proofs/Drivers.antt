@@ -2,9 +2,9 @@
 -- Assumes nothing.
 use mathlib.Core.Path.{_≡_, refl, sym, ap, subst, _∙_}
 use mathlib.Core.Logic.{_⊎_, inl, inr, ⊎-elim}
-use mathlib.Core.Bool.{Bool, true, false, cond, not, _&&_, _||_}
+use mathlib.Core.Bool.{Bool, true, false, cond, not, _&&_, or-false}
 use mathlib.Core.List.{List, [], _∷_}
-use Prim.Native.Nat.{ℕ, _+_, _≤_}
+use Prim.Native.Nat.{ℕ, _+_, _≤_, _<_}
 use native.Mathlib.Omega.{arith}
 use lib.Dec.{eqb, ltb}
 use borrow.Author.Tests.{ltb-false, eqb-true, eqb-false, le-ltb, ne-eqb}
@@ -12,7 +12,8 @@ use Rattle.bits.specs.Bits.{Bits, bit, image, digit}
 use Rattle.bits.specs.Places.{elem, share}
 use Rattle.bits.specs.Search.{least}
 use Rattle.bits.proofs.Cases.{split, clash, both, off, true→T}
-use Rattle.bits.proofs.Digits.{bit-image}
+use Rattle.bits.proofs.Digits.{bit-image, bit-none}
+use Rattle.bits.proofs.Operations.{bit-or}
 use Rattle.bits.proofs.Sharing.{are-small, share-is}
 use Rattle.floor.specs.Floor.{lift, driveIn, driveOut}
 use Rattle.floor.specs.Tests.{holds, underWay}
@@ -27,20 +28,21 @@ use Rattle.answers.specs.declared.Answer.the-variants.{OutOfTurn}
 use Rattle.answers.specs.Answers.{numberOf}
 use Rattle.garage.specs.declared.Station.{Station}
 use Rattle.garage.specs.declared.Outcome.{Outcome}
-use Rattle.garage.specs.Held.{codeAt, heldArea, heldNext, bad, overlapsEarlier, barred, whyNot, liftIn, crossesDrive, crosses}
-use Rattle.garage.specs.Station.{fit, holding}
+use Rattle.garage.specs.Held.{codeAt, heldArea, heldParts, heldNext, bad, overlapsEarlier, barred, whyNot, liftIn, touches, liftApart, crossesDrive, crosses}
+use Rattle.garage.specs.Station.{fit, holding, apartWith}
 use Rattle.garage.specs.Calls as station
 use Rattle.garage_laws.specs.Runs as run
-use Rattle.garage_laws.specs.Runs.{Call, said, left, calls, NoImages, driveAt}
+use Rattle.garage_laws.specs.Runs.{Call, said, left, calls, Begins, atStart, byImage, NoImages, driveAt}
 use Rattle.garage_laws.specs.Demands.{EventRecord, EventRefused, Readable, LiftRefused, EndTaken, Unended, NobodyMovesTheLift}
-use Rattle.garage_laws.proofs.Reach.{drive-outside, held-outside, crosses-none}
+use Rattle.garage_laws.proofs.Reach.{drive-outside, held-outside, under-way-kept, crosses-none}
+use Rattle.garage_laws.proofs.Apart.{part-lift}
 use Rattle.garage_laws.proofs.Instance.{possibleAs, heldAs, replyAs, afterAs}
 use Rattle.garage_laws.proofs.Fits.{fit-has}
 use Rattle.garage_laws.proofs.Reasons.{why-number, least-fault}
-use Rattle.garage_laws.proofs.Calls.{either, faultless, no-fault, drivenAs, event-as, possible-turn, following, Drivable, answering-bits, event-has, event-is, event-number}
-use Rattle.garage_laws.proofs.EachCall.{unfit-is}
-use Rattle.garage_laws.proofs.Steps.{Step, refuses, opens, fails, succeeds, drives, tells, steps, parts}
-use Rattle.garage_laws.proofs.Always.{begins-has, fit-always}
+use Rattle.garage_laws.proofs.Calls.{either, faultless, no-fault, drivenAs, event-as, possible-turn, following, Drivable, answering-bits, answering-apart, event-has, event-is, event-number, image-has, image-is}
+use Rattle.garage_laws.proofs.EachCall.{unfit-is, untouched}
+use Rattle.garage_laws.proofs.Steps.{Step, refuses, opens, fails, succeeds, sticks, drives, tells, steps, parts}
+use Rattle.garage_laws.proofs.Always.{begins-has, fit-kept, fit-always}
 
 -- the number and the station of an outcome
 abbrev number : Outcome → ℕ
@@ -64,21 +66,31 @@ event-record s e =
 fit-from : (s : Station) (c : Call) (k : ℕ) → said s c ≡ k → (k ≡ 16 → ⊥) → fit s ≡ true
 fit-from s c k e other = split (fit s) (λ f. f) (λ f. absurd (other (sym e ∙ ap number (unfit-is s f c))))
 
--- what a fit station answers: by whether its set has the lift in an area, the event comes in turn, and is possible
-abbrev reply : Bool → Bool → Bool → ℕ
-reply b t p = cond b 6 (cond t (cond p 0 10) 31)
+-- what a fit station answers: by whether its set has the lift in an area, the event comes in turn, a part of the lift is set apart, and it
+-- is possible
+abbrev reply : Bool → Bool → Bool → Bool → ℕ
+reply b t l p = cond b 6 (cond t (cond l 32 (cond p 0 10)) 31)
 
-turn-by : (b t p : Bool) → reply b t p ≡ 31 → (b ≡ false) × (t ≡ false)
-turn-by true t p e = absurd (omega arith)
-turn-by false true true e = absurd (omega arith)
-turn-by false true false e = absurd (omega arith)
-turn-by false false p e = (refl, refl)
+turn-by : (b t l p : Bool) → reply b t l p ≡ 31 → (b ≡ false) × (t ≡ false)
+turn-by true t l p e = absurd (omega arith)
+turn-by false true true p e = absurd (omega arith)
+turn-by false true false true e = absurd (omega arith)
+turn-by false true false false e = absurd (omega arith)
+turn-by false false l p e = (refl, refl)
 
-own-by : (b t p : Bool) → reply b t p ≡ 10 → (b ≡ false) × (t ≡ true) × (p ≡ false)
-own-by true t p e = absurd (omega arith)
-own-by false true true e = absurd (omega arith)
-own-by false true false e = (refl, refl, refl)
-own-by false false p e = absurd (omega arith)
+apart-by : (b t l p : Bool) → reply b t l p ≡ 32 → (b ≡ false) × (t ≡ true) × (l ≡ true)
+apart-by true t l p e = absurd (omega arith)
+apart-by false true true p e = (refl, refl, refl)
+apart-by false true false true e = absurd (omega arith)
+apart-by false true false false e = absurd (omega arith)
+apart-by false false l p e = absurd (omega arith)
+
+own-by : (b t l p : Bool) → reply b t l p ≡ 10 → (b ≡ false) × (t ≡ true) × (l ≡ false) × (p ≡ false)
+own-by true t l p e = absurd (omega arith)
+own-by false true true p e = absurd (omega arith)
+own-by false true false true e = absurd (omega arith)
+own-by false true false false e = (refl, refl, refl, refl)
+own-by false false l p e = absurd (omega arith)
 
 module _ (s : Station) (e : Event) where
   abbrev blocked : Bool
@@ -87,21 +99,32 @@ module _ (s : Station) (e : Event) where
   abbrev due : Bool
   due = inTurn e (bit (s .bits))
 
+  abbrev lost : Bool
+  lost = liftApart (s .apart)
+
   abbrev can : Bool
   can = possible e (bit (s .bits))
 
-  event-told : fit s ≡ true → said s (run.event (eventCode e)) ≡ reply blocked due can
-  event-told f = event-number s (eventCode e) f ∙ ap (λ (v : EventReading). cond blocked (heldAs v) (replyAs v (s .bits))) (event-reads-back e)
+  event-told : fit s ≡ true → said s (run.event (eventCode e)) ≡ reply blocked due lost can
+  event-told f = event-number s (eventCode e) f ∙ ap (λ (v : EventReading). cond blocked (heldAs v) (replyAs v lost (s .bits))) (event-reads-back e)
+
+  -- an answer with this number is a fit station's
+  told-so : (k : ℕ) → said s (run.event (eventCode e)) ≡ k → (k ≡ 16 → ⊥) → (fit s ≡ true) × (reply blocked due lost can ≡ k)
+  told-so k z other = let f = fit-from s (run.event (eventCode e)) k z other in (f, sym (event-told f) ∙ z)
 
 pub event-refused : EventRefused
 event-refused s e = (
   (
-    λ z. let f = fit-from s (run.event (eventCode e)) 31 z (λ k. omega arith) in let (b, t) = turn-by (blocked s e) (due s e) (can s e) (sym (event-told s e f) ∙ z) in (f, b, t),
+    λ z. let (f, q) = told-so s e 31 z (λ k. omega arith) in let (b, t) = turn-by (blocked s e) (due s e) (lost s e) (can s e) q in (f, b, t),
     λ h. event-told s e (h .0) ∙ rw (h .1, h .2),
   ),
   (
-    λ z. let f = fit-from s (run.event (eventCode e)) 10 z (λ k. omega arith) in let (b, t, p) = own-by (blocked s e) (due s e) (can s e) (sym (event-told s e f) ∙ z) in (f, b, t, p),
+    λ z. let (f, q) = told-so s e 32 z (λ k. omega arith) in let (b, t, l) = apart-by (blocked s e) (due s e) (lost s e) (can s e) q in (f, b, t, l),
     λ h. event-told s e (h .0) ∙ rw (h .1, h .2, h .3),
+  ),
+  (
+    λ z. let (f, q) = told-so s e 10 z (λ k. omega arith) in let (b, t, l, p) = own-by (blocked s e) (due s e) (lost s e) (can s e) q in (f, b, t, l, p),
+    λ h. event-told s e (h .0) ∙ rw (h .1, h .2, h .3, h .4),
   ),
 )
 
@@ -130,7 +153,7 @@ module _ (s : Station) (n : ℕ) (set : List ℕ) where
       go (inr h) z = omega (arith, h .1)
 
   request-said : Said (station.request s n set)
-  unfolding station.request station.requested station.cleared station.accepted crossesDrive
+  unfolding station.request station.requested station.cleared station.spared station.accepted crossesDrive
   request-said =
       either Said (fit s) (λ a.
       either Said (ltb 0 (s .count)) (λ t. other (λ z. omega arith)) (λ b.
@@ -152,9 +175,10 @@ module _ (s : Station) (n : ℕ) (set : List ℕ) where
           lifted = l;
         };
       }) (λ x.
+      either Said (ltb (least n (touches set (s .apart))) n) (λ t. other (λ z. omega arith)) (λ y.
       either Said (ltb (least n (overlapsEarlier set)) n) (λ t. other (λ z. omega arith)) (λ g.
       either Said (ltb (least n (barred set (s .bits))) n) (λ t. other (why-other t)) (λ h.
-      other (λ z. omega arith))))))))) (λ a. other (λ z. omega arith))
+      other (λ z. omega arith)))))))))) (λ a. other (λ z. omega arith))
 
   request-crosses : Readable s n set → holds underWay (bit (s .bits)) ≡ true → liftIn set n ≡ true → station.request s n set ≡ station.refused s OutOfTurn
   unfolding station.request station.requested station.cleared crossesDrive
@@ -176,7 +200,52 @@ lift-refused s n set = (
 
 -- ---- an end is taken
 
-module _ (s : Station) (f : fit s ≡ true) (u : holds underWay (bit (s .bits)) ≡ true) where
+-- while a drive is under way, no part of the lift is set apart
+abbrev Free : Station → Type 0
+Free s = holds underWay (bit (s .bits)) ≡ true → liftApart (s .apart) ≡ false
+
+-- a record with the same drives, and the same bit of the lift
+free-as : (s t : Station) → holds underWay (bit (t .bits)) ≡ holds underWay (bit (s .bits)) → (holds underWay (bit (s .bits)) ≡ true → liftApart (t .apart) ≡ liftApart (s .apart))
+    → Free s → Free t
+free-as s t e d F u = let v = sym e ∙ u in d v ∙ F v
+
+-- an instruction that is stuck beside a drive sets no part of the lift apart
+beside-drive : (s : Station) (i : ℕ) → fit s ≡ true → i < s .count → holds underWay (bit (s .bits)) ≡ true → liftApart (apartWith s i) ≡ liftApart (s .apart)
+unfolding crosses
+beside-drive s i f h u =
+    let o : share (heldArea (codeAt (s .set) i)) lift ≡ false = rw u at (crosses-none (s .bits) (s .set) (s .count) (fit-has s f .clear) i h) in
+    bit-or (s .apart) (heldParts (codeAt (s .set) i)) 52 ∙ rw (part-lift (codeAt (s .set) i), o) (or-false (bit (s .apart) 52))
+
+free-step : (s t : Station) (c : Call) → Step s c t → fit s ≡ true → Free s → Free t
+free-step s t c (refuses n) f F = F
+free-step s t c (opens A) f F = F
+free-step s t c (fails {i} w) f F =
+    free-as s t (ap (λ (r : ℕ). holds underWay (bit r)) (answering-bits s i _ _)) (λ u. ap liftApart (answering-apart s i _ _)) F
+free-step s t c (succeeds {i} p w a) f F =
+    free-as s t (ap (λ (r : ℕ). holds underWay (bit r)) (answering-bits s i _ _) ∙ under-way-kept (codeAt (s .set) i) (s .bits)) (λ u. ap liftApart (answering-apart s i _ _)) F
+free-step s t c (sticks {i} p w) f F =
+    free-as s t (ap (λ (r : ℕ). holds underWay (bit r)) (answering-bits s i _ _)) (λ u. ap liftApart (answering-apart s i _ _) ∙ beside-drive s i f (w .1) u) F
+free-step s t c (drives d) f F = λ u. d .2
+free-step s t c tells f F = F
+
+free-call : (s : Station) (c : Call) → fit s ≡ true → Free s → Free (left s c)
+free-call s (run.request n set) f F = free-step s _ _ (steps s (run.request n set) tt) f F
+free-call s (run.reports r) f F = free-step s _ _ (steps s (run.reports r) tt) f F
+free-call s (run.event e) f F = free-step s _ _ (steps s (run.event e) tt) f F
+free-call s run.ask f F = free-step s _ _ (steps s run.ask tt) f F
+free-call s (run.pictures p) f F = split (eqb (said s (run.pictures p)) 0)
+    (λ t. rw (ap (λ o. o .station) (image-is s (p .bits) (p .apart) (image-has s (p .bits) (p .apart) (eqb-true _ 0 t)))) (λ u. bit-none 52))
+    (λ t. rw (untouched s (run.pictures p) (eqb-false _ 0 t)) F)
+
+free-always : (l : List Call) (s : Station) → fit s ≡ true → Free s → Free (calls s l)
+free-always [] s f F = F
+free-always (c ∷ l) s f F = free-always l (left s c) (fit-kept s c f) (free-call s c f F)
+
+free-begins : (s : Station) → Begins s → Free s
+free-begins s atStart = λ u. bit-none 52
+free-begins s (byImage before r apart h e) = rw (ap (λ o. o .station) (image-is before r apart (image-has before r apart e))) (λ u. bit-none 52)
+
+module _ (s : Station) (f : fit s ≡ true) (u : holds underWay (bit (s .bits)) ≡ true) (free : liftApart (s .apart) ≡ false) where
   -- while a drive is under way, no instruction of the set has the lift in its area
   lift-free : liftIn (s .set) (s .count) ≡ false
   unfolding crossesDrive
@@ -184,14 +253,17 @@ module _ (s : Station) (f : fit s ≡ true) (u : holds underWay (bit (s .bits)) 
 
   pub done-taken : said s (run.event 3) ≡ 0
   unfolding inTurn possible
-  done-taken = event-told s EndDone f ∙ rw (lift-free, u)
+  done-taken = event-told s EndDone f ∙ rw (lift-free, u, free)
 
   pub not-done-taken : said s (run.event 4) ≡ 0
   unfolding inTurn possible
-  not-done-taken = event-told s EndNotDone f ∙ rw (lift-free, u)
+  not-done-taken = event-told s EndNotDone f ∙ rw (lift-free, u, free)
 
 pub end-taken : EndTaken
-end-taken s b l u = let f = fit-always l s (begins-has s b .0) in (done-taken (calls s l) f u, not-done-taken (calls s l) f u)
+end-taken s b l u =
+    let f = fit-always l s (begins-has s b .0) in
+    let free = free-always l s (begins-has s b .0) (free-begins s b) u in
+    (done-taken (calls s l) f u free, not-done-taken (calls s l) f u free)
 
 -- ---- nobody moves the lift
 
@@ -217,11 +289,11 @@ module _ (before : Station) (way : ℕ) (w : (way ≡ 1) ⊎ (way ≡ 2)) where
   unfolding inTurn crosses
   still-step s t c (refuses x) q S = S
   still-step s t c (opens A) q S = S
-  still-step s t c (fails {i} x) q S = rw (answering-bits s i (s .bits)) S
+  still-step s t c (fails {i} x) q S = rw (answering-bits s i (s .bits) (s .apart)) S
   still-step s t c (succeeds {i} p x a) q S =
       let u = under-way-in (bit (s .bits)) way w (S .1) in
       let o : share (heldArea (codeAt (s .set) i)) lift ≡ false = rw u at (crosses-none (s .bits) (s .set) (s .count) (fit-has s (x .0) .clear) i (x .1)) in
-      rw (answering-bits s i (following s i)) (agrees s (following s i) (away s i o) (driving s i) S)
+      rw (answering-bits s i (following s i) (s .apart)) (agrees s (following s i) (away s i o) (driving s i) S)
     where
       away : (s : Station) (i : ℕ) → share (heldArea (codeAt (s .set) i)) lift ≡ false → (k : ℕ) → elem k lift ≡ true → bit (following s i) k ≡ bit (s .bits) k
       away s i o k m =
@@ -234,7 +306,8 @@ module _ (before : Station) (way : ℕ) (w : (way ≡ 1) ⊎ (way ≡ 2)) where
           let x = codeAt (s .set) i in
           bit-image (heldNext x (bit (s .bits))) (driveAt way) (are-small (driveIn ∷ driveOut ∷ []) tt (driveAt way) drive-place)
           ∙ held-outside x (s .bits) (driveAt way) (drive-outside x (driveAt way) drive-place)
-  still-step s t c (drives {e} d) q S = absurd (unending (readEvent e) refl (d .2))
+  still-step s t c (sticks {i} p x) q S = rw (answering-bits s i (s .bits) (apartWith s i)) S
+  still-step s t c (drives {e} d) q S = absurd (unending (readEvent e) refl (d .3))
     where
       u : holds underWay (bit (s .bits)) ≡ true
       u = under-way-in (bit (s .bits)) way w (S .1)

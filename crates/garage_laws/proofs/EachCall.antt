@@ -1,6 +1,6 @@
 -- Every call is refused since the station is unfit, or with a number that is none of 0, 16 and 17, or taken. Assumes nothing.
 use mathlib.Core.Path.{_≡_, refl}
-use mathlib.Core.Bool.{Bool, true, false, not, cond}
+use mathlib.Core.Bool.{Bool, true, false, not, cond, _&&_}
 use mathlib.Core.List.{List}
 use Prim.Native.Nat.{ℕ}
 use native.Mathlib.Omega.{arith}
@@ -14,13 +14,13 @@ use Rattle.rules.specs.declared.EventReading.the-variants.{Good as Told, Bad as
 use Rattle.rules.specs.Events.{inTurn, possible}
 use Rattle.rules.specs.Codes.{readEvent, most}
 use Rattle.answers.specs.declared.Answer.{Answer}
-use Rattle.answers.specs.declared.Answer.the-variants.{BadField, TooMany, SetOutstanding, EmptySet, Overlap, EventImpossible, NoSet, NotInSet, AlreadyAnswered, Unsound, Unfit, Late, NotIssued, OutOfTurn}
+use Rattle.answers.specs.declared.Answer.the-variants.{BadField, TooMany, SetOutstanding, EmptySet, Overlap, EventImpossible, NoSet, NotInSet, AlreadyAnswered, Unsound, Unfit, Late, NotIssued, OutOfTurn, SetApart}
 use Rattle.answers.specs.Answers.{numberOf, nowhere}
 use Rattle.garage.specs.declared.Station.{Station}
 use Rattle.garage.specs.declared.Outcome.{Outcome}
 use Rattle.garage.specs.declared.Report.{Report}
-use Rattle.garage.specs.Held.{bad, overlapsEarlier, barred, liftIn, crossesDrive}
-use Rattle.garage.specs.Station.{inSet, marked, present, late, fit, holding}
+use Rattle.garage.specs.Held.{bad, overlapsEarlier, barred, liftIn, touches, liftApart, crossesDrive}
+use Rattle.garage.specs.Station.{inSet, marked, present, late, fit, seeing}
 use Rattle.garage.specs.Calls as station
 use Rattle.garage.specs.Calls.{refused, taken, onFit, opening}
 use Rattle.garage_laws.specs.Runs as run
@@ -42,14 +42,15 @@ module _ (P : Outcome → Type 0) (s : Station) (unfit : fit s ≡ false → P (
       (λ b. begun n set))
 
   requesting : (n : ℕ) (set : List ℕ) → P (station.requested s n set)
-  unfolding station.requested station.cleared
+  unfolding station.requested station.cleared station.spared
   requesting n set =
       unless (ltb 0 (s .count)) SetOutstanding (omega arith)
       (λ a. unless (ltb most n) TooMany (omega arith)
       (λ b. unless (eqb n 0) EmptySet (omega arith)
       (λ c. unless (ltb (least n (bad set)) n) (BadField (least n (bad set))) (omega arith)
       (λ d. unless (crossesDrive (s .bits) set n) OutOfTurn (omega arith)
-      (λ f. accepting n set)))))
+      (λ f. unless (ltb (least n (touches set (s .apart))) n) (SetApart (least n (touches set (s .apart)))) (omega arith)
+      (λ g. accepting n set))))))
 
   numbering : (i d : ℕ) → P (station.numbered s i d)
   unfolding station.numbered station.ended
@@ -59,18 +60,19 @@ module _ (P : Outcome → Type 0) (s : Station) (unfit : fit s ≡ false → P (
   unfolding station.timely
   timing r =
       unless (late s (r .issue)) Late (omega arith)
-      (λ a. either P (eqb (r .issue) (present s)) (λ b. numbering (r .number) (r .done)) (λ b. no NotIssued (omega arith)))
+      (λ a. either P (eqb (r .issue) (present s)) (λ b. numbering (r .number) (r .ending)) (λ b. no NotIssued (omega arith)))
 
   resulting : (r : Report) → P (station.resulted s r)
   unfolding station.resulted
-  resulting r = unless (ltb 1 (r .done)) (BadField nowhere) (omega arith) (λ a. unless (eqb (s .count) 0) NoSet (omega arith) (λ b. timing r))
+  resulting r = unless (ltb 2 (r .ending)) (BadField nowhere) (omega arith) (λ a. unless (eqb (s .count) 0) NoSet (omega arith) (λ b. timing r))
 
   driving : (v : EventReading) → P (drivenAs s v)
   unfolding station.driven station.occurred
   driving (Told e) =
       fitting (λ f. unless (liftIn (s .set) (s .count)) SetOutstanding (omega arith)
       (λ a. either P (inTurn e (bit (s .bits)))
-      (λ t. either P (possible e (bit (s .bits))) (λ b. done _) (λ b. no EventImpossible (omega arith)))
+      (λ t. unless (liftApart (s .apart)) (SetApart nowhere) (omega arith)
+      (λ l. either P (possible e (bit (s .bits))) (λ b. done _) (λ b. no EventImpossible (omega arith))))
       (λ t. no OutOfTurn (omega arith))))
   driving Untold = fitting (λ f. no (BadField nowhere) (omega arith))
 
@@ -79,7 +81,7 @@ module _ (P : Outcome → Type 0) (s : Station) (unfit : fit s ≡ false → P (
   each-call (run.request n set) = fitting (λ f. requesting n set)
   each-call (run.reports r) = fitting (λ f. resulting r)
   each-call (run.event e) = rw (event-as s e) (driving (readEvent e))
-  each-call (run.pictures p) = fitting (λ f. unless (ltb 0 (s .count)) SetOutstanding (omega arith) (λ a. either P (sound (p .bits)) (λ b. done (holding s (p .bits))) (λ b. no Unsound (omega arith))))
+  each-call (run.pictures p) = fitting (λ f. unless (ltb 0 (s .count)) SetOutstanding (omega arith) (λ a. either P (sound (p .bits) && eqb (p .apart) 0) (λ b. done (seeing s (p .bits))) (λ b. no Unsound (omega arith))))
   each-call run.ask = fitting (λ f. done s)
 
 -- a refused call leaves the station as it was

@@ -1,14 +1,14 @@
 -- What a fit station has, and that every call that is taken leaves one: the start, another record, a set opened, a result noted.
 -- Assumes nothing.
-use mathlib.Core.Path.{_≡_, refl, ap, _∙_}
+use mathlib.Core.Path.{_≡_, refl, ap, subst, _∙_}
 use mathlib.Core.Bool.{Bool, true, false, not, _&&_, _||_, and-false, or-true}
 use mathlib.Core.List.{List}
 use Prim.Native.Nat.{ℕ, zero, suc, _*_, _-_, _^_, _≤_, _<_}
 use native.Mathlib.Omega.{arith}
-use lib.Bits.{bitOr}
+use lib.Bits.{bitOr, or-lt, and-le-r}
 use lib.Dec.{eqb, ltb}
 use lib.ListN.{getD}
-use borrow.Author.Tests.{leb-true, le-leb, lt-ltb, ltb-false, eqb-true, not-true, not-false}
+use borrow.Author.Tests.{leb-true, le-leb, lt-ltb, ltb-true, ltb-false, eqb-true, not-true, not-false}
 use Rattle.bits.specs.Bits.{bit}
 use Rattle.bits.specs.Places.{share}
 use Rattle.bits.specs.Search.{some, every}
@@ -21,10 +21,12 @@ use Rattle.floor.specs.Sound.{paired, sound}
 use Rattle.rules.specs.declared.Code.{Code}
 use Rattle.rules.specs.Codes.{most}
 use Rattle.garage.specs.declared.Station.{Station}
-use Rattle.garage.specs.Held.{codeAt, heldArea, heldAllowed, bad, overlapsEarlier, stranded, liftIn, crossesDrive}
-use Rattle.garage.specs.Station.{fit, marked, used, closed, startOf, noting, holding, opened, answering}
+use Rattle.garage.specs.Held.{codeAt, heldParts, heldArea, heldAllowed, bad, overlapsEarlier, stranded, liftIn, crossesDrive}
+use Rattle.garage.specs.Station.{fit, marked, used, closed, startOf, noting, opened, answering, apartWith}
 use Rattle.sets.proofs.Marks.{marks}
 use Rattle.garage_laws.specs.Demands.{Acceptable, Waiting}
+use Rattle.garage.specs.Private.{heldMask}
+use Rattle.garage.proofs.Areas.{partsMask, parts-is}
 use Rattle.garage.proofs.Padding.{kept-code, zero-past}
 use Rattle.garage_laws.proofs.Reach.{clear-is}
 
@@ -42,6 +44,7 @@ pub record Fit (s : Station) : Type 0 where
   pub clear : crossesDrive (s .bits) (s .set) (s .count) ≡ false
   pub apart : every (s .count) (λ i. not (overlapsEarlier (s .set) i)) ≡ true
   pub ready : Ready s
+  pub within : s .apart < 2 ^ 53
 
 pub fit-has : (s : Station) → fit s ≡ true → Fit s
 unfolding fit
@@ -53,30 +56,31 @@ fit-has s e =
     let (f, e₅) = both _ _ e₄ in
     let (g, e₆) = both _ _ e₅ in
     let (h, e₇) = both _ _ e₆ in
-    let (x, y) = both _ _ e₇ in
-    record { sound = a; few = leb-true (s .count) most b; good = c; marks = d; blank = f; owed = g; clear = not-true _ h; apart = x; ready = y }
+    let (x, e₈) = both _ _ e₇ in
+    let (y, z) = both _ _ e₈ in
+    record { sound = a; few = leb-true (s .count) most b; good = c; marks = d; blank = f; owed = g; clear = not-true _ h; apart = x; ready = y; within = ltb-true (s .apart) (2 ^ 53) z }
 
 has-fit : (s : Station) → Fit s → fit s ≡ true
 unfolding fit
-has-fit s F = rw (F .sound, le-leb (s .count) most (F .few), F .good, F .marks, F .blank, F .owed, F .clear, F .apart, F .ready)
+has-fit s F = rw (F .sound, le-leb (s .count) most (F .few), F .good, F .marks, F .blank, F .owed, F .clear, F .apart, F .ready, lt-ltb (s .apart) (2 ^ 53) (F .within))
 
 -- ---- no set
 
-pub fit-closed : (r next : ℕ) → sound r ≡ true → fit (closed r next) ≡ true
+pub fit-closed : (r next apart : ℕ) → sound r ≡ true → apart < 2 ^ 53 → fit (closed r next apart) ≡ true
 unfolding fit every some liftIn crossesDrive
-fit-closed r next e = rw (e, and-false (holds underWay (bit r)))
+fit-closed r next apart e h = rw (e, and-false (holds underWay (bit r)), lt-ltb apart (2 ^ 53) h)
 
 pub fit-start : fit startOf ≡ true
 unfolding sound paired
-fit-start = fit-closed (startOf .bits) 0 refl
+fit-start = fit-closed (startOf .bits) 0 0 refl (omega arith)
 
 -- ---- another record
 
-pub fit-holding : (s : Station) (r : ℕ) → fit s ≡ true → sound r ≡ true → crossesDrive r (s .set) (s .count) ≡ false → Ready (holding s r)
-    → fit (holding s r) ≡ true
-fit-holding s r f e c q =
+pub fit-holding : (s : Station) (r apart : ℕ) → fit s ≡ true → sound r ≡ true → crossesDrive r (s .set) (s .count) ≡ false
+    → Ready (noting s (s .answered) r apart) → apart < 2 ^ 53 → fit (noting s (s .answered) r apart) ≡ true
+fit-holding s r apart f e c q h =
     let F = fit-has s f in
-    has-fit (holding s r) (record {
+    has-fit (noting s (s .answered) r apart) (record {
       sound = e;
       few = F .few;
       good = F .good;
@@ -86,6 +90,7 @@ fit-holding s r f e c q =
       clear = c;
       apart = F .apart;
       ready = q;
+      within = h;
     })
 
 -- ---- a set
@@ -115,6 +120,7 @@ fit-opened s n set A = has-fit (opened s n set) (record {
   clear = kept-clear s n set (clear-is (s .bits) set n (A .clear));
   apart = every-is n _ (λ i h. rw (kept-apart s n set A i h));
   ready = every-is n _ (λ i h. rw (bit-none i, kept-code n (40 - 5 * n) set i h, A .allowed i h));
+  within = fit-has s (A .fits) .within;
 })
 
 -- ---- a result
@@ -129,18 +135,19 @@ some-every (suc n) p = split (p n) (λ t. rw t (some-every n p)) (λ t. rw t)
 abbrev pub marksWith : Station → ℕ → ℕ
 marksWith s i = bitOr (s .answered) (2 ^ i)
 
-abbrev pub noted : Station → ℕ → ℕ → Station
-noted s i r = noting s (marksWith s i) r
+abbrev pub noted : Station → ℕ → ℕ → ℕ → Station
+noted s i r apart = noting s (marksWith s i) r apart
 
 -- what holds of it, and of a station with no set, holds after a result
-pub after-result : (P : Station → Type 0) (s : Station) (i r : ℕ)
-    → (every (s .count) (bit (marksWith s i)) ≡ true → P (closed r (s .next))) → (every (s .count) (bit (marksWith s i)) ≡ false → P (noted s i r)) → P (answering s i r)
+pub after-result : (P : Station → Type 0) (s : Station) (i r apart : ℕ)
+    → (every (s .count) (bit (marksWith s i)) ≡ true → P (closed r (s .next) apart)) → (every (s .count) (bit (marksWith s i)) ≡ false → P (noted s i r apart))
+    → P (answering s i r apart)
 unfolding answering
-after-result P s i r last more = split (every (s .count) (bit (marksWith s i))) (λ t. rw t (last t)) (λ t. rw t (more t))
+after-result P s i r apart last more = split (every (s .count) (bit (marksWith s i))) (λ t. rw t (last t)) (λ t. rw t (more t))
 
-pub fit-answering : (s : Station) (i r : ℕ) → fit s ≡ true → i < s .count → sound r ≡ true → crossesDrive r (s .set) (s .count) ≡ false
-    → Ready (answering s i r) → fit (answering s i r) ≡ true
-fit-answering s i r f h e c = after-result (λ t. Ready t → fit t ≡ true) s i r (λ t q. fit-closed r (s .next) e) more
+pub fit-answering : (s : Station) (i r apart : ℕ) → fit s ≡ true → i < s .count → sound r ≡ true → crossesDrive r (s .set) (s .count) ≡ false
+    → apart < 2 ^ 53 → Ready (answering s i r apart) → fit (answering s i r apart) ≡ true
+fit-answering s i r apart f h e c small = after-result (λ t. Ready t → fit t ≡ true) s i r apart (λ t q. fit-closed r (s .next) apart e small) more
   where
     F : Fit s
     F = fit-has s f
@@ -151,7 +158,7 @@ fit-answering s i r f h e c = after-result (λ t. Ready t → fit t ≡ true) s 
         (λ t. rw (t, ← eqb-true i j t, lt-ltb i (s .count) h))
         (λ t. rw t (every-at 8 _ (F .marks) j l)))
 
-    more : every (s .count) (bit (marksWith s i)) ≡ false → Ready (noted s i r) → fit (noted s i r) ≡ true
+    more : every (s .count) (bit (marksWith s i)) ≡ false → Ready (noted s i r apart) → fit (noted s i r apart) ≡ true
     more t q = has-fit _ (record {
       sound = e;
       few = F .few;
@@ -162,7 +169,16 @@ fit-answering s i r f h e c = after-result (λ t. Ready t → fit t ≡ true) s 
       clear = c;
       apart = F .apart;
       ready = q;
+      within = small;
     })
+
+-- ---- what is set apart stays within its bits
+
+pub parts-small : (x : Code) → heldParts x < 2 ^ 53
+parts-small x = subst (λ (n : ℕ). n < 2 ^ 53) (parts-is x refl) (omega (arith, and-le-r (heldMask x) partsMask))
+
+pub with-small : (s : Station) (i : ℕ) → fit s ≡ true → apartWith s i < 2 ^ 53
+with-small s i f = or-lt 53 (s .apart) (heldParts (codeAt (s .set) i)) (fit-has s f .within) (parts-small (codeAt (s .set) i))
 
 -- ---- what waits is allowed
 

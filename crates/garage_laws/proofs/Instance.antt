@@ -49,12 +49,12 @@ possibleAs v r = onEvent (λ e. possible e (bit r)) false v
 abbrev pub afterAs : EventReading → ℕ → ℕ
 afterAs v r = onEvent (λ e. image (after e (bit r))) r v
 
--- the number that a fit station answers: while an outstanding set has the lift in an area, and else
+-- the number that a fit station answers: while an outstanding set has the lift in an area, and else, by whether a part of it is set apart
 abbrev pub heldAs : EventReading → ℕ
 heldAs v = onEvent (λ e. 6) 4 v
 
-abbrev pub replyAs : EventReading → ℕ → ℕ
-replyAs v r = onEvent (λ e. cond (inTurn e (bit r)) (cond (possible e (bit r)) 0 10) 31) 4 v
+abbrev pub replyAs : EventReading → Bool → ℕ → ℕ
+replyAs v lost r = onEvent (λ e. cond (inTurn e (bit r)) (cond lost 32 (cond (possible e (bit r)) 0 10)) 31) 4 v
 
 -- five zeros
 abbrev pub blank : Code
@@ -74,7 +74,7 @@ rules = record {
   possible = λ e r. possibleAs (readEvent e) r;
   after = λ e r. afterAs (readEvent e) r;
   held = λ e. heldAs (readEvent e);
-  reply = λ e lost r. replyAs (readEvent e) r;
+  reply = λ e lost r. replyAs (readEvent e) lost r;
 }
 
 -- the places of the lift and the drives are bits of the record
@@ -132,14 +132,14 @@ event-local (Told e) = record {
 }
 event-local Untold = record { reads = λ f g e. refl; writes = λ f g e t. clash t refl; keeps = λ f t. clash t refl }
 
-reply-local : (v : EventReading) (f g : ℕ) → Agree 64 bit (λ k. elem k (lift ++ drives)) f g → replyAs v f ≡ replyAs v g
-reply-local (Told e) f g a =
-    ap₂ (λ (t b : Bool). cond {A = ℕ} t (cond b 0 10) 31) (turn-local e f g a) (event-local (Told e) .reads f g a)
-reply-local Untold f g a = refl
+reply-local : (v : EventReading) (lost : Bool) (f g : ℕ) → Agree 64 bit (λ k. elem k (lift ++ drives)) f g → replyAs v lost f ≡ replyAs v lost g
+reply-local (Told e) lost f g a =
+    ap₂ (λ (t b : Bool). cond {A = ℕ} t (cond lost 32 (cond b 0 10)) 31) (turn-local e f g a) (event-local (Told e) .reads f g a)
+reply-local Untold lost f g a = refl
 
 local : LocalRules rules
 unfolding heldArea heldAllowed heldNext
-local = record { instruction = reach-local; event = λ e. event-local (readEvent e); reply = λ e lost. reply-local (readEvent e) }
+local = record { instruction = reach-local; event = λ e. event-local (readEvent e); reply = λ e. reply-local (readEvent e) }
 
 -- ---- and keeps records sound
 

@@ -10,19 +10,19 @@ use borrow.Author.Tests.{eqb-true, eqb-false, eq-eqb, ne-eqb, ltb-false, le-ltb}
 use Rattle.bits.specs.Bits.{digit}
 use Rattle.bits.proofs.Cases.{split}
 use Rattle.answers.specs.declared.Answer.{Answer}
-use Rattle.answers.specs.declared.Answer.the-variants.{Taken, Opened, TooFewBytes, BadLength, UnknownKind, BadField, TooMany, SetOutstanding, EmptySet, Overlap, NotAllowed, EventImpossible, NoSet, NotInSet, AlreadyAnswered, Unsound, Unfit, NoRoom, Late, NotIssued, OutOfTurn}
+use Rattle.answers.specs.declared.Answer.the-variants.{Taken, Opened, TooFewBytes, BadLength, UnknownKind, BadField, TooMany, SetOutstanding, EmptySet, Overlap, NotAllowed, EventImpossible, NoSet, NotInSet, AlreadyAnswered, Unsound, Unfit, NoRoom, Late, NotIssued, OutOfTurn, SetApart}
 use Rattle.answers.specs.Answers.{numberOf, issueOf}
 use Rattle.garage.specs.declared.Station.{Station}
 use Rattle.garage.specs.declared.Outcome.{Outcome}
 use Rattle.garage.specs.declared.Report.{Report}
-use Rattle.garage.specs.Station.{startOf, issueAfter, present, late, inSet, marked, fit, answering}
+use Rattle.garage.specs.Station.{startOf, issueAfter, present, late, inSet, marked, fit, answering, apartWith}
 use Rattle.garage.specs.Calls as station
 use Rattle.garage.specs.Calls.{refused}
 use Rattle.garage_laws.specs.Runs as run
 use Rattle.garage_laws.specs.Runs.{Call, call, said, left, carried, opens, calls, setsOpened}
 use Rattle.garage_laws.specs.Demands.{Heard, LateExactly, IssuesInTurn, FirstIsZero, BehindCounts}
 use Rattle.garage_laws.proofs.Fits.{after-result}
-use Rattle.garage_laws.proofs.Calls.{either, following, request-has, request-is, success-has, success-is, failure-has, failure-is, done-has, event-has, event-is, image-has, image-is, ask-has, ask-is}
+use Rattle.garage_laws.proofs.Calls.{either, following, request-has, request-is, success-has, success-is, failure-has, failure-is, stuck-has, stuck-is, ending-has, event-has, event-is, image-has, image-is, ask-has, ask-is}
 use Rattle.garage_laws.proofs.EachCall.{untouched}
 
 -- ---- what a call carries and leaves
@@ -50,6 +50,7 @@ refusal-none NoRoom h = refl
 refusal-none Late h = refl
 refusal-none NotIssued h = refl
 refusal-none OutOfTurn h = refl
+refusal-none (SetApart p) h = refl
 
 module _ (s : Station) where
   -- a call that opens no set carries none and keeps the next
@@ -64,13 +65,14 @@ module _ (s : Station) where
       (λ t. f (eqb-true (said s c) 0 t))
       (λ t. let n = eqb-false (said s c) 0 t in (refusal-none (call s c .answer) n, ap (λ (t : Station). t .next) (untouched s c n)))
 
-  answered-next : (i r : ℕ) → answering s i r .next ≡ s .next
-  answered-next i r = after-result (λ t. t .next ≡ s .next) s i r (λ t. refl) (λ t. refl)
+  answered-next : (i r apart : ℕ) → answering s i r apart .next ≡ s .next
+  answered-next i r apart = after-result (λ t. t .next ≡ s .next) s i r apart (λ t. refl) (λ t. refl)
 
-  result-keeps : (k i done : ℕ) → said s (run.result k i done) ≡ 0 → Keeps (run.result k i done)
-  result-keeps k i zero e = let (p, w) = failure-has s k i e in by-taken (run.result k i 0) (failure-is s k i p w) (answered-next i (s .bits))
-  result-keeps k i (suc zero) e = let (p, w) = success-has s k i e in by-taken (run.result k i 1) (success-is s k i p w) (answered-next i (following s i))
-  result-keeps k i (suc (suc done)) e = absurd (omega (arith, done-has s (record { issue = k; number = i; done = suc (suc done) }) e))
+  result-keeps : (k i ending : ℕ) → said s (run.result k i ending) ≡ 0 → Keeps (run.result k i ending)
+  result-keeps k i zero e = let (p, w) = failure-has s k i e in by-taken (run.result k i 0) (failure-is s k i p w) (answered-next i (s .bits) (s .apart))
+  result-keeps k i (suc zero) e = let (p, w) = success-has s k i e in by-taken (run.result k i 1) (success-is s k i p w) (answered-next i (following s i) (s .apart))
+  result-keeps k i (suc (suc zero)) e = let (p, w) = stuck-has s k i e in by-taken (run.result k i 2) (stuck-is s k i p w) (answered-next i (s .bits) (apartWith s i))
+  result-keeps k i (suc (suc (suc n))) e = absurd (omega (arith, ending-has s (record { issue = k; number = i; ending = suc (suc (suc n)) }) e))
 
   -- what a call carries, and the next that it leaves
   abbrev pub InTurn : Call → Type 0
@@ -86,9 +88,9 @@ module _ (s : Station) where
   -- what follows rests on this, so that a wrong law of it is refused alone
   pub in-turn : (c : Call) → InTurn c
   in-turn (run.request n set) = request-turns n set
-  in-turn (run.reports r) = by-said (run.reports r) (result-keeps (r .issue) (r .number) (r .done))
+  in-turn (run.reports r) = by-said (run.reports r) (result-keeps (r .issue) (r .number) (r .ending))
   in-turn (run.event e) = by-said (run.event e) (λ z. by-taken (run.event e) (event-is s e (event-has s e z)) refl)
-  in-turn (run.pictures p) = by-said (run.pictures p) (λ z. by-taken (run.pictures p) (image-is s (p .bits) (image-has s (p .bits) z)) refl)
+  in-turn (run.pictures p) = by-said (run.pictures p) (λ z. by-taken (run.pictures p) (image-is s (p .bits) (p .apart) (image-has s (p .bits) (p .apart) z)) refl)
   in-turn run.ask = by-said run.ask (λ z. by-taken run.ask (ask-is s (ask-has s z)) refl)
 
 pub issues-in-turn : IssuesInTurn
@@ -136,7 +138,7 @@ module _ (s : Station) (r : Report) where
   other : {o : Outcome} → numberOf (o .answer) < 29 → Told o
   other h = record { late-told = λ z. absurd (omega arith); unissued-told = λ z. absurd (omega arith) }
 
-  numbered-told : Told (station.numbered s (r .number) (r .done))
+  numbered-told : Told (station.numbered s (r .number) (r .ending))
   unfolding station.numbered station.ended
   numbered-told =
       either Told (not (inSet s (r .number))) (λ a. other (omega arith)) (λ a.
@@ -154,9 +156,9 @@ module _ (s : Station) (r : Report) where
   unfolding station.result station.resulted
   result-told =
       either Told (fit s) (λ f.
-      either Told (ltb 1 (r .done)) (λ a. other (omega arith)) (λ a.
+      either Told (ltb 2 (r .ending)) (λ a. other (omega arith)) (λ a.
       either Told (eqb (s .count) 0) (λ b. other (omega arith)) (λ b.
-      let l = ltb-false 1 (r .done) a in
+      let l = ltb-false 2 (r .ending) a in
       let n : s .count ≡ 0 → ⊥ = eqb-false (s .count) 0 b in
       timely-told (f, l, omega arith))))
       (λ f. other (omega arith))
@@ -164,7 +166,7 @@ module _ (s : Station) (r : Report) where
   -- the other direction
   heard-is : Heard s r → station.result s r ≡ station.timely s r
   unfolding station.result station.resulted
-  heard-is H = let h = H .2 in rw (H .0, le-ltb 1 (r .done) (H .1), ne-eqb (s .count) 0 (λ z. omega arith))
+  heard-is H = let h = H .2 in rw (H .0, le-ltb 2 (r .ending) (H .1), ne-eqb (s .count) 0 (λ z. omega arith))
 
   late-is : Heard s r → late s (r .issue) ≡ true → station.result s r ≡ refused s Late
   unfolding station.timely

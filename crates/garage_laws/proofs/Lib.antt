@@ -1,5 +1,6 @@
 pub mod Reach
 pub mod Instance
+pub mod Apart
 pub mod Fits
 pub mod Reasons
 pub mod Calls
@@ -9,9 +10,11 @@ pub mod Refusals
 pub mod Steps
 pub mod Issues
 pub mod Changes
-pub mod Always
-pub mod Drivers
 pub mod Link
+pub mod Always
+pub mod Jammed
+pub mod Spared
+pub mod Drivers
 pub mod Lists
 pub mod Follow
 pub mod AnyOrder

@@ -1,35 +1,35 @@
 -- Lists of results and car events, as the machine's acts and as calls of the station: an order of the one is an order of the other, and
 -- orders exist. Assumes nothing.
 use mathlib.Core.Path.{_≡_, refl, sym, ap, ap₂, subst, _∙_}
-use mathlib.Core.Bool.{Bool, true, false, cond}
+use mathlib.Core.Bool.{cond}
 use mathlib.Core.List.{List, [], _∷_, _++_, map}
 use Prim.Native.Nat.{ℕ, _+_}
 use native.Mathlib.Omega.{arith}
 use lib.Dec.{eqb}
-use Rattle.bits.specs.Bits.{digit}
-use Rattle.sets.proofs.Machine.{Outcome, failed, finished, stuck, sticks, Act, result, event}
+use Rattle.sets.proofs.Machine.{Outcome, failed, finished, stuck, Act, result, event}
 use Rattle.sets.proofs.Orders as machine-orders
 use Rattle.sets.proofs.Exists as exists
 use Rattle.garage.specs.declared.Report.{Report}
 use Rattle.garage_laws.specs.Runs as run
 use Rattle.garage_laws.specs.Runs.{Call, NoImages}
-use Rattle.garage_laws.specs.Orders.{resultsOf, eventsOf, AsChosen, Order}
+use Rattle.garage_laws.specs.Orders.{Fate, fails, succeeds, sticks, told, resultsOf, eventsOf, AsChosen, Order}
 use Rattle.garage_laws.specs.Demands.{OrdersExist}
 
--- what is reported, by whether it succeeds
-abbrev pub outcome : Bool → Outcome
-outcome true = finished
-outcome false = failed
+-- what is reported of an instruction, by its fate
+abbrev pub outcome : Fate → Outcome
+outcome fails = failed
+outcome succeeds = finished
+outcome sticks = stuck
 
--- and its number: 2 is none of the station's yet
-abbrev pub told : Outcome → ℕ
-told failed = 0
-told finished = 1
-told stuck = 2
+-- and its number
+abbrev pub ending : Outcome → ℕ
+ending failed = 0
+ending finished = 1
+ending stuck = 2
 
 -- an act as a call, results with issue k
 abbrev pub asCall : ℕ → Act ℕ → Call
-asCall k (result j o) = run.result k j (told o)
+asCall k (result j o) = run.result k j (ending o)
 asCall k (event e) = run.event e
 
 pub no-images : (k : ℕ) (l : List (Act ℕ)) → NoImages (map (asCall k) l)
@@ -49,56 +49,45 @@ same-events k [] = refl
 same-events k (result j o ∷ l) = same-events k l
 same-events k (event e ∷ l) = ap (λ (es : List ℕ). e ∷ es) (same-events k l)
 
-told-outcome : (b : Bool) → told (outcome b) ≡ digit b
-told-outcome true = refl
-told-outcome false = refl
+told-outcome : (f : Fate) → ending (outcome f) ≡ told f
+told-outcome fails = refl
+told-outcome succeeds = refl
+told-outcome sticks = refl
 
-by-number : (o : Outcome) (b : Bool) → told o ≡ digit b → o ≡ outcome b
-by-number failed true e = absurd (omega arith)
-by-number failed false e = refl
-by-number finished true e = refl
-by-number finished false e = absurd (omega arith)
-by-number stuck true e = absurd (omega arith)
-by-number stuck false e = absurd (omega arith)
+by-number : (o : Outcome) (f : Fate) → ending o ≡ told f → o ≡ outcome f
+by-number failed fails e = refl
+by-number failed succeeds e = absurd (omega arith)
+by-number failed sticks e = absurd (omega arith)
+by-number finished fails e = absurd (omega arith)
+by-number finished succeeds e = refl
+by-number finished sticks e = absurd (omega arith)
+by-number stuck fails e = absurd (omega arith)
+by-number stuck succeeds e = absurd (omega arith)
+by-number stuck sticks e = refl
 
--- no result says that an instruction is stuck
-abbrev pub Unstuck : List (Act ℕ) → Type 0
-Unstuck [] = Unit {0}
-Unstuck (result j o ∷ l) = (sticks o ≡ false) × Unstuck l
-Unstuck (event e ∷ l) = Unstuck l
-
-unstuck-outcome : (b : Bool) → sticks (outcome b) ≡ false
-unstuck-outcome true = refl
-unstuck-outcome false = refl
-
-module _ (k : ℕ) (succeeds : ℕ → Bool) where
+module _ (k : ℕ) (fate : ℕ → Fate) where
   abbrev pub choice : ℕ → Outcome
-  choice j = outcome (succeeds j)
+  choice j = outcome (fate j)
 
-  heard : (l : List (Act ℕ)) → AsChosen k succeeds (map (asCall k) l) → machine-orders.AsChosen choice l
+  heard : (l : List (Act ℕ)) → AsChosen k fate (map (asCall k) l) → machine-orders.AsChosen choice l
   heard [] c = tt
-  heard (result j o ∷ l) c = (by-number o (succeeds j) (c .1), heard l (c .2))
+  heard (result j o ∷ l) c = (by-number o (fate j) (c .1), heard l (c .2))
   heard (event e ∷ l) c = heard l c
 
-  spoken : (l : List (Act ℕ)) → machine-orders.AsChosen choice l → AsChosen k succeeds (map (asCall k) l)
+  spoken : (l : List (Act ℕ)) → machine-orders.AsChosen choice l → AsChosen k fate (map (asCall k) l)
   spoken [] c = tt
-  spoken (result j o ∷ l) c = (refl, ap told (c .0) ∙ told-outcome (succeeds j), spoken l (c .1))
+  spoken (result j o ∷ l) c = (refl, ap ending (c .0) ∙ told-outcome (fate j), spoken l (c .1))
   spoken (event e ∷ l) c = spoken l c
 
-  pub unstuck : (l : List (Act ℕ)) → machine-orders.AsChosen choice l → Unstuck l
-  unstuck [] c = tt
-  unstuck (result j o ∷ l) c = (ap sticks (c .0) ∙ unstuck-outcome (succeeds j), unstuck l (c .1))
-  unstuck (event e ∷ l) c = unstuck l c
-
   -- results and events as chosen are acts
-  pub acts : (l : List Call) → AsChosen k succeeds l → (a : List (Act ℕ)) × (l ≡ map (asCall k) a)
+  pub acts : (l : List Call) → AsChosen k fate l → (a : List (Act ℕ)) × (l ≡ map (asCall k) a)
   acts [] c = ([], refl)
   acts (run.request n set ∷ l) c = absurd c
   acts (run.reports r ∷ l) c =
       let (a, e) = acts l (c .2) in
       let j = r .number in
-      let told-so = c .1 ∙ sym (told-outcome (succeeds j)) in
-      (result j (choice j) ∷ a, ap (λ (x : ℕ). run.result x j (r .done) ∷ l) (c .0) ∙ ap₂ (λ (d : ℕ) (m : List Call). run.result k j d ∷ m) told-so e)
+      let told-so = c .1 ∙ sym (told-outcome (fate j)) in
+      (result j (choice j) ∷ a, ap (λ (x : ℕ). run.result x j (r .ending) ∷ l) (c .0) ∙ ap₂ (λ (d : ℕ) (m : List Call). run.result k j d ∷ m) told-so e)
   acts (run.event x ∷ l) c = let (a, e) = acts l c in (event x ∷ a, ap (λ (m : List Call). run.event x ∷ m) e)
   acts (run.pictures p ∷ l) c = absurd c
   acts (run.ask ∷ l) c = absurd c
@@ -131,28 +120,28 @@ last-of k (a ∷ l) (c ∷ front) r e =
 
 -- ---- orders
 
-module _ (k : ℕ) {n : ℕ} {succeeds : ℕ → Bool} {events : List ℕ} {l : List (Act ℕ)} where
-  pub order-heard : Order k n succeeds events (map (asCall k) l) → machine-orders.Order n (choice k succeeds) events l
+module _ (k : ℕ) {n : ℕ} {fate : ℕ → Fate} {events : List ℕ} {l : List (Act ℕ)} where
+  pub order-heard : Order k n fate events (map (asCall k) l) → machine-orders.Order n (choice k fate) events l
   order-heard O = record {
     once = λ i h. sym (same-results k i l) ∙ O .once i h;
     only = λ i h. sym (same-results k i l) ∙ O .only i h;
-    chosen = heard k succeeds l (O .chosen);
+    chosen = heard k fate l (O .chosen);
     events = sym (same-events k l) ∙ O .those;
     last = (let (front, r, e) = O .last in last-of k l front r e);
   }
 
-  order-spoken : machine-orders.Order n (choice k succeeds) events l → (front : List Call) (r : Report) → map (asCall k) l ≡ front ++ (run.reports r ∷ []) → Order k n succeeds events (map (asCall k) l)
+  order-spoken : machine-orders.Order n (choice k fate) events l → (front : List Call) (r : Report) → map (asCall k) l ≡ front ++ (run.reports r ∷ []) → Order k n fate events (map (asCall k) l)
   order-spoken O front r e = record {
     once = λ i h. same-results k i l ∙ O .once i h;
     only = λ i h. same-results k i l ∙ O .only i h;
-    chosen = spoken k succeeds l (O .chosen);
+    chosen = spoken k fate l (O .chosen);
     those = same-events k l ∙ O .events;
     last = (front, r, e);
   }
 
 pub orders-exist : OrdersExist
-orders-exist k n i h succeeds events =
-    let (f, O) = exists.orders-exist ℕ n i h (choice k succeeds) events in
-    let e : map (asCall k) (f ++ (result i (choice k succeeds i) ∷ [])) ≡ map (asCall k) f ++ (run.result k i (digit (succeeds i)) ∷ []) =
-    map-append k f (result i (choice k succeeds i) ∷ []) ∙ ap (λ (d : ℕ). map (asCall k) f ++ (run.result k i d ∷ [])) (told-outcome (succeeds i)) in
-    (map (asCall k) f, subst (Order k n succeeds events) e (order-spoken k O (map (asCall k) f) (record { issue = k; number = i; done = digit (succeeds i) }) e))
+orders-exist k n i h fate events =
+    let (f, O) = exists.orders-exist ℕ n i h (choice k fate) events in
+    let e : map (asCall k) (f ++ (result i (choice k fate i) ∷ [])) ≡ map (asCall k) f ++ (run.result k i (told (fate i)) ∷ []) =
+    map-append k f (result i (choice k fate i) ∷ []) ∙ ap (λ (d : ℕ). map (asCall k) f ++ (run.result k i d ∷ [])) (told-outcome (fate i)) in
+    (map (asCall k) f, subst (Order k n fate events) e (order-spoken k O (map (asCall k) f) (record { issue = k; number = i; ending = told (fate i) }) e))

@@ -22,7 +22,7 @@ use Rattle.answers.specs.Answers.{reasonNumber, numberOf, placeOf}
 use Rattle.answers.proofs.Promises.{reason-from, reason-to, reason-same}
 use Rattle.garage.specs.declared.Station.{Station}
 use Rattle.garage.specs.declared.Outcome.{Outcome}
-use Rattle.garage.specs.Held.{codeAt, bad, overlapsEarlier, barred, whyNot, crossesDrive}
+use Rattle.garage.specs.Held.{codeAt, bad, overlapsEarlier, barred, whyNot, touches, crossesDrive}
 use Rattle.garage.specs.Station.{fit}
 use Rattle.garage.specs.Calls as station
 use Rattle.garage_laws.specs.Demands.{Orderly, ReasonAt, ReasonExactly}
@@ -64,7 +64,7 @@ module _ (s : Station) (n : ℕ) (set : List ℕ) (why : Reason) (p : ℕ) where
       }
 
   request-told : Told (station.request s n set)
-  unfolding station.request station.requested station.cleared station.accepted
+  unfolding station.request station.requested station.cleared station.spared station.accepted
   request-told =
       either Told (fit s) (λ a.
       either Told (ltb 0 (s .count)) (λ t. other (beside (λ h. omega arith))) (λ b.
@@ -72,9 +72,10 @@ module _ (s : Station) (n : ℕ) (set : List ℕ) (why : Reason) (p : ℕ) where
       either Told (eqb n 0) (λ t. other (beside (λ h. omega arith))) (λ d.
       either Told (ltb (least n (bad set)) n) (λ t. other (beside (λ h. omega arith))) (λ f.
       either Told (crossesDrive (s .bits) set n) (λ t. other (beside (λ h. omega arith))) (λ x.
+      either Told (ltb (least n (touches set (s .apart))) n) (λ t. other (beside (λ h. omega arith))) (λ y.
       either Told (ltb (least n (overlapsEarlier set)) n) (λ t. other (beside (λ h. omega arith))) (λ g.
-      either Told (ltb (least n (barred set (s .bits))) n) (judged (orderly-of s n set a b c d f x g)) (λ h.
-      other (beside (λ h. omega arith)))))))))) (λ a. other (beside (λ h. omega arith)))
+      either Told (ltb (least n (barred set (s .bits))) n) (judged (orderly-of s n set a b c d f x y g)) (λ h.
+      other (beside (λ h. omega arith))))))))))) (λ a. other (beside (λ h. omega arith)))
 
   -- the other direction: the outcome is the refusal
   told-so : Held → station.request s n set ≡ station.refused s (NotAllowed why p)

@@ -14,14 +14,14 @@ use Rattle.answers.specs.declared.Answer.the-variants.{Unfit}
 use Rattle.garage.specs.declared.Station.{Station}
 use Rattle.garage.specs.declared.Outcome.{Outcome}
 use Rattle.garage.specs.Held.{codeAt, heldAllowed}
-use Rattle.garage.specs.Station.{present, fit, holding, opened, answering}
+use Rattle.garage.specs.Station.{present, fit, holding, opened, answering, apartWith}
 use Rattle.garage.specs.Calls as station
 use Rattle.garage.specs.Calls.{refused, taken}
 use Rattle.garage_laws.specs.Runs as run
 use Rattle.garage_laws.specs.Runs.{Call, said, left, calls, NoImages, Begins, Reached}
 use Rattle.garage_laws.specs.Demands.{Acceptable, Waiting}
 use Rattle.garage_laws.proofs.Instance.{afterAs}
-use Rattle.garage_laws.proofs.Calls.{request-has, request-is, following, success-has, success-is, failure-has, failure-is, done-has, Drivable, event-has, event-is}
+use Rattle.garage_laws.proofs.Calls.{request-has, request-is, following, success-has, success-is, failure-has, failure-is, stuck-has, stuck-is, ending-has, Drivable, event-has, event-is}
 use Rattle.garage_laws.proofs.EachCall.{untouched}
 use Rattle.garage_laws.proofs.Fits.{waits-allowed}
 
@@ -29,8 +29,9 @@ use Rattle.garage_laws.proofs.Fits.{waits-allowed}
 pub data Step (s : Station) : Call → Station → Type 0 where
   refuses : {c : Call} → (said s c ≡ 0 → ⊥) → Step s c s
   opens : {n : ℕ} {set : List ℕ} → Acceptable s n set → Step s (run.request n set) (opened s n set)
-  fails : {i k : ℕ} → Waiting s i → Step s (run.result k i 0) (answering s i (s .bits))
-  succeeds : {i k : ℕ} → k ≡ present s → Waiting s i → heldAllowed (codeAt (s .set) i) (bit (s .bits)) ≡ true → Step s (run.result k i 1) (answering s i (following s i))
+  fails : {i k : ℕ} → Waiting s i → Step s (run.result k i 0) (answering s i (s .bits) (s .apart))
+  succeeds : {i k : ℕ} → k ≡ present s → Waiting s i → heldAllowed (codeAt (s .set) i) (bit (s .bits)) ≡ true → Step s (run.result k i 1) (answering s i (following s i) (s .apart))
+  sticks : {i k : ℕ} → k ≡ present s → Waiting s i → Step s (run.result k i 2) (answering s i (s .bits) (apartWith s i))
   drives : {e : ℕ} → Drivable s (readEvent e) → Step s (run.event e) (holding s (afterAs (readEvent e) (s .bits)))
   tells : Step s run.ask s
 
@@ -54,10 +55,11 @@ module _ (s : Station) where
       (λ t. f (eqb-true (said s c) 0 t))
       (λ t. let n = eqb-false (said s c) 0 t in leads (untouched s c n) (refuses n))
 
-  result-step : (k i done : ℕ) → said s (run.result k i done) ≡ 0 → Step s (run.result k i done) (left s (run.result k i done))
+  result-step : (k i ending : ℕ) → said s (run.result k i ending) ≡ 0 → Step s (run.result k i ending) (left s (run.result k i ending))
   result-step k i zero e = let (p, w) = failure-has s k i e in leads (ap station-of (failure-is s k i p w)) (fails w)
   result-step k i (suc zero) e = let (p, w) = success-has s k i e in leads (ap station-of (success-is s k i p w)) (succeeds p w (waits-allowed s i w))
-  result-step k i (suc (suc done)) e = absurd (omega (arith, done-has s (record { issue = k; number = i; done = suc (suc done) }) e))
+  result-step k i (suc (suc zero)) e = let (p, w) = stuck-has s k i e in leads (ap station-of (stuck-is s k i p w)) (sticks p w)
+  result-step k i (suc (suc (suc n))) e = absurd (omega (arith, ending-has s (record { issue = k; number = i; ending = suc (suc (suc n)) }) e))
 
   pub asked : left s run.ask ≡ s
   unfolding station.ask
@@ -69,7 +71,7 @@ module _ (s : Station) where
 
   pub steps : (c : Call) → Plain c → Step s c (left s c)
   steps (run.request n set) p = by-answer _ (λ e. let A = request-has s n set e in leads (ap station-of (request-is s n set A)) (opens A))
-  steps (run.reports r) p = by-answer _ (result-step (r .issue) (r .number) (r .done))
+  steps (run.reports r) p = by-answer _ (result-step (r .issue) (r .number) (r .ending))
   steps (run.event e) p = by-answer _ (λ z. let d = event-has s e z in leads (ap station-of (event-is s e d)) (drives d))
   steps (run.pictures x) p = absurd p
   steps run.ask p = leads asked tells

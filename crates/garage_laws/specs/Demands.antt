@@ -6,7 +6,7 @@ use mathlib.Core.Bool.{Bool, true, false, cond}
 use mathlib.Core.List.{List, [], _∷_, _++_}
 use Prim.Native.Nat.{ℕ, _+_, _%_, _≤_, _<_}
 use lib.ListN.{length}
-use Rattle.bits.specs.Bits.{Bits, bit, image, digit}
+use Rattle.bits.specs.Bits.{Bits, bit, image}
 use Rattle.bits.specs.Places.{elem, share}
 use Rattle.bits.specs.Search.{IsLeast}
 use Rattle.floor.specs.Floor.{lift}
@@ -24,11 +24,12 @@ use Rattle.answers.specs.declared.Reason.{Reason}
 use Rattle.answers.specs.Answers.{reasonNumber, OfTable, nowhere}
 use Rattle.garage.specs.declared.Station.{Station}
 use Rattle.garage.specs.declared.Report.{Report}
-use Rattle.garage.specs.Held.{codeAt, isGood, heldArea, heldAllowed, heldNext, bad, overlapsEarlier, barred, liftIn}
-use Rattle.garage.specs.Station.{startOf, issueAfter, present, behind, late, fit, marked, holding, opened, answering}
+use Rattle.garage.specs.Held.{codeAt, isGood, heldArea, heldAllowed, heldNext, bad, overlapsEarlier, barred, liftIn, touches, liftApart}
+use Rattle.garage.specs.Station.{startOf, issueAfter, present, behind, late, fit, marked, holding, seeing, opened, answering, apartWith}
 use Rattle.garage_laws.specs.Runs as run
 use Rattle.garage_laws.specs.Runs.{Call, said, left, placed, carried, opens, calls, setsOpened, Begins, NoImages, Reached, driveAt, driven}
-use Rattle.garage_laws.specs.Orders.{Order, Alike, Amid, interrupted, takenOf, turns, turnsAmid, AlikeAmid}
+use Rattle.garage_laws.specs.Orders.{Fate, told, Order, Alike, Amid, interrupted, takenOf, turns, turnsAmid, AlikeAmid}
+use Rattle.garage_laws.specs.Jams.{stuck, jamAt, has, finished, Chosen}
 
 -- ---- 1. It always answers: a refused call leaves the station as it was
 
@@ -45,8 +46,8 @@ CallsInTable = (s : Station) (c : Call) → OfTable (said s c)
 abbrev pub ClearOfDrives : Station → ℕ → List ℕ → Type 0
 ClearOfDrives s n set = (holds underWay (bit (s .bits)) ≡ false) ⊎ (liftIn set n ≡ false)
 
--- what a request must have: no set outstanding, 1 to 8 instructions, all well formed, no drive under way or the lift in no area, no two
--- overlapping, each allowed on the present record
+-- what a request must have: no set outstanding, 1 to 8 instructions, all well formed, no drive under way or the lift in no area, none
+-- touching a part set apart, no two overlapping, each allowed on the present record
 pub record Acceptable (s : Station) (n : ℕ) (set : List ℕ) : Type 0 where
   pub fits : fit s ≡ true
   pub idle : s .count ≡ 0
@@ -54,6 +55,7 @@ pub record Acceptable (s : Station) (n : ℕ) (set : List ℕ) : Type 0 where
   pub few : n ≤ most
   pub good : (i : ℕ) → i < n → isGood (codeAt set i) ≡ true
   pub clear : ClearOfDrives s n set
+  pub spared : (i : ℕ) → i < n → touches set (s .apart) i ≡ false
   pub apart : (i j : ℕ) → i < n → j < i → share (heldArea (codeAt set i)) (heldArea (codeAt set j)) ≡ false
   pub allowed : (i : ℕ) → i < n → heldAllowed (codeAt set i) (bit (s .bits)) ≡ true
 
@@ -71,6 +73,7 @@ pub record Orderly (s : Station) (n : ℕ) (set : List ℕ) : Type 0 where
   pub few : n ≤ most
   pub good : (i : ℕ) → i < n → bad set i ≡ false
   pub clear : ClearOfDrives s n set
+  pub spared : (i : ℕ) → i < n → touches set (s .apart) i ≡ false
   pub apart : (i : ℕ) → i < n → overlapsEarlier set i ≡ false
 
 -- of the conditions of the instruction at p the first that fails has this reason
@@ -95,20 +98,30 @@ ResultRecord =
     (s : Station) (k i : ℕ)
     → ((said s (run.result k i 1) ≡ 0) ↔ ((k ≡ present s) × Waiting s i))
     × (said s (run.result k i 1) ≡ 0
-    → (left s (run.result k i 1) ≡ answering s i (image (heldNext (codeAt (s .set) i) (bit (s .bits)))))
+    → (left s (run.result k i 1) ≡ answering s i (image (heldNext (codeAt (s .set) i) (bit (s .bits)))) (s .apart))
     × (left s (run.result k i 1) .bits ≡ image (heldNext (codeAt (s .set) i) (bit (s .bits)))))
 
--- a failure is taken exactly if it is of the present set and its instruction waits; the record stays
+-- a failure is taken exactly if it is of the present set and its instruction waits; the record stays, and what is set apart
 abbrev pub FailureKeeps : Type 0
 FailureKeeps =
     (s : Station) (k i : ℕ)
     → ((said s (run.result k i 0) ≡ 0) ↔ ((k ≡ present s) × Waiting s i))
     × (said s (run.result k i 0) ≡ 0
-    → (left s (run.result k i 0) ≡ answering s i (s .bits)) × (left s (run.result k i 0) .bits ≡ s .bits))
+    → (left s (run.result k i 0) ≡ answering s i (s .bits) (s .apart)) × (left s (run.result k i 0) .bits ≡ s .bits))
 
--- a result that could be of a set: the station is fit, it says 0 or 1, and a set is outstanding
+-- so is a stuck one; the record stays, and everything in the instruction's area is set apart with what was, also where its set is closed
+abbrev pub StuckSetsApart : Type 0
+StuckSetsApart =
+    (s : Station) (k i : ℕ)
+    → ((said s (run.result k i 2) ≡ 0) ↔ ((k ≡ present s) × Waiting s i))
+    × (said s (run.result k i 2) ≡ 0
+    → (left s (run.result k i 2) ≡ answering s i (s .bits) (apartWith s i))
+    × (left s (run.result k i 2) .bits ≡ s .bits)
+    × (left s (run.result k i 2) .apart ≡ apartWith s i))
+
+-- a result that could be of a set: the station is fit, it says 0 to 2, and a set is outstanding
 abbrev pub Heard : Station → Report → Type 0
-Heard s r = (fit s ≡ true) × (r .done ≤ 1) × (0 < s .count)
+Heard s r = (fit s ≡ true) × (r .ending ≤ 2) × (0 < s .count)
 
 -- a result is answered 29 exactly if it is such a one and its issue is 1 to 32767 behind the present one, and 30 exactly if it is such a
 -- one and its issue is neither so nor the present one
@@ -133,47 +146,52 @@ FirstIsZero =
 
 -- an image keeps the count, taken or not
 abbrev pub ImageKeepsCount : Type 0
-ImageKeepsCount = (s : Station) (r : ℕ) → left s (run.image r) .next ≡ s .next
+ImageKeepsCount = (s : Station) (r apart : ℕ) → left s (run.image r apart) .next ≡ s .next
 
 -- after calls that open m sets, the issue that was the present one is m behind, counted round the end
 abbrev pub BehindCounts : Type 0
 BehindCounts = (s : Station) (l : List Call) → behind (calls s l) (present s) ≡ setsOpened s l % 65536
 
--- a car event is taken exactly if no outstanding set has the lift in an area and the event is possible, its turn included; only the record
--- changes
+-- a car event is taken exactly if no outstanding set has the lift in an area, no part of the lift is set apart and the event is possible,
+-- its turn included; only the record changes
 abbrev pub EventRecord : Type 0
 EventRecord =
     (s : Station) (e : Event)
-    → ((said s (run.event (eventCode e)) ≡ 0) ↔ ((fit s ≡ true) × (liftIn (s .set) (s .count) ≡ false) × (possible e (bit (s .bits)) ≡ true)))
+    → ((said s (run.event (eventCode e)) ≡ 0)
+    ↔ ((fit s ≡ true) × (liftIn (s .set) (s .count) ≡ false) × (liftApart (s .apart) ≡ false) × (possible e (bit (s .bits)) ≡ true)))
     × (said s (run.event (eventCode e)) ≡ 0 → left s (run.event (eventCode e)) ≡ holding s (image (after e (bit (s .bits)))))
 
--- an image is taken exactly if no set is outstanding and it is sound; it becomes the record
+-- an image is taken exactly if no set is outstanding, it is sound and says that nothing is set apart; it becomes the record, and then
+-- nothing is
 abbrev pub ImageTaken : Type 0
 ImageTaken =
-    (s : Station) (r : ℕ)
-    → ((said s (run.image r) ≡ 0) ↔ ((fit s ≡ true) × (s .count ≡ 0) × Sound (bit r)))
-    × (said s (run.image r) ≡ 0 → left s (run.image r) ≡ holding s r)
+    (s : Station) (r apart : ℕ)
+    → ((said s (run.image r apart) ≡ 0) ↔ ((fit s ≡ true) × (s .count ≡ 0) × Sound (bit r) × (apart ≡ 0)))
+    × (said s (run.image r apart) ≡ 0 → (left s (run.image r apart) ≡ seeing s r) × (left s (run.image r apart) .apart ≡ 0))
 
 -- an ask is taken exactly on a fit station; it changes nothing at all
 abbrev pub AskKeeps : Type 0
 AskKeeps = (s : Station) → ((said s run.ask ≡ 0) ↔ (fit s ≡ true)) × (left s run.ask ≡ s)
 
--- a result that is taken says 0, failed, or 1, done
+-- a result that is taken says 0, failed, 1, done, or 2, stuck
 abbrev pub ResultTaken : Type 0
-ResultTaken = (s : Station) (k i done : ℕ) → said s (run.result k i done) ≡ 0 → (done ≡ 0) ⊎ (done ≡ 1)
+ResultTaken = (s : Station) (k i ending : ℕ) → said s (run.result k i ending) ≡ 0 → (ending ≡ 0) ⊎ ((ending ≡ 1) ⊎ (ending ≡ 2))
 
 -- an event that is taken says 1 to 4: a drive begins, in or out, or ends, done or not done
 abbrev pub EventTaken : Type 0
 EventTaken = (s : Station) (e : ℕ) → said s (run.event e) ≡ 0 → (1 ≤ e) × (e ≤ 4)
 
--- an event is answered 31 exactly if no outstanding set has the lift in an area and it is a second begin or an end with no begin, and 10
--- exactly if it comes in turn there and its own conditions fail
+-- an event is answered 31 exactly if no outstanding set has the lift in an area and it is a second begin or an end with no begin, 32
+-- exactly if it comes in turn there and a part of the lift is set apart, and 10 exactly if none is and its own conditions fail
 abbrev pub EventRefused : Type 0
 EventRefused =
     (s : Station) (e : Event)
     → ((said s (run.event (eventCode e)) ≡ 31) ↔ ((fit s ≡ true) × (liftIn (s .set) (s .count) ≡ false) × (inTurn e (bit (s .bits)) ≡ false)))
+    × ((said s (run.event (eventCode e)) ≡ 32)
+    ↔ ((fit s ≡ true) × (liftIn (s .set) (s .count) ≡ false) × (inTurn e (bit (s .bits)) ≡ true) × (liftApart (s .apart) ≡ true)))
     × ((said s (run.event (eventCode e)) ≡ 10)
-    ↔ ((fit s ≡ true) × (liftIn (s .set) (s .count) ≡ false) × (inTurn e (bit (s .bits)) ≡ true) × (possible e (bit (s .bits)) ≡ false)))
+    ↔ ((fit s ≡ true) × (liftIn (s .set) (s .count) ≡ false) × (inTurn e (bit (s .bits)) ≡ true) × (liftApart (s .apart) ≡ false)
+    × (possible e (bit (s .bits)) ≡ false)))
 
 -- what a request must have for the lift to be looked for: all that is asked of an acceptable one before
 pub record Readable (s : Station) (n : ℕ) (set : List ℕ) : Type 0 where
@@ -188,6 +206,13 @@ abbrev pub LiftRefused : Type 0
 LiftRefused =
     (s : Station) (n : ℕ) (set : List ℕ)
     → (said s (run.request n set) ≡ 31) ↔ (Readable s n set × (holds underWay (bit (s .bits)) ≡ true) × (liftIn set n ≡ true))
+
+-- a request is answered 32 with a place exactly if it is such a one, clear of drives, and the place is the least that touches a part set apart
+abbrev pub ApartRefused : Type 0
+ApartRefused =
+    (s : Station) (n : ℕ) (set : List ℕ) (p : ℕ)
+    → ((said s (run.request n set) ≡ 32) × (placed s (run.request n set) ≡ p))
+    ↔ (Readable s n set × ClearOfDrives s n set × IsLeast n (touches set (s .apart)) p)
 
 -- whatever calls came before, images too: while a drive is under way, an end is taken, done or not
 abbrev pub EndTaken : Type 0
@@ -212,7 +237,7 @@ NobodyMovesTheLift =
 -- the calls that may change the record: a success, an event, an image
 abbrev pub Changes : Call → Type 0
 Changes (run.request n set) = ⊥
-Changes (run.reports r) = r .done ≡ 1
+Changes (run.reports r) = r .ending ≡ 1
 Changes (run.event e) = Unit {0}
 Changes (run.pictures p) = Unit {0}
 Changes run.ask = ⊥
@@ -221,18 +246,31 @@ Changes run.ask = ⊥
 abbrev pub OnlySuccessChanges : Type 0
 OnlySuccessChanges = (s : Station) (c : Call) → (left s c .bits ≡ s .bits) ⊎ ((said s c ≡ 0) × Changes c)
 
--- a request that is answered 4 names the least bad instruction, with 8 the least overlapping an earlier one, with a reason the least not
--- allowed
+-- the calls that may change what is set apart: a stuck result, an image
+abbrev pub ChangesApart : Call → Type 0
+ChangesApart (run.request n set) = ⊥
+ChangesApart (run.reports r) = r .ending ≡ 2
+ChangesApart (run.event e) = ⊥
+ChangesApart (run.pictures p) = Unit {0}
+ChangesApart run.ask = ⊥
+
+-- whatever the call, that stays, or the call is one of these and was taken
+abbrev pub OnlyStuckSetsApart : Type 0
+OnlyStuckSetsApart = (s : Station) (c : Call) → (left s c .apart ≡ s .apart) ⊎ ((said s c ≡ 0) × ChangesApart c)
+
+-- a request that is answered 4 names the least bad instruction, with 32 the least touching a part set apart, with 8 the least overlapping
+-- an earlier one, with a reason the least not allowed
 abbrev pub PlacesRight : Type 0
 PlacesRight =
     (s : Station) (n : ℕ) (set : List ℕ)
     → (said s (run.request n set) ≡ 4 → IsLeast n (bad set) (placed s (run.request n set)))
+    × (said s (run.request n set) ≡ 32 → IsLeast n (touches set (s .apart)) (placed s (run.request n set)))
     × (said s (run.request n set) ≡ 8 → IsLeast n (overlapsEarlier set) (placed s (run.request n set)))
     × ((why : Reason) → said s (run.request n set) ≡ reasonNumber why → IsLeast n (barred set (s .bits)) (placed s (run.request n set)))
 
--- the answers that name an instruction: 4, 8 and 20 to 28 to a request
+-- the answers that name an instruction: 4, 32, 8 and 20 to 28 to a request
 abbrev pub Names : Call → ℕ → Type 0
-Names (run.request n set) k = (k ≡ 4) ⊎ ((k ≡ 8) ⊎ ((why : Reason) × (k ≡ reasonNumber why)))
+Names (run.request n set) k = (k ≡ 4) ⊎ ((k ≡ 32) ⊎ ((k ≡ 8) ⊎ ((why : Reason) × (k ≡ reasonNumber why))))
 Names (run.reports r) k = ⊥
 Names (run.event e) k = ⊥
 Names (run.pictures p) k = ⊥
@@ -248,39 +286,39 @@ PlacesInRange = (s : Station) (c : Call) → (placed s c < most) ⊎ (placed s c
 
 -- ---- 3. Sets are safe in any order
 
--- whatever calls follow, images too, the record is sound: its occupied places can be laid out as whole cars, none on another, each on
--- belts that are there
+-- whatever calls follow, images too, for every choice of which stuck instructions did in fact finish, the record with those applied is
+-- sound: its occupied places can be laid out as whole cars, none on another, each on belts that are there
 abbrev pub AlwaysLaidOut : Type 0
-AlwaysLaidOut = (s : Station) → Begins s → (l : List Call) → Sound (bit (calls s l .bits))
+AlwaysLaidOut = (s : Station) → Begins s → (l : List Call) (p : List ℕ) → Chosen s l p → Sound (bit (finished s l p))
 
 -- with as many cars as at the start, plus those driven in, less those driven out; an image that is taken is a new start
 abbrev pub CarsCounted : Type 0
 CarsCounted =
-    (s : Station) (l : List Call) → NoImages l
-    → (start end : List Car) → Layout (bit (s .bits)) start → Layout (bit (calls s l .bits)) end
+    (s : Station) (l : List Call) → NoImages l → (p : List ℕ) → Chosen s l p
+    → (start end : List Car) → Layout (bit (s .bits)) start → Layout (bit (finished s l p)) end
     → length end + driven 2 s l ≡ length start + driven 1 s l
 
--- of an accepted set: whichever instructions succeed, two orders of their results, with the present issue, and with the same car events
--- come to the same
+-- of an accepted set: whichever instructions fail, succeed or stick, two orders of their results, with the present issue, and with the same
+-- car events come to the same
 abbrev pub AnyOrder : Type 0
 AnyOrder =
     (s : Station) → Reached s → (n : ℕ) (set : List ℕ) → said s (run.request n set) ≡ 0
-    → (succeeds : ℕ → Bool) (events : List ℕ) (l m : List Call)
-    → Order (present (left s (run.request n set))) n succeeds events l → Order (present (left s (run.request n set))) n succeeds events m
+    → (fate : ℕ → Fate) (events : List ℕ) (l m : List Call)
+    → Order (present (left s (run.request n set))) n fate events l → Order (present (left s (run.request n set))) n fate events m
     → Alike (left s (run.request n set)) l m
 
 -- such orders exist for every issue and size, with any instruction answered last
 abbrev pub OrdersExist : Type 0
 OrdersExist =
-    (k n i : ℕ) → i < n → (succeeds : ℕ → Bool) (events : List ℕ)
-    → (front : List Call) × Order k n succeeds events (front ++ (run.result k i (digit (succeeds i)) ∷ []))
+    (k n i : ℕ) → i < n → (fate : ℕ → Fate) (events : List ℕ)
+    → (front : List Call) × Order k n fate events (front ++ (run.result k i (told (fate i)) ∷ []))
 
 -- two orders come to the same also with asks, and calls that are refused, put in anywhere between
 abbrev pub AnyOrderAmid : Type 0
 AnyOrderAmid =
     (s : Station) → Reached s → (n : ℕ) (set : List ℕ) → said s (run.request n set) ≡ 0
-    → (succeeds : ℕ → Bool) (events : List ℕ) (l m : List Call)
-    → Order (present (left s (run.request n set))) n succeeds events l → Order (present (left s (run.request n set))) n succeeds events m
+    → (fate : ℕ → Fate) (events : List ℕ) (l m : List Call)
+    → Order (present (left s (run.request n set))) n fate events l → Order (present (left s (run.request n set))) n fate events m
     → (l' m' : List Call) (a : Amid (left s (run.request n set)) l l') (b : Amid (left s (run.request n set)) m m')
     → AlikeAmid a b
 
@@ -295,6 +333,27 @@ AmidExists = (s : Station) (l : List Call) → Amid s l (interrupted l)
 -- and every list of calls is one: those of it that are taken, with the others put in
 abbrev pub AmidCovers : Type 0
 AmidCovers = (s : Station) (l : List Call) → Amid s (takenOf s l) l
+
+-- the order in which the stuck ones finished makes no difference
+abbrev pub FinishedAnyOrder : Type 0
+FinishedAnyOrder =
+    (s : Station) → Begins s → (l : List Call) (p q : List ℕ) → Chosen s l p → Chosen s l q → ((j : ℕ) → has p j ≡ has q j)
+    → finished s l p ≡ finished s l q
+
+-- whichever did finish, an instruction that has no result yet, and may be running, is allowed on that record
+abbrev pub WaitsAnyway : Type 0
+WaitsAnyway =
+    (s : Station) → Begins s → (l : List Call) (p : List ℕ) → Chosen s l p
+    → (i : ℕ) → i < calls s l .count → marked (calls s l) i ≡ false
+    → heldAllowed (codeAt (calls s l .set) i) (bit (finished s l p)) ≡ true
+
+-- until an image is taken, no set that is accepted and no event that is taken has a place in common with what is stuck
+abbrev pub NothingMeetsAJam : Type 0
+NothingMeetsAJam =
+    (s : Station) (l : List Call) (j : ℕ) → j < length (stuck s l)
+    → ((n : ℕ) (set : List ℕ) → said (calls s l) (run.request n set) ≡ 0
+    → (i : ℕ) → i < n → share (heldArea (codeAt set i)) (heldArea (jamAt (stuck s l) j)) ≡ false)
+    × ((e : ℕ) → said (calls s l) (run.event e) ≡ 0 → share (heldArea (jamAt (stuck s l) j)) lift ≡ false)
 
 -- whatever calls came before, images too: an instruction that has no result yet is still allowed on the present record
 abbrev pub StillAllowed : Type 0

@@ -5,7 +5,7 @@ use mathlib.Core.Bool.{Bool, true, false, cond}
 use mathlib.Core.List.{List, [], _∷_, _++_}
 use Prim.Native.Nat.{ℕ, _+_, _≤_, _<_}
 use lib.Dec.{eqb}
-use Rattle.bits.specs.Bits.{bit, digit}
+use Rattle.bits.specs.Bits.{bit}
 use Rattle.garage.specs.declared.Station.{Station}
 use Rattle.garage.specs.declared.Report.{Report}
 use Rattle.garage.specs.Held.{codeAt, heldAllowed}
@@ -29,22 +29,32 @@ eventsOf (event e ∷ l) = e ∷ eventsOf l
 eventsOf (pictures p ∷ l) = eventsOf l
 eventsOf (ask ∷ l) = eventsOf l
 
--- it has only results of the set with issue k and car events, and each result is as chosen: 1 for an instruction that succeeds, 0 for one
--- that fails
-abbrev pub AsChosen : ℕ → (ℕ → Bool) → List Call → Type 0
-AsChosen k succeeds [] = Unit {0}
-AsChosen k succeeds (request n set ∷ l) = ⊥
-AsChosen k succeeds (reports r ∷ l) = (r .issue ≡ k) × (r .done ≡ digit (succeeds (r .number))) × AsChosen k succeeds l
-AsChosen k succeeds (event e ∷ l) = AsChosen k succeeds l
-AsChosen k succeeds (pictures p ∷ l) = ⊥
-AsChosen k succeeds (ask ∷ l) = ⊥
+-- what becomes of an instruction, and how that is told
+pub data Fate : Type 0 where
+  fails : Fate
+  succeeds : Fate
+  sticks : Fate
+
+abbrev pub told : Fate → ℕ
+told fails = 0
+told succeeds = 1
+told sticks = 2
+
+-- it has only results of the set with issue k and car events, and each result tells the instruction's fate
+abbrev pub AsChosen : ℕ → (ℕ → Fate) → List Call → Type 0
+AsChosen k fate [] = Unit {0}
+AsChosen k fate (request n set ∷ l) = ⊥
+AsChosen k fate (reports r ∷ l) = (r .issue ≡ k) × (r .ending ≡ told (fate (r .number))) × AsChosen k fate l
+AsChosen k fate (event e ∷ l) = AsChosen k fate l
+AsChosen k fate (pictures p ∷ l) = ⊥
+AsChosen k fate (ask ∷ l) = ⊥
 
 -- an order of the results of the n instructions of the set with issue k, with these car events: one result for each as chosen, no other, the
 -- events in this order, a result last
-pub record Order (k n : ℕ) (succeeds : ℕ → Bool) (events : List ℕ) (l : List Call) : Type 0 where
+pub record Order (k n : ℕ) (fate : ℕ → Fate) (events : List ℕ) (l : List Call) : Type 0 where
   pub once : (i : ℕ) → i < n → resultsOf i l ≡ 1
   pub only : (i : ℕ) → n ≤ i → resultsOf i l ≡ 0
-  pub chosen : AsChosen k succeeds l
+  pub chosen : AsChosen k fate l
   pub those : eventsOf l ≡ events
   pub last : (front : List Call) × (r : Report) × (l ≡ front ++ (reports r ∷ []))
 
@@ -54,7 +64,7 @@ Fair s [] = Unit {0}
 Fair s (request n set ∷ l) = Fair (left s (request n set)) l
 Fair s (reports r ∷ l) =
     (said s (reports r) ≡ 0)
-    × (r .done ≡ 1 → heldAllowed (codeAt (s .set) (r .number)) (bit (s .bits)) ≡ true)
+    × (r .ending ≡ 1 → heldAllowed (codeAt (s .set) (r .number)) (bit (s .bits)) ≡ true)
     × Fair (left s (reports r)) l
 Fair s (event e ∷ l) = Fair (left s (event e)) l
 Fair s (pictures p ∷ l) = Fair (left s (pictures p)) l

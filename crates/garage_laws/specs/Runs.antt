@@ -23,12 +23,12 @@ pub data Call : Type 0 where
   pictures : Picture → Call
   ask : Call
 
--- a result by its numbers, the issue first; an image by its record
+-- a result by its numbers, the issue first; an image by its record and what it says is set apart
 abbrev pub result : ℕ → ℕ → ℕ → Call
-result k i done = reports (record { issue = k; number = i; done = done })
+result k i ending = reports (record { issue = k; number = i; ending = ending })
 
-abbrev pub image : ℕ → Call
-image r = pictures (record { bits = r })
+abbrev pub image : ℕ → ℕ → Call
+image r apart = pictures (record { bits = r; apart = apart })
 
 -- what a call hands back: the functions that the contracts of the code cite
 abbrev pub call : Station → Call → Outcome
@@ -74,7 +74,7 @@ setsOpened s (c ∷ l) = digit (opens s c) + setsOpened (left s c) l
 -- where it begins: the start, or an image of 64 bits that was taken
 pub data Begins : Station → Type 0 where
   atStart : Begins startOf
-  byImage : (before : Station) (r : ℕ) → r < 2 ^ 64 → said before (image r) ≡ 0 → Begins (left before (image r))
+  byImage : (before : Station) (r apart : ℕ) → r < 2 ^ 64 → said before (image r apart) ≡ 0 → Begins (left before (image r apart))
 
 -- calls but an image
 abbrev pub NoImages : List Call → Type 0

@@ -21,7 +21,7 @@ pub refused-untouched : RefusedUntouched
 unfolding starting counting tallied lining texting writes
 refused-untouched = (
   λ room h. split (ltb (length room) 208) (λ t. rw t) (λ t. absurd (h (rw t))),
-  λ room station message h. split (ltb (length room) 208 || ltb (length station) 52)
+  λ room station message h. split (ltb (length room) 208 || ltb (length station) 60)
       (λ t. rw t)
       (λ t. let c = countedIn (totalsIn room) (happened (stationOf station) message) in
       split (eqb (c .full) nothing) (λ u. absurd (h (rw (t, u)))) (λ u. rw (t, u))),
@@ -37,7 +37,7 @@ pub numbers-returned : NumbersReturned
 unfolding starting counting tallied lining texting writes
 numbers-returned = (
   λ room. split (ltb (length room) 208) (λ t. rw t (inr refl)) (λ t. rw t (inl refl)),
-  λ room station message. split (ltb (length room) 208 || ltb (length station) 52)
+  λ room station message. split (ltb (length room) 208 || ltb (length station) 60)
       (λ t. rw t (inr (inl refl)))
       (λ t. let c = countedIn (totalsIn room) (happened (stationOf station) message) in
       split (eqb (c .full) nothing) (λ u. rw (t, u) (inl refl)) (λ u. rw (t, u) (inr (inr (omega arith))))),

@@ -16,6 +16,7 @@ use Rattle.weeks.specs.Weeks.{happened}
 use Rattle.garage.specs.declared.Station.{Station}
 use Rattle.lines.specs.declared.Text.{Text}
 use Rattle.lines.specs.Lines.{reportOf, textOf}
+use Rattle.station_c.proofs.Rooms.{within}
 use Rattle.station_c.specs.Entries.{stationOf, returned, Leaves, writes}
 use Rattle.report_c.specs.Entries.{totalsBytes, totalsIn, starting, fullNumber, tallied, counting, known, texting, lining}
 use Rattle.report_c.proofs.Fours.{bytesTo, bytes-length}
@@ -44,53 +45,46 @@ module _ (room : List ℕ) {r : ℕ} where
 
 -- ---- a message
 
--- the first 52 bytes of a room hold the station that it holds
-pub station-first : (room : List ℕ) → 52 ≤ length room → stationOf (take 52 room) ≡ stationOf room
+-- the first 60 bytes of a room hold the station that it holds
+pub station-first : (room : List ℕ) → 60 ≤ length room → stationOf (take 60 room) ≡ stationOf room
 unfolding stationOf
 station-first room h =
     rw (
-      at 0 (omega arith),
-      at 1 (omega arith),
-      at 2 (omega arith),
-      at 3 (omega arith),
-      at 4 (omega arith),
-      at 5 (omega arith),
-      at 6 (omega arith),
-      at 7 (omega arith),
+      within 8 0 60 room (omega arith),
       at 8 (omega arith),
       at 9 (omega arith),
-      at 50 (omega arith),
-      at 51 (omega arith),
+      within 2 50 60 room (omega arith),
+      within 8 52 60 room (omega arith),
       set,
     )
   where
-    at : (i : ℕ) → i < 52 → getD (take 52 room) i 0 ≡ getD room i 0
-    at i l = getD-take 52 room i 0 l
+    at : (i : ℕ) → i < 60 → getD (take 60 room) i 0 ≡ getD room i 0
+    at i l = getD-take 60 room i 0 l
 
-    set : take 40 (drop 10 (take 52 room)) ≡ take 40 (drop 10 room)
+    set : take 40 (drop 10 (take 60 room)) ≡ take 40 (drop 10 room)
     set =
-        let l : length (take 52 room) ≡ 52 = length-take-le 52 room h in
-        let k : 40 ≤ length (drop 10 (take 52 room)) = rw length-drop (omega arith) in
-        sym (ap (λ (m : List ℕ). take 40 (drop 10 m)) (sym (take-append-drop 52 room))
-        ∙ ap (take 40) (drop-append-le 10 (take 52 room) (drop 52 room) (omega arith))
-        ∙ take-append-le 40 (drop 10 (take 52 room)) (drop 52 room) k)
+        let l : length (take 60 room) ≡ 60 = length-take-le 60 room h in
+        let k : 40 ≤ length (drop 10 (take 60 room)) = rw length-drop (omega arith) in
+        sym (ap (λ (m : List ℕ). take 40 (drop 10 m)) (sym (take-append-drop 60 room))
+        ∙ ap (take 40) (drop-append-le 10 (take 60 room) (drop 60 room) (omega arith))
+        ∙ take-append-le 40 (drop 10 (take 60 room)) (drop 60 room) k)
 
 -- they were copied to an array
-pub station-copied : (room b : List ℕ) {s : Station} → 52 ≤ length room
-    → b ≡ take (length (take 52 room)) (take 52 room) ++ drop (length (take 52 room)) (replicate 52 0) → s ≡ stationOf b → s ≡ stationOf room
+pub station-copied : (room b : List ℕ) {s : Station} → 60 ≤ length room
+    → b ≡ take (length (take 60 room)) (take 60 room) ++ drop (length (take 60 room)) (replicate 60 0) → s ≡ stationOf b → s ≡ stationOf room
 station-copied room b h e f =
-    f ∙ ap stationOf (e ∙ rw (take-length, length-take-le 52 room h) (append-nil (take 52 room))) ∙ station-first room h
+    f ∙ ap stationOf (e ∙ rw (take-length, length-take-le 60 room h) (append-nil (take 60 room))) ∙ station-first room h
 
 module _ (room station message : List ℕ) {r : ℕ} where
   pub count-short : length room < 208 → r ≡ returned NoRoom → Leaves (counting room station message) r room
   unfolding counting
   count-short h e = rw (lt-ltb _ _ h) (e, refl)
 
-  pub station-short : 208 ≤ length room → length station < 52 → r ≡ returned NoRoom → Leaves (counting room station message) r room
+  pub station-short : 208 ≤ length room → length station < 60 → r ≡ returned NoRoom → Leaves (counting room station message) r room
   unfolding counting
   station-short h l e = rw (le-ltb _ _ h, lt-ltb _ _ l) (e, refl)
 
-  module _ (h : 208 ≤ length room) (l : 52 ≤ length station) {s : Station} {t : Totals} (e : s ≡ stationOf station) (f : t ≡ totalsIn room)
+  module _ (h : 208 ≤ length room) (l : 60 ≤ length station) {s : Station} {t : Totals} (e : s ≡ stationOf station) (f : t ≡ totalsIn room)
       {full : ℕ} {after : List ℕ} (c : Holds (countedIn (totalsOf (t .counts)) (happened s message)) full after) where
     pub count-full : (full ≡ nothing → ⊥) → r ≡ fullNumber + 256 * full → Leaves (counting room station message) r room
     unfolding counting tallied

@@ -22,7 +22,7 @@ const SIZE: usize = 52;
 const TOTALS: usize = 208;
 
 // The bytes of a lent station.
-const STATION: usize = 52;
+const STATION: usize = 60;
 
 // The number of the answer that a total is full.
 const FULL: u32 = 40;
@@ -99,7 +99,7 @@ pub extern "C" fn report_start(totals: &mut [u8]) -> u32
     say(Answer::Taken)
 }
 
-// The station that the first 52 bytes of a room hold.
+// The station that the first 60 bytes of a room hold.
 fn held(room: &[u8]) -> Station
     requires { ⌜ stationSize ≤ length (now room) ⌝ }
     ensures { λ s. ⌜ s ≡ stationOf (now (room .entry)) ⌝ }

@@ -32,11 +32,11 @@ pub each-called : (P : Outcome → Type 0) (s : Station) → ((c : Call) → P (
     → (makesCall w ≡ false → P (refused s UnknownKind)) → P (called w s n set)
 each-called P s f Request n set g = f (run.request n set)
 each-called P s f (Event way) n set g = f (run.event way)
-each-called P s f (Result issue number done) n set g = f (run.result issue number done)
-each-called P s f (Image r) n set g = f (run.image r)
+each-called P s f (Result issue number ending) n set g = f (run.result issue number ending)
+each-called P s f (Image bits apart) n set g = f (run.image bits apart)
 each-called P s f Ask n set g = f run.ask
 each-called P s f (Answer number place issue) n set g = g refl
-each-called P s f (Held r) n set g = g refl
+each-called P s f (Held bits apart) n set g = g refl
 
 -- ---- fitness stays
 
@@ -56,11 +56,11 @@ known-called : (w : What) (s : Station) (n : ℕ) (set : List ℕ) → calledKno
 unfolding request event result takeImage ask
 known-called Request s n set = refl
 known-called (Event way) s n set = refl
-known-called (Result issue number done) s n set = refl
-known-called (Image r) s n set = refl
+known-called (Result issue number ending) s n set = refl
+known-called (Image bits apart) s n set = refl
 known-called Ask s n set = refl
 known-called (Answer number place issue) s n set = refl
-known-called (Held r) s n set = refl
+known-called (Held bits apart) s n set = refl
 
 pub known-same : KnownSame
 unfolding respond respondKnown
@@ -79,11 +79,11 @@ unfit-called known w s n set {a} q t =
     unfit : (w : What) → makesCall w ≡ true → refused s Unfit ≡ calledKnown false w s n set
     unfit Request p = refl
     unfit (Event way) p = refl
-    unfit (Result issue number done) p = refl
-    unfit (Image r) p = refl
+    unfit (Result issue number ending) p = refl
+    unfit (Image bits apart) p = refl
     unfit Ask p = refl
     unfit (Answer number place issue) p = clash p refl
-    unfit (Held r) p = clash p refl
+    unfit (Held bits apart) p = clash p refl
 
 -- past that test such a message finds it fit, and its turn is the call's
 pub past-test : (known : Bool) (s : Station) (o : Outcome) {t : Turn} {a : Bool} → a ≡ true → a && not known ≡ false → t ≡ turnOf o
@@ -103,8 +103,8 @@ pub called-kept : (known : Bool) (w : What) (s : Station) (n : ℕ) (set : List 
     → Kept s set (calledKnown known w s n set)
 called-kept known Request s n set e = kept-on-known known s set (kept-requested s set n set e)
 called-kept known (Event way) s n set e = kept-on-known known s set (kept-evented s set way)
-called-kept known (Result issue number done) s n set e = kept-on-known known s set (kept-resulted s set _)
-called-kept known (Image r) s n set e = kept-on-known known s set (kept-imaged s set _)
+called-kept known (Result issue number ending) s n set e = kept-on-known known s set (kept-resulted s set _)
+called-kept known (Image bits apart) s n set e = kept-on-known known s set (kept-imaged s set _)
 called-kept known Ask s n set e = kept-on-known known s set (kept-refused s set Taken)
 called-kept known (Answer number place issue) s n set e = kept-refused s set UnknownKind
-called-kept known (Held r) s n set e = kept-refused s set UnknownKind
+called-kept known (Held bits apart) s n set e = kept-refused s set UnknownKind

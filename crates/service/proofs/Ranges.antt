@@ -57,11 +57,11 @@ called-fine s w count set =
 -- the number that a message answers with
 abbrev numberIn : What → ℕ
 numberIn (What.Answer number place issue) = number
-numberIn (Held r) = 0
+numberIn (Held bits apart) = 0
 numberIn Request = 0
 numberIn (Event way) = 0
-numberIn (Result issue number done) = 0
-numberIn (Image r) = 0
+numberIn (Result issue number ending) = 0
+numberIn (Image bits apart) = 0
 numberIn Ask = 0
 
 -- the place of an answer that a message can be told
@@ -73,7 +73,7 @@ placed a e =
 
 module _ (s : Station) where
   -- an image
-  shown : {t : Station} {r : ℕ} → Reply-fine s (record { station = t; answer = Held r })
+  shown : {t : Station} {bits apart : ℕ} → Reply-fine s (record { station = t; answer = Held bits apart })
   shown = record {
     written = refl;
     answers = tt;
@@ -95,11 +95,11 @@ module _ (s : Station) where
   reply-fine : (w : What) (o : Outcome) → Outcome-fine s o → Reply-fine s (replyOf w o)
   reply-fine Request o f = told (o .station) (o .answer) (f .outcome) (f .kept)
   reply-fine (Event way) o f = told (o .station) (o .answer) (f .outcome) (f .kept)
-  reply-fine (Result issue number done) o f = told (o .station) (o .answer) (f .outcome) (f .kept)
-  reply-fine (Image r) o f = told (o .station) (o .answer) (f .outcome) (f .kept)
+  reply-fine (Result issue number ending) o f = told (o .station) (o .answer) (f .outcome) (f .kept)
+  reply-fine (Image bits apart) o f = told (o .station) (o .answer) (f .outcome) (f .kept)
   reply-fine Ask o f = split (eqb (numberOf (o .answer)) 0) (λ t. rw t shown) (λ t. rw t (told (o .station) (o .answer) (f .outcome) (f .kept)))
   reply-fine (What.Answer number place issue) o f = told (o .station) (o .answer) (f .outcome) (f .kept)
-  reply-fine (Held r) o f = told (o .station) (o .answer) (f .outcome) (f .kept)
+  reply-fine (Held bits apart) o f = told (o .station) (o .answer) (f .outcome) (f .kept)
 
   replied : (bytes : List ℕ) → Reply-fine s (respond s bytes)
   unfolding respond

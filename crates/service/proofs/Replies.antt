@@ -1,17 +1,18 @@
 -- Replies: what a message that isn't an ask is told; that the fields of every reply are in their ranges, so that it can be written; and
 -- what writing it leaves. Assumes nothing.
-use mathlib.Core.Path.{_≡_, refl, sym, ap, _∙_}
+use mathlib.Core.Path.{_≡_, refl, ap, _∙_}
 use mathlib.Core.Bool.{Bool, true, false, cond}
 use mathlib.Core.List.{List, [], _∷_, _++_}
-use Prim.Native.Nat.{ℕ, _-_, _/_, _≤_, _<_}
+use Prim.Native.Nat.{ℕ, _/_, _≤_}
 use native.Mathlib.Omega.{arith}
-use borrow.Author.Tests.{leb-true, le-leb, lt-leb, le-ltb}
+use borrow.Author.Tests.{leb-true, le-leb, le-ltb}
 use denote.Enum.Declared.{tagOf}
 use lib.Dec.{ltb, leb}
 use lib.ListN.{length, drop, length-append}
 use types.Run.{OneOf, miss}
 use Rattle.bits.specs.Search.{least}
 use Rattle.bits.proofs.Cases.{alike}
+use Rattle.answers.specs.declared.Answer.{Answer}
 use Rattle.answers.specs.declared.Answer.the-variants.{Taken, TooFewBytes, NoRoom}
 use Rattle.garage.specs.declared.Outcome.{Outcome}
 use Rattle.wire.proofs.What as what
@@ -29,21 +30,21 @@ use Rattle.service.specs.Runs.{enough, finishing}
 pub not-asked : (w : What) (o : Outcome) → OneOf (0 ∷ 1 ∷ 2 ∷ 3 ∷ 5 ∷ 6 ∷ []) (tagOf what.the-type w) → replyMessage w o ≡ answerMessage (o .answer)
 not-asked Request o h = refl
 not-asked (Event way) o h = refl
-not-asked (Result issue number done) o h = refl
-not-asked (Image r) o h = refl
+not-asked (Result issue number ending) o h = refl
+not-asked (Image bits apart) o h = refl
 not-asked Ask o h = absurd (miss (0 ∷ 1 ∷ 2 ∷ 3 ∷ 5 ∷ 6 ∷ []) 4 tt h)
 not-asked (What.Answer number place issue) o h = refl
-not-asked (Held r) o h = refl
+not-asked (Held bits apart) o h = refl
 
 -- what is neither of kind 128 nor of 129 makes a call
 pub makes-call : (w : What) → OneOf (0 ∷ 1 ∷ 2 ∷ 3 ∷ 4 ∷ []) (tagOf what.the-type w) → true ≡ makesCall w
 makes-call Request h = refl
 makes-call (Event way) h = refl
-makes-call (Result issue number done) h = refl
-makes-call (Image r) h = refl
+makes-call (Result issue number ending) h = refl
+makes-call (Image bits apart) h = refl
 makes-call Ask h = refl
 makes-call (What.Answer number place issue) h = absurd (miss (0 ∷ 1 ∷ 2 ∷ 3 ∷ 4 ∷ []) 5 tt h)
-makes-call (Held r) h = absurd (miss (0 ∷ 1 ∷ 2 ∷ 3 ∷ 4 ∷ []) 6 tt h)
+makes-call (Held bits apart) h = absurd (miss (0 ∷ 1 ∷ 2 ∷ 3 ∷ 4 ∷ []) 6 tt h)
 
 -- ---- writing
 
@@ -52,11 +53,11 @@ pub plain-written : (w : What) (room : List ℕ) → inRange w ≡ true → writ
 unfolding answerBytes writing least
 plain-written Request room e = refl
 plain-written (Event way) room e = ranged (plain (Event way)) room (Event way) refl refl e
-plain-written (Result issue number done) room e = ranged (plain (Result issue number done)) room (Result issue number done) refl refl e
-plain-written (Image r) room e = refl
+plain-written (Result issue number ending) room e = ranged (plain (Result issue number ending)) room (Result issue number ending) refl refl e
+plain-written (Image bits apart) room e = refl
 plain-written Ask room e = refl
 plain-written (What.Answer number place issue) room e = ranged (plain (What.Answer number place issue)) room (What.Answer number place issue) refl refl e
-plain-written (Held r) room e = refl
+plain-written (Held bits apart) room e = refl
 
 -- and room that is long enough for it
 pub wrote : (w : What) (room : List ℕ) {r : Written} {last : List ℕ} → inRange w ≡ true → length (answerBytes w) ≤ length room
@@ -67,26 +68,28 @@ wrote w room f h (e, l) =
     let q = plain-written w room f ∙ p in
     (ap (λ (x : Written). x .size) (e ∙ ap (λ (x : Writing). x .says) q), l ∙ ap (λ (x : Writing). x .leaves) q)
 
--- no reply has more than twelve bytes
-pub answer-bytes-length : (w : What) → length (answerBytes w) ≤ 12
+-- no reply has more than twenty bytes
+pub answer-bytes-length : (w : What) → length (answerBytes w) ≤ 20
 unfolding answerBytes
 answer-bytes-length Request = omega arith
 answer-bytes-length (Event way) = omega arith
-answer-bytes-length (Result issue number done) = omega arith
-answer-bytes-length (Image r) = omega arith
+answer-bytes-length (Result issue number ending) = omega arith
+answer-bytes-length (Image bits apart) = omega arith
 answer-bytes-length Ask = omega arith
 answer-bytes-length (What.Answer number place issue) = omega arith
-answer-bytes-length (Held r) = omega arith
+answer-bytes-length (Held bits apart) = omega arith
 
--- a third of what is left beside the last answer
-pub fits-by-third : (n room : ℕ) → 12 ≤ room → leb n ((room - 12) / 3) ≡ leb (enough n) room
-fits-by-third n room h =
-    alike (leb n ((room - 12) / 3)) (leb (enough n) room)
-    (λ e. le-leb (enough n) room (let f = leb-true n ((room - 12) / 3) e in omega arith))
-    (λ e. le-leb n ((room - 12) / 3) (let f = leb-true (enough n) room e in omega arith))
+-- an answer that is no image has eight
+pub answer-length : (a : Answer) → length (answerBytes (answerMessage a)) ≤ 8
+unfolding answerBytes
+answer-length a = omega arith
 
-pub fits-not : (n room : ℕ) → room < 12 → false ≡ leb (enough n) room
-fits-not n room h = sym (lt-leb (enough n) room (omega arith))
+-- a fifth of the room
+pub fits-by-fifth : (n room : ℕ) → leb n (room / 5) ≡ leb (enough n) room
+fits-by-fifth n room =
+    alike (leb n (room / 5)) (leb (enough n) room)
+    (λ e. le-leb (enough n) room (let f = leb-true n (room / 5) e in omega arith))
+    (λ e. le-leb n (room / 5) (let f = leb-true (enough n) room e in omega arith))
 
 -- ---- the end of the input
 

@@ -3,11 +3,11 @@
 use mathlib.Core.Path.{_≡_, refl, sym, ap, _∙_}
 use mathlib.Core.Bool.{false, true}
 use mathlib.Core.List.{List, [], _∷_, _++_, append-assoc}
-use Prim.Native.Nat.{ℕ, zero, suc, _+_, _*_, _≤_}
+use Prim.Native.Nat.{ℕ, zero, suc, _+_, _≤_}
 use native.Mathlib.Nat.{add-assoc, zero-add}
 use native.Mathlib.Omega.{arith}
-use borrow.Author.Tests.{leb-true}
-use lib.Dec.{leb}
+use borrow.Author.Tests.{leb-true, ltb-false}
+use lib.Dec.{leb, ltb}
 use lib.ListN.{length, drop, length-append, length-drop}
 use Rattle.bits.proofs.Cases.{split}
 use Rattle.answers.specs.declared.Answer.the-variants.{BadLength}
@@ -15,10 +15,10 @@ use Rattle.garage.specs.declared.Station.{Station}
 use Rattle.wire.specs.declared.Frame.{Frame}
 use Rattle.wire.specs.declared.Frame.the-variants.{Cut, Wrong, Whole}
 use Rattle.wire.specs.Reads.{frameOf}
-use Rattle.wire.proofs.Frames.{whole-frame}
+use Rattle.wire.proofs.Frames.{when, whole-frame}
 use Rattle.service.specs.Service.{respond, answerMessage, answerBytes}
 use Rattle.service.specs.Runs.{Ran, ends, further, after, runOf, run, enough, serving}
-use Rattle.service.proofs.Replies.{answer-bytes-length}
+use Rattle.service.proofs.Replies.{answer-bytes-length, answer-length}
 
 -- no bytes are no whole message
 pub none-cut : (input : List ℕ) → length input ≤ 0 → frameOf input ≡ Cut
@@ -28,6 +28,13 @@ none-cut (b ∷ bs) h = absurd (omega arith)
 -- a whole message takes four bytes at least
 pub shorter : (input : List ℕ) (n : ℕ) → frameOf input ≡ Whole n → length (drop n input) + 4 ≤ length input
 shorter input n e = let f = whole-frame input n e in rw length-drop (omega arith)
+
+-- a wrong length has two
+pub wrong-long : (input : List ℕ) → frameOf input ≡ Wrong → 2 ≤ length input
+wrong-long input e = when (ltb (length input) 2) Cut _ _ e (λ _ z. absurd (no z)) (λ h _. ltb-false (length input) 2 h)
+  where
+    no : Cut ≡ Wrong → ⊥
+    no z = let n : _≡_ {A = ℕ} 0 1 = cc in omega arith
 
 same-after : (f : Frame) (go ho : Station → List ℕ → Ran) (s : Station) (input : List ℕ) → frameOf input ≡ f
     → ((x : Station) (rest : List ℕ) → length rest + 4 ≤ length input → go x rest ≡ ho x rest) → after f go s input ≡ after f ho s input
@@ -76,12 +83,12 @@ further-more a b x y r = rw (add-assoc, append-assoc)
 
 pub record Within (r : Ran) (n : ℕ) : Type 0 where
   pub used : r .used ≤ n
-  pub made : length (r .bytes) ≤ 3 * r .used + 12
+  pub made : length (r .bytes) ≤ enough n
 
 after-within : (f : Frame) (go : Station → List ℕ → Ran) (s : Station) (input : List ℕ) → frameOf input ≡ f
     → ((x : Station) (rest : List ℕ) → length rest + 4 ≤ length input → Within (go x rest) (length rest)) → Within (after f go s input) (length input)
 after-within Cut go s input e h = record { used = omega arith; made = omega arith }
-after-within Wrong go s input e h = record { used = omega arith; made = omega (arith, answer-bytes-length (answerMessage BadLength)) }
+after-within Wrong go s input e h = record { used = omega arith; made = omega (arith, wrong-long input e, answer-length BadLength) }
 after-within (Whole n) go s input e h =
     let x = respond s input in
     let f = whole-frame input n e in

@@ -2,7 +2,7 @@
 use mathlib.Core.Path.{_≡_, refl, ap, _∙_}
 use mathlib.Core.Bool.{Bool, true, false}
 use mathlib.Core.List.{List, [], _++_, append-assoc, append-nil}
-use Prim.Native.Nat.{ℕ, _+_, _*_, _-_, _≤_}
+use Prim.Native.Nat.{ℕ, _+_, _-_, _≤_}
 use native.Mathlib.Nat.{add-zero}
 use native.Mathlib.Omega.{arith}
 use lib.ListN.{length, take, drop, length-append, length-take, length-drop, drop-of-length-le}
@@ -15,9 +15,9 @@ use Rattle.wire.specs.Reads.{frameOf}
 use Rattle.wire.proofs.Frames.{whole-frame}
 use Rattle.service.specs.declared.Reply.{Reply}
 use Rattle.service.specs.Service.{respond, answerMessage, answerBytes}
-use Rattle.service.specs.Runs.{ends, further, run, Serves, served}
-use Rattle.service.proofs.Replies.{answer-bytes-length}
-use Rattle.service.proofs.Running.{turn-cut, turn-wrong, turn-whole, further-none, further-more}
+use Rattle.service.specs.Runs.{ends, further, run, enough, Serves, served}
+use Rattle.service.proofs.Replies.{answer-bytes-length, answer-length}
+use Rattle.service.proofs.Running.{shorter, wrong-long, turn-cut, turn-wrong, turn-whole, further-none, further-more}
 
 -- the room after a call that put b at the start of what stands past the first `made` bytes
 abbrev pub put-at : List ℕ → List ℕ → ℕ → List ℕ
@@ -39,7 +39,7 @@ room-more done b before out last made hd e l h hl =
 -- so far: `at` bytes of the input taken, `made` of the room written, and a run from here on is what is left of the whole
 pub record Midway (input before : List ℕ) (s₀ : Station) (out : List ℕ) (s : Station) (at made : ℕ) : Type 0 where
   pub within : at ≤ length input
-  pub small : made ≤ 3 * at
+  pub small : made ≤ enough at
   pub long : length out ≡ length before
   pub room : out ≡ take made out ++ drop made before
   pub rest : run s₀ input ≡ further at (take made out) (run s (drop at input))
@@ -48,13 +48,25 @@ pub started : (input before : List ℕ) (s : Station) → Midway input before s 
 started input before s = record { within = omega arith; small = omega arith; long = refl; room = refl; rest = further-none _ }
 
 module _ {input before : List ℕ} {s₀ : Station} {out : List ℕ} {s : Station} {at made : ℕ} (m : Midway input before s₀ out s at made)
-    (enough : 3 * length input + 12 ≤ length before) where
+    (roomy : enough (length input) ≤ length before) where
   done-length : length (take made out) ≡ made
   done-length = length-take-le made out (omega arith)
 
-  -- there is room for one more
-  pub room-left : (w : What) → length (answerBytes w) ≤ length (take (length out - made) (drop made out))
-  room-left w = let b = answer-bytes-length w in simp (length-take, length-drop) (omega arith)
+  -- there is room for one more: for the reply to a whole message, and for the answer to a wrong length
+  pub room-left : (w : What) (n : ℕ) → frameOf (drop at input) ≡ Whole n → length (answerBytes w) ≤ length (take (length out - made) (drop made out))
+  room-left w n e =
+      let b = answer-bytes-length w in
+      let h = shorter (drop at input) n e in
+      let l = length-drop at input in
+      simp (length-take, length-drop) (omega arith)
+
+  pub room-last : (w : What) → frameOf (drop at input) ≡ Wrong → w ≡ answerMessage BadLength
+      → length (answerBytes w) ≤ length (take (length out - made) (drop made out))
+  room-last w e f =
+      let b = answer-length BadLength in
+      let h = wrong-long (drop at input) e in
+      let l = length-drop at input in
+      rw f (simp (length-take, length-drop) (omega arith))
 
   -- the run ends here, and b is the last that it says
   ended : (b last : List ℕ) (stop : Bool) → run s (drop at input) ≡ ends s b stop → last ≡ (take made out ++ b) ++ drop (made + length b) before

@@ -7,8 +7,8 @@ use Rattle.wire.specs.declared.What.the-variants.{Request, Event, Result, Image
 abbrev pub makesCall : What → Bool
 makesCall Request = true
 makesCall (Event way) = true
-makesCall (Result issue number done) = true
-makesCall (Image r) = true
+makesCall (Result issue number ending) = true
+makesCall (Image bits apart) = true
 makesCall Ask = true
 makesCall (Answer number place issue) = false
-makesCall (Held r) = false
+makesCall (Held bits apart) = false

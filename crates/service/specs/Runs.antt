@@ -68,9 +68,10 @@ served r room =
       leaves = r .bytes ++ drop (length (r .bytes)) room;
     }
 
--- the room that is enough for any input so long: a message has four bytes or more, and its answer twelve at most
+-- the room that is enough for any input so long: a message has four bytes or more and its answer twenty at most, a wrong length has two
+-- bytes or more and its answer eight
 abbrev pub enough : ℕ → ℕ
-enough n = 3 * n + 12
+enough n = 5 * n
 
 -- a run of messages in lent room: 17 and nothing else where the room may be too short
 unfoldable pub serving : Station → List ℕ → List ℕ → Serving

@@ -25,11 +25,11 @@ use Rattle.service.specs.declared.Reply.{Reply}
 abbrev pub called : What → Station → ℕ → List ℕ → Outcome
 called Request s count set = request s count set
 called (Event way) s count set = event s way
-called (Result issue number done) s count set = result s (record { issue = issue; number = number; done = done })
-called (Image r) s count set = takeImage s (record { bits = r })
+called (Result issue number ending) s count set = result s (record { issue = issue; number = number; ending = ending })
+called (Image bits apart) s count set = takeImage s (record { bits = bits; apart = apart })
 called Ask s count set = ask s
 called (What.Answer number place issue) s count set = refused s UnknownKind
-called (Held r) s count set = refused s UnknownKind
+called (Held bits apart) s count set = refused s UnknownKind
 
 -- an answer as a message
 abbrev pub answerMessage : Answer → What
@@ -39,11 +39,11 @@ answerMessage a = What.Answer (numberOf a) (placeOf a) (issueOf a)
 abbrev pub replyMessage : What → Outcome → What
 replyMessage Request o = answerMessage (o .answer)
 replyMessage (Event way) o = answerMessage (o .answer)
-replyMessage (Result issue number done) o = answerMessage (o .answer)
-replyMessage (Image r) o = answerMessage (o .answer)
-replyMessage Ask o = cond (eqb (numberOf (o .answer)) 0) (Held (o .station .bits)) (answerMessage (o .answer))
+replyMessage (Result issue number ending) o = answerMessage (o .answer)
+replyMessage (Image bits apart) o = answerMessage (o .answer)
+replyMessage Ask o = cond (eqb (numberOf (o .answer)) 0) (Held (o .station .bits) (o .station .apart)) (answerMessage (o .answer))
 replyMessage (What.Answer number place issue) o = answerMessage (o .answer)
-replyMessage (Held r) o = answerMessage (o .answer)
+replyMessage (Held bits apart) o = answerMessage (o .answer)
 
 -- the reply to a call
 abbrev pub replyOf : What → Outcome → Reply
@@ -66,11 +66,11 @@ onKnown known s o = cond known o (refused s Unfit)
 abbrev pub calledKnown : Bool → What → Station → ℕ → List ℕ → Outcome
 calledKnown known Request s count set = onKnown known s (requested s count set)
 calledKnown known (Event way) s count set = onKnown known s (evented s way)
-calledKnown known (Result issue number done) s count set = onKnown known s (resulted s (record { issue = issue; number = number; done = done }))
-calledKnown known (Image r) s count set = onKnown known s (imaged s (record { bits = r }))
+calledKnown known (Result issue number ending) s count set = onKnown known s (resulted s (record { issue = issue; number = number; ending = ending }))
+calledKnown known (Image bits apart) s count set = onKnown known s (imaged s (record { bits = bits; apart = apart }))
 calledKnown known Ask s count set = onKnown known s (taken s)
 calledKnown known (What.Answer number place issue) s count set = refused s UnknownKind
-calledKnown known (Held r) s count set = refused s UnknownKind
+calledKnown known (Held bits apart) s count set = refused s UnknownKind
 
 -- the reply to the first message of some bytes, where fitness is known
 unfoldable pub respondKnown : Bool → Station → List ℕ → Reply

@@ -29,11 +29,11 @@ RepliesInRange = (s : Station) (bytes : List ℕ) → inRange (respond s bytes .
 -- an image, or an answer: its number one of the table's, its place 0 to 7 or none
 abbrev pub Answers : What → Type 0
 Answers (What.Answer number place issue) = OfTable number × ((place ≤ 7) ⊎ (place ≡ nowhere))
-Answers (Held r) = Unit {0}
+Answers (Held bits apart) = Unit {0}
 Answers Request = ⊥
 Answers (Event way) = ⊥
-Answers (Result issue number done) = ⊥
-Answers (Image r) = ⊥
+Answers (Result issue number ending) = ⊥
+Answers (Image bits apart) = ⊥
 Answers Ask = ⊥
 
 -- every message is answered so

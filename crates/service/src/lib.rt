@@ -52,7 +52,7 @@ fn makes_call(what: What) -> bool
             place: _,
             issue: _,
         } => false,
-        What::Held(_) => false,
+        What::Held { bits: _, apart: _ } => false,
         _ => true,
     }
 }
@@ -67,6 +67,7 @@ fn unmoved(s: Station, answer: Answer) -> Turn
         count: s.count,
         answered: s.answered,
         next: s.next,
+        apart: s.apart,
     }
 }
 
@@ -83,20 +84,20 @@ fn turn(known: bool, what: What, s: Station, count: u8, set: [u8; 40]) -> Turn
         What::Result {
             issue,
             number,
-            done,
+            ending,
         } => s.resulted(Report {
             issue,
             number,
-            done,
+            ending,
         }),
-        What::Image(r) => s.imaged(Picture { bits: r }),
+        What::Image { bits, apart } => s.imaged(Picture { bits, apart }),
         What::Ask => unmoved(s, Answer::Taken),
         What::Answer {
             number: _,
             place: _,
             issue: _,
         } => unmoved(s, Answer::UnknownKind),
-        What::Held(_) => unmoved(s, Answer::UnknownKind),
+        What::Held { bits: _, apart: _ } => unmoved(s, Answer::UnknownKind),
     }
 }
 
@@ -122,10 +123,13 @@ fn answer_message(answer: Answer) -> What
 
 // The image after an ask that was taken.
 fn image_or(s: Station, answer: Answer) -> What
-    ensures { λ w. ⌜ w ≡ cond (eqb (numberOf answer) 0) (Held (s .bits)) (answerMessage answer) ⌝ }
+    ensures { λ w. ⌜ w ≡ cond (eqb (numberOf answer) 0) (Held (s .bits) (s .apart)) (answerMessage answer) ⌝ }
 {
     if answer.number() == 0 {
-        return What::Held(s.bits);
+        return What::Held {
+            bits: s.bits,
+            apart: s.apart,
+        };
     }
     answer_message(answer)
 }
@@ -230,14 +234,11 @@ fn answer_all(s: Station, input: &[u8], out: &mut [u8]) -> Served
 fn fits(n: usize, room: usize) -> bool
     ensures { λ b. ⌜ b ≡ leb (enough n) room ⌝ }
 {
-    if room < 12 {
-        return false;
-    }
-    n <= (room - 12) / 3
+    n <= room / 5
 }
 
-// Answers every whole message of input into out, one after another. It asks for room of 3 bytes for each of the input and 12 besides;
-// where there is less it does nothing.
+// Answers every whole message of input into out, one after another. It asks for room of five bytes for each of the input; where there
+// is less it does nothing.
 pub fn serve(s: Station, input: &[u8], out: &mut [u8]) -> Served
     ensures { λ r. ⌜ Serves (serving s (now (input .entry)) (now (out .entry))) r (now (out .exit)) ⌝ }
 {

@@ -104,6 +104,6 @@ fn session(buf: &mut [u8], out: &mut [u8])
 // 64 KiB of input, and room for all answers to it.
 fn main() {
     let mut buf = [0u8; 65536];
-    let mut out = [0u8; 196620];
+    let mut out = [0u8; 327680];
     session(&mut buf, &mut out);
 }

@@ -32,18 +32,18 @@ use Rattle.station_c.specs.Entries.{stationBytes, stationOf, returned, r
 pub not-an-answer : (w : What) → OneOf (0 ∷ 1 ∷ 2 ∷ 3 ∷ 4 ∷ 6 ∷ []) (tagOf what.the-type w) → returned Taken ≡ returnedOf w
 not-an-answer Request h = refl
 not-an-answer (Event way) h = refl
-not-an-answer (Result issue number done) h = refl
-not-an-answer (Image r) h = refl
+not-an-answer (Result issue number ending) h = refl
+not-an-answer (Image bits apart) h = refl
 not-an-answer Ask h = refl
 not-an-answer (What.Answer number place issue) h = absurd (miss (0 ∷ 1 ∷ 2 ∷ 3 ∷ 4 ∷ 6 ∷ []) 5 tt h)
-not-an-answer (Held r) h = refl
+not-an-answer (Held bits apart) h = refl
 
 module _ (room message reply : List ℕ) where
-  pub short-room : {r : ℕ} → length room < 52 → r ≡ returned NoRoom → Exchanges (exchange room message reply) r room reply
+  pub short-room : {r : ℕ} → length room < 60 → r ≡ returned NoRoom → Exchanges (exchange room message reply) r room reply
   unfolding exchange
   short-room h e = rw (lt-ltb _ _ h) (e, refl, refl)
 
-  module _ {s : Station} {o : Reply} {w : Written} {last : List ℕ} (h : 52 ≤ length room) (e : s ≡ stationOf room) (f : o ≡ respond s message)
+  module _ {s : Station} {o : Reply} {w : Written} {last : List ℕ} (h : 60 ≤ length room) (e : s ≡ stationOf room) (f : o ≡ respond s message)
       (g : writes.Leaves (writing (plain (o .answer)) reply) w last) where
     -- the reply's room is too short
     short : Bool
@@ -84,7 +84,7 @@ module _ (room message reply : List ℕ) where
       told-why a q = rw (le-ltb _ _ h, ← e, ← f, fits, ← a, ne-eqb (_ % 256) 0 q) (refl, refl, wrote fits .1)
 
       -- the message was taken
-      pub replied : {r : ℕ} {b final : List ℕ} → r ≡ returnedOf (o .answer) → r % 256 ≡ 0 → b ≡ stationBytes (o .station) → length b ≡ 52
+      pub replied : {r : ℕ} {b final : List ℕ} → r ≡ returnedOf (o .answer) → r % 256 ≡ 0 → b ≡ stationBytes (o .station) → length b ≡ 60
           → final ≡ take (length b) b ++ drop (length b) room → Exchanges (exchange room message reply) r final last
       unfolding exchange short
       replied a q c l p = rw (le-ltb _ _ h, ← e, ← f, fits, ← a, eq-eqb (_ % 256) 0 q) (refl, p ∙ rw (take-length, l, c), wrote fits .1)

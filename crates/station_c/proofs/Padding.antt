@@ -14,13 +14,13 @@ use Rattle.bits.specs.Search.{some}
 use Rattle.floor.specs.Floor.{lift}
 use Rattle.floor.specs.Tests.{holds, underWay}
 use Rattle.rules.specs.declared.Code.{Code}
-use Rattle.answers.specs.declared.Answer.the-variants.{TooFewBytes, TooMany, SetOutstanding, EmptySet, BadField, Overlap, Opened, OutOfTurn}
+use Rattle.answers.specs.declared.Answer.the-variants.{TooFewBytes, TooMany, SetOutstanding, EmptySet, BadField, Overlap, Opened, OutOfTurn, SetApart}
 use Rattle.rules.specs.Verdicts.{codeVerdict, answerFor}
 use Rattle.garage.specs.declared.Station.{Station}
 use Rattle.garage.specs.declared.Outcome.{Outcome}
-use Rattle.garage.specs.Held.{codeAt, isGood, heldArea, heldAllowed, overlapsEarlier, liftIn, crossesDrive}
+use Rattle.garage.specs.Held.{codeAt, isGood, heldArea, heldAllowed, heldParts, overlapsEarlier, touches, liftIn, crossesDrive}
 use Rattle.garage.specs.Station.{opened}
-use Rattle.garage.specs.Calls.{refused, onFit, unlessAny, accepted, cleared, requested, request}
+use Rattle.garage.specs.Calls.{refused, onFit, unlessAny, accepted, spared, cleared, requested, request}
 use Rattle.garage.proofs.Padding.{padded-code}
 use Rattle.wire.specs.Kinds.{setOf}
 use Rattle.wire.proofs.Parts.{set-short}
@@ -45,12 +45,13 @@ module _ (s : Station) (n : ℕ) where
       (cond (eqb n 0) (refused s EmptySet)
       (unlessAny n (λ i. not (isGood (code i))) s BadField
       (cond (holds underWay (bit (s .bits)) && some n (λ j. share (heldArea (code j)) lift)) (refused s OutOfTurn)
+      (unlessAny n (λ i. some 64 (λ k. bit (heldParts (code i)) k && bit (s .apart) k)) s SetApart
       (unlessAny n (λ i. some i (λ j. share (heldArea (code i)) (heldArea (code j)))) s Overlap
       (unlessAny n (λ i. not (heldAllowed (code i) (bit (s .bits)))) s (λ i. answerFor (codeVerdict (code i) (s .bits)) i)
-      (record { station = made; answer = Opened (s .next) }))))))))
+      (record { station = made; answer = Opened (s .next) })))))))))
 
   as-form : (set : List ℕ) → request s n set ≡ form (codeAt set) (opened s n set)
-  unfolding request requested cleared accepted form overlapsEarlier liftIn crossesDrive
+  unfolding request requested cleared spared accepted form touches overlapsEarlier liftIn crossesDrive
   as-form set = refl
 
   padded : (l : List ℕ) (m : ℕ) → length l ≡ 5 * n → request s n (l ++ replicate m 0) ≡ request s n l

@@ -28,13 +28,14 @@ use Rattle.service.specs.Service.{respond}
 
 -- how many bytes a station takes
 abbrev pub stationSize : ℕ
-stationSize = 52
+stationSize = 60
 
--- its record, how many instructions the outstanding set has, their marks, the set, and the issue of the next one
+-- its record, how many instructions the outstanding set has, their marks, the set, the issue of the next one, and what is set apart
 unfoldable pub stationBytes : Station → List ℕ
-stationBytes s = littleEndian 8 (s .bits) ++ (s .count ∷ s .answered ∷ (s .set ++ littleEndian 2 (s .next)))
+stationBytes s =
+    littleEndian 8 (s .bits) ++ (s .count ∷ s .answered ∷ (s .set ++ (littleEndian 2 (s .next) ++ littleEndian 8 (s .apart))))
 
--- the station that the first 52 bytes hold
+-- the station that the first 60 bytes hold
 unfoldable pub stationOf : List ℕ → Station
 stationOf m =
     record {
@@ -43,6 +44,7 @@ stationOf m =
       answered = getD m 9 0;
       set = take 40 (drop 10 m);
       next = fromLittleEndian 2 50 m;
+      apart = fromLittleEndian 8 52 m;
     }
 
 -- ---- what an entry does
@@ -78,22 +80,26 @@ entry call room =
 unfoldable pub requestOf : ℕ → List ℕ → Station → Outcome
 requestOf n set s = cond (leb n most && ltb (length set) (5 * n)) (refused s TooFewBytes) (request s n (take (5 * n) set))
 
--- the record is asked for: it is written to a room of its own
+-- an image in bytes: the record, then what is set apart
+abbrev pub imageBytes : ℕ → ℕ → List ℕ
+imageBytes r apart = littleEndian 8 r ++ littleEndian 8 apart
+
+-- the image is asked for: it is written to a room of its own
 unfoldable pub asking : List ℕ → List ℕ → Entry
 asking room image =
     let s = stationOf room in
-    cond (ltb (length room) stationSize || ltb (length image) 8) (noRoom image) (writes (ask s .answer) (littleEndian 8 (s .bits)) image)
+    cond (ltb (length room) stationSize || ltb (length image) 16) (noRoom image) (writes (ask s .answer) (imageBytes (s .bits) (s .apart)) image)
 
 -- ---- a message on a lent station
 
 -- what is returned besides a message that answers: its number, place and issue, or 0 with the image after an ask
 abbrev pub returnedOf : What → ℕ
 returnedOf (What.Answer number place issue) = number + 256 * place + 65536 * issue
-returnedOf (Held r) = returned Taken
+returnedOf (Held bits apart) = returned Taken
 returnedOf Request = returned Taken
 returnedOf (Event way) = returned Taken
-returnedOf (Result issue number done) = returned Taken
-returnedOf (Image r) = returned Taken
+returnedOf (Result issue number ending) = returned Taken
+returnedOf (Image bits apart) = returned Taken
 returnedOf Ask = returned Taken
 
 -- what the entry answers, and what it leaves in the station's room and in the reply's

@@ -10,13 +10,14 @@ use Rattle.garage.specs.declared.Outcome.{Outcome}
 use Rattle.wire_laws.specs.Statements.{Bytes}
 use Rattle.station_c.specs.Entries.{stationSize, stationBytes, stationOf, returned, entry, asking, exchange, judgement, nexting}
 
--- a station as code holds it: the record is a number of 64 bits, the set has forty places, the next issue 16 bits
+-- a station as code holds it: the record is a number of 64 bits, the set has forty places, the next issue 16 bits, what is set apart 64
 pub record Typed (s : Station) : Type 0 where
   pub image : s .bits < 2 ^ 64
   pub places : length (s .set) ≡ 40
   pub issue : s .next < 2 ^ 16
+  pub apart : s .apart < 2 ^ 64
 
--- it takes 52 bytes
+-- it takes 60 bytes
 abbrev pub StationFits : Type 0
 StationFits = (s : Station) → Typed s → length (stationBytes s) ≡ stationSize
 

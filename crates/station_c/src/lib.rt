@@ -1,4 +1,4 @@
-// The entries for a planner in C or Rust: numbers and runs of bytes alone. A station is lent as 52 bytes, an answer is its number plus
+// The entries for a planner in C or Rust: numbers and runs of bytes alone. A station is lent as 60 bytes, an answer is its number plus
 // 256 times its place plus 65536 times its issue, and a refused call writes nothing. What each answers and leaves stands in specs/Entries.antt.
 ghost use mathlib.Core.Path.{_≡_};
 ghost use Prim.Native.Nat.{_≤_};
@@ -10,7 +10,7 @@ ghost use Rattle.garage.specs.Held.{crosses};
 ghost use Rattle.garage.specs.Station.{startOf};
 ghost use Rattle.garage.specs.Calls.{taken, event, result, takeImage};
 ghost use Rattle.station_c.specs.Private.{bytesAsked};
-ghost use Rattle.station_c.specs.Entries.{stationSize, stationBytes, stationOf, returned, Leaves, writes, entry, requestOf, asking, returnedOf, Exchanges, exchange, moved, answerTo, judgement, recordIn, nexting, carsOr255};
+ghost use Rattle.station_c.specs.Entries.{stationSize, stationBytes, stationOf, imageBytes, returned, Leaves, writes, entry, requestOf, asking, returnedOf, Exchanges, exchange, moved, answerTo, judgement, recordIn, nexting, carsOr255};
 use answers::Answer;
 use answers::NOWHERE;
 use floor::Total;
@@ -24,45 +24,53 @@ use rules::Moved;
 use rules::Reading;
 use wire::What;
 
-// The bytes of a lent station, of a record, and of an instruction.
-const STATION: usize = 52;
+// The bytes of a lent station, of a record, of a record and what is set apart, and of an instruction.
+const STATION: usize = 60;
 
-// Where the issue of the next set stands in it.
+// Where the issue of the next set stands in it, and what is set apart.
 const NEXT: usize = 50;
 
+const APART: usize = 52;
+
 const RECORD: usize = 8;
+
+const IMAGE: usize = 16;
 
 const CODE: usize = 5;
 
 // ---- stations and answers in bytes and numbers
 
-// The station that the first 52 bytes hold.
+// The station that the first 60 bytes hold.
 fn load(room: &[u8]) -> Station
     requires { ⌜ stationSize ≤ length (now room) ⌝ }
     ensures { λ s. ⌜ s ≡ stationOf (now (room .entry)) ⌝ }
 {
     let set = wire::set_of(&room[10..NEXT]);
+    let apart = wire::image_of(&room[APART..STATION]);
     Station {
         bits: wire::image_of(room),
         count: room[8],
         answered: room[9],
         set,
         next: wire::word(room[NEXT], room[NEXT + 1]),
+        apart,
     }
 }
 
-// The station that 52 bytes hold, for a crate that is lent one too.
+// The station that 60 bytes hold, for a crate that is lent one too.
 pub fn station_of(room: [u8; STATION]) -> Station
     ensures { λ s. ⌜ s ≡ stationOf room ⌝ }
 {
     load(&room)
 }
 
-// A station as 52 bytes, by its fields.
-fn stored(bits: u64, count: u8, answered: u8, set: [u8; 40], next: u16) -> [u8; STATION]
-    ensures { λ b. ⌜ b ≡ stationBytes (record { bits = bits; count = count; answered = answered; set = set; next = next }) ⌝ }
+// A station as 60 bytes, by its fields.
+fn stored(bits: u64, count: u8, answered: u8, set: [u8; 40], next: u16, apart: u64) -> [u8; STATION]
+    ensures { λ b. ⌜ b ≡ stationBytes (record { bits = bits; count = count; answered = answered; set = set; next = next; apart = apart }) ⌝ }
 {
     let mut b = [0u8; STATION];
+    let parts = wire::image_bytes(apart);
+    bytes::copy(&parts, &mut b[APART..STATION]);
     b[NEXT] = (next % 256) as u8;
     b[NEXT + 1] = (next / 256) as u8;
     bytes::copy(&set, &mut b[10..NEXT]);
@@ -71,6 +79,32 @@ fn stored(bits: u64, count: u8, answered: u8, set: [u8; 40], next: u16) -> [u8; 
     b[8] = count;
     b[9] = answered;
     b
+}
+
+// A record and what is set apart, as an image's sixteen bytes.
+fn image_in(bits: u64, apart: u64) -> [u8; IMAGE]
+    ensures { λ b. ⌜ b ≡ imageBytes bits apart ⌝ }
+{
+    let b = wire::image_bytes(bits);
+    let a = wire::image_bytes(apart);
+    [
+        b[0],
+        b[1],
+        b[2],
+        b[3],
+        b[4],
+        b[5],
+        b[6],
+        b[7],
+        a[0],
+        a[1],
+        a[2],
+        a[3],
+        a[4],
+        a[5],
+        a[6],
+        a[7],
+    ]
 }
 
 // An answer as one number.
@@ -100,7 +134,7 @@ fn keep(o: Outcome, room: &mut [u8]) -> u32
 {
     let s = o.station;
     let set = s.set;
-    let b = stored(s.bits, s.count, s.answered, set, s.next);
+    let b = stored(s.bits, s.count, s.answered, set, s.next, s.apart);
     let a = o.answer;
     answer(a, &b, room)
 }
@@ -174,10 +208,10 @@ pub extern "C" fn station_event(room: &mut [u8], way: u8) -> u32
     keep(o, room)
 }
 
-// The result of an instruction, by the issue of its set and its number from 0: 0 failed, 1 done.
+// The result of an instruction, by the issue of its set and its number from 0: 0 failed, 1 done, 2 stuck.
 #[no_mangle]
-pub extern "C" fn station_result(room: &mut [u8], issue: u16, number: u8, done: u8) -> u32
-    ensures { λ r. ⌜ Leaves (entry (λ s. result s (record { issue = issue; number = number; done = done })) (now (room .entry))) r (now (room .exit)) ⌝ }
+pub extern "C" fn station_result(room: &mut [u8], issue: u16, number: u8, ending: u8) -> u32
+    ensures { λ r. ⌜ Leaves (entry (λ s. result s (record { issue = issue; number = number; ending = ending })) (now (room .entry))) r (now (room .exit)) ⌝ }
 {
     if room.len() < STATION {
         return say(Answer::NoRoom);
@@ -186,25 +220,25 @@ pub extern "C" fn station_result(room: &mut [u8], issue: u16, number: u8, done: 
     let o = s.result(Report {
         issue,
         number,
-        done,
+        ending,
     });
     keep(o, room)
 }
 
-// An image, which becomes the record.
+// An image, which becomes the record with nothing set apart.
 #[no_mangle]
-pub extern "C" fn station_image(room: &mut [u8], image: u64) -> u32
-    ensures { λ r. ⌜ Leaves (entry (λ s. takeImage s (record { bits = image })) (now (room .entry))) r (now (room .exit)) ⌝ }
+pub extern "C" fn station_image(room: &mut [u8], image: u64, apart: u64) -> u32
+    ensures { λ r. ⌜ Leaves (entry (λ s. takeImage s (record { bits = image; apart = apart })) (now (room .entry))) r (now (room .exit)) ⌝ }
 {
     if room.len() < STATION {
         return say(Answer::NoRoom);
     }
     let s = load(room);
-    let o = s.image(Picture { bits: image });
+    let o = s.image(Picture { bits: image, apart });
     keep(o, room)
 }
 
-// The record's eight bytes, to a room of their own.
+// The record's eight bytes and then those of what is set apart, to a room of their own.
 #[no_mangle]
 pub extern "C" fn station_ask(room: &[u8], image: &mut [u8]) -> u32
     ensures { λ r. ⌜ Leaves (asking (now (room .entry)) (now (image .entry))) r (now (image .exit)) ⌝ }
@@ -212,11 +246,11 @@ pub extern "C" fn station_ask(room: &[u8], image: &mut [u8]) -> u32
     if room.len() < STATION {
         return say(Answer::NoRoom);
     }
-    if image.len() < RECORD {
+    if image.len() < IMAGE {
         return say(Answer::NoRoom);
     }
     let s = load(room);
-    let b = wire::image_bytes(s.bits);
+    let b = image_in(s.bits, s.apart);
     let o = s.ask();
     let a = o.answer;
     answer(a, &b, image)
@@ -260,7 +294,7 @@ pub extern "C" fn station_message(room: &mut [u8], message: &[u8], reply: &mut [
     }
     let s = o.station;
     let set = s.set;
-    let b = stored(s.bits, s.count, s.answered, set, s.next);
+    let b = stored(s.bits, s.count, s.answered, set, s.next, s.apart);
     bytes::copy(&b, room);
     r
 }

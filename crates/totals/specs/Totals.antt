@@ -13,7 +13,7 @@ use Rattle.totals.specs.declared.Totals.{Totals}
 use Rattle.totals.specs.declared.Happened.{Happened}
 use Rattle.totals.specs.declared.Tally.{Tally}
 
--- a total: messages of a kind, answers with a number, results taken by op, drives done, and the most cars
+-- a total: messages of a kind, answers with a number, results taken by op (stuck ones as failed), drives done, and the most cars
 pub data Name : Type 0 where
   Kind : ℕ → Name
   Number : ℕ → Name
@@ -35,7 +35,7 @@ size = 52
 unfoldable pub nameAt : ℕ → Name
 nameAt p = getD order p MostCars
 
--- whether what happened counts under a name; the most cars are no count
+-- whether what happened counts under a name: a result is done or counts as failed; the most cars are no count
 abbrev pub counts : Name → Happened → Bool
 counts (Kind k) h = eqb (h .kind) k
 counts (Number n) h = eqb (h .answer) n

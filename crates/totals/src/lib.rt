@@ -24,7 +24,7 @@ pub struct Happened {
     pub answer: u8,
     // the op, 1 to 5, of the instruction whose result was taken; 0 where none was
     pub op: u8,
-    // whether that result was done, not failed
+    // whether that result was done; one that failed or is stuck was not
     pub done: bool,
     // the drive that was done: 1 in, 2 out; 0 where none was
     pub drive: u8,

@@ -65,11 +65,11 @@ cars-told r e = sym (ap carsIn e)
 pub no-number : (w : What) → OneOf (0 ∷ 1 ∷ 2 ∷ 3 ∷ 4 ∷ 6 ∷ []) (tagOf what.the-type w) → 255 ≡ numberIn w
 no-number Request h = refl
 no-number (Event way) h = refl
-no-number (Result issue number done) h = refl
-no-number (Image r) h = refl
+no-number (Result issue number ending) h = refl
+no-number (Image bits apart) h = refl
 no-number Ask h = refl
 no-number (Answer number place issue) h = absurd (miss (0 ∷ 1 ∷ 2 ∷ 3 ∷ 4 ∷ 6 ∷ []) 5 tt h)
-no-number (Held r) h = refl
+no-number (Held bits apart) h = refl
 
 -- ---- what a message tells
 
@@ -187,7 +187,7 @@ module _ (s : Station) (m : List ℕ) where
         (λ t _. nothing-told 1 t (omega arith) refl refl ∙ sym (request-tells s b))
         (λ _. ways Told (eqb (kindAt b) 2) (λ t. sized-told b 5 (event .says b) (event-told t))
         (λ _. ways Told (eqb (kindAt b) 3) (λ t. sized-told b 8 (result .says b) (λ l. result-told t l (fromLittleEndian 2 4 b)))
-        (λ _. ways Told (eqb (kindAt b) 4) (λ t. sized-told b 12 (image .says b) (λ _. nothing-told 4 t (omega arith) refl refl))
+        (λ _. ways Told (eqb (kindAt b) 4) (λ t. sized-told b 20 (image .says b) (λ _. nothing-told 4 t (omega arith) refl refl))
         (λ _. ways Told (eqb (kindAt b) 5) (λ t. sized-told b 4 Ask (λ _. nothing-told 5 t (omega arith) refl refl))
         (λ _ z. absurd (omega arith))))))
 

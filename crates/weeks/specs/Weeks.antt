@@ -32,32 +32,32 @@ kindRead s =
 -- the number of an answer of kind 128; 255 where the image is the answer
 abbrev pub numberIn : What → ℕ
 numberIn (Answer number place issue) = number
-numberIn (Held r) = 255
+numberIn (Held bits apart) = 255
 numberIn Request = 255
 numberIn (Event way) = 255
-numberIn (Result issue number done) = 255
-numberIn (Image r) = 255
+numberIn (Result issue number ending) = 255
+numberIn (Image bits apart) = 255
 numberIn Ask = 255
 
 -- the op of the instruction whose result a message brings, by the set that the station holds; 0 where it brings none
 abbrev pub opIn : Station → What → ℕ
-opIn s (Result issue number done) = codeAt (s .set) number .op
+opIn s (Result issue number ending) = codeAt (s .set) number .op
 opIn s Request = 0
 opIn s (Event way) = 0
-opIn s (Image r) = 0
+opIn s (Image bits apart) = 0
 opIn s Ask = 0
 opIn s (Answer number place issue) = 0
-opIn s (Held r) = 0
+opIn s (Held bits apart) = 0
 
--- whether it brings the result 1, done
+-- whether it brings the result 1, done: what is stuck counts as failed
 abbrev pub isDone : What → Bool
-isDone (Result issue number done) = eqb done 1
+isDone (Result issue number ending) = eqb ending 1
 isDone Request = false
 isDone (Event way) = false
-isDone (Image r) = false
+isDone (Image bits apart) = false
 isDone Ask = false
 isDone (Answer number place issue) = false
-isDone (Held r) = false
+isDone (Held bits apart) = false
 
 -- the drive under way on the record with this image: 1 in, 2 out, 0 none
 abbrev pub driveOn : ℕ → ℕ
@@ -67,11 +67,11 @@ driveOn r = cond (bit r driveIn) 1 (cond (bit r driveOut) 2 0)
 abbrev pub driveDone : ℕ → What → ℕ
 driveDone r (Event way) = cond (eqb way 3) (driveOn r) 0
 driveDone r Request = 0
-driveDone r (Result issue number done) = 0
-driveDone r (Image x) = 0
+driveDone r (Result issue number ending) = 0
+driveDone r (Image bits apart) = 0
 driveDone r Ask = 0
 driveDone r (Answer number place issue) = 0
-driveDone r (Held x) = 0
+driveDone r (Held bits apart) = 0
 
 -- how many cars there are; 0 of a record that isn't sound, which only a station that was handed in can have
 abbrev pub carsIn : Total → ℕ

@@ -1,10 +1,10 @@
 -- Parts of a run of bytes, as code refers to them. Assumes nothing.
 use mathlib.Core.Path.{_≡_, sym, _∙_}
-use mathlib.Core.List.{List, [], _++_, append-nil}
+use mathlib.Core.List.{List, [], _∷_, _++_, append-nil}
 use Prim.Native.Nat.{ℕ, zero, suc, _+_, _*_, _-_, _≤_, _<_}
 use native.Mathlib.Omega.{arith}
-use lib.ListN.{length, take, drop, replicate, length-drop}
-use lib.Seq.{take-all, take-length, length-take-le, drop-drop, getD-drop}
+use lib.ListN.{getD, length, take, drop, replicate, length-drop}
+use lib.Seq.{take-all, take-length, length-take-le, drop-drop}
 use Rattle.wire.specs.Kinds.{fromLittleEndian, setOf}
 use native.Mathlib.Nat.{sub-zero, zero-sub, suc-sub-suc}
 
@@ -16,9 +16,19 @@ from-on m at = take-all (length m - at) (drop at m) (simp length-drop (omega ari
 pub at-five : (m : List ℕ) (i : ℕ) → take (length m - (5 + 5 * i)) (drop (5 + 5 * i) m) ≡ drop (5 * i) (drop 5 m)
 at-five m i = from-on m (5 + 5 * i) ∙ sym (drop-drop (5 * i) 5 m)
 
--- the image in a message
-pub at-four : (m : List ℕ) → fromLittleEndian 8 0 (take (length m - 4) (drop 4 m)) ≡ fromLittleEndian 8 4 m
-at-four m = rw (from-on m 4) (simp getD-drop)
+-- eight bytes from place i on
+pub eight-at : (s : List ℕ) (i : ℕ)
+    → fromLittleEndian 8 0 (getD s i 0 ∷ getD s (i + 1) 0 ∷ getD s (i + 2) 0 ∷ getD s (i + 3) 0 ∷ getD s (i + 4) 0 ∷ getD s (i + 5) 0 ∷ getD s (i + 6) 0 ∷ getD s (i + 7) 0 ∷ [])
+    ≡ fromLittleEndian 8 i s
+eight-at s i =
+    let a : i + 1 ≡ suc i = omega arith in
+    let b : i + 2 ≡ suc (suc i) = omega arith in
+    let c : i + 3 ≡ suc (suc (suc i)) = omega arith in
+    let d : i + 4 ≡ suc (suc (suc (suc i))) = omega arith in
+    let e : i + 5 ≡ suc (suc (suc (suc (suc i)))) = omega arith in
+    let f : i + 6 ≡ suc (suc (suc (suc (suc (suc i))))) = omega arith in
+    let g : i + 7 ≡ suc (suc (suc (suc (suc (suc (suc i)))))) = omega arith in
+    rw (a, b, c, d, e, f, g)
 
 -- past its first n places an array of zeros holds zeros
 pub zeros-past : (n k : ℕ) → drop {A = ℕ} n (replicate k 0) ≡ replicate (k - n) 0

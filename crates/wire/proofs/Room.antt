@@ -29,11 +29,11 @@ put-all src room last h e = e ∙ rw (take-length, le-ltb _ _ h)
 not-request : (w : What) → inRange w ≡ false → eqb (kindOf w) request ≡ false
 not-request Request e = clash refl e
 not-request (Event way) e = refl
-not-request (Result issue number done) e = refl
-not-request (Image x) e = refl
+not-request (Result issue number ending) e = refl
+not-request (Image bits apart) e = refl
 not-request Ask e = refl
 not-request (Answer number place issue) e = refl
-not-request (Held x) e = refl
+not-request (Held bits apart) e = refl
 
 pub out-of-range : (m : Message) (room : List ℕ) → inRange (m .what) ≡ false → writing m room ≡ kept (BadField nowhere) room
 unfolding writing

@@ -38,13 +38,13 @@ request = 1
 abbrev pub event : Kind
 event = record { number = 2; size = 1; says = λ m. Event (getD m 4 0) }
 
--- 3: a result, the issue of its set, the number of the instruction and 0 failed or 1 done
+-- 3: a result, the issue of its set, the number of the instruction and its ending, 0 failed, 1 done or 2 stuck
 abbrev pub result : Kind
 result = record { number = 3; size = 4; says = λ m. Result (fromLittleEndian 2 4 m) (getD m 6 0) (getD m 7 0) }
 
--- 4: an image to take
+-- 4: an image to take, the record and what is set apart
 abbrev pub image : Kind
-image = record { number = 4; size = 8; says = λ m. Image (fromLittleEndian 8 4 m) }
+image = record { number = 4; size = 16; says = λ m. Image (fromLittleEndian 8 4 m) (fromLittleEndian 8 12 m) }
 
 -- 5: the image is asked for
 abbrev pub ask : Kind
@@ -54,9 +54,9 @@ ask = record { number = 5; size = 0; says = λ m. Ask }
 abbrev pub answer : Kind
 answer = record { number = 128; size = 4; says = λ m. Answer (getD m 4 0) (getD m 5 0) (fromLittleEndian 2 6 m) }
 
--- 129: the image that was asked for
+-- 129: the image that was asked for, the record and what is set apart
 abbrev pub held : Kind
-held = record { number = 129; size = 8; says = λ m. Held (fromLittleEndian 8 4 m) }
+held = record { number = 129; size = 16; says = λ m. Held (fromLittleEndian 8 4 m) (fromLittleEndian 8 12 m) }
 
 -- the kinds that a station reads besides requests
 abbrev pub asked : List Kind
@@ -70,32 +70,32 @@ known = answer ∷ held ∷ asked
 abbrev pub kindOf : What → ℕ
 kindOf Request = request
 kindOf (Event way) = event .number
-kindOf (Result issue number done) = result .number
-kindOf (Image x) = image .number
+kindOf (Result issue number ending) = result .number
+kindOf (Image bits apart) = image .number
 kindOf Ask = ask .number
 kindOf (Answer number place issue) = answer .number
-kindOf (Held x) = held .number
+kindOf (Held bits apart) = held .number
 
 -- the body that says this: of a request, a count and the bytes of so many instructions
 abbrev pub bodyOf : What → ℕ → List ℕ → List ℕ
 bodyOf Request count set = count ∷ take (5 * count) set
 bodyOf (Event way) count set = way ∷ []
-bodyOf (Result issue number done) count set = littleEndian 2 issue ++ number ∷ done ∷ []
-bodyOf (Image x) count set = littleEndian 8 x
+bodyOf (Result issue number ending) count set = littleEndian 2 issue ++ number ∷ ending ∷ []
+bodyOf (Image bits apart) count set = littleEndian 8 bits ++ littleEndian 8 apart
 bodyOf Ask count set = []
 bodyOf (Answer number place issue) count set = number ∷ place ∷ littleEndian 2 issue
-bodyOf (Held x) count set = littleEndian 8 x
+bodyOf (Held bits apart) count set = littleEndian 8 bits ++ littleEndian 8 apart
 
--- the fields are in their ranges, the number of an answer one of the table's, an issue any; a request's instructions have ranges of their
--- own
+-- the fields are in their ranges, the number of an answer one of the table's, an issue and an image's numbers any; a request's
+-- instructions have ranges of their own
 abbrev pub inRange : What → Bool
 inRange Request = true
 inRange (Event way) = leb 1 way && leb way 4
-inRange (Result issue number done) = leb done 1
-inRange (Image x) = true
+inRange (Result issue number ending) = leb ending 2
+inRange (Image bits apart) = true
 inRange Ask = true
 inRange (Answer number place issue) = inTable number && (leb place 7 || eqb place nowhere)
-inRange (Held x) = true
+inRange (Held bits apart) = true
 
 -- a run of bytes as the forty places of a set: zeros where it ends before, and what goes past them is not looked at
 abbrev pub setOf : List ℕ → List ℕ

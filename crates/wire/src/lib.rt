@@ -1,25 +1,25 @@
-// Messages: what they say, how they are read from bytes, and, in `writing`, how they are written. What they mean stands in specs/.
+// Messages: what they say, how they are read from bytes, in `kinds` each by its kind, and, in `writing`, how they are written. What they
+// mean stands in specs/.
 use answers::Answer;
-use rules::Reading;
 ghost use mathlib.Core.Path.{_≡_};
 ghost use mathlib.Core.List.{[], _∷_, _++_};
-ghost use Prim.Native.Nat.{_≤_, _<_, _+_, _-_, _*_, _%_};
-ghost use lib.ListN.{getD, length, drop, replicate};
-ghost use Rattle.bits.specs.Search.{least};
-ghost use Rattle.wire.specs.Kinds.{littleEndian, fromLittleEndian, first, event, result, answer, known, asked, inRange, plain, setOf};
-ghost use Rattle.wire.specs.Reads.{frameOf, refused, sized, isBad, badIn, readRequest, readWhole, readMessage, readAsked};
+ghost use Prim.Native.Nat.{_≤_, _<_, _-_, _%_};
+ghost use lib.ListN.{getD, length, replicate};
+ghost use Rattle.wire.specs.Kinds.{littleEndian, fromLittleEndian, plain, setOf};
+ghost use Rattle.wire.specs.Reads.{frameOf, refused, readMessage, readAsked};
 
+mod kinds;
 pub mod writing;
 
-// What a message asks or tells; a request's instructions stand beside it, in Message.
+// What a message asks or tells; a request's instructions stand beside it, in Message. An image is the record and what is set apart.
 pub enum What {
     Request,
     Event { way: u8 },
-    Result { issue: u16, number: u8, done: u8 },
-    Image(u64),
+    Result { issue: u16, number: u8, ending: u8 },
+    Image { bits: u64, apart: u64 },
     Ask,
     Answer { number: u8, place: u8, issue: u16 },
-    Held(u64),
+    Held { bits: u64, apart: u64 },
 }
 
 // A message: a request's instructions are held as their own five bytes each, the unused places zero.
@@ -78,20 +78,28 @@ fn issue_at(m: &[u8], i: usize) -> u16
     word(low, high)
 }
 
-// The number that the first eight bytes say, the lowest first; bytes that are not there count as zero.
+// The number that eight bytes say from place i on, the lowest first; bytes that are not there count as zero.
+fn image_at(s: &[u8], i: usize) -> u64
+    requires { ⌜ i < 45 ⌝ }
+    ensures { λ r. ⌜ r ≡ fromLittleEndian 8 i (now (s .entry)) ⌝ }
+{
+    joined(
+        byte(s, i),
+        byte(s, i + 1),
+        byte(s, i + 2),
+        byte(s, i + 3),
+        byte(s, i + 4),
+        byte(s, i + 5),
+        byte(s, i + 6),
+        byte(s, i + 7),
+    )
+}
+
+// The same of the first eight.
 pub fn image_of(s: &[u8]) -> u64
     ensures { λ r. ⌜ r ≡ fromLittleEndian 8 0 (now (s .entry)) ⌝ }
 {
-    joined(
-        byte(s, 0),
-        byte(s, 1),
-        byte(s, 2),
-        byte(s, 3),
-        byte(s, 4),
-        byte(s, 5),
-        byte(s, 6),
-        byte(s, 7),
-    )
+    image_at(s, 0)
 }
 
 fn joined(a: u8, b: u8, c: u8, d: u8, e: u8, f: u8, g: u8, h: u8) -> u64
@@ -210,168 +218,6 @@ fn refused(answer: Answer, used: usize) -> Received
     }
 }
 
-// Whether the fields of a message are in their ranges, a request's instructions aside.
-fn in_range(what: What) -> bool
-    ensures { λ r. ⌜ r ≡ inRange what ⌝ }
-{
-    match what {
-        What::Request => true,
-        What::Event { way } => (1 <= way) & (way <= 4),
-        What::Result {
-            issue: _,
-            number: _,
-            done,
-        } => done <= 1,
-        What::Image(_) => true,
-        What::Ask => true,
-        What::Answer {
-            number,
-            place,
-            issue: _,
-        } => answers::in_table(number) & ((place <= 7) | (place == answers::NOWHERE)),
-        What::Held(_) => true,
-    }
-}
-
-// A message of a kind whose body has one size: taken if it is n bytes long and its fields are in their ranges.
-fn sized(m: &[u8], n: usize, what: What) -> Received
-    ensures { λ r. ⌜ r ≡ sized (now (m .entry)) n what ⌝ }
-{
-    let used = m.len();
-    if used != n {
-        return refused(Answer::BadLength, used);
-    }
-    if in_range(what) {
-        let message = plain(what);
-        return Received {
-            answer: Answer::Taken,
-            used,
-            message,
-        };
-    }
-    refused(Answer::BadField(answers::NOWHERE), used)
-}
-
-fn is_bad(one: Reading) -> bool
-    ensures { λ r. ⌜ r ≡ isBad one ⌝ }
-{
-    match one {
-        Reading::Good(_) => false,
-        Reading::Bad => true,
-    }
-}
-
-// The least bad instruction of a request of n, or n where none is: each is read from its own five bytes.
-fn least_bad(m: &[u8], n: u8) -> u8
-    requires { ⌜ (n ≤ 8) × (5 + 5 * n ≤ length (now m)) ⌝ }
-    ensures { λ r. ⌜ r ≡ least n (badIn (drop first (now (m .entry)))) ⌝ }
-{
-    let mut i: u8 = 0;
-    while i < n {
-        let at = 5 + 5 * (i as usize);
-        let one = rules::read_bytes(&m[at..]);
-        if is_bad(one) {
-            return i;
-        }
-        i += 1;
-    }
-    n
-}
-
-fn read_request(m: &[u8]) -> Received
-    ensures { λ r. ⌜ r ≡ readRequest (now (m .entry)) ⌝ }
-{
-    let used = m.len();
-    if used < 5 {
-        return refused(Answer::BadLength, used);
-    }
-    let count = m[4];
-    if 8 < count {
-        return refused(Answer::TooMany, used);
-    }
-    if used != 5 + 5 * (count as usize) {
-        return refused(Answer::BadLength, used);
-    }
-    let bad = least_bad(m, count);
-    if bad < count {
-        return refused(Answer::BadField(bad), used);
-    }
-    let set = held(&m[5..]);
-    let message = Message {
-        what: What::Request,
-        count,
-        set,
-    };
-    Received {
-        answer: Answer::Taken,
-        used,
-        message,
-    }
-}
-
-fn read_event(m: &[u8]) -> Received
-    ensures { λ r. ⌜ r ≡ sized (now (m .entry)) (4 + event .size) (event .says (now (m .entry))) ⌝ }
-{
-    sized(m, 5, What::Event { way: byte(m, 4) })
-}
-
-fn read_result(m: &[u8]) -> Received
-    ensures { λ r. ⌜ r ≡ sized (now (m .entry)) (4 + result .size) (result .says (now (m .entry))) ⌝ }
-{
-    sized(
-        m,
-        8,
-        What::Result {
-            issue: issue_at(m, 4),
-            number: byte(m, 6),
-            done: byte(m, 7),
-        },
-    )
-}
-
-fn read_answer(m: &[u8]) -> Received
-    ensures { λ r. ⌜ r ≡ sized (now (m .entry)) (4 + answer .size) (answer .says (now (m .entry))) ⌝ }
-{
-    sized(
-        m,
-        8,
-        What::Answer {
-            number: byte(m, 4),
-            place: byte(m, 5),
-            issue: issue_at(m, 6),
-        },
-    )
-}
-
-// A message whose bytes are exactly m, of a kind that a station reads.
-fn whole_asked(m: &[u8]) -> Received
-    requires { ⌜ 4 ≤ length (now m) ⌝ }
-    ensures { λ r. ⌜ r ≡ readWhole asked (now (m .entry)) ⌝ }
-{
-    let kind = word(m[2], m[3]);
-    match kind {
-        1 => read_request(m),
-        2 => read_event(m),
-        3 => read_result(m),
-        4 => sized(m, 12, What::Image(image_of(&m[4..]))),
-        5 => sized(m, 4, What::Ask),
-        _ => refused(Answer::UnknownKind, m.len()),
-    }
-}
-
-// The same for any kind.
-fn whole(m: &[u8]) -> Received
-    requires { ⌜ 4 ≤ length (now m) ⌝ }
-    ensures { λ r. ⌜ r ≡ readWhole known (now (m .entry)) ⌝ }
-{
-    let kind = word(m[2], m[3]);
-    match kind {
-        128 => read_answer(m),
-        129 => sized(m, 12, What::Held(image_of(&m[4..]))),
-        _ => whole_asked(m),
-    }
-}
-
 // The first message of s, of any kind; what stands after it is not looked at.
 pub fn read(s: &[u8]) -> Received
     ensures { λ r. ⌜ r ≡ readMessage (now (s .entry)) ⌝ }
@@ -380,7 +226,7 @@ pub fn read(s: &[u8]) -> Received
     match frame {
         Frame::Cut => refused(Answer::TooFewBytes, 0),
         Frame::Wrong => refused(Answer::BadLength, 0),
-        Frame::Whole(n) => whole(&s[..n]),
+        Frame::Whole(n) => kinds::whole(&s[..n]),
     }
 }
 
@@ -392,6 +238,6 @@ pub fn read_asked(s: &[u8]) -> Received
     match frame {
         Frame::Cut => refused(Answer::TooFewBytes, 0),
         Frame::Wrong => refused(Answer::BadLength, 0),
-        Frame::Whole(n) => whole_asked(&s[..n]),
+        Frame::Whole(n) => kinds::whole_asked(&s[..n]),
     }
 }

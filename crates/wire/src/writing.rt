@@ -3,13 +3,13 @@ use super::Message;
 use super::What;
 use super::Written;
 use super::image_bytes;
-use super::in_range;
 use super::issue_bytes;
-use super::least_bad;
+use super::kinds::in_range;
+use super::kinds::least_bad;
 use super::plain;
 use answers::Answer;
 ghost use mathlib.Core.Path.{_≡_};
-ghost use mathlib.Core.List.{_∷_};
+ghost use mathlib.Core.List.{_∷_, _++_};
 ghost use Prim.Native.Nat.{_≤_, _+_, _*_};
 ghost use Rattle.wire.specs.declared.What.{What};
 ghost use Rattle.wire.specs.Kinds.{littleEndian, plain};
@@ -32,14 +32,15 @@ fn put(src: &[u8], room: &mut [u8]) -> Written
     }
 }
 
-// An image of this kind.
-fn put_image(kind: u8, x: u64, room: &mut [u8]) -> Written
-    ensures { λ r. ⌜ Leaves (put (10 ∷ 0 ∷ kind ∷ 0 ∷ littleEndian 8 x) (now (room .entry))) r (now (room .exit)) ⌝ }
+// A record and what is set apart, in a message of this kind.
+fn put_image(kind: u8, bits: u64, apart: u64, room: &mut [u8]) -> Written
+    ensures { λ r. ⌜ Leaves (put (18 ∷ 0 ∷ kind ∷ 0 ∷ littleEndian 8 bits ++ littleEndian 8 apart) (now (room .entry))) r (now (room .exit)) ⌝ }
 {
-    let b = image_bytes(x);
+    let b = image_bytes(bits);
+    let a = image_bytes(apart);
     put(
         &[
-            10,
+            18,
             0,
             kind,
             0,
@@ -51,6 +52,14 @@ fn put_image(kind: u8, x: u64, room: &mut [u8]) -> Written
             b[5],
             b[6],
             b[7],
+            a[0],
+            a[1],
+            a[2],
+            a[3],
+            a[4],
+            a[5],
+            a[6],
+            a[7],
         ],
         room,
     )
@@ -106,12 +115,12 @@ pub fn write(m: Message, room: &mut [u8]) -> Written
             What::Result {
                 issue,
                 number,
-                done,
+                ending,
             } => {
                 let b = issue_bytes(issue);
-                put(&[6, 0, 3, 0, b[0], b[1], number, done], room)
+                put(&[6, 0, 3, 0, b[0], b[1], number, ending], room)
             }
-            What::Image(x) => put_image(4, x, room),
+            What::Image { bits, apart } => put_image(4, bits, apart, room),
             What::Ask => put(&[2, 0, 5, 0], room),
             What::Answer {
                 number,
@@ -121,7 +130,7 @@ pub fn write(m: Message, room: &mut [u8]) -> Written
                 let b = issue_bytes(issue);
                 put(&[6, 0, 128, 0, number, place, b[0], b[1]], room)
             }
-            What::Held(x) => put_image(129, x, room),
+            What::Held { bits, apart } => put_image(129, bits, apart, room),
         }
     } else {
         Written {

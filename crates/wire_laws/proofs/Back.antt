@@ -2,7 +2,7 @@
 use mathlib.Core.Path.{_≡_, refl, sym, _∙_, ap, ap₂}
 use mathlib.Core.Bool.{Bool, true, false, cond, _&&_}
 use mathlib.Core.List.{List, [], _∷_, _++_}
-use Prim.Native.Nat.{ℕ, suc, _+_, _*_, _≤_, _<_}
+use Prim.Native.Nat.{ℕ, suc, _+_, _*_, _^_, _≤_, _<_}
 use native.Mathlib.Omega.{arith}
 use borrow.Author.Tests.{le-ltb, eq-eqb, ltb-false}
 use lib.Dec.{ltb, eqb}
@@ -16,12 +16,13 @@ use Rattle.answers.specs.Answers.{numberOf, nowhere}
 use Rattle.wire.specs.declared.What.{What}
 use Rattle.wire.specs.declared.What.the-variants.{Request, Event, Result, Image, Ask, Answer as AnswerOf, Held}
 use Rattle.wire.specs.declared.Message.{Message}
-use Rattle.wire.specs.Kinds.{littleEndian, kindOf, request, inRange, plain, requesting}
+use Rattle.wire.specs.declared.Received.{Received}
+use Rattle.wire.specs.Kinds.{littleEndian, fromLittleEndian, kindOf, request, inRange, plain, requesting}
 use Rattle.wire.specs.Reads.{badIn, taken, readRequest, readWhole, readMessage}
 use Rattle.wire.specs.Writes.{Writing, messageBytes, kept, isRequest, writing, oneForm}
 use Rattle.wire.proofs.Room.{asking}
 use Rattle.wire_laws.specs.Statements.{Typed, ReadsBack}
-use Rattle.wire_laws.proofs.Numbers.{number-back, image-reads-back, two-bytes}
+use Rattle.wire_laws.proofs.Numbers.{number-back, two-back, two-bytes}
 use Rattle.wire_laws.proofs.Instructions.{bad-same}
 use Rattle.wire_laws.proofs.Messages.{read-back}
 
@@ -61,6 +62,11 @@ wrote m room e =
 
 -- ---- messages that hold no instruction
 
+-- what is made of an image's two numbers, in either direction
+image-back : (f : ℕ → ℕ → Received) (bits apart : ℕ) → bits < 2 ^ 64 → apart < 2 ^ 64
+    → f (fromLittleEndian 8 0 (littleEndian 8 bits ++ littleEndian 8 apart)) (fromLittleEndian 8 8 (littleEndian 8 bits ++ littleEndian 8 apart)) ≡ f bits apart
+image-back f bits apart h g = let e = two-back 8 8 bits apart [] h g in ap₂ f (e .0) (e .1)
+
 plain-back : (w : What) (count : ℕ) (set t : List ℕ) → Typed (record { what = w; count = count; set = set }) → Good (record { what = w; count = count; set = set })
     → eqb (kindOf w) request ≡ false
     → readMessage (messageBytes (record { what = w; count = count; set = set }) ++ t)
@@ -68,19 +74,19 @@ plain-back : (w : What) (count : ℕ) (set t : List ℕ) → Typed (record { wha
 unfolding readWhole
 plain-back Request count set t p g r = clash refl r
 plain-back (Event way) count set t p g r = read-back (3 ∷ 0 ∷ 2 ∷ 0 ∷ way ∷ []) t refl (omega arith) (omega arith) ∙ rw (g .ranged)
-plain-back (Result issue number done) count set t p g r =
-    read-back (6 ∷ 0 ∷ 3 ∷ 0 ∷ littleEndian 2 issue ++ number ∷ done ∷ []) t refl (omega arith) (omega arith)
-    ∙ rw (g .ranged) (ap (λ (i : ℕ). taken (plain (Result i number done)) 8) (number-back 2 issue [] (p .issue)))
-plain-back (Image x) count set t p g r =
-    read-back (10 ∷ 0 ∷ 4 ∷ 0 ∷ littleEndian 8 x) t refl (omega arith) (omega arith)
-    ∙ ap (λ (n : ℕ). taken (plain (Image n)) 12) (image-reads-back x [] (p .image))
+plain-back (Result issue number ending) count set t p g r =
+    read-back (6 ∷ 0 ∷ 3 ∷ 0 ∷ littleEndian 2 issue ++ number ∷ ending ∷ []) t refl (omega arith) (omega arith)
+    ∙ rw (g .ranged) (ap (λ (i : ℕ). taken (plain (Result i number ending)) 8) (number-back 2 issue [] (p .issue)))
+plain-back (Image bits apart) count set t p g r =
+    read-back (18 ∷ 0 ∷ 4 ∷ 0 ∷ littleEndian 8 bits ++ littleEndian 8 apart) t refl (omega arith) (omega arith)
+    ∙ image-back (λ (b a : ℕ). taken (plain (Image b a)) 20) bits apart (p .image) (p .apart)
 plain-back Ask count set t p g r = read-back (2 ∷ 0 ∷ 5 ∷ 0 ∷ []) t refl (omega arith) (omega arith)
 plain-back (AnswerOf number place issue) count set t p g r =
     read-back (6 ∷ 0 ∷ 128 ∷ 0 ∷ number ∷ place ∷ littleEndian 2 issue) t refl (omega arith) (omega arith)
     ∙ rw (g .ranged) (ap (λ (i : ℕ). taken (plain (AnswerOf number place i)) 8) (number-back 2 issue [] (p .issue)))
-plain-back (Held x) count set t p g r =
-    read-back (10 ∷ 0 ∷ 129 ∷ 0 ∷ littleEndian 8 x) t refl (omega arith) (omega arith)
-    ∙ ap (λ (n : ℕ). taken (plain (Held n)) 12) (image-reads-back x [] (p .image))
+plain-back (Held bits apart) count set t p g r =
+    read-back (18 ∷ 0 ∷ 129 ∷ 0 ∷ littleEndian 8 bits ++ littleEndian 8 apart) t refl (omega arith) (omega arith)
+    ∙ image-back (λ (b a : ℕ). taken (plain (Held b a)) 20) bits apart (p .image) (p .apart)
 
 -- ---- requests
 
@@ -111,11 +117,11 @@ module _ (n : ℕ) (set : List ℕ) (few : n ≤ 8) (places : length set ≡ 40)
 pub only-request : (w : What) → eqb (kindOf w) request ≡ true → w ≡ Request
 only-request Request e = refl
 only-request (Event way) e = clash e refl
-only-request (Result issue number done) e = clash e refl
-only-request (Image x) e = clash e refl
+only-request (Result issue number ending) e = clash e refl
+only-request (Image bits apart) e = clash e refl
 only-request Ask e = clash e refl
 only-request (AnswerOf number place issue) e = clash e refl
-only-request (Held x) e = clash e refl
+only-request (Held bits apart) e = clash e refl
 
 -- ---- every message
 

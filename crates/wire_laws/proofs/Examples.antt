@@ -5,7 +5,7 @@ use lib.ListN.{replicate}
 use Rattle.bits.specs.Search.{least}
 use Rattle.answers.specs.declared.Answer.the-variants.{TooFewBytes, BadLength, UnknownKind, BadField, TooMany}
 use Rattle.rules.specs.Codes.{readCode, readBytes}
-use Rattle.wire.specs.declared.What.the-variants.{Event, Result, Ask, Answer, Held}
+use Rattle.wire.specs.declared.What.the-variants.{Event, Result, Image, Ask, Answer, Held}
 use Rattle.wire.specs.Kinds.{plain}
 use Rattle.wire.specs.Reads.{refused, taken, readRequest, readWhole, readMessage, readAsked}
 use Rattle.wire.specs.Writes.{messageBytes}
@@ -23,16 +23,37 @@ then-ask = refl
 answered : messageBytes (plain (Answer 0 255 0)) ≡ 6 ∷ 0 ∷ 0x80 ∷ 0 ∷ 0 ∷ 0xFF ∷ 0 ∷ 0 ∷ []
 answered = refl
 
-image-sent : messageBytes (plain (Held 0x00191B0000000000)) ≡ 0x0A ∷ 0 ∷ 0x81 ∷ 0 ∷ 0 ∷ 0 ∷ 0 ∷ 0 ∷ 0 ∷ 0x1B ∷ 0x19 ∷ 0 ∷ []
+image-sent : messageBytes (plain (Held 0x00891B0000000000 0)) ≡ 0x12 ∷ 0 ∷ 0x81 ∷ 0 ∷ 0 ∷ 0 ∷ 0 ∷ 0 ∷ 0 ∷ 0x1B ∷ 0x89 ∷ 0 ∷ replicate 8 0
 image-sent = refl
 
--- a set of issue 258 is opened, and its instruction 5 is done; a result without an issue is too short
+-- cells 0 and 1 and the lift are set apart: sent, and read as an image to take; the record alone is too short
+jam-sent : messageBytes (plain (Held 0x00191B0000000003 0x0010000000000003)) ≡ 0x12 ∷ 0 ∷ 0x81 ∷ 0 ∷ 3 ∷ 0 ∷ 0 ∷ 0 ∷ 0 ∷ 0x1B ∷ 0x19 ∷ 0 ∷ 3 ∷ 0 ∷ 0 ∷ 0 ∷ 0 ∷ 0 ∷ 0x10 ∷ 0 ∷ []
+jam-sent = refl
+
+jam-taken : readAsked (0x12 ∷ 0 ∷ 4 ∷ 0 ∷ 3 ∷ 0 ∷ 0 ∷ 0 ∷ 0 ∷ 0x1B ∷ 0x19 ∷ 0 ∷ 3 ∷ 0 ∷ 0 ∷ 0 ∷ 0 ∷ 0 ∷ 0x10 ∷ 0 ∷ []) ≡ taken (plain (Image 0x00191B0000000003 0x0010000000000003)) 20
+unfolding readAsked readWhole
+jam-taken = refl
+
+record-alone : readAsked (0x0A ∷ 0 ∷ 4 ∷ 0 ∷ 0 ∷ 0 ∷ 0 ∷ 0 ∷ 0 ∷ 0x1B ∷ 0x19 ∷ 0 ∷ []) ≡ refused BadLength 12
+unfolding readAsked readWhole
+record-alone = refl
+
+-- a set of issue 258 is opened, and its instruction 5 is done, or stuck; an ending of 3 is out of its range, and a result without an
+-- issue is too short
 set-opened : messageBytes (plain (Answer 0 255 258)) ≡ 6 ∷ 0 ∷ 0x80 ∷ 0 ∷ 0 ∷ 0xFF ∷ 2 ∷ 1 ∷ []
 set-opened = refl
 
 result-of-it : readAsked (6 ∷ 0 ∷ 3 ∷ 0 ∷ 2 ∷ 1 ∷ 5 ∷ 1 ∷ []) ≡ taken (plain (Result 258 5 1)) 8
 unfolding readAsked readWhole
 result-of-it = refl
+
+stuck : readAsked (6 ∷ 0 ∷ 3 ∷ 0 ∷ 2 ∷ 1 ∷ 5 ∷ 2 ∷ []) ≡ taken (plain (Result 258 5 2)) 8
+unfolding readAsked readWhole
+stuck = refl
+
+no-ending : readAsked (6 ∷ 0 ∷ 3 ∷ 0 ∷ 2 ∷ 1 ∷ 5 ∷ 3 ∷ []) ≡ refused (BadField 255) 8
+unfolding readAsked readWhole
+no-ending = refl
 
 no-issue : readAsked (4 ∷ 0 ∷ 3 ∷ 0 ∷ 5 ∷ 1 ∷ []) ≡ refused BadLength 6
 unfolding readAsked readWhole

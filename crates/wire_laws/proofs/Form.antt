@@ -18,7 +18,7 @@ use Rattle.wire.specs.Reads.{kindAt, badIn, taken, sized, readRequest, readAmon
 use Rattle.wire.specs.Writes.{messageBytes, put, isRequest, writing, oneForm}
 use Rattle.wire.proofs.Frames.{when}
 use Rattle.wire_laws.specs.Statements.{Bytes, Form, OneForm}
-use Rattle.wire_laws.proofs.Numbers.{bytes-take, number-form, word-form}
+use Rattle.wire_laws.proofs.Numbers.{bytes-take, bytes-drop, word-form, two-form}
 use Rattle.wire_laws.proofs.Instructions.{bad-same}
 use Rattle.wire_laws.proofs.Messages.{no, taken-message, taken-used, cut-out, read-whole, parts}
 use Rattle.wire_laws.proofs.Back.{Good}
@@ -43,7 +43,7 @@ abbrev Each : List Kind → Type 0
 Each [] = Unit {0}
 Each (k ∷ ks) = Lawful k × Each ks
 
--- a body of no, one, four and eight bytes
+-- a body of no, one and four bytes
 none : (m : List ℕ) → length m ≡ 4 → [] ≡ drop 4 m
 none m l = sym (drop-of-length-le m {i = 4} (omega arith))
 
@@ -64,25 +64,25 @@ issue-first m b l =
 issue-last : (m : List ℕ) → Bytes m → length m ≡ 8 → getD m 4 0 ∷ getD m 5 0 ∷ littleEndian 2 (fromLittleEndian 2 6 m) ≡ drop 4 m
 issue-last m b l = ap (λ (i : List ℕ). getD m 4 0 ∷ getD m 5 0 ∷ i) (word-form (getD m 6 0) (getD m 7 0) (b 6) (b 7)) ∙ four m l
 
-eight : (m : List ℕ) → Bytes m → length m ≡ 12 → littleEndian 8 (fromLittleEndian 8 4 m) ≡ drop 4 m
-eight m b l =
-    let s : fromLittleEndian 8 0 (drop 4 m) ≡ fromLittleEndian 8 4 m = simp getD-drop in
-    let k : length (drop 4 m) ≡ 8 = length-drop 4 m ∙ omega arith in
-    ap (littleEndian 8) (sym s)
-    ∙ number-form 8 (drop 4 m) (λ i. rw getD-drop (b (4 + i))) (omega arith)
-    ∙ take-all 8 (drop 4 m) (omega arith)
+-- two numbers of eight bytes each
+sixteen : (m : List ℕ) → Bytes m → length m ≡ 20 → littleEndian 8 (fromLittleEndian 8 4 m) ++ littleEndian 8 (fromLittleEndian 8 12 m) ≡ drop 4 m
+sixteen m b l =
+    let record-at : fromLittleEndian 8 0 (drop 4 m) ≡ fromLittleEndian 8 4 m = simp getD-drop in
+    let apart-at : fromLittleEndian 8 8 (drop 4 m) ≡ fromLittleEndian 8 12 m = simp getD-drop in
+    ap₂ (λ (x y : ℕ). littleEndian 8 x ++ littleEndian 8 y) (sym record-at) (sym apart-at)
+    ∙ two-form 8 8 (drop 4 m) (bytes-drop 4 m b) (length-drop 4 m ∙ omega arith)
 
 lawful : Each known
 lawful = (
   record { other = refl; kind = λ m. refl; body = λ m count set b l. issue-last m b l },
   (
-    record { other = refl; kind = λ m. refl; body = λ m count set b l. eight m b l },
+    record { other = refl; kind = λ m. refl; body = λ m count set b l. sixteen m b l },
     (
       record { other = refl; kind = λ m. refl; body = λ m count set b l. one m l },
       (
         record { other = refl; kind = λ m. refl; body = λ m count set b l. issue-first m b l },
         (
-          record { other = refl; kind = λ m. refl; body = λ m count set b l. eight m b l },
+          record { other = refl; kind = λ m. refl; body = λ m count set b l. sixteen m b l },
           (
             record { other = refl; kind = λ m. refl; body = λ m count set b l. none m l },
             tt,

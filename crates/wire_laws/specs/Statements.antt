@@ -27,29 +27,40 @@ use Rattle.wire.specs.Writes.{messageBytes, isRequest, writing, oneForm}
 abbrev pub Bytes : List ℕ → Type 0
 Bytes s = (i : ℕ) → getD s i 0 < 256
 
--- the image that a message carries, or zero
+-- the record that a message carries, or zero
 abbrev pub carried : What → ℕ
 carried Request = 0
 carried (Event way) = 0
-carried (Result issue number done) = 0
-carried (Image x) = x
+carried (Result issue number ending) = 0
+carried (Image bits apart) = bits
 carried Ask = 0
 carried (Answer number place issue) = 0
-carried (Held x) = x
+carried (Held bits apart) = bits
+
+-- what it carries as set apart, or zero
+abbrev pub apartIn : What → ℕ
+apartIn Request = 0
+apartIn (Event way) = 0
+apartIn (Result issue number ending) = 0
+apartIn (Image bits apart) = apart
+apartIn Ask = 0
+apartIn (Answer number place issue) = 0
+apartIn (Held bits apart) = apart
 
 -- the issue that it carries, or zero
 abbrev pub issueIn : What → ℕ
 issueIn Request = 0
 issueIn (Event way) = 0
-issueIn (Result issue number done) = issue
-issueIn (Image x) = 0
+issueIn (Result issue number ending) = issue
+issueIn (Image bits apart) = 0
 issueIn Ask = 0
 issueIn (Answer number place issue) = issue
-issueIn (Held x) = 0
+issueIn (Held bits apart) = 0
 
--- a message as code holds it: the image is one of 64 bits, the issue one of 16, the set has forty places
+-- a message as code holds it: an image is two numbers of 64 bits, the issue one of 16, the set has forty places
 pub record Typed (m : Message) : Type 0 where
   pub image : carried (m .what) < 2 ^ 64
+  pub apart : apartIn (m .what) < 2 ^ 64
   pub issue : issueIn (m .what) < 2 ^ 16
   pub places : length (m .set) ≡ 40
 

@@ -7,13 +7,13 @@ use Rattle.report_c.proofs.held.Statement.{statement}
 use Rattle.report_c.proofs.held.Tie as tie
 
 slice-aggregate-copy : tie.Need-slice-aggregate-copy
-slice-aggregate-copy c = sym (length-take-le 52 (c .before .before .args .room .now) (c .before .before .pre))
+slice-aggregate-copy c = sym (length-take-le 60 (c .before .before .args .room .now) (c .before .before .pre))
 
 slice-aggregate-copy-2 : tie.Need-slice-aggregate-copy-2
 slice-aggregate-copy-2 c = search needs
 
 copy-requires : tie.Need-copy-requires
-copy-requires c κs = omega (arith, length-take-le 52 (c .before .before .before .args .room .now) (c .before .before .before .pre))
+copy-requires c κs = omega (arith, length-take-le 60 (c .before .before .before .args .room .now) (c .before .before .before .pre))
 
 station-of-requires : tie.Need-station-of-requires
 station-of-requires c κs = search needs

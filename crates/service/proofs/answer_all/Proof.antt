@@ -13,7 +13,7 @@ use Rattle.service.specs.Service.{respond}
 use Rattle.service.proofs.Replies.{answer-bytes-length}
 use Rattle.service.proofs.Called.{respond-fit, known-reply}
 use Rattle.service.proofs.Ranges.{replies-in-range}
-use Rattle.service.proofs.Turns.{Midway, started, room-left, cut-short, wrong-length, answered}
+use Rattle.service.proofs.Turns.{Midway, started, room-left, room-last, cut-short, wrong-length, answered}
 use Rattle.service.proofs.answer_all.Statement.{statement}
 use Rattle.service.proofs.answer_all.Tie as tie
 
@@ -84,7 +84,7 @@ part-say-end : tie.Need-part-say-end Inv-loop μ-loop
 part-say-end c = search needs
 
 say-requires : tie.Need-say-requires Inv-loop μ-loop
-say-requires c κs = (rw (c .before .answer-message .ensures), room-left (c .before .before .before .before .before .before .loop .inv .0) (c .before .before .before .before .before .before .before .before .before .before .pre) (c .before .answer-message .result))
+say-requires c κs = (rw (c .before .answer-message .ensures), room-last (c .before .before .before .before .before .before .loop .inv .0) (c .before .before .before .before .before .before .before .before .before .before .pre) (c .before .answer-message .result) (seen (c .before .before .before .before) ∙ c .before .before .enum-told2 .given .1) (c .before .answer-message .ensures))
 
 add-t21 : tie.Need-add-t21 Inv-loop μ-loop
 add-t21 c = omega (arith, c .before .before .say .ensures .0, answer-bytes-length (c .before .before .before .before .answer-message .result))
@@ -112,7 +112,7 @@ part-say-end-2 : tie.Need-part-say-end-2 Inv-loop μ-loop
 part-say-end-2 c = search needs
 
 say-requires-2 : tie.Need-say-requires-2 Inv-loop μ-loop
-say-requires-2 c κs = (rw (heard (c .before)) (replies-in-range _ _), room-left (c .before .before .before .before .before .before .before .loop .inv .0) (c .before .before .before .before .before .before .before .before .before .before .before .pre) (c .before .respond-known .result .answer))
+say-requires-2 c κs = (rw (heard (c .before)) (replies-in-range _ _), room-left (c .before .before .before .before .before .before .before .loop .inv .0) (c .before .before .before .before .before .before .before .before .before .before .before .pre) (c .before .respond-known .result .answer) (c .before .before .before .frame .given .0 .0) (seen (c .before .before .before .before .before) ∙ c .before .before .before .frame .given .1))
 
 add-made : tie.Need-add-made Inv-loop μ-loop
 add-made c = omega (arith, c .before .before .say2 .ensures .0, answer-bytes-length (c .before .before .before .before .respond-known .result .answer))

@@ -1,4 +1,4 @@
--- `station_c::station_ask` meets its contract: either room too short, or the record. Assumes nothing.
+-- `station_c::station_ask` meets its contract: either room too short, or the image. Assumes nothing.
 use mathlib.Core.Path.{refl}
 use borrow.Author.Tests.{lt-ltb, le-ltb}
 use borrow.Author.Needs.{needs}
@@ -24,8 +24,8 @@ returns-2 c = rw (le-ltb _ _ (c .before .before .if1 .left), lt-ltb _ _ (c .befo
 load-requires : tie.Need-load-requires
 load-requires c κs = search needs
 
-image-bytes-requires : tie.Need-image-bytes-requires
-image-bytes-requires c κs = search needs
+image-in-requires : tie.Need-image-in-requires
+image-in-requires c κs = search needs
 
 ask-requires : tie.Need-ask-requires
 ask-requires c κs = search needs
@@ -40,7 +40,7 @@ same-length : tie.Need-same-length
 same-length c = search needs
 
 returns-3 : tie.Need-returns-3
-returns-3 c = asked _ _ (c .before .before .before .before .before .before .before .before .before .if1 .left) (c .before .before .before .before .before .before .before .before .if2 .left) (c .before .before .before .before .before .before .before .load .ensures) (c .before .before .before .before .before .ask .ensures) (c .before .before .before .before .before .before .image-bytes .ensures) (c .before .before .answer .ensures)
+returns-3 c = asked _ _ (c .before .before .before .before .before .before .before .before .before .if1 .left) (c .before .before .before .before .before .before .before .before .if2 .left) (c .before .before .before .before .before .before .before .load .ensures) (c .before .before .before .before .before .ask .ensures) (c .before .before .before .before .before .before .image-in .ensures) (c .before .before .answer .ensures)
 
 pub station-ask-spec : {M : Type 1} → statement M
 station-ask-spec =
@@ -51,7 +51,7 @@ station-ask-spec =
     say-requires-2
     returns-2
     load-requires
-    image-bytes-requires
+    image-in-requires
     ask-requires
     slice-aggregate-answer
     answer-requires

@@ -69,6 +69,9 @@ enum-told-19 c = search needs
 enum-told-20 : tie.Need-enum-told-20
 enum-told-20 c = search needs
 
+enum-told-21 : tie.Need-enum-told-21
+enum-told-21 c = search needs
+
 returns : tie.Need-returns
 returns c = rw (c .enum-told .given .1)
 
@@ -132,6 +135,9 @@ returns-20 c = rw (c .enum-told19 .given .1)
 returns-21 : tie.Need-returns-21
 returns-21 c = rw (c .enum-told20 .given .1)
 
+returns-22 : tie.Need-returns-22
+returns-22 c = rw (c .enum-told21 .given .1)
+
 pub number-spec : {M : Type 1} → statement M
 number-spec =
     tie.close
@@ -158,6 +164,7 @@ number-spec =
     enum-told-18
     enum-told-19
     enum-told-20
+    enum-told-21
     returns
     returns-2
     returns-3
@@ -178,4 +185,5 @@ number-spec =
     returns-18
     returns-19
     returns-20
-    returns-21)
+    returns-21
+    returns-22)

@@ -66,6 +66,9 @@ enum-told-17 c = search needs
 enum-told-18 : tie.Need-enum-told-18
 enum-told-18 c = search needs
 
+enum-known-self-4 : tie.Need-enum-known-self-4
+enum-known-self-4 c = search needs
+
 returns : tie.Need-returns
 returns c = rw (c .enum-told .given .1)
 
@@ -129,6 +132,9 @@ returns-20 c = rw (c .enum-told17 .given .1)
 returns-21 : tie.Need-returns-21
 returns-21 c = rw (c .enum-told18 .given .1)
 
+returns-22 : tie.Need-returns-22
+returns-22 c = rw (c .before .self4 .given .1)
+
 pub place-spec : {M : Type 1} → statement M
 place-spec =
     tie.close
@@ -154,6 +160,7 @@ place-spec =
     enum-told-16
     enum-told-17
     enum-told-18
+    enum-known-self-4
     returns
     returns-2
     returns-3
@@ -174,4 +181,5 @@ place-spec =
     returns-18
     returns-19
     returns-20
-    returns-21)
+    returns-21
+    returns-22)

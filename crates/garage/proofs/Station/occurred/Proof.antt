@@ -1,8 +1,8 @@
--- `garage::Station::occurred` meets its contract: by what the event does to the record. Assumes nothing.
+-- `garage::Station::occurred` meets its contract: by what the event does to the record, unless the lift is set apart. Assumes nothing.
+use Rattle.garage.proofs.Moves.{moved-event, unless-apart}
+use Rattle.garage.specs.Turns.{turnOf}
 use mathlib.Core.Path.{sym, ap, _∙_}
 use borrow.Author.Needs.{needs}
-use Rattle.garage.specs.Turns.{turnOf}
-use Rattle.garage.proofs.Moves.{moved-event}
 use Rattle.garage.proofs.Station.occurred.Statement.{statement}
 use Rattle.garage.proofs.Station.occurred.Tie as tie
 
@@ -14,6 +14,9 @@ enum-known-r c = search needs
 
 holding-requires : tie.Need-holding-requires
 holding-requires c κs = search needs
+
+unless-apart-requires : tie.Need-unless-apart-requires
+unless-apart-requires c κs = search needs
 
 enum-told : tie.Need-enum-told
 enum-told c = search needs
@@ -27,14 +30,17 @@ enum-told-2 c = search needs
 unmoved-requires-2 : tie.Need-unmoved-requires-2
 unmoved-requires-2 c κs = search needs
 
+unless-apart-requires-2 : tie.Need-unless-apart-requires-2
+unless-apart-requires-2 c κs = search needs
+
 returns : tie.Need-returns
-returns c = c .holding .ensures ∙ ap turnOf (moved-event _ _ (sym (c .before .before .r .given .1) ∙ c .before .before .before .before .driven .ensures))
+returns c = unless-apart (c .before .before .before .before .before .before .args .self) _ (c .unless-apart .ensures) (c .before .holding .ensures) ∙ ap turnOf (moved-event _ _ (sym (c .before .before .before .r .given .1) ∙ c .before .before .before .before .before .driven .ensures))
 
 returns-2 : tie.Need-returns-2
 returns-2 c = c .unmoved .ensures ∙ ap turnOf (moved-event _ _ (sym (c .before .enum-told .given .1) ∙ c .before .before .before .driven .ensures))
 
 returns-3 : tie.Need-returns-3
-returns-3 c = c .unmoved2 .ensures ∙ ap turnOf (moved-event _ _ (sym (c .before .enum-told2 .given .1) ∙ c .before .before .before .driven .ensures))
+returns-3 c = unless-apart (c .before .before .before .before .before .args .self) _ (c .unless-apart2 .ensures) (c .before .unmoved2 .ensures) ∙ ap turnOf (moved-event _ _ (sym (c .before .before .enum-told2 .given .1) ∙ c .before .before .before .before .driven .ensures))
 
 pub occurred-spec : {M : Type 1} → statement M
 occurred-spec =
@@ -43,10 +49,12 @@ occurred-spec =
     driven-requires
     enum-known-r
     holding-requires
+    unless-apart-requires
     enum-told
     unmoved-requires
     enum-told-2
     unmoved-requires-2
+    unless-apart-requires-2
     returns
     returns-2
     returns-3)

@@ -1,9 +1,9 @@
 -- `garage::Station::requested` meets its contract: a chain of refusals in the order of the definition. Assumes nothing.
-use mathlib.Core.Path.{_∙_}
-use borrow.Author.Tests.{eq-eqb, ne-eqb, lt-ltb, le-ltb}
-use borrow.Author.Needs.{needs}
-use Rattle.garage.specs.Calls.{requested}
 use Rattle.garage.proofs.Loops.{none-marked}
+use Rattle.garage.specs.Calls.{requested}
+use borrow.Author.Tests.{eq-eqb, ne-eqb, lt-ltb, le-ltb}
+use mathlib.Core.Path.{_∙_}
+use borrow.Author.Needs.{needs}
 use Rattle.garage.proofs.Station.requested.Statement.{statement}
 use Rattle.garage.proofs.Station.requested.Tie as tie
 
@@ -39,7 +39,7 @@ unfolding requested
 returns-4 c = c .unmoved4 .ensures ∙ rw (le-ltb _ _ (c .before .before .before .before .before .before .if1 .left), le-ltb _ _ (c .before .before .before .before .before .if2 .left), ne-eqb _ _ (c .before .before .before .before .if3 .left), ← c .before .before .before .search .ensures .0, lt-ltb _ _ (c .before .if4 .taken))
 
 cleared-requires : tie.Need-cleared-requires
-cleared-requires c κs = let e = c .before .before .search .ensures in (e .1, e .2 ∙ none-marked _ _ _, e .3)
+cleared-requires c κs = let e = c .before .before .search .ensures in (e .1, e .2, e .3 ∙ none-marked _ _ _, e .4)
 
 returns-5 : tie.Need-returns-5
 unfolding requested

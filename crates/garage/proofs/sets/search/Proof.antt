@@ -1,4 +1,4 @@
--- `garage::sets::search` meets its contract: three searches in one, with the areas passed gathered in one mask. Assumes nothing.
+-- `garage::sets::search` meets its contract: four searches in one, with the areas passed gathered in one mask. Assumes nothing.
 use Rattle.garage.proofs.Loops.{Searched, search-starts, searches, search-ends}
 use Prim.Native.Nat.{_-_}
 use borrow.Author.Needs.{needs}
@@ -6,13 +6,13 @@ use Rattle.garage.proofs.sets.search.Statement.{statement}
 use Rattle.garage.proofs.sets.search.Tie as tie
 
 abbrev Inv-loop : tie.InvT-loop
-Inv-loop n marks r set seen₀ bad₀ overlap₀ barred₀ rest₀ i₀ seen bad overlap barred rest i = Searched set n marks r seen bad overlap barred rest i
+Inv-loop n marks r apart set seen₀ bad₀ touching₀ overlap₀ barred₀ rest₀ i₀ seen bad touching overlap barred rest i = Searched set n marks r apart seen bad touching overlap barred rest i
 
 abbrev μ-loop : tie.MeasureT-loop
-μ-loop n marks r set seen₀ bad₀ overlap₀ barred₀ rest₀ i₀ seen bad overlap barred rest i = n - i
+μ-loop n marks r apart set seen₀ bad₀ touching₀ overlap₀ barred₀ rest₀ i₀ seen bad touching overlap barred rest i = n - i
 
 loop-holds : tie.Need-loop-holds Inv-loop μ-loop
-loop-holds c = search-starts _ _ _ _
+loop-holds c = search-starts _ _ _ _ _
 
 code-at-requires : tie.Need-code-at-requires Inv-loop μ-loop
 code-at-requires c κs = search needs
@@ -29,6 +29,9 @@ first-requires-2 c κs = search needs
 first-requires-3 : tie.Need-first-requires-3 Inv-loop μ-loop
 first-requires-3 c κs = search needs
 
+first-requires-4 : tie.Need-first-requires-4 Inv-loop μ-loop
+first-requires-4 c κs = search needs
+
 add-i : tie.Need-add-i Inv-loop μ-loop
 add-i c = search needs
 
@@ -36,8 +39,8 @@ loop-less : tie.Need-loop-less Inv-loop μ-loop
 loop-less c = search needs
 
 loop-again : tie.Need-loop-again Inv-loop μ-loop
-loop-again c = let j = c .before .before .before .before .before .before .before .judge .ensures in
-    searches (c .before .before .before .before .before .before .before .before .before .before .before .loop .inv) (c .before .before .before .before .before .before .before .before .before .before .loop-test .taken) (c .before .before .before .before .before .before .before .before .code-at .ensures) (j .0) (j .1) (j .2) (c .before .before .before .before .before .first .ensures) (c .before .before .before .first2 .ensures) (c .before .first3 .ensures)
+loop-again c = let j = c .before .before .before .before .before .before .before .before .before .judge .ensures in
+    searches (c .before .before .before .before .before .before .before .before .before .before .before .before .before .loop .inv) (c .before .before .before .before .before .before .before .before .before .before .before .before .loop-test .taken) (c .before .before .before .before .before .before .before .before .before .before .code-at .ensures) (j .0) (j .1) (j .2) (c .before .before .before .before .before .before .before .first .ensures) (c .before .before .before .before .before .first2 .ensures) (c .before .before .before .first3 .ensures) (c .before .first4 .ensures)
 
 returns : tie.Need-returns Inv-loop μ-loop
 returns c = search-ends (c .before .loop .inv) (c .loop-test .left)
@@ -54,6 +57,7 @@ search-spec =
     first-requires
     first-requires-2
     first-requires-3
+    first-requires-4
     add-i
     loop-less
     loop-again

@@ -6,29 +6,56 @@ use Rattle.wire.proofs.writing.put_image.Tie as tie
 image-bytes-requires : tie.Need-image-bytes-requires
 image-bytes-requires c κs = search needs
 
-array-read-t9 : tie.Need-array-read-t9
-array-read-t9 c = search needs
+image-bytes-requires-2 : tie.Need-image-bytes-requires-2
+image-bytes-requires-2 c κs = search needs
 
-array-read-t12 : tie.Need-array-read-t12
-array-read-t12 c = search needs
+array-read-t11 : tie.Need-array-read-t11
+array-read-t11 c = search needs
 
-array-read-t15 : tie.Need-array-read-t15
-array-read-t15 c = search needs
+array-read-t14 : tie.Need-array-read-t14
+array-read-t14 c = search needs
 
-array-read-t18 : tie.Need-array-read-t18
-array-read-t18 c = search needs
+array-read-t17 : tie.Need-array-read-t17
+array-read-t17 c = search needs
 
-array-read-t21 : tie.Need-array-read-t21
-array-read-t21 c = search needs
+array-read-t20 : tie.Need-array-read-t20
+array-read-t20 c = search needs
 
-array-read-t24 : tie.Need-array-read-t24
-array-read-t24 c = search needs
+array-read-t23 : tie.Need-array-read-t23
+array-read-t23 c = search needs
 
-array-read-t27 : tie.Need-array-read-t27
-array-read-t27 c = search needs
+array-read-t26 : tie.Need-array-read-t26
+array-read-t26 c = search needs
 
-array-read-t30 : tie.Need-array-read-t30
-array-read-t30 c = search needs
+array-read-t29 : tie.Need-array-read-t29
+array-read-t29 c = search needs
+
+array-read-t32 : tie.Need-array-read-t32
+array-read-t32 c = search needs
+
+array-read-t35 : tie.Need-array-read-t35
+array-read-t35 c = search needs
+
+array-read-t38 : tie.Need-array-read-t38
+array-read-t38 c = search needs
+
+array-read-t41 : tie.Need-array-read-t41
+array-read-t41 c = search needs
+
+array-read-t44 : tie.Need-array-read-t44
+array-read-t44 c = search needs
+
+array-read-t47 : tie.Need-array-read-t47
+array-read-t47 c = search needs
+
+array-read-t50 : tie.Need-array-read-t50
+array-read-t50 c = search needs
+
+array-read-t53 : tie.Need-array-read-t53
+array-read-t53 c = search needs
+
+array-read-t56 : tie.Need-array-read-t56
+array-read-t56 c = search needs
 
 slice-aggregate-put : tie.Need-slice-aggregate-put
 slice-aggregate-put c = search needs
@@ -41,22 +68,32 @@ same-length c = search needs
 
 returns : tie.Need-returns
 returns c = let e = c .before .before .put .ensures in
-    let b = c .before .before .before .before .before .image-bytes .ensures in
-    (e .0 ∙ rw b, e .1 ∙ rw b)
+    let b = c .before .before .before .before .before .before .image-bytes .ensures in
+    let a = c .before .before .before .before .before .image-bytes2 .ensures in
+    (e .0 ∙ rw (b, a), e .1 ∙ rw (b, a))
 
 pub put-image-spec : {M : Type 1} → statement M
 put-image-spec =
     tie.close
     (tie.spec
     image-bytes-requires
-    array-read-t9
-    array-read-t12
-    array-read-t15
-    array-read-t18
-    array-read-t21
-    array-read-t24
-    array-read-t27
-    array-read-t30
+    image-bytes-requires-2
+    array-read-t11
+    array-read-t14
+    array-read-t17
+    array-read-t20
+    array-read-t23
+    array-read-t26
+    array-read-t29
+    array-read-t32
+    array-read-t35
+    array-read-t38
+    array-read-t41
+    array-read-t44
+    array-read-t47
+    array-read-t50
+    array-read-t53
+    array-read-t56
     slice-aggregate-put
     put-requires
     same-length

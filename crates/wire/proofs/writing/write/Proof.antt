@@ -30,11 +30,11 @@ enum-known-what-2 c = search needs
 issue-bytes-requires : tie.Need-issue-bytes-requires
 issue-bytes-requires c κs = search needs
 
-array-read-t31 : tie.Need-array-read-t31
-array-read-t31 c = search needs
+array-read-t33 : tie.Need-array-read-t33
+array-read-t33 c = search needs
 
-array-read-t34 : tie.Need-array-read-t34
-array-read-t34 c = search needs
+array-read-t36 : tie.Need-array-read-t36
+array-read-t36 c = search needs
 
 slice-aggregate-put-2 : tie.Need-slice-aggregate-put-2
 slice-aggregate-put-2 c = search needs
@@ -63,11 +63,11 @@ enum-known-what-4 c = search needs
 issue-bytes-requires-2 : tie.Need-issue-bytes-requires-2
 issue-bytes-requires-2 c κs = search needs
 
-array-read-t49 : tie.Need-array-read-t49
-array-read-t49 c = search needs
+array-read-t51 : tie.Need-array-read-t51
+array-read-t51 c = search needs
 
-array-read-t52 : tie.Need-array-read-t52
-array-read-t52 c = search needs
+array-read-t54 : tie.Need-array-read-t54
+array-read-t54 c = search needs
 
 slice-aggregate-put-4 : tie.Need-slice-aggregate-put-4
 slice-aggregate-put-4 c = search needs
@@ -158,8 +158,8 @@ write-spec =
     put-requires
     enum-known-what-2
     issue-bytes-requires
-    array-read-t31
-    array-read-t34
+    array-read-t33
+    array-read-t36
     slice-aggregate-put-2
     put-requires-2
     enum-known-what-3
@@ -169,8 +169,8 @@ write-spec =
     put-requires-3
     enum-known-what-4
     issue-bytes-requires-2
-    array-read-t49
-    array-read-t52
+    array-read-t51
+    array-read-t54
     slice-aggregate-put-4
     put-requires-4
     enum-known-what-5
