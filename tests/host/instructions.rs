@@ -89,7 +89,8 @@ impl Instruction {
         }
     }
 
-    /// All the instruction reads or writes, the same on every record. (Ill-formed: nothing.)
+    /// All the instruction reads or writes, the same on every record; the lift reads besides how many cells on either side of it are
+    /// occupied, odd or even. (Ill-formed: nothing.)
     pub fn area(&self) -> Parts {
         match *self {
             _ if !self.well_formed() => Parts::NONE,
@@ -114,8 +115,8 @@ impl Instruction {
                 let both = Parts::NONE.and_cells(position(side, row)).and_slot(side, row, LOWERED).and_slot(side, row, TILTED);
                 if orientation == LOWERED { (1..=3).fold(both, |area, row| area.and_slot(side, row, LOWERED)) } else { both }
             }
-            // The lift and all of row 1.
-            Lift { .. } => Parts::LIFT.and_cells(ROW_1),
+            // The lift and its two cells. What can go beside it leaves an even count even, so the row need not stop for it.
+            Lift { .. } => Parts::LIFT.and_cells(LIFT_CELLS),
             // The lift and its six cells.
             Rotate => ROTATION_CELLS.into_iter().fold(Parts::LIFT, Parts::and_cells),
         }

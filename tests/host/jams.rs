@@ -68,23 +68,24 @@ impl Watched {
         }
     }
 
-    /// Looks at every choice of which stuck ones finished, and gives how many there are.
-    fn every_choice(&self) -> usize {
-        let (record, whole) = (self.station.record, cars(self.station.record));
-        let waiting: Vec<Instruction> = self.station.waiting().collect();
-        let done = |record: u64, one: &Instruction| {
-            assert!(one.allowed(record), "{one:?} on {record:#018x} after others of {:?}", self.stuck);
-            one.next(record)
-        };
-        for choice in 0..1usize << self.stuck.len() {
-            let chosen: Vec<&Instruction> = self.stuck.iter().enumerate().filter(|(at, _)| choice >> at & 1 == 1).map(|(_, one)| one).collect();
-            let after = chosen.iter().fold(record, |record, one| done(record, one));
-            let backward = chosen.iter().rev().fold(record, |record, one| done(record, one));
-            let lost = whole.is_none() || cars(after) != whole || backward != after || !waiting.iter().all(|one| one.allowed(after));
-            assert!(!lost, "{chosen:?} finished on {record:#018x}: {after:#018x}, backward {backward:#018x}, beside {waiting:?}");
-        }
-        1 << self.stuck.len()
+}
+
+/// Looks at every choice of which of some instructions finish on a record: one after the other, forward and backward, each must be allowed at
+/// its turn, the same cars be there after them, and what waits be allowed. Gives how many choices there are.
+pub fn every_choice(record: u64, ones: &[Instruction], waiting: &[Instruction]) -> usize {
+    let whole = cars(record);
+    let done = |record: u64, one: &Instruction| {
+        assert!(one.allowed(record), "{one:?} on {record:#018x} after others of {ones:?}");
+        one.next(record)
+    };
+    for choice in 0..1usize << ones.len() {
+        let chosen: Vec<&Instruction> = ones.iter().enumerate().filter(|(at, _)| choice >> at & 1 == 1).map(|(_, one)| one).collect();
+        let after = chosen.iter().fold(record, |record, one| done(record, one));
+        let backward = chosen.iter().rev().fold(record, |record, one| done(record, one));
+        let lost = whole.is_none() || cars(after) != whole || backward != after || !waiting.iter().all(|one| one.allowed(after));
+        assert!(!lost, "{chosen:?} finished on {record:#018x}: {after:#018x}, backward {backward:#018x}, beside {waiting:?}");
     }
+    1 << ones.len()
 }
 
 /// What whole messages meet, from the start on; and how many choices were looked at, of how many at once.
@@ -95,7 +96,8 @@ pub fn met_in(input: &[u8]) -> (BTreeSet<Met>, usize, usize) {
         let before = watched.station;
         met.extend(watched.take(call));
         if watched.station != before && !watched.stuck.is_empty() {
-            choices += watched.every_choice();
+            let waiting: Vec<Instruction> = watched.station.waiting().collect();
+            choices += every_choice(watched.station.record, &watched.stuck, &waiting);
             most = most.max(watched.stuck.len());
         }
     }

@@ -2,11 +2,13 @@
 //! pieces of many sizes, and many short ones, damaged and cut: what the program writes must be what the reference answers, and that
 //! what the papers say of their examples.
 //! Every number that can come through the program must have come, and no other: 16 (the program's station is always fit) and 17 (its
-//! room is always enough) can't. So must every reason that each opcode can be refused for, and all that calls can meet of drives and of
-//! jams. In the long inputs, after each message, every choice is looked at of which stuck instructions finished (jams.rs).
+//! room is always enough) can't. So must every reason that each opcode can be refused for, and all that calls can meet of drives, of jams
+//! and of lift runs beside others in row 1. In the long inputs, after each message, every choice is looked at of which stuck instructions
+//! finished (jams.rs), and with each set that has a lift run beside others, of which of them are done (lifts.rs).
 
 mod drives;
 mod jams;
+mod lifts;
 mod pipes;
 mod reference;
 mod traffic;
@@ -148,7 +150,7 @@ fn handed_in() {
     assert!(fit(START, &[belt, tilt], 0) && fit(START, &[belt, tilt], 1));
     assert!(![0, 1, 2].into_iter().any(|answered| fit(START, &[tilt, tilt], answered)));
     assert!(![0, 1, 2, 4, 5].into_iter().any(|answered| fit(START, &[tilt, belt, tilt], answered)));
-    assert!(!fit(START, &[down, belt], 0) && !fit(START, &[belt, belt, tilt], 3));
+    assert!(!fit(START, &[down, [1, 1, 4, 0, 1]], 0) && !fit(START, &[belt, belt, tilt], 3));
     // what waits must be allowed, what is answered need not be
     assert!(!fit(START, &[turn], 0) && !fit(START, &[tilt, turn], 1) && fit(START, &[tilt, turn], 2));
     assert!(fit(START | 2 << 53, &[down, [1, 2, 2, 0, 1]], 1), "the lift is down, and a belt still waits");
@@ -190,6 +192,44 @@ fn jamming() {
     assert_eq!(read_message(&[10, 0, 4, 0, 0, 0, 0, 0, 0, 0x1B, 9, 0]).err().map(|refused| refused.answer), Some(answer(2)));
 }
 
+/// The same of the row beside the lift, which doesn't stop for it.
+fn beside_the_lift() {
+    // a car on the lift in the basement, one on each belt beside it, one on the left shuttle of row 1; on the right all three are lowered
+    const LOADED: u64 = 0x0041_3B00_0001_9833;
+    let (up, left, right) = ([4, 0, 0, 0, 0], [1, 1, 2, 1, 1], [1, 1, 8, 0, 1]);
+    let (shuttle, tilt, lift_belt) = ([2, 0, 3, 0, 1], [3, 1, 1, 0, 0], [1, 1, 6, 1, 0]);
+    let area = |five| Instruction::read(five).map(|one| one.area().number());
+    assert_eq!((area(up), sound(LOADED), cars(LOADED)), (Some(1 << 52 | 0x1800), true, Some(4)));
+    // all five at once, their results in any order
+    let taken = |set: &[[u8; 5]], order: &[u8]| {
+        let mut station = Station { record: LOADED, ..Station::start() };
+        assert_eq!(station.request(set.len() as u8, &set.concat()), answer(0), "{set:?}");
+        for &number in order { assert_eq!(station.result(0, number, DONE), answer(0), "{set:?} {order:?}"); }
+        station
+    };
+    let after = [[0, 1, 2, 3, 4], [4, 3, 2, 1, 0], [1, 3, 0, 2, 4]].map(|order| taken(&[up, left, right, shuttle, tilt], &order).record);
+    assert_eq!(after, [0x0013_3600_0010_60C0; 3]);
+    // what has the lift in its area still waits for it; and where a car is half on the lift, that is still told
+    let mut station = Station { record: LOADED, ..Station::start() };
+    for with_lift in [lift_belt, [5, 0, 0, 0, 0], [4, 1, 0, 0, 0]] {
+        assert_eq!(station.request(3, &[left, up, with_lift].concat()).number, 8, "{with_lift:?}");
+    }
+    let mut half = Station { record: 0x0049_1B00_0000_0C00, ..Station::start() };
+    assert_eq!([[right, up], [up, right]].map(|set| half.request(2, &set.concat())), [answer_at(24, 1), answer_at(24, 0)]);
+    // a jam beside the lift sets nothing of it apart, nor a stuck lift the row
+    let mut station = taken(&[left, tilt], &[1]);
+    assert_eq!((station.result(0, 0, STUCK), station.apart_number(), station.request(1, &up).number), (answer(0), 0x7FC, 0));
+    assert_eq!((station.result(1, 0, STUCK), station.apart_number()), (answer(0), 1 << 52 | 0x1FFC));
+    assert_eq!((station.request(1, &left), station.request(1, &lift_belt), station.request(2, &[right, shuttle].concat()).number), (answer_at(32, 0), answer_at(32, 0), 0));
+    // handed in, both in one set are fit
+    let mut both = Station { record: LOADED, count: 2, ..Station::start() };
+    both.set[..10].copy_from_slice(&[up, left].concat());
+    assert!(both.fit());
+    // none of it would hold of a record that isn't sound: there a shuttle can leave an odd count on its side where it was even
+    let (torn, back) = (0x0043_AE00_0000_0002, Instruction::read([2, 0, 6, 0, 0]));
+    assert!(!sound(torn) && back.is_some_and(|back| back.allowed(torn) && back.next(torn) & 0x7FF == 0));
+}
+
 /// What the instructions were refused for that the record didn't allow, each with its opcode: each message has one answer.
 fn reasons_in<'a>(input: &'a [u8], output: &'a [u8]) -> impl Iterator<Item = (u8, u8)> + 'a {
     messages_in(input).zip(messages_in(output)).filter_map(|(message, answer)| {
@@ -208,13 +248,18 @@ fn main() {
     driving();
     handed_in();
     jamming();
+    beside_the_lift();
     let (mut seen, mut reasons, mut met) = (BTreeSet::new(), BTreeSet::new(), BTreeSet::new());
     let (mut jams_met, mut choices, mut most) = (BTreeSet::new(), 0, 0);
+    let (mut lifts_met, mut lift_choices) = (BTreeSet::new(), 0);
     let long = (0..2).map(|seed| (seed, traffic::input(seed, messages))).inspect(|(_, input)| {
         met.extend(drives::met_in(input));
         let (jams, looked_at, at_once) = jams::met_in(input);
         jams_met.extend(jams);
         (choices, most) = (choices + looked_at, most.max(at_once));
+        let (lifts, looked_at) = lifts::met_in(input);
+        lifts_met.extend(lifts);
+        lift_choices += looked_at;
     });
     let short = (0..sessions).map(|seed| (seed, traffic::damaged_input(1000 + seed, (seed % 40) as usize)));
     let mut compared = 0;
@@ -236,8 +281,10 @@ fn main() {
         exit(1);
     }
     if !traffic::every_reason("program", &reasons) || !drives::every_drive("program", &met) || !jams::every_jam("program", &jams_met) { exit(1); }
+    if !lifts::every_lift("program", &lifts_met) { exit(1); }
     println!("program: {compared} inputs, {} messages in the long ones, each answer as the reference's; numbers {seen:?}", 2 * messages);
     println!("program: {} pairs of opcode and reason, all that can come", reasons.len());
     println!("program: {} ways to meet a drive and {} to meet a jam, all that there are", met.len(), jams_met.len());
+    println!("program: {} ways for a lift run to meet others of row 1, all that there are; {lift_choices} choices of which of a set are done", lifts_met.len());
     println!("program: {choices} choices of which stuck instructions finished, of up to {most} at once, each with a layout of the same cars");
 }

@@ -105,23 +105,35 @@ pub fn result(issue: u16, number: u8, outcome: u8) -> Vec<u8> {
     message(3, &[low, high, number, outcome])
 }
 
-/// A request that is refused for one of its instructions, which stands at any place among others that are allowed.
-pub fn refused_request(numbers: &mut Numbers, record: u64, wanted: usize) -> Option<Vec<u8>> {
-    let five = refused_five(numbers, record)?;
-    let area = Instruction::read(five)?.area();
-    let mut bytes = allowed_set(numbers, record, area, wanted - 1);
+/// A request with one instruction at any place among others that are allowed and overlap neither it nor what is taken.
+fn request_among(numbers: &mut Numbers, record: u64, five: [u8; 5], taken: Parts, wanted: usize) -> Vec<u8> {
+    let area = Instruction::read(five).map_or(Parts::NONE, |one| one.area());
+    let mut bytes = allowed_set(numbers, record, taken.and(area), wanted - 1);
     let at = 5 * numbers.below(bytes.len() as u64 / 5 + 1) as usize;
     bytes.splice(at..at, five);
-    Some(request(&bytes))
+    request(&bytes)
 }
 
+/// A request that is refused for one of its instructions.
+pub fn refused_request(numbers: &mut Numbers, record: u64, wanted: usize) -> Option<Vec<u8>> {
+    let five = refused_five(numbers, record)?;
+    Some(request_among(numbers, record, five, Parts::NONE, wanted))
+}
+
+/// Whether a car stands on the lift in the basement, whole or half.
+fn on_the_lift(record: u64) -> bool { record >> 53 & 3 == 2 && record >> 11 & 3 != 0 }
+
 /// A request: mostly one that is allowed, of one to three instructions, now and then of up to eight. Of what is set apart it mostly touches
-/// nothing.
+/// nothing. Where a car stands on the lift in the basement, whole or half, the lift is often to go up, beside others.
 fn some_request(numbers: &mut Numbers, station: &Station) -> Vec<u8> {
     let (record, apart) = (station.record, if numbers.one_in(8) { Parts::NONE } else { station.apart.unwrap_or(Parts::NONE) });
     let wanted = if numbers.one_in(12) { 8 } else { 1 + numbers.below(3) as usize };
     let refused = if numbers.one_in(24) { refused_request(numbers, record, wanted) } else { None };
     if let Some(request) = refused { return request; }
+    if on_the_lift(record) && numbers.one_in(2) {
+        let up = [4, numbers.below(2) as u8, 0, 0, 0];
+        return request_among(numbers, record, up, apart, (wanted + 2).min(8));
+    }
     let mut bytes = allowed_set(numbers, record, apart, wanted);
     if numbers.one_in(8) {
         for _ in 0..=numbers.below(2) {
