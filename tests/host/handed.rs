@@ -22,10 +22,12 @@ pub enum Handed {
     Jammed,
     /// Fit: the lift is set apart while a drive is under way.
     Driver,
+    /// Fit: a lift run waits, and beside it what has cells of row 1 in its area.
+    Beside,
 }
-use Handed::{Above, Barred, Drive, Driver, Jammed, Overlap, Past};
+use Handed::{Above, Barred, Beside, Drive, Driver, Jammed, Overlap, Past};
 
-pub const ALL: [Handed; 13] = [
+pub const ALL: [Handed; 14] = [
     Drive { waits: false },
     Drive { waits: true },
     Overlap { waiting: 0, beside: false },
@@ -39,13 +41,14 @@ pub const ALL: [Handed; 13] = [
     Above,
     Jammed,
     Driver,
+    Beside,
 ];
 
 impl Handed {
     /// Whether a call's answer shows it: an unfit station's, or one that is given past the test of fitness alone.
     pub fn shown_by(self, number: u8) -> bool {
         match self {
-            Past | Jammed | Driver => !matches!(number, 1..=5 | 7 | 16 | 17),
+            Past | Jammed | Driver | Beside => !matches!(number, 1..=5 | 7 | 16 | 17),
             _ => number == 16,
         }
     }
@@ -76,6 +79,11 @@ pub fn handed(station: &Station) -> Option<Handed> {
         (None, [], true) => Some(Barred),
         (None, [], false) if barred(false) => Some(Past),
         (None, [], false) if (0..count).any(|at| waits(at) && apart.meet(&held[at].area())) => Some(Jammed),
+        (None, [], false) => {
+            let (row_1, waiting) = (Parts::NONE.and_cells(0..20), held.iter().enumerate().filter(|(at, _)| waits(*at)));
+            let (lifts, others): (Vec<&Instruction>, Vec<&Instruction>) = waiting.map(|(_, one)| one).partition(|one| matches!(one, Instruction::Lift { .. }));
+            (!lifts.is_empty() && others.iter().any(|one| one.area().meet(&row_1))).then_some(Beside)
+        }
         _ => None,
     }
 }

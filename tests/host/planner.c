@@ -1,10 +1,11 @@
 /* A small planner over station.h. It lets one car in, parks it on row 2, fetches it again and lets it out. Before each set it
  * works out the record that must follow; after the motors' results (here all but one succeed at once) it holds the station's record
  * against that. One belt jams with the car on it: what it takes along is set apart, the planner goes on elsewhere, and no set that touches
- * it is taken until somebody has looked and the station was told what is there. How far a car goes along a row it learns from the reason why the next move is not allowed. Drivers take their time, and
- * the first of them gives up: while one is in the lift the planner may run a belt, but not the lift. A slow motor board says its result
- * once more when the next set has begun, which must be late. Every answer is checked: the first refusal that it doesn't count on ends
- * the run with a message. */
+ * it is taken until somebody has looked and the station was told what is there. How far a car goes along a row it learns from the reason
+ * why the next move is not allowed. The row doesn't stop for the lift: once the car is off it, the lift goes up in one set with the belts
+ * that take the car on, and comes down beside the shuttle that brings it back. Drivers take their time, and the first of them gives up:
+ * while one is in the lift the planner may run a belt, but not the lift. A slow motor board says its result once more when the next set has
+ * begun, which must be late. Every answer is checked: the first refusal that it doesn't count on ends the run with a message. */
 #include "station.h"
 
 #include <inttypes.h>
@@ -308,31 +309,32 @@ static void somebody_looked(const char *what, uint64_t seen) {
 
 /* ---- the plan */
 
-/* Belts of row 1 from the lift to the right shuttle, and of row 2 from its middle to the right shuttle. */
-enum { TO_SHUTTLE_1 = 1 << 2 | 1 << 3 | 1 << 4, MIDDLE_2 = 1 << 1, TO_SHUTTLE_2 = 1 << 1 | 1 << 2 };
+/* Belts of row 1 from the lift to the right shuttle, the same without the lift's, and of row 2 from its middle to the right shuttle. */
+enum { TO_SHUTTLE_1 = 1 << 2 | 1 << 3 | 1 << 4, BESIDE_LIFT = 1 << 3 | 1 << 4, MIDDLE_2 = 1 << 1, TO_SHUTTLE_2 = 1 << 1 | 1 << 2 };
 
 /* Rows that a shuttle move names. */
 enum { ROWS_1_2 = 1 << 0 | 1 << 1, ROWS_2_3 = 1 << 1 | 1 << 2 };
 
-/* By whole cells until the end is not free, and by the half cell that is left then: from the lift's cells 11 and 12 to the right
- * shuttle's 18 and 19 are seven half cells. */
-static void along_row_1(int toward) {
-    Instruction whole = belts(1, TO_SHUTTLE_1, toward, GARAGE_FULL);
+/* By whole cells until the end is not free: from the lift's cells 11 and 12 to the right shuttle's 18 and 19 are seven half cells, so that
+ * one is left then. */
+static void along_row_1(int mask, int toward) {
+    Instruction whole = belts(1, mask, toward, GARAGE_FULL);
     while (allows(whole, STATION_NOT_FREE)) one("along row 1", whole);
-    one("half a cell more", belts(1, TO_SHUTTLE_1, toward, GARAGE_HALF));
 }
 
-/* The belts take the car off the shuttle and jam: it may stand on the shuttle still, or on the belt. Beside it the lift goes up and down;
+static void half_a_cell(int mask, int toward) { one("half a cell more", belts(1, mask, toward, GARAGE_HALF)); }
+
+/* The belts take the car off the shuttle and jam: it may stand on the shuttle still, or on the belt. Beside it the lift goes down and up;
  * nothing touches those belts until somebody has looked. They find that the belts had finished. */
 static void jam(void) {
     uint8_t eight[STATION_IMAGE_SIZE];
     Instruction off = belts(2, TO_SHUTTLE_2, GARAGE_LOWER, GARAGE_FULL);
     must("plan", garage_next(record_now(), off.five, sizeof off.five, eight, sizeof eight));
     gets_stuck("off the shuttle, but the belts jam", off);
-    must_keep_off(lift(GARAGE_STREET), belts(2, MIDDLE_2, GARAGE_LOWER, GARAGE_FULL));
-    must_keep_off(lift(GARAGE_STREET), shuttles(GARAGE_RIGHT, ROWS_2_3, GARAGE_LOWER));
-    one("meanwhile the lift up", lift(GARAGE_STREET));
-    one("and down again", lift(GARAGE_BASEMENT));
+    must_keep_off(lift(GARAGE_BASEMENT), belts(2, MIDDLE_2, GARAGE_LOWER, GARAGE_FULL));
+    must_keep_off(lift(GARAGE_BASEMENT), shuttles(GARAGE_RIGHT, ROWS_2_3, GARAGE_LOWER));
+    one("meanwhile the lift down", lift(GARAGE_BASEMENT));
+    one("and up again", lift(GARAGE_STREET));
     somebody_looked("somebody looks: the car had come off the shuttle", number_of(eight));
 }
 
@@ -344,20 +346,24 @@ static void park(void) {
     one("meanwhile a belt of row 2", belts(2, MIDDLE_2, GARAGE_HIGHER, GARAGE_FULL));
     drive("the car is in", STATION_END_DONE);
     one("down with the lift", lift(GARAGE_BASEMENT));
-    along_row_1(GARAGE_HIGHER);
+    one("off the lift", belts(1, TO_SHUTTLE_1, GARAGE_HIGHER, GARAGE_FULL));
+    two("along row 1 beside the lift, which goes up for the next driver", belts(1, BESIDE_LIFT, GARAGE_HIGHER, GARAGE_FULL), lift(GARAGE_STREET));
+    along_row_1(BESIDE_LIFT, GARAGE_HIGHER);
+    half_a_cell(BESIDE_LIFT, GARAGE_HIGHER);
     /* rows 1 and 2 go together, since row 2 has a shuttle of its own; row 3's is tilted and out of the way */
     one("by the shuttle to row 2", shuttles(GARAGE_RIGHT, ROWS_1_2, GARAGE_HIGHER));
     jam();
-    two("further in, and the lift up for the next driver", belts(2, MIDDLE_2, GARAGE_LOWER, GARAGE_FULL), lift(GARAGE_STREET));
-    one("the shuttles back", shuttles(GARAGE_RIGHT, ROWS_2_3, GARAGE_LOWER));
+    two("further in, and the shuttles back", belts(2, MIDDLE_2, GARAGE_LOWER, GARAGE_FULL), shuttles(GARAGE_RIGHT, ROWS_2_3, GARAGE_LOWER));
 }
 
 static void fetch(void) {
-    two("the car toward the shuttle, and the lift down", belts(2, MIDDLE_2, GARAGE_HIGHER, GARAGE_FULL), lift(GARAGE_BASEMENT));
-    one("the shuttles to rows 2 and 3", shuttles(GARAGE_RIGHT, ROWS_1_2, GARAGE_HIGHER));
+    two("the car toward the shuttle, and the shuttles to rows 2 and 3", belts(2, MIDDLE_2, GARAGE_HIGHER, GARAGE_FULL), shuttles(GARAGE_RIGHT, ROWS_1_2, GARAGE_HIGHER));
     one("onto the shuttle", belts(2, TO_SHUTTLE_2, GARAGE_HIGHER, GARAGE_FULL));
-    one("by the shuttle to row 1", shuttles(GARAGE_RIGHT, ROWS_2_3, GARAGE_LOWER));
-    along_row_1(GARAGE_LOWER);
+    two("by the shuttle to row 1, and the lift down beside it", shuttles(GARAGE_RIGHT, ROWS_2_3, GARAGE_LOWER), lift(GARAGE_BASEMENT));
+    along_row_1(TO_SHUTTLE_1, GARAGE_LOWER);
+    /* what stands half on the lift still keeps it down */
+    if (allows(lift(GARAGE_STREET), STATION_ODD_COUNT)) exit(1);
+    half_a_cell(TO_SHUTTLE_1, GARAGE_LOWER);
     one("up with the lift", lift(GARAGE_STREET));
     drive("the driver begins to drive out", STATION_BEGIN_OUT);
     drive("the car is out", STATION_END_DONE);
