@@ -51,6 +51,11 @@
  * GARAGE_ROTATE, and of GARAGE_BELTS in row 1 with the lift's belt. Everything else goes on meanwhile. An end that is done moves the car
  * on or off the raised lift (bit 52); one that isn't leaves it where it was. An image in the middle of a drive replaces it.
  *
+ * The row beside the lift. GARAGE_LIFT has the lift and its two cells, 11 and 12, in its area, and no other place of row 1. So every
+ * GARAGE_SHUTTLES, every GARAGE_TILT, and every GARAGE_BELTS that doesn't name the lift's belt, may stand in one set with it. Leaving the
+ * basement with something on its cells it reads besides whether each side's count is even, which on the station's records nothing that
+ * stands beside it can change.
+ *
  * Jams. A motor may leave its load between two places: its instruction is reported stuck (STATION_STUCK). That answers it, and no other
  * result of it is taken. The record stays, but what is in fact there is not known, so everything in the instruction's area is set apart:
  * cells, shuttles' slots, and the lift. A number of 64 bits shows it, bits 0 to 51 as in the record and bit 52 for the lift. It grows by
