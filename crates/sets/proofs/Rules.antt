@@ -1,8 +1,8 @@
 -- The rules of a garage, over any records, instructions and car events, and the laws that make a set safe in any order:
 -- each instruction and each event has an area, outside of which it writes nothing; of what is outside it reads nothing
 -- but a view, which changes in other areas leave as it is. They are asked of sound records, and of a change where its
--- test passes. In the garage as it is there is no view (`blind`), and the laws hold of all records (`Local`): on two
--- records that agree on its area, an instruction gets the same verdict. Assumes nothing.
+-- test passes. In the garage as it is the lift has a view, whether each side's count is even; events have none (`blind`),
+-- and their laws hold of all records (`Local`). Assumes nothing.
 use Prim.Native.Nat.{ℕ, _<_}
 use mathlib.Core.Path.{_≡_}
 use mathlib.Core.Bool.{Bool, true, false}
