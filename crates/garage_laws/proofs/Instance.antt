@@ -60,7 +60,7 @@ abbrev pub replyAs : EventReading → Bool → ℕ → ℕ
 replyAs v lost r = onEvent (λ e. cond (inTurn e (bit r)) (cond lost 32 (cond (possible e (bit r)) 0 10)) 31) 4 v
 
 -- what five bytes see of a record outside their area
-abbrev seenAs : Reading → ℕ → List Bool
+abbrev pub seenAs : Reading → ℕ → List Bool
 seenAs v r = onCode (λ i. seen i (bit r)) [] v
 
 abbrev pub seenOf : Code → ℕ → List Bool
