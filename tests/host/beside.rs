@@ -12,8 +12,9 @@ mod raw;
 mod reference;
 mod traffic;
 
-/// Of all pairs, those that overlap, and those that would with all of row 1 in a lift run's area.
+/// How many pairs overlap, and how many would with all of row 1 in a lift run's area: of all, and of those with a lift run.
 const OVERLAPPING: [usize; 2] = [10_448, 10_700];
+const WITH_LIFT: [usize; 2] = [198, 450];
 
 /// An instruction, its bytes, and its area; then the area where a lift run's has all of row 1.
 struct Known {
@@ -70,11 +71,15 @@ fn any_sound(numbers: &mut Numbers, rows: &[u64], uppers: &[u64]) -> u64 {
 /// How many are true, at each place.
 fn count(totals: &mut [usize; 2], which: [bool; 2]) { totals.iter_mut().zip(which).for_each(|(total, is)| *total += usize::from(is)); }
 
+fn told(what: &str, [all, all_once]: [usize; 2], [lift, lift_once]: [usize; 2]) {
+    println!("{what}: {all}, of which {lift} with a lift run; with all of row 1 in its area {all_once} and {lift_once}");
+}
+
 fn main() {
     let words: Vec<String> = std::env::args().collect();
     let [_, records] = &words[..] else { panic!("usage: beside RECORDS") };
     let known = instructions();
-    let (mut pairs, mut overlapping) = (0, [0; 2]);
+    let (mut pairs, mut overlapping, mut with_lift) = (0, [0; 2], [0; 2]);
     for (at, first) in known.iter().enumerate() {
         for second in &known[at + 1..] {
             let meets = first.meets(second);
@@ -84,13 +89,15 @@ fn main() {
             }
             pairs += 1;
             count(&mut overlapping, meets);
+            if first.lift_run() || second.lift_run() { count(&mut with_lift, meets); }
         }
         // beside a lift run may stand what doesn't have the lift: by the bytes, all but lift runs, rotations and belts that name its belt
         let names_lift = matches!(first.five, [1, 1, mask, ..] if mask >> 2 & 1 == 1) || first.five[0] >= 4;
         assert!(known.iter().filter(|other| other.lift_run()).all(|lift| first.meets(lift)[0] == names_lift));
     }
-    println!("beside: of {pairs} pairs of {} instructions {} overlap; with all of row 1 in a lift run's area {} would", known.len(), overlapping[0], overlapping[1]);
-    assert_eq!((known.len(), overlapping), (272, OVERLAPPING));
+    println!("beside: {pairs} pairs of instructions, each asked for in either order and told 8 as the areas say");
+    told("beside: so many overlap", overlapping, with_lift);
+    assert_eq!((known.len(), overlapping, with_lift), (272, OVERLAPPING, WITH_LIFT));
 
     // rows that can be filled so on their own, and settings of all but the cells that are sound
     let rows: Vec<u64> = (0..1 << 20).filter(|row| sound(row | 0b111_111 << 40 | 2 << 53)).collect();
@@ -112,5 +119,5 @@ fn main() {
             }
         }
     }
-    println!("beside: on {records} sound records {} pairs of allowed ones go together, of which {} have a lift run; with all of row 1 it would be {} and {}", together[0], with_lift[0], together[1], with_lift[1]);
+    told(&format!("beside: on {records} sound records so many pairs of allowed ones go together"), together, with_lift);
 }
