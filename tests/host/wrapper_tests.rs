@@ -254,6 +254,28 @@ fn jams_are_set_apart() {
     assert_eq!((s.image(START, 0), s.ask(), s.request(1, &belt)), (TAKEN, shown(START), taken_as(3)));
 }
 
+/// The row doesn't stop for the lift: belts beside it stand in one set with it, and a jam of either leaves the other free.
+#[test]
+fn the_row_goes_on_beside_the_lift() {
+    // a car on the lift in the basement, one on each belt beside it
+    let loaded = START | 2 << 53 | 0b11 << 4 | 0b11 << 11 | 0b11 << 15;
+    let [up, left, right, lift_belt] = [[4, 0, 0, 0, 0], [1, 1, 2, 1, 1], [1, 1, 8, 0, 1], [1, 1, 6, 1, 0]];
+    let after = START | 1 << 52 | 0b11 << 6 | 0b11 << 13;
+    for order in [[0, 1, 2], [2, 1, 0], [1, 2, 0]] {
+        let mut s = Station::start();
+        assert_eq!((s.image(loaded, 0), s.request(3, &[up, left, right].concat())), (TAKEN, taken_as(0)));
+        for number in order { assert_eq!(s.result(0, number, 1), TAKEN, "{order:?}"); }
+        assert_eq!(s.ask(), shown(after));
+    }
+    let mut s = Station::start();
+    assert_eq!((s.image(loaded, 0), s.request(2, &[up, lift_belt].concat())), (TAKEN, refusal_at(Overlap, 1)));
+    assert_eq!((s.request(1, &left), s.result(0, 0, 2), s.request(1, &up), s.result(1, 0, 2)), (taken_as(0), TAKEN, taken_as(1), TAKEN));
+    assert_eq!((s.ask(), s.request(1, &right)), (Ok((loaded, 1 << 52 | 0x1FFC)), taken_as(2)));
+    // a car half on the lift
+    let mut s = Station::start();
+    assert_eq!((s.image(START | 2 << 53 | 0b11 << 10, 0), s.request(2, &[right, up].concat())), (TAKEN, refusal_at(OddCount, 1)));
+}
+
 /// Handed in, anything may be set apart that there is: but no bit above the lift's.
 #[test]
 fn what_is_set_apart_in_a_handed_in_station() {
