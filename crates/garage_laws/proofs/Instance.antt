@@ -3,7 +3,7 @@
 -- each event writes only its reach and keeps records sound; an event reads only its reach, an instruction besides what it sees: a lift run
 -- whether each side's count is even. No instruction with another reach changes that, so the rules are framed. Assumes nothing.
 use mathlib.Core.Path.{_≡_, refl, ap, ap₂, _∙_, sym}
-use mathlib.Core.Logic.{_⊎_, inl, inr, ⊎-elim}
+use mathlib.Core.Logic.{inl, inr}
 use mathlib.Core.Bool.{Bool, true, false, cond, not, _&&_, and-false}
 use mathlib.Core.List.{List, [], _++_}
 use Prim.Native.Nat.{ℕ, _<_}
@@ -33,9 +33,8 @@ use Rattle.rules.specs.Codes.{readCode, readEvent}
 use Rattle.rules.specs.Verdicts.{onCode}
 use Rattle.rules.proofs.Frame.{area-small}
 use Rattle.rules.proofs.CodeLaws.{one-form}
-use Rattle.rules_laws.specs.Laws.{Clear}
 use Rattle.rules_laws.proofs.Laws.{same-verdict, same-bits, events-local, image-sound, image-cars, image-sides, event-image-sound}
-use Rattle.sets.proofs.Rules.{Rules, Clear as Aside, Agree, Local, Within, Quiet, Framed, blind}
+use Rattle.sets.proofs.Rules.{Rules, Clear, Agree, Local, Within, Quiet, Framed, blind}
 use Rattle.sets.proofs.Frames.{local-within}
 use Rattle.garage.specs.Held.{heldArea, heldAllowed, heldNext, crosses}
 use Rattle.garage_laws.proofs.Reach.{reach, in-area, in-drives, outside-area, held-outside}
@@ -172,17 +171,17 @@ allowed-sound x r s t = let (a, c) = allowed-has x r t in next-sound x r s a c
 -- ---- what an instruction sees, nothing with another reach changes
 
 -- an area that shares nothing with the lift's
-apart : (i : Instruction) (height : ℕ) → Aside 64 (λ k. elem k (areaOf (Lift height))) (λ k. elem k (areaOf i)) → overlap i (Lift height) ≡ false
+apart : (i : Instruction) (height : ℕ) → Clear 64 (λ k. elem k (areaOf (Lift height))) (λ k. elem k (areaOf i)) → overlap i (Lift height) ≡ false
 unfolding overlap
 apart i height c = off (overlap i (Lift height)) (λ e.
     let (k, m, n) = share-at (areaOf i) (areaOf (Lift height)) e in
     clash m (c k (are-small (areaOf (Lift height)) tt k n) n))
 
-seen-next : (x y : Code) → Aside 64 (λ k. elem k (reach x)) (λ k. elem k (reach y)) → Quiet sound (seenOf x) (rules .allowed y) (rules .next y)
+seen-next : (x y : Code) → Clear 64 (λ k. elem k (reach x)) (λ k. elem k (reach y)) → Quiet sound (seenOf x) (rules .allowed y) (rules .next y)
 unfolding heldArea heldAllowed heldNext
 seen-next x y c f s t = read (readCode x) (readCode y) (λ k h m. outside-area y k (c k h (in-area x k m))) (allowed-has y f t .0)
   where
-    read : (v w : Reading) → Aside 64 (λ k. elem k (onCode areaOf [] v)) (λ k. elem k (onCode areaOf [] w)) → onCode (λ i. allowed i (bit f)) false w ≡ true
+    read : (v w : Reading) → Clear 64 (λ k. elem k (onCode areaOf [] v)) (λ k. elem k (onCode areaOf [] w)) → onCode (λ i. allowed i (bit f)) false w ≡ true
         → seenAs v (image (onCode (λ i. next i (bit f)) (bit f) w)) ≡ seenAs v f
     read (Good (Lift height)) (Good i) c a = image-sides i height (apart i height c) f s a
     read (Good (Lift height)) Bad c a = clash a refl
@@ -193,11 +192,11 @@ seen-next x y c f s t = read (readCode x) (readCode y) (λ k h m. outside-area y
     read Bad w c a = refl
 
 -- an event is in the reach of what sees anything
-seen-after : (x : Code) (e : ℕ) → Aside 64 (λ k. elem k (reach x)) (rules .lift) → Quiet sound (seenOf x) (rules .possible e) (rules .after e)
+seen-after : (x : Code) (e : ℕ) → Clear 64 (λ k. elem k (reach x)) (rules .lift) → Quiet sound (seenOf x) (rules .possible e) (rules .after e)
 unfolding heldArea
 seen-after x e c f s t = read (readCode x) (λ k h m. c k h (in-area x k m))
   where
-    read : (v : Reading) → Aside 64 (λ k. elem k (onCode areaOf [] v)) (rules .lift) → seenAs v (rules .after e f) ≡ seenAs v f
+    read : (v : Reading) → Clear 64 (λ k. elem k (onCode areaOf [] v)) (rules .lift) → seenAs v (rules .after e f) ≡ seenAs v f
     read (Good (Lift height)) c = clash refl (c raisedCar (lit< tt) refl)
     read (Good (Belts row mask toward size)) c = refl
     read (Good (Shuttles side mask orientation toward)) c = refl

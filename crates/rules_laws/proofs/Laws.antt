@@ -101,7 +101,7 @@ lift-overlaps = which-overlap
 pub sides-kept : SidesKept
 sides-kept i height o f s ok = level i f s ok (sym (lift-overlaps i height (passed i f s ok .0)) ∙ o)
 
--- a car stands half on the left shuttle's belt in row 1, where no shuttle is: a shuttle that comes there with nothing on it clears that half
+-- a car stands half on the left shuttle's belt in row 1, where no shuttle is: an empty one that comes there clears that half
 pub sides-need-sound : SidesNeedSound
 unfolding overlap allowed next
 sides-need-sound = record {
@@ -186,7 +186,8 @@ pub image-cars : (i : Instruction) (r : ℕ) → sound r ≡ true → allowed i 
 image-cars i r s ok = cars-image (next i (bit r)) ∙ same-cars i (bit r) (sound-exactly r .0 s) ok
 
 -- and, where it doesn't overlap a lift run, whether each side's count is even
-pub image-sides : (i : Instruction) (height : ℕ) → overlap i (Lift height) ≡ false → (r : ℕ) → sound r ≡ true → allowed i (bit r) ≡ true → sides (bit (image (next i (bit r)))) ≡ sides (bit r)
+pub image-sides : (i : Instruction) (height : ℕ) → overlap i (Lift height) ≡ false
+    → (r : ℕ) → sound r ≡ true → allowed i (bit r) ≡ true → sides (bit (image (next i (bit r)))) ≡ sides (bit r)
 image-sides i height o r s ok = sides-image (next i (bit r)) ∙ sides-kept i height o (bit r) (sound-exactly r .0 s) ok
 
 -- a possible event too, with as many cars as it counts

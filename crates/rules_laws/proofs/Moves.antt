@@ -159,7 +159,8 @@ alone true true x l h = absurd (subst T (h refl) l)
 alone true false x l h = absurd l
 
 -- an allowed instruction other than belts
-pub other-kept : (i : Instruction) → other i ≡ true → (f : Bits) → T (wellFormed i) → T (allHold (conditions i) f) → T (allHold soundRules f) → Whole 20 f → PairKept 20 (pairAt i) f (changed (changes i) f)
+pub other-kept : (i : Instruction) → other i ≡ true
+    → (f : Bits) → T (wellFormed i) → T (allHold (conditions i) f) → T (allHold soundRules f) → Whole 20 f → PairKept 20 (pairAt i) f (changed (changes i) f)
 other-kept i o f v c r w = split (touches i)
     (λ e.
     let p = pair-cells i f e (pair-before i v o f (known-holds .0) c r) in

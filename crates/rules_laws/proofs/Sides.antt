@@ -5,7 +5,7 @@ use mathlib.Core.Bool.{Bool, true, false, cond, not, _&&_, Bool·beq}
 use mathlib.Core.List.{[], _∷_}
 use Prim.Native.Nat.{ℕ, suc, _+_, _*_, _%_, _≤_}
 use native.Mathlib.Omega.{arith}
-use lib.Dec.{T, eqb, leb, leb→le}
+use lib.Dec.{T, eqb, leb→le}
 use Rattle.bits.specs.Bits.{Bits, count}
 use Rattle.bits.specs.Places.{from, adjacent}
 use Rattle.bits.specs.Search.{every}
@@ -69,7 +69,8 @@ all-oneSide : T (rows oneSide)
 unfolding rows every
 all-oneSide = tt
 
-belts-sides : (row mask toward size : ℕ) (f : Bits) → liftNamed row mask ≡ false → T (wellFormed (Belts row mask toward size)) → T (allHold (conditions (Belts row mask toward size)) f)
+belts-sides : (row mask toward size : ℕ) (f : Bits) → liftNamed row mask ≡ false
+    → T (wellFormed (Belts row mask toward size)) → T (allHold (conditions (Belts row mask toward size)) f)
     → sides (changed (changes (Belts row mask toward size)) f) ≡ sides f
 belts-sides row mask toward size f o v c =
     sides-by f (changed (changes (Belts row mask toward size)) f)
@@ -97,7 +98,8 @@ belts-sides row mask toward size f o v c =
 pair-sides : (f g : Bits) (a : ℕ) → (11 ≡ suc a → ⊥) → (13 ≡ suc a → ⊥) → (20 ≡ suc a → ⊥) → PairKept 20 a f g → sides g ≡ sides f
 pair-sides f g a x y z k = sides-by f g (k .parity 11 (omega arith) x) (k .parity 13 (omega arith) y) (k .parity 20 (omega arith) z)
 
-pub kept-sides : (i : Instruction) → withLift i ≡ false → (f : Bits) → T (wellFormed i) → T (allHold (conditions i) f) → T (allHold soundRules f) → Whole 20 f → sides (changed (changes i) f) ≡ sides f
+pub kept-sides : (i : Instruction) → withLift i ≡ false
+    → (f : Bits) → T (wellFormed i) → T (allHold (conditions i) f) → T (allHold soundRules f) → Whole 20 f → sides (changed (changes i) f) ≡ sides f
 kept-sides (Belts row mask toward size) o f v c r w = belts-sides row mask toward size f o v c
 kept-sides (Shuttles side mask orientation toward) o f v c r w =
     let i = Shuttles side mask orientation toward in

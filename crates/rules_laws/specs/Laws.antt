@@ -42,7 +42,7 @@ SameBits = (i : Instruction) → wellFormed i ≡ true → (f g : Bits) → Agre
 abbrev pub KeptOutside : Type 0
 KeptOutside = (i : Instruction) → wellFormed i ≡ true → (f : Bits) (k : ℕ) → area i k ≡ false → next i f k ≡ f k
 
--- the instructions that go with no lift run: belt runs that name its belt, lift runs and rotations
+-- belt runs that name the lift belt, lift runs and rotations
 abbrev pub withLift : Instruction → Bool
 withLift (Belts row mask toward size) = liftNamed row mask
 withLift (Shuttles side mask orientation toward) = false
@@ -54,13 +54,13 @@ withLift Rotate = true
 abbrev pub LiftOverlaps : Type 0
 LiftOverlaps = (i : Instruction) (height : ℕ) → wellFormed i ≡ true → overlap i (Lift height) ≡ withLift i
 
--- an instruction that doesn't overlap a lift run, allowed on a sound record, leaves it as it was whether each side's count is even
+-- an instruction that doesn't overlap a lift run, allowed on a sound record, leaves each side's count even or odd, as it was
 abbrev pub SidesKept : Type 0
 SidesKept =
     (i : Instruction) (height : ℕ) → overlap i (Lift height) ≡ false
     → (f : Bits) → Sound f → allowed i f ≡ true → sides (next i f) ≡ sides f
 
--- it must be sound: there is a record, and such an instruction that is allowed on it, which changes that
+-- the record must be sound: there is one, and an instruction allowed on it that doesn't overlap a lift run, where a count turns
 pub record SidesNeedSound : Type 0 where
   pub bits : Bits
   pub instruction : Instruction
