@@ -225,9 +225,11 @@ fn beside_the_lift() {
     let mut both = Station { record: LOADED, count: 2, ..Station::start() };
     both.set[..10].copy_from_slice(&[up, left].concat());
     assert!(both.fit());
-    // none of it would hold of a record that isn't sound: there a shuttle can leave an odd count on its side where it was even
-    let (torn, back) = (0x0043_AE00_0000_0002, Instruction::read([2, 0, 6, 0, 0]));
-    assert!(!sound(torn) && back.is_some_and(|back| back.allowed(torn) && back.next(torn) & 0x7FF == 0));
+    // none of it would hold of records that aren't sound: half a car stands where no lowered shuttle is, and one that comes there clears it
+    let (back, left_odd) = (Instruction::read([2, 0, 6, 0, 0]), |record: u64| (record & 0x7FF).count_ones() % 2 == 1);
+    for (torn, odd) in [(0x0043_AE00_0000_0002, true), (0x0040_7E00_0000_0006, false)] {
+        assert!(!sound(torn) && left_odd(torn) == odd && back.is_some_and(|back| back.allowed(torn) && left_odd(back.next(torn)) != odd));
+    }
 }
 
 /// What the instructions were refused for that the record didn't allow, each with its opcode: each message has one answer.
