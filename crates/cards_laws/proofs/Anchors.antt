@@ -1,26 +1,55 @@
--- The anchors of a record: every layout of it has its cars at the same places, which are told by the record alone. In row 1 a car starts
--- at an occupied cell with an even number of occupied cells below it. Assumes nothing.
-use mathlib.Core.Path.{_≡_, refl, sym, ap, _∙_}
+-- The places of a record that bear a number: every layout of it has its cars at the same places, which are told by the record alone. In row
+-- 1 a car starts at an occupied cell with an even number of occupied cells below it. Assumes nothing.
+use mathlib.Core.Path.{_≡_, refl, sym, ap, ap₂, _∙_}
 use mathlib.Core.Logic.{inl, inr, ⊎-elim}
-use mathlib.Core.Bool.{Bool, true, false, cond, _&&_, _||_}
+use mathlib.Core.Bool.{Bool, true, false, cond, _&&_, _||_, and-false}
 use mathlib.Core.List.{List, [], _∷_}
 use Prim.Native.Nat.{ℕ, zero, suc, _+_, _%_, _≤_, _<_}
 use native.Mathlib.Omega.{arith}
 use lib.Dec.{eqb, ltb, eqb·suc-suc}
-use borrow.Author.Tests.{eqb-true, eqb-false, ltb-true, ltb-false}
-use Rattle.bits.specs.Bits.{Bits, digit}
+use borrow.Author.Tests.{eqb-true, eqb-false, ne-eqb, lt-ltb, ltb-true, ltb-false}
+use Rattle.bits.specs.Bits.{Bits, digit, count}
+use Rattle.bits.specs.Places.{from as span}
 use Rattle.bits.proofs.Cases.{split, clash, off}
 use Rattle.bits.proofs.Digits.{digit-lt, digit-one}
-use Rattle.floor.specs.Floor.{raisedCar}
+use Rattle.floor.specs.Floor.{raisedCar, driveIn}
 use Rattle.floor.specs.Cars.{Car, pair, single, raised, at, covered, AllStand, Layout}
 use Rattle.floor.proofs.Layouts.{at-same, at-other}
-use Rattle.floor.proofs.Rows.{below}
+use Rattle.floor.proofs.Rows.{below, count-from}
 use Rattle.cards.specs.Cards.{Numbers, anchor, Among, Cards, Has}
+use Rattle.cards.specs.Given.{bears}
 use Rattle.cards.specs.Following.{nowhere, numberAt}
+use Rattle.cards_laws.specs.Statements.{BearsExactly}
 
--- a car's anchor is at place k
-abbrev pub anchored : Bits → Bits
-anchored f k = cond (ltb k 20) (f k && eqb (below f k % 2) 0) ((ltb k 40 || eqb raisedCar k) && f k)
+-- ---- the places that bear a number: in row 1, and elsewhere
+
+pub row-count : (f : Bits) (k : ℕ) → count (span 0 k) f ≡ below f k
+row-count f k = let e : 0 + k ≡ k = omega arith in omega (arith, count-from f k 0, ap (below f) e)
+
+pub bears-row : (f : Bits) (k : ℕ) → ltb k 20 ≡ true → bears f k ≡ f k && eqb (below f k % 2) 0
+bears-row f k e = rw (e, row-count f k)
+
+-- the places where a number may stand: the cells, the raised lift, and where one waits
+abbrev pub isPlace : ℕ → Bool
+isPlace k = ltb k 40 || (eqb raisedCar k || eqb driveIn k)
+
+pub bears-place : (f : Bits) (k : ℕ) → ltb k 20 ≡ false → bears f k ≡ isPlace k && f k
+bears-place f k e = rw e
+
+-- what is alike in both of them
+pub bears-same : (f g : Bits) (k : ℕ) → g k ≡ f k → (k < 20 → below g k % 2 ≡ below f k % 2) → bears g k ≡ bears f k
+bears-same f g k e p = split (ltb k 20)
+    (λ t. bears-row g k t ∙ ap₂ (λ (b : Bool) (x : ℕ). b && eqb x 0) e (p (ltb-true k 20 t)) ∙ sym (bears-row f k t))
+    (λ t. bears-place g k t ∙ ap (λ (b : Bool). isPlace k && b) e ∙ sym (bears-place f k t))
+
+-- a free place bears none, nor does one where none may stand
+pub free-none : (f : Bits) (k : ℕ) → f k ≡ false → bears f k ≡ false
+free-none f k e = split (ltb k 20) (λ t. rw (t, e)) (λ t. bears-place f k t ∙ rw e (and-false (isPlace k)))
+
+pub no-place : (f : Bits) (k : ℕ) → isPlace k ≡ false → bears f k ≡ false
+no-place f k e = split (ltb k 20)
+    (λ t. let h = ltb-true k 20 t in clash (ap (λ (b : Bool). b || (eqb raisedCar k || eqb driveIn k)) (lt-ltb k 40 (omega arith))) e)
+    (λ t. bears-place f k t ∙ ap (λ (b : Bool). b && f k) e)
 
 -- ---- how many cars of a list have their anchor at a place
 
@@ -77,14 +106,28 @@ module _ (f : Bits) (l : List Car) (y : Layout f l) where
   row-one (suc k) h =
       omega (arith, row-one k (omega arith), y .cover (suc k) (inl (omega arith)), row-suc l k (y .stand) (omega arith), digit-lt (f k))
 
-  pub told : (k : ℕ) → anchorsAt l k ≡ digit (anchored f k)
+  -- a place bears as many numbers as cars have their anchor there, and the one that waits
+  pub told : (k : ℕ) → anchorsAt l k + digit (eqb driveIn k && f k) ≡ digit (bears f k)
   told k = split (ltb k 20)
-      (λ a. rw a (half (f k) (below f k) (anchorsAt l k) (row-one k (ltb-true k 20 a))))
+      (λ a.
+      let h = ltb-true k 20 a in
+      omega (arith, half (f k) (below f k) (anchorsAt l k) (row-one k h), ap digit (bears-row f k a), not-there (omega arith)))
       (λ a. let h = ltb-false k 20 a in split (ltb k 40)
-      (λ b. rw (a, b) (sym (others l k (y .stand) h) ∙ y .cover k (inl (ltb-true k 40 b))))
+      (λ b.
+      let j = ltb-true k 40 b in
+      let e : bears f k ≡ f k = rw (a, b) in
+      omega (arith, others l k (y .stand) h, y .cover k (inl j), ap digit e, not-there (omega arith)))
       (λ b. split (eqb raisedCar k)
-      (λ c. rw (a, b, c) (sym (others l k (y .stand) h) ∙ y .cover k (inr (sym (eqb-true raisedCar k c)))))
-      (λ c. rw (a, b, c) (none-there l k (y .stand) (ltb-false k 40 b) (eqb-false raisedCar k c)))))
+      (λ c.
+      let i = eqb-true raisedCar k c in
+      let e : bears f k ≡ f k = rw (a, b, c) in
+      omega (arith, others l k (y .stand) h, y .cover k (inr (sym i)), ap digit e, not-there (omega arith)))
+      (λ c.
+      let e : bears f k ≡ eqb driveIn k && f k = rw (a, b, c) in
+      omega (arith, none-there l k (y .stand) (ltb-false k 40 b) (eqb-false raisedCar k c), ap digit e))))
+    where
+      not-there : k < driveIn → digit (eqb driveIn k && f k) ≡ 0
+      not-there h = rw (ne-eqb driveIn k (λ e. omega arith))
 
 -- ---- a car of a layout is anchored, and what is anchored is a car
 
@@ -103,11 +146,23 @@ at-among (z ∷ l) k h = split (eqb (anchor z) k)
     (λ e. let r = at-among l k (omega (arith, ap digit e)) in (r .0, inr (r .1), r .2))
 
 module _ (f : Bits) (l : List Car) (y : Layout f l) where
-  pub car-anchored : (x : Car) → Among x l → anchored f (anchor x) ≡ true
-  car-anchored x m = digit-one (anchored f (anchor x)) (omega (arith, among-at l x m, told f l y (anchor x)))
+  pub car-bears : (x : Car) → Among x l → bears f (anchor x) ≡ true
+  car-bears x m = digit-one (bears f (anchor x)) (omega (arith, among-at l x m, told f l y (anchor x), digit-lt (bears f (anchor x))))
 
-  pub anchored-car : (k : ℕ) → anchored f k ≡ true → (x : Car) × Among x l × (anchor x ≡ k)
-  anchored-car k e = at-among l k (omega (arith, told f l y k, ap digit e))
+  pub bears-car : (k : ℕ) → (k ≡ driveIn → ⊥) → bears f k ≡ true → (x : Car) × Among x l × (anchor x ≡ k)
+  bears-car k o e =
+      let none : digit (eqb driveIn k && f k) ≡ 0 = rw (ne-eqb driveIn k (λ q. o (sym q))) in
+      at-among l k (omega (arith, told f l y k, ap digit e))
+
+pub bears-exactly : BearsExactly
+bears-exactly f l y k = (
+  λ e. split (eqb driveIn k)
+      (λ t. let i = eqb-true driveIn k t in inr (sym i, ap (bears f) i ∙ e))
+      (λ t. inl (bears-car f l y k (λ q. eqb-false driveIn k t (sym q)) e)),
+  λ s. ⊎-elim
+      (λ (c : (x : Car) × Among x l × (anchor x ≡ k)). ap (bears f) (sym (c .2)) ∙ car-bears f l y (c .0) (c .1))
+      (λ (w : (k ≡ driveIn) × (f driveIn ≡ true)). ap (bears f) (w .0) ∙ w .1) s,
+)
 
 -- ---- the numbers of the cars, by places
 
@@ -117,22 +172,26 @@ pub record Marked (A : Bits) (n : Numbers) : Type 0 where
   pub some : (k : ℕ) → A k ≡ true → n k ≡ 0 → ⊥
   pub once : (j k : ℕ) → n j ≡ n k → A j ≡ true → j ≡ k
 
-pub cards-marked : (f : Bits) (n : Numbers) (l : List Car) → Layout f l → Cards f n → Marked (anchored f) n
+pub cards-marked : (f : Bits) (n : Numbers) (l : List Car) → Layout f l → Cards f n → Marked (bears f) n
 cards-marked f n l y c =
     let N = c l y in
-    let some : (k : ℕ) → anchored f k ≡ true → n k ≡ 0 → ⊥ =
-    λ k e z. (let (x, m, a) = anchored-car f l y k e in N .each x m (ap n a ∙ z)) in
+    let some : (k : ℕ) → bears f k ≡ true → n k ≡ 0 → ⊥ = λ k e z. split (eqb driveIn k)
+    (λ t. let i = eqb-true driveIn k t in clash (ap (bears f) i ∙ e) (N .coming .0 (ap n i ∙ z)))
+    (λ t. let (x, m, a) = bears-car f l y k (λ q. eqb-false driveIn k t (sym q)) e in N .each x m (ap n a ∙ z)) in
     record {
-      none = λ k e. N .other k (λ x m a. clash (ap (anchored f) (sym a) ∙ car-anchored f l y x m) e);
+      none = λ k e. split (eqb driveIn k)
+          (λ t. let i = eqb-true driveIn k t in ap n (sym i) ∙ N .coming .1 (ap (bears f) i ∙ e))
+          (λ t. N .other k (λ x m a. clash (ap (bears f) (sym a) ∙ car-bears f l y x m) e) (λ q. eqb-false driveIn k t (sym q)));
       some = some;
       once = λ j k e a. N .once j k e (some j a);
     }
 
-pub marked-cards : (f : Bits) (n : Numbers) → Marked (anchored f) n → Cards f n
+pub marked-cards : (f : Bits) (n : Numbers) → Marked (bears f) n → Cards f n
 marked-cards f n M l y = record {
-  each = λ x m. M .some (anchor x) (car-anchored f l y x m);
-  other = λ k none. M .none k (off (anchored f k) (λ e. (let (x, m, a) = anchored-car f l y k e in none x m a)));
-  once = λ j k e z. split (anchored f j) (λ a. M .once j k e a) (λ a. absurd (z (M .none j a)));
+  each = λ x m. M .some (anchor x) (car-bears f l y x m);
+  coming = (λ z. off (f driveIn) (λ e. M .some driveIn e z), λ e. M .none driveIn e);
+  other = λ k none o. M .none k (off (bears f k) (λ e. (let (x, m, a) = bears-car f l y k o e in none x m a)));
+  once = λ j k e z. split (bears f j) (λ a. M .once j k e a) (λ a. absurd (z (M .none j a)));
 }
 
 -- ---- numbers that are taken from other places

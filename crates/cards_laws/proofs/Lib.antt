@@ -1,13 +1,3 @@
 pub mod Anchors
-pub mod Driving
 pub mod Sliding
 pub mod Sources
-pub mod Given
-pub mod Belts
-pub mod Others
-pub mod Laws
-pub mod Moving
-pub mod Tested
-pub mod Numbered
-pub mod Where
-pub mod Whichever

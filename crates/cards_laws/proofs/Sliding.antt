@@ -1,17 +1,16 @@
--- A span of cells that slides by n toward a free end takes its anchors along, and leaves all others. Over every span and n.
+-- A span of cells that slides by n toward a free end takes along the places that bear a number, and leaves all others. Over every span and n.
 -- Assumes nothing.
-use mathlib.Core.Path.{_≡_, refl, sym, ap, _∙_}
+use mathlib.Core.Path.{_≡_, refl, sym, ap, ap₂, _∙_}
 use mathlib.Core.Logic.{_⊎_, inl, inr, ⊎-elim}
-use mathlib.Core.Bool.{false, _||_, and-false}
-use Prim.Native.Nat.{ℕ, zero, suc, _+_, _-_, _≤_, _<_}
+use mathlib.Core.Bool.{Bool, false, _&&_}
+use Prim.Native.Nat.{ℕ, zero, suc, _+_, _-_, _%_, _≤_, _<_}
 use native.Mathlib.Omega.{arith}
-use lib.Dec.{eqb, ltb}
+use lib.Dec.{eqb}
 use borrow.Author.Tests.{lt-ltb, le-ltb}
 use Rattle.bits.specs.Bits.{Bits, digit}
-use Rattle.bits.proofs.Cases.{split}
-use Rattle.floor.specs.Floor.{raisedCar}
 use Rattle.floor.proofs.Rows.{below}
-use Rattle.cards_laws.proofs.Anchors.{anchored}
+use Rattle.cards.specs.Given.{bears}
+use Rattle.cards_laws.proofs.Anchors.{bears-row, bears-same}
 
 -- the m + n cells from a on slide up by n: the first n are then free, the last n were
 pub record Slid (a m n : ℕ) (f g : Bits) : Type 0 where
@@ -66,25 +65,29 @@ module _ (a m n : ℕ) (f g : Bits) (s : Slid a m n f g) where
       let i : k ≡ a + m + n + d = omega arith in
       ap (below g) i ∙ high-same d ∙ sym (ap (below f) i)) h
 
-  -- ---- anchors
+  -- ---- the places that bear a number
 
-  pub slid-outside : (k : ℕ) → (k < a) ⊎ (a + m + n ≤ k) → anchored g k ≡ anchored f k
+  pub slid-outside : (k : ℕ) → (k < a) ⊎ (a + m + n ≤ k) → bears g k ≡ bears f k
   slid-outside k h =
       let same : g k ≡ f k = ⊎-elim (s .low k) (s .high k) h in
       let under : below g k ≡ below f k = outer-same k (⊎-elim (λ (l : k < a). inl (omega arith)) inr h) in
-      rw (same, under)
+      bears-same f g k same (λ r. ap (λ (x : ℕ). x % 2) under)
 
   -- a span in row 1, or in rows 2 and 3
   module _ (row : (a + m + n ≤ 20) ⊎ ((20 ≤ a) × (a + m + n ≤ 40))) where
-    pub slid-inside : (d : ℕ) → d < m → anchored g (a + d + n) ≡ anchored f (a + d)
+    pub slid-inside : (d : ℕ) → d < m → bears g (a + d + n) ≡ bears f (a + d)
     slid-inside d h = ⊎-elim
         (λ (l : a + m + n ≤ 20).
         let u : below g (a + d + n) ≡ below f (a + d) = inner d (omega arith) in
-        rw (lt-ltb (a + d + n) 20 (omega arith), lt-ltb (a + d) 20 (omega arith), s .moved d h, u))
+        bears-row g (a + d + n) (lt-ltb (a + d + n) 20 (omega arith))
+        ∙ ap₂ (λ (b : Bool) (x : ℕ). b && eqb (x % 2) 0) (s .moved d h) u
+        ∙ sym (bears-row f (a + d) (lt-ltb (a + d) 20 (omega arith))))
         (λ (l : (20 ≤ a) × (a + m + n ≤ 40)).
-        rw (le-ltb (a + d + n) 20 (omega arith), le-ltb (a + d) 20 (omega arith), lt-ltb (a + d + n) 40 (omega arith), lt-ltb (a + d) 40 (omega arith), s .moved d h))
+        rw (
+          le-ltb (a + d + n) 20 (omega arith),
+          le-ltb (a + d) 20 (omega arith),
+          lt-ltb (a + d + n) 40 (omega arith),
+          lt-ltb (a + d) 40 (omega arith),
+          s .moved d h
+        ))
         row
-
--- a free place has no anchor
-pub free-none : (f : Bits) (k : ℕ) → f k ≡ false → anchored f k ≡ false
-free-none f k e = split (ltb k 20) (λ t. rw (t, e)) (λ t. rw (t, e) (and-false (ltb k 40 || eqb raisedCar k)))

@@ -15,7 +15,7 @@ use Rattle.rules.specs.declared.Event.{Event}
 use Rattle.rules.specs.declared.Event.the-variants.{BeginIn, BeginOut, EndDone, EndNotDone}
 use Rattle.rules.specs.Rules.{wellFormed, area, allowed, next}
 use Rattle.rules.specs.Events.{possible, after}
-use Rattle.rules_laws.specs.Laws.{Agree, liftArea}
+use Rattle.rules_laws.specs.Laws.{Agree, liftArea, Clear}
 use Rattle.cards.specs.Cards.{Numbers, anchor, Among, Cards, Has}
 use Rattle.cards.specs.declared.Offered.the-variants.{Fine}
 use Rattle.cards.specs.Given.{bears, numbersGiven, wanted, givenAs, AllNew, Rising}
@@ -40,11 +40,11 @@ BearsExactly =
 
 -- the test of numbers passes exactly if they are those of the record's cars
 abbrev pub FitExactly : Type 0
-FitExactly = (r : ℕ) (a : List ℕ) → Sound (bit r) → length a ≡ 42 → (cardsFit r a ≡ true) ↔ Cards (bit r) (numbersIn a)
+FitExactly = (r : ℕ) (a : List ℕ) → Sound (bit r) → (cardsFit r a ≡ true) ↔ Cards (bit r) (numbersIn a)
 
 -- a number is known exactly if it is in the garage or its drive-in is under way
 abbrev pub KnownExactly : Type 0
-KnownExactly = (a : List ℕ) (c : ℕ) → length a ≡ 42 → (c ≡ 0 → ⊥) → (isKnown a c ≡ true) ↔ Has (numbersIn a) c
+KnownExactly = (a : List ℕ) (c : ℕ) → (c ≡ 0 → ⊥) → (isKnown a c ≡ true) ↔ Has (numbersIn a) c
 
 -- ---- the numbers that come with an image
 
@@ -108,11 +108,16 @@ Brought =
     → (l m : List Car) → Layout f l → Layout (next i f) m
     → (y : Car) → Among y m → (x : Car) × Among x l × (moved i x ≡ y)
 
--- so no other numbers fit: those of the next record's cars, of which each car has the one that it had, are these
+-- a number that waits goes on waiting
+abbrev pub WaitsOn : Type 0
+WaitsOn = (i : Instruction) (f : Bits) (n : Numbers) → wellFormed i ≡ true → numbersAfter i f n driveIn ≡ n driveIn
+
+-- so no other numbers fit: those of the next record's cars, of which each car has the one that it had and the same one waits, are these
 abbrev pub OnlyThese : Type 0
 OnlyThese =
     (i : Instruction) (f : Bits) (n m : Numbers) → Sound f → allowed i f ≡ true → Cards f n → Cards (next i f) m
     → ((l : List Car) → Layout f l → (x : Car) → Among x l → m (anchor (moved i x)) ≡ n (anchor x))
+    → m driveIn ≡ n driveIn
     → (k : ℕ) → m k ≡ numbersAfter i f n k
 
 -- ---- areas: of any records and numbers
@@ -149,10 +154,10 @@ abbrev pub numbersAfterAll : List Instruction → Bits → Numbers → Numbers
 numbersAfterAll [] f n = n
 numbersAfterAll (i ∷ is) f n = numbersAfterAll is (next i f) (numbersAfter i f n)
 
--- each is allowed on the record; a place is in none of their areas; no two areas share a place
+-- each is allowed on the record and clear of drives; a place is in none of their areas; no two areas share a place
 abbrev pub AllAllowed : List Instruction → Bits → Type 0
 AllAllowed [] f = Unit {0}
-AllAllowed (i ∷ is) f = (allowed i f ≡ true) × AllAllowed is f
+AllAllowed (i ∷ is) f = (allowed i f ≡ true) × Clear i f × AllAllowed is f
 
 abbrev pub InNone : List Instruction → ℕ → Type 0
 InNone [] k = Unit {0}
