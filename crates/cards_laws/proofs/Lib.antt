@@ -1,3 +1,5 @@
 pub mod Anchors
 pub mod Sliding
 pub mod Sources
+pub mod Belts
+pub mod Others
