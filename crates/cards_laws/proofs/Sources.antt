@@ -1,17 +1,18 @@
 -- From where places take their numbers: what a list of takings says of a place in it and of one that is not, and that an instruction's
 -- takings stand in its area. Tests are computed at every well-formed instruction. Assumes nothing.
 use mathlib.Core.Path.{_≡_, refl, sym, ap, subst, _∙_, fun-ext}
-use mathlib.Core.Bool.{Bool, true, false, cond, _&&_, _||_}
+use mathlib.Core.Bool.{Bool, true, false, cond, not, _&&_, _||_}
 use mathlib.Core.List.{List, [], _∷_}
 use Prim.Native.Nat.{ℕ, _<_}
 use native.Mathlib.Omega.{arith}
 use lib.Dec.{T, eqb, eqb→eq}
-use borrow.Author.Tests.{eqb-true, eqb-false, eq-eqb}
+use borrow.Author.Tests.{eqb-true, eqb-false, eq-eqb, not-true}
 use Rattle.bits.specs.Bits.{Bits}
 use Rattle.bits.specs.Places.{elem}
 use Rattle.bits.specs.Search.{every}
 use Rattle.bits.proofs.Cases.{split, clash, off, and-l, and-r, T→true, true→T}
 use Rattle.bits.proofs.Sharing.{allPass, pass-at}
+use Rattle.floor.specs.Floor.{driveIn, drives}
 use Rattle.floor.specs.Tests.{holds, atBasement}
 use Rattle.floor.proofs.Reading.{readsIn, holds-agree}
 use Rattle.rules.specs.declared.Instruction.{Instruction}
@@ -23,7 +24,7 @@ use Rattle.cards.specs.Cards.{Numbers}
 use Rattle.cards.specs.Following.{nowhere, Taking, _⟵_, takings, numberAt, taken, numbersAfter}
 use Rattle.cards.specs.Private.{source}
 use Rattle.cards.proofs.Takings.{taken-source}
-use Rattle.cards_laws.specs.Statements.{NumbersOutside, NumbersInside}
+use Rattle.cards_laws.specs.Statements.{NumbersOutside, NumbersInside, WaitsOn}
 
 -- the places that take, and those that they take from
 abbrev pub takers : List Taking → List ℕ
@@ -205,3 +206,19 @@ taken-all i w low n z = fun-ext (λ k. split (eqb k nowhere)
     subst (λ (x : ℕ). taken (takings i low) n x ≡ numberAt n (source (takings i low) x)) (sym q)
     (taken-same (takings i low) n nowhere o ∙ z ∙ sym (ap (numberAt n) (source-same (takings i low) nowhere o))))
     (λ e. taken-source (takings i low) n k (eqb-false k nowhere e)))
+
+-- ---- no instruction has a drive in its area
+
+abbrev undriven : Instruction → Bool
+undriven i = allPass (λ k. not (elem k (areaOf i))) drives
+
+all-undriven : T (everywhere undriven)
+unfolding everywhere every
+all-undriven = tt
+
+pub drive-outside : (i : Instruction) → wellFormed i ≡ true → (k : ℕ) → T (elem k drives) → area i k ≡ false
+unfolding area
+drive-outside i w k m = not-true (elem k (areaOf i)) (T→true _ (pass-at (λ k. not (elem k (areaOf i))) drives (each undriven all-undriven i (true→T w)) k m))
+
+pub waits-on : WaitsOn
+waits-on i f n w = numbers-outside i w f n driveIn (drive-outside i w driveIn tt)
