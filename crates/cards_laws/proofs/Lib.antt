@@ -6,3 +6,4 @@ pub mod Others
 pub mod Driving
 pub mod Laws
 pub mod Events
+pub mod Moving

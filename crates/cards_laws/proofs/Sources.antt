@@ -220,5 +220,9 @@ pub drive-outside : (i : Instruction) → wellFormed i ≡ true → (k : ℕ) �
 unfolding area
 drive-outside i w k m = not-true (elem k (areaOf i)) (T→true _ (pass-at (λ k. not (elem k (areaOf i))) drives (each undriven all-undriven i (true→T w)) k m))
 
+pub drive-stays : (i : Instruction) → wellFormed i ≡ true → (low : Bool) → source (takings i low) driveIn ≡ driveIn
+unfolding area
+drive-stays i w low = source-same (takings i low) driveIn (taker-in i (true→T w) low driveIn (drive-outside i w driveIn tt))
+
 pub waits-on : WaitsOn
 waits-on i f n w = numbers-outside i w f n driveIn (drive-outside i w driveIn tt)
