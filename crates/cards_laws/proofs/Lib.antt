@@ -7,3 +7,4 @@ pub mod Driving
 pub mod Laws
 pub mod Events
 pub mod Moving
+pub mod Given

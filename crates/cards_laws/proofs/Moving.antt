@@ -1,7 +1,6 @@
 -- Each car goes where the instruction takes it, with its number: the place to which a car's number goes is the car's new anchor, computed at
 -- every well-formed instruction and every car. Assumes nothing.
 use mathlib.Core.Path.{_≡_, refl, sym, ap, subst, _∙_}
-use mathlib.Core.Logic.{⊎-elim}
 use mathlib.Core.Bool.{Bool, true, false, cond, not, _&&_, _||_}
 use mathlib.Core.List.{List, [], _∷_}
 use Prim.Native.Nat.{ℕ, _+_, _-_}
@@ -15,7 +14,7 @@ use Rattle.bits.proofs.Counts.{count-zero}
 use Rattle.bits.proofs.Search.{each as each-below}
 use Rattle.floor.specs.Floor.{liftCells, driveIn}
 use Rattle.floor.specs.Tests.{holds, free, allHold, atBasement}
-use Rattle.floor.specs.Cars.{Car, pair, single, raised, Stands, AllStand}
+use Rattle.floor.specs.Cars.{Car, pair, single, raised, Stands}
 use Rattle.floor.specs.Sound.{Sound, soundRules}
 use Rattle.floor.proofs.Reading.{nth-holds}
 use Rattle.rules.specs.declared.Instruction.{Instruction}
@@ -28,7 +27,7 @@ use Rattle.cards.specs.Following.{nowhere, onLift, Taking, takings, numberAt, n
 use Rattle.cards.specs.Private.{source}
 use Rattle.cards.proofs.Takings.{taken-source}
 use Rattle.cards_laws.specs.Statements.{OneLayout, EmptyGarage, Followed, Brought, OnlyThese}
-use Rattle.cards_laws.proofs.Anchors.{comes, free-none, car-bears, bears-car, cards-marked}
+use Rattle.cards_laws.proofs.Anchors.{comes, free-none, stands, car-bears, bears-car, cards-marked}
 use Rattle.cards_laws.proofs.Sources.{back, way-back, one-source, one-to-one, drive-stays, waits-on}
 use Rattle.cards_laws.proofs.Others.{gapless, is-gapless}
 use Rattle.cards_laws.proofs.Laws.{fine, follows, next-layout, kept}
@@ -51,11 +50,6 @@ same-car (single b) raised s k e = absurd (omega (arith, s .1))
 same-car raised (pair c) s k e = absurd (omega (arith, ltb→lt c 20 k))
 same-car raised (single c) s k e = absurd (omega (arith, ltb→lt c 40 (and-r (leb 20 c) (ltb c 40) k)))
 same-car raised raised s k e = refl
-
-stands : (l : List Car) (x : Car) → AllStand l → Among x l → Stands x
-unfolding AllStand Among
-stands [] x s m = absurd m
-stands (y ∷ l) x s m = ⊎-elim (λ (e : x ≡ y). subst Stands (sym e) (s .0)) (λ (r : Among x l). stands l x (s .1) r) m
 
 stands-kind : (x : Car) → Stands x → T (kind x)
 stands-kind (pair c) s = true→T (lt-ltb c 20 (omega arith))
