@@ -8,3 +8,6 @@ pub mod Laws
 pub mod Events
 pub mod Moving
 pub mod Given
+pub mod Elements
+pub mod Where
+pub mod Tested
