@@ -11,3 +11,4 @@ pub mod Given
 pub mod Elements
 pub mod Where
 pub mod Tested
+pub mod Whichever
