@@ -12,3 +12,4 @@ pub mod Elements
 pub mod Where
 pub mod Tested
 pub mod Whichever
+pub mod Arrays
