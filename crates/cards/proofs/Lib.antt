@@ -1,0 +1,4 @@
+pub mod Takings
+pub mod Finding
+pub mod Listing
+pub mod Giving
