@@ -10,7 +10,7 @@ use lib.ListN.{getD}
 use borrow.Author.Tests.{eq-eqb, ne-eqb, lt-ltb, le-ltb}
 use Rattle.bits.specs.Places.{places}
 use Rattle.bits.proofs.Cases.{split}
-use Rattle.floor.specs.Floor.{heightLow, heightHigh, raisedCar}
+use Rattle.floor.specs.Floor.{heightLow, heightHigh, raisedCar, driveIn}
 use Rattle.rules.specs.Named.{higher, step}
 use Rattle.cards.specs.Following.{nowhere, numberAt}
 use Rattle.cards.specs.Held.{numbersIn}
@@ -71,9 +71,15 @@ module _ (a : List ℕ) (k : ℕ) where
   unfolding numbersIn
   at-lift h e = rw (ne-eqb k nowhere (omega arith), le-ltb k 40 h, eq-eqb raisedCar k (sym e))
 
-  pub at-none : 40 ≤ k → (k ≡ raisedCar → ⊥) → 0 ≡ numberAt (numbersIn a) k
+  pub at-coming : 40 ≤ k → (k ≡ raisedCar → ⊥) → k ≡ driveIn → getD a 41 0 ≡ numberAt (numbersIn a) k
   unfolding numbersIn
-  at-none h n = split (eqb k nowhere) (λ t. rw t) (λ t. rw (t, le-ltb k 40 h, ne-eqb raisedCar k (λ q. n (sym q))))
+  at-coming h n e = rw (ne-eqb k nowhere (omega arith), le-ltb k 40 h, ne-eqb raisedCar k (λ q. n (sym q)), eq-eqb driveIn k (sym e))
+
+  pub at-none : 40 ≤ k → (k ≡ raisedCar → ⊥) → (k ≡ driveIn → ⊥) → 0 ≡ numberAt (numbersIn a) k
+  unfolding numbersIn
+  at-none h n m = split (eqb k nowhere)
+      (λ t. rw t)
+      (λ t. rw (t, le-ltb k 40 h, ne-eqb raisedCar k (λ q. n (sym q)), ne-eqb driveIn k (λ q. m (sym q))))
 
 -- ---- the two digits of the lift's height
 

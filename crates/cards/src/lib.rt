@@ -1,208 +1,50 @@
-// Card numbers that follow cars: one for each cell, at a car's first, and one for the raised lift.
+// Card numbers that follow cars: 42 elements, one for each cell, at a car's first, one for the raised lift, and the one that waits while a
+// drive-in is under way.
 ghost use mathlib.Core.Path.{_≡_};
-ghost use Prim.Native.Nat.{_<_};
+ghost use Prim.Native.Nat.{_≤_};
+ghost use lib.Dec.{eqb};
+ghost use lib.ListN.{length, getD};
 ghost use Rattle.bits.specs.Bits.{bit};
-ghost use Rattle.floor.specs.Tests.{holds, atBasement};
-ghost use Rattle.rules.specs.Named.{step};
+ghost use Rattle.bits.specs.Search.{least};
 ghost use Rattle.rules.specs.declared.Event.{Event};
 ghost use Rattle.cards.specs.Following.{numberAt};
-ghost use Rattle.cards.specs.Held.{placeOf, numbersIn, heldAfter, heldDriven, heldGiven, elementOf, whereIs};
-ghost use Rattle.cards.specs.Private.{givenAt, cellNamed, against, beltSource, rowAt, placeAt, rowNamed, rowBehind, shuttleSource, liftSource, sourceOf};
-use floor::Belt;
-use floor::masks::HEIGHT_HIGH;
-use floor::masks::HEIGHT_LOW;
+ghost use Rattle.cards.specs.Given.{bears, wanted, givenAs};
+ghost use Rattle.cards.specs.Held.{placeOf, numbersIn, cardsAfter, codeCards, cardsDriven, cardsGiven, cardsFit, isKnown, whereIs};
+ghost use Rattle.cards.specs.Private.{givenAt, standRight, onceEach};
+use floor::Total;
+use floor::masks::RAISED;
+use rules::Code;
 use rules::Event;
 use rules::Instruction;
+use rules::Reading;
 
-// The lift is in the basement.
-fn low(r: u64) -> bool
-    ensures { λ b. ⌜ b ≡ holds atBasement (bit r) ⌝ }
-{
-    bits::free(r, HEIGHT_LOW) & bits::all(r, HEIGHT_HIGH)
+mod sources;
+
+// What is said of the numbers that come with an image.
+pub enum Offered {
+    Fine,
+    WrongCount,
+    ZeroNumber,
+    TwiceGiven,
 }
 
-// ---- from which place a place takes its number
+// ---- elements and places
 
-// The cell is on a belt of the row that the mask names.
-fn named(row: u8, mask: u8, cell: u64) -> bool
-    ensures { λ b. ⌜ b ≡ cellNamed row mask cell ⌝ }
-{
-    let belt = floor::belt_of(cell);
-    match belt {
-        Belt::On(on, number) => (on == row) & bits::bit(mask as u64, number as u64),
-        Belt::NoCell => false,
-    }
-}
-
-// By how many cells a move shifts.
-fn step(row: u8, size: u8) -> u8
-    ensures { λ n. ⌜ n ≡ step row size ⌝ }
-{
-    if (row == 1) & (size == 1) { 2 } else { 1 }
-}
-
-// The cell n further down, 64 if that goes below 0, or up.
-fn against(cell: u8, up: bool, n: u8) -> u64
-    ensures { λ k. ⌜ k ≡ against cell up n ⌝ }
-{
-    if up {
-        if cell < n {
-            return 64;
-        }
-        return (cell - n) as u64;
-    }
-    cell as u64 + n as u64
-}
-
-// A cell of the span takes from the cell behind it in the span, 64 if there is none.
-fn belt_source(row: u8, mask: u8, toward: u8, size: u8, cell: u8) -> u64
-    ensures { λ k. ⌜ k ≡ beltSource row mask toward size cell ⌝ }
-{
-    if !named(row, mask, cell as u64) {
-        return cell as u64;
-    }
-    let k = against(cell, toward == 1, step(row, size));
-    if named(row, mask, k) {
-        return k;
-    }
-    64
-}
-
-// The row of a side's position by the place of its number, 0 for any other place.
-fn row_at(side: u8, k: u8) -> u8
-    ensures { λ n. ⌜ n ≡ rowAt side k ⌝ }
-{
-    if k as u64 == side as u64 * 18 {
-        return 1;
-    }
-    if k as u64 == 20 + side as u64 * 9 {
-        return 2;
-    }
-    if k as u64 == 30 + side as u64 * 9 {
-        return 3;
-    }
-    0
-}
-
-// The reverse.
-fn place_at(side: u8, row: u8) -> u64
-    ensures { λ k. ⌜ k ≡ placeAt side row ⌝ }
-{
-    if row == 1 {
-        return side as u64 * 18;
-    }
-    if row == 2 {
-        return 20 + side as u64 * 9;
-    }
-    30 + side as u64 * 9
-}
-
-// The mask names the row.
-fn row_named(mask: u8, row: u8) -> bool
-    ensures { λ b. ⌜ b ≡ rowNamed mask row ⌝ }
-{
-    if row == 0 {
-        return false;
-    }
-    bits::bit(mask as u64, (row - 1) as u64)
-}
-
-// The row behind.
-fn row_behind(toward: u8, row: u8) -> u8
-    requires { ⌜ (0 < row) × (row < 4) ⌝ }
-    ensures { λ n. ⌜ n ≡ rowBehind toward row ⌝ }
-{
-    if toward == 1 {
-        return row - 1;
-    }
-    row + 1
-}
-
-// A row takes from the named row behind it; a named one with none behind from nowhere.
-fn shuttle_source(side: u8, mask: u8, toward: u8, k: u8) -> u64
-    ensures { λ s. ⌜ s ≡ shuttleSource side mask toward k ⌝ }
-{
-    let row = row_at(side, k);
-    if row == 0 {
-        return k as u64;
-    }
-    let behind = row_behind(toward, row);
-    if row_named(mask, behind) {
-        return place_at(side, behind);
-    }
-    if row_named(mask, row) {
-        return 64;
-    }
-    k as u64
-}
-
-// The lift's cells and the raised lift.
-fn lift_source(height: u8, low: bool, k: u8) -> u64
-    ensures { λ s. ⌜ s ≡ liftSource height low k ⌝ }
-{
-    if height == 2 {
-        if k == 11 {
-            return 52;
-        }
-        if k == 52 {
-            return 64;
-        }
-        return k as u64;
-    }
-    if low {
-        if k == 52 {
-            return 11;
-        }
-        if k == 11 {
-            return 64;
-        }
-        return k as u64;
-    }
-    k as u64
-}
-
-// The place from which a place takes its number.
-fn source(i: Instruction, low: bool, k: u8) -> u64
-    ensures { λ s. ⌜ s ≡ sourceOf i low k ⌝ }
-{
-    match i {
-        Instruction::Belts {
-            row,
-            mask,
-            toward,
-            size,
-        } => belt_source(row, mask, toward, size, k),
-        Instruction::Shuttles {
-            side,
-            mask,
-            orientation,
-            toward,
-        } => if orientation == 0 {
-            shuttle_source(side, mask, toward, k)
-        } else {
-            k as u64
-        },
-        Instruction::Tilt {
-            side,
-            row,
-            orientation,
-        } => k as u64,
-        Instruction::Lift { height } => lift_source(height, low, k),
-        Instruction::Rotate => k as u64,
-    }
-}
-
-// ---- the numbers
+// The bit of a drive-in, where its number waits.
+const COMING: u64 = 55;
 
 // The number at a place.
-fn number_at(n: &[u32; 41], k: u64) -> u32
+fn number_at(n: &[u32; 42], k: u64) -> u32
     ensures { λ c. ⌜ c ≡ numberAt (numbersIn (now (n .entry))) k ⌝ }
 {
     if k < 40 {
         return n[k as usize];
     }
-    if k == 52 {
+    if k == RAISED {
         return n[40];
+    }
+    if k == COMING {
+        return n[41];
     }
     0
 }
@@ -211,44 +53,88 @@ fn number_at(n: &[u32; 41], k: u64) -> u32
 fn place_of(j: u8) -> u8
     ensures { λ k. ⌜ k ≡ placeOf j ⌝ }
 {
-    if j < 40 { j } else { 52 }
+    if j < 40 {
+        return j;
+    }
+    if j == 40 {
+        return RAISED as u8;
+    }
+    COMING as u8
 }
 
+// Whether a number stands at the place of an element.
+fn bears(r: u64, j: u8) -> bool
+    ensures { λ b. ⌜ b ≡ bears (bit r) (placeOf j) ⌝ }
+{
+    let on = bits::bit(r, place_of(j) as u64);
+    if j < 20 {
+        return on & bits::even(r, (1 << j) - 1);
+    }
+    on
+}
+
+// ---- the numbers after what succeeds or is driven
+
 // The numbers after an instruction has succeeded on the record.
-pub fn numbers_after(i: Instruction, r: u64, n: [u32; 41]) -> [u32; 41]
-    ensures { λ a. ⌜ a ≡ heldAfter i r n ⌝ }
+pub fn numbers_after(i: Instruction, r: u64, n: [u32; 42]) -> [u32; 42]
+    ensures { λ a. ⌜ a ≡ cardsAfter i r n ⌝ }
 {
     if !rules::well_formed(i) {
         return n;
     }
-    let at = low(r);
-    let mut new: [u32; 41] = [0; 41];
+    let at = sources::low(r);
+    let mut new: [u32; 42] = [0; 42];
     let mut j: u8 = 0;
-    while j < 41 {
-        new[j as usize] = number_at(&n, source(i, at, place_of(j)));
+    while j < 42 {
+        new[j as usize] = number_at(&n, sources::source(i, at, place_of(j)));
         j += 1;
     }
     new
 }
 
-// The numbers with another on the raised lift.
-fn raised(n: [u32; 41], c: u32) -> [u32; 41]
-    ensures { λ a. ⌜ a ≡ heldDriven Event.CarIn c n ⌝ }
+// The same of five bytes; bad ones change nothing.
+pub fn code_numbers_after(x: Code, r: u64, n: [u32; 42]) -> [u32; 42]
+    ensures { λ a. ⌜ a ≡ codeCards x r n ⌝ }
+{
+    let said = rules::read(x);
+    match said {
+        Reading::Good(i) => numbers_after(i, r, n),
+        Reading::Bad => n,
+    }
+}
+
+// The numbers with c waiting.
+fn waiting(n: [u32; 42], c: u32) -> [u32; 42]
+    ensures { λ a. ⌜ a ≡ cardsDriven Event.BeginIn c n ⌝ }
 {
     let mut new = n;
-    new[40] = c;
+    new[41] = c;
     new
 }
 
-// The numbers after a car event, where c is the number that a car in brings.
-pub fn numbers_driven(e: Event, c: u32, n: [u32; 41]) -> [u32; 41]
-    ensures { λ a. ⌜ a ≡ heldDriven e c n ⌝ }
+// The numbers with the one that waited on the raised lift.
+fn arrived(n: [u32; 42]) -> [u32; 42]
+    ensures { λ a. ⌜ a ≡ cardsDriven Event.EndDone 0 n ⌝ }
+{
+    let mut new = n;
+    new[40] = n[41];
+    new[41] = 0;
+    new
+}
+
+// The numbers after a car event, where c is the number that a begin of a drive-in brings.
+pub fn numbers_driven(e: Event, c: u32, n: [u32; 42]) -> [u32; 42]
+    ensures { λ a. ⌜ a ≡ cardsDriven e c n ⌝ }
 {
     match e {
-        Event::CarIn => raised(n, c),
-        Event::CarOut => raised(n, 0),
+        Event::BeginIn => waiting(n, c),
+        Event::BeginOut => n,
+        Event::EndDone => arrived(n),
+        Event::EndNotDone => waiting(n, 0),
     }
 }
+
+// ---- the numbers of an image
 
 // The number that a place is given: the one at t, or none.
 fn given(ns: &[u32; 31], t: u8, here: bool) -> u32
@@ -263,49 +149,121 @@ fn given(ns: &[u32; 31], t: u8, here: bool) -> u32
     0
 }
 
-// The numbers that come with an image, given to its cars in the order of the cells, the raised lift last.
-pub fn numbers_given(r: u64, ns: [u32; 31]) -> [u32; 41]
-    ensures { λ a. ⌜ a ≡ heldGiven r ns ⌝ }
+// The numbers that come with an image, given to its cars in the order of the cells, the raised lift last, and then to a drive-in under way.
+pub fn numbers_given(r: u64, ns: [u32; 31]) -> [u32; 42]
+    ensures { λ a. ⌜ a ≡ cardsGiven r ns ⌝ }
 {
-    let mut new: [u32; 41] = [0; 41];
+    let mut new: [u32; 42] = [0; 42];
     let mut t: u8 = 0;
-    let mut odd = false;
     let mut j: u8 = 0;
-    while j < 41 {
-        let on = bits::bit(r, place_of(j) as u64);
-        let here = on & (!odd | (19 < j));
+    while j < 42 {
+        let here = bears(r, j);
         new[j as usize] = given(&ns, t, here);
         t += here as u8;
-        odd = odd != on;
         j += 1;
     }
     new
 }
 
-// ---- where a card's car is
-
-// The first element that is the number, or 41.
-fn element_of(n: [u32; 41], c: u32) -> u8
-    ensures { λ j. ⌜ j ≡ elementOf n c ⌝ }
+// The first of the first m elements that is the number, or m.
+fn first(ns: &[u32], m: u8, c: u32) -> u8
+    requires { ⌜ m ≤ length (now ns) ⌝ }
+    ensures { λ j. ⌜ j ≡ least m (λ i. eqb (getD (now (ns .entry)) i 0) c) ⌝ }
 {
     let mut j: u8 = 0;
-    while j < 41 {
-        if n[j as usize] == c {
+    while j < m {
+        if ns[j as usize] == c {
             return j;
         }
         j += 1;
     }
-    41
+    m
 }
 
-// The place of a number, 64 if no car has it.
-pub fn where_is(n: [u32; 41], c: u32) -> u8
+// Of the first m elements none but 0 stands twice.
+fn once_each(ns: &[u32], m: u8) -> bool
+    requires { ⌜ m ≤ length (now ns) ⌝ }
+    ensures { λ b. ⌜ b ≡ onceEach (now (ns .entry)) m ⌝ }
+{
+    let mut j: u8 = 0;
+    while j < m {
+        let c = ns[j as usize];
+        if c != 0 {
+            if first(ns, j, c) < j {
+                return false;
+            }
+        }
+        j += 1;
+    }
+    true
+}
+
+// How many numbers an image comes with.
+fn wanted(r: u64) -> u64
+    ensures { λ w. ⌜ w ≡ wanted r ⌝ }
+{
+    let total = floor::cars(r);
+    let cars = match total {
+        Total::Cars(n) => n,
+        Total::Unsound => 0,
+    };
+    cars + bits::bit(r, COMING) as u64
+}
+
+// Whether the first numbers of ns, so many of them, can be taken with an image.
+pub fn given_as(r: u64, count: u8, ns: [u32; 31]) -> Offered
+    ensures { λ o. ⌜ o ≡ givenAs r count ns ⌝ }
+{
+    if count as u64 != wanted(r) {
+        return Offered::WrongCount;
+    }
+    if first(&ns, count, 0) < count {
+        return Offered::ZeroNumber;
+    }
+    if !once_each(&ns, count) {
+        return Offered::TwiceGiven;
+    }
+    Offered::Fine
+}
+
+// A number stands exactly where the record has a car, or a drive-in under way.
+fn stand_right(r: u64, n: [u32; 42]) -> bool
+    ensures { λ b. ⌜ b ≡ standRight r n ⌝ }
+{
+    let mut j: u8 = 0;
+    while j < 42 {
+        if (n[j as usize] != 0) != bears(r, j) {
+            return false;
+        }
+        j += 1;
+    }
+    true
+}
+
+// Whether the numbers fit the record.
+pub fn fits(r: u64, n: [u32; 42]) -> bool
+    ensures { λ b. ⌜ b ≡ cardsFit r n ⌝ }
+{
+    stand_right(r, n) & once_each(&n, 42)
+}
+
+// ---- where a card's car is
+
+// Whether a number is in the garage, or waits.
+pub fn known(n: [u32; 42], c: u32) -> bool
+    ensures { λ b. ⌜ b ≡ isKnown n c ⌝ }
+{
+    first(&n, 42, c) < 42
+}
+
+// The place of a number, 64 if no car in the garage has it.
+pub fn where_is(n: [u32; 42], c: u32) -> u8
     ensures { λ k. ⌜ k ≡ whereIs n c ⌝ }
 {
     if c == 0 {
         return 64;
     }
-    let j = element_of(n, c);
+    let j = first(&n, 41, c);
     if j < 41 {
         return place_of(j);
     }

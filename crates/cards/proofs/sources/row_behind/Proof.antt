@@ -1,9 +1,9 @@
--- `cards::row_behind` meets its contract: each return is one case of the definition. Assumes nothing.
+-- `cards::sources::row_behind` meets its contract: each return is one case of the definition. Assumes nothing.
 use Rattle.cards.specs.Private.{rowBehind}
 use borrow.Author.Tests.{eq-eqb, ne-eqb}
 use borrow.Author.Needs.{needs}
-use Rattle.cards.proofs.row_behind.Statement.{statement}
-use Rattle.cards.proofs.row_behind.Tie as tie
+use Rattle.cards.proofs.sources.row_behind.Statement.{statement}
+use Rattle.cards.proofs.sources.row_behind.Tie as tie
 
 sub-result : tie.Need-sub-result
 sub-result c = search needs

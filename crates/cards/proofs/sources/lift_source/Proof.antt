@@ -1,8 +1,8 @@
--- `cards::lift_source` meets its contract: each return is one case of the definition. Assumes nothing.
+-- `cards::sources::lift_source` meets its contract: each return is one case of the definition. Assumes nothing.
 use Rattle.cards.specs.Private.{liftSource}
 use borrow.Author.Tests.{eq-eqb, ne-eqb}
-use Rattle.cards.proofs.lift_source.Statement.{statement}
-use Rattle.cards.proofs.lift_source.Tie as tie
+use Rattle.cards.proofs.sources.lift_source.Statement.{statement}
+use Rattle.cards.proofs.sources.lift_source.Tie as tie
 
 returns : tie.Need-returns
 unfolding liftSource

@@ -1,9 +1,9 @@
--- `cards::against` meets its contract: each return is one case of the definition. Assumes nothing.
+-- `cards::sources::against` meets its contract: each return is one case of the definition. Assumes nothing.
 use Rattle.cards.specs.Private.{against}
 use borrow.Author.Tests.{lt-ltb, le-ltb}
 use borrow.Author.Needs.{needs}
-use Rattle.cards.proofs.against.Statement.{statement}
-use Rattle.cards.proofs.against.Tie as tie
+use Rattle.cards.proofs.sources.against.Statement.{statement}
+use Rattle.cards.proofs.sources.against.Tie as tie
 
 returns : tie.Need-returns
 unfolding against

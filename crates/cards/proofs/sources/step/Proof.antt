@@ -1,6 +1,6 @@
--- `cards::step` meets its contract: each branch is one case. Assumes nothing.
-use Rattle.cards.proofs.step.Statement.{statement}
-use Rattle.cards.proofs.step.Tie as tie
+-- `cards::sources::step` meets its contract: each branch is one case. Assumes nothing.
+use Rattle.cards.proofs.sources.step.Statement.{statement}
+use Rattle.cards.proofs.sources.step.Tie as tie
 
 returns : tie.Need-returns
 returns c = rw (c .if1 .taken)

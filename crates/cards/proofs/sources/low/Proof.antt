@@ -1,8 +1,8 @@
--- `cards::low` meets its contract: each return is one case of the definition. Assumes nothing.
+-- `cards::sources::low` meets its contract: each return is one case of the definition. Assumes nothing.
 use Rattle.cards.proofs.Finding.{low-place, high-place}
 use borrow.Author.Needs.{needs}
-use Rattle.cards.proofs.low.Statement.{statement}
-use Rattle.cards.proofs.low.Tie as tie
+use Rattle.cards.proofs.sources.low.Statement.{statement}
+use Rattle.cards.proofs.sources.low.Tie as tie
 
 free-requires : tie.Need-free-requires
 free-requires c κs = search needs

@@ -1,7 +1,7 @@
--- `cards::named` meets its contract: each variant is one case of the definition. Assumes nothing.
+-- `cards::sources::named` meets its contract: each variant is one case of the definition. Assumes nothing.
 use borrow.Author.Needs.{needs}
-use Rattle.cards.proofs.named.Statement.{statement}
-use Rattle.cards.proofs.named.Tie as tie
+use Rattle.cards.proofs.sources.named.Statement.{statement}
+use Rattle.cards.proofs.sources.named.Tie as tie
 
 belt-of-requires : tie.Need-belt-of-requires
 belt-of-requires c κs = search needs

@@ -1,10 +1,10 @@
--- `cards::source` meets its contract: each return is one case of the definition. Assumes nothing.
+-- `cards::sources::source` meets its contract: each return is one case of the definition. Assumes nothing.
 use mathlib.Core.Path.{_∙_}
 use Rattle.cards.specs.Private.{sourceOf}
 use borrow.Author.Tests.{eq-eqb, ne-eqb}
 use borrow.Author.Needs.{needs}
-use Rattle.cards.proofs.source.Statement.{statement}
-use Rattle.cards.proofs.source.Tie as tie
+use Rattle.cards.proofs.sources.source.Statement.{statement}
+use Rattle.cards.proofs.sources.source.Tie as tie
 
 enum-known-i : tie.Need-enum-known-i
 enum-known-i c = search needs

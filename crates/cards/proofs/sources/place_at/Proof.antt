@@ -1,9 +1,9 @@
--- `cards::place_at` meets its contract: each return is one case of the definition. Assumes nothing.
+-- `cards::sources::place_at` meets its contract: each return is one case of the definition. Assumes nothing.
 use Rattle.cards.specs.Private.{placeAt}
 use borrow.Author.Tests.{eq-eqb, ne-eqb}
 use borrow.Author.Needs.{needs}
-use Rattle.cards.proofs.place_at.Statement.{statement}
-use Rattle.cards.proofs.place_at.Tie as tie
+use Rattle.cards.proofs.sources.place_at.Statement.{statement}
+use Rattle.cards.proofs.sources.place_at.Tie as tie
 
 mul-result : tie.Need-mul-result
 mul-result c = search needs

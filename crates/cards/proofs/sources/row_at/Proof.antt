@@ -1,9 +1,9 @@
--- `cards::row_at` meets its contract: each return is one case of the definition. Assumes nothing.
+-- `cards::sources::row_at` meets its contract: each return is one case of the definition. Assumes nothing.
 use Rattle.cards.specs.Private.{rowAt}
 use borrow.Author.Tests.{eq-eqb, ne-eqb}
 use borrow.Author.Needs.{needs}
-use Rattle.cards.proofs.row_at.Statement.{statement}
-use Rattle.cards.proofs.row_at.Tie as tie
+use Rattle.cards.proofs.sources.row_at.Statement.{statement}
+use Rattle.cards.proofs.sources.row_at.Tie as tie
 
 mul-if1 : tie.Need-mul-if1
 mul-if1 c = search needs

@@ -1,12 +1,12 @@
--- `cards::belt_source` meets its contract: each return is one case of the definition. Assumes nothing.
+-- `cards::sources::belt_source` meets its contract: each return is one case of the definition. Assumes nothing.
 use mathlib.Core.Path.{ap, sym, _∙_}
 use Rattle.rules.specs.Named.{higher}
 use Rattle.bits.proofs.Cases.{passed, failed}
 use Rattle.cards.specs.Private.{against}
 use Rattle.cards.proofs.Finding.{stays, comes, none-comes}
 use borrow.Author.Needs.{needs}
-use Rattle.cards.proofs.belt_source.Statement.{statement}
-use Rattle.cards.proofs.belt_source.Tie as tie
+use Rattle.cards.proofs.sources.belt_source.Statement.{statement}
+use Rattle.cards.proofs.sources.belt_source.Tie as tie
 
 named-requires : tie.Need-named-requires
 named-requires c κs = search needs

@@ -1,10 +1,10 @@
--- `cards::shuttle_source` meets its contract: each return is one case of the definition. Assumes nothing.
+-- `cards::sources::shuttle_source` meets its contract: each return is one case of the definition. Assumes nothing.
 use native.Mathlib.Omega.{arith}
 use mathlib.Core.Path.{sym, _∙_}
 use Rattle.cards.proofs.Finding.{row-small, no-row, brought, left, kept}
 use borrow.Author.Needs.{needs}
-use Rattle.cards.proofs.shuttle_source.Statement.{statement}
-use Rattle.cards.proofs.shuttle_source.Tie as tie
+use Rattle.cards.proofs.sources.shuttle_source.Statement.{statement}
+use Rattle.cards.proofs.sources.shuttle_source.Tie as tie
 
 row-at-requires : tie.Need-row-at-requires
 row-at-requires c κs = search needs
