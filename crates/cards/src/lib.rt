@@ -1,16 +1,16 @@
 // Card numbers that follow cars: 42 elements, one for each cell, at a car's first, one for the raised lift, and the one that waits while a
 // drive-in is under way.
 ghost use mathlib.Core.Path.{_≡_};
-ghost use Prim.Native.Nat.{_≤_};
+ghost use Prim.Native.Nat.{_≤_, _<_};
 ghost use lib.Dec.{eqb};
 ghost use lib.ListN.{length, getD};
 ghost use Rattle.bits.specs.Bits.{bit};
-ghost use Rattle.bits.specs.Search.{least};
+ghost use Rattle.bits.specs.Search.{some, least};
 ghost use Rattle.rules.specs.declared.Event.{Event};
 ghost use Rattle.cards.specs.Following.{numberAt};
-ghost use Rattle.cards.specs.Given.{bears, wanted, givenAs};
+ghost use Rattle.cards.specs.Given.{bears, carsIn, wanted, givenAs};
 ghost use Rattle.cards.specs.Held.{placeOf, numbersIn, cardsAfter, codeCards, cardsDriven, cardsGiven, cardsFit, isKnown, whereIs};
-ghost use Rattle.cards.specs.Private.{givenAt, standRight, onceEach};
+ghost use Rattle.cards.specs.Private.{givenAt, standRight, repeats};
 use floor::Total;
 use floor::masks::RAISED;
 use rules::Code;
@@ -180,34 +180,48 @@ fn first(ns: &[u32], m: u8, c: u32) -> u8
     m
 }
 
-// Of the first m elements none but 0 stands twice.
-fn once_each(ns: &[u32], m: u8) -> bool
+// Whether an element, unless it is 0, is among those before it.
+fn repeats(ns: &[u32], j: u8) -> bool
+    requires { ⌜ j < length (now ns) ⌝ }
+    ensures { λ b. ⌜ b ≡ repeats (now (ns .entry)) j ⌝ }
+{
+    let c = ns[j as usize];
+    if c == 0 {
+        return false;
+    }
+    first(ns, j, c) < j
+}
+
+// Whether one of the first m elements does.
+fn one_repeats(ns: &[u32], m: u8) -> bool
     requires { ⌜ m ≤ length (now ns) ⌝ }
-    ensures { λ b. ⌜ b ≡ onceEach (now (ns .entry)) m ⌝ }
+    ensures { λ b. ⌜ b ≡ some m (repeats (now (ns .entry))) ⌝ }
 {
     let mut j: u8 = 0;
     while j < m {
-        let c = ns[j as usize];
-        if c != 0 {
-            if first(ns, j, c) < j {
-                return false;
-            }
+        if repeats(ns, j) {
+            return true;
         }
         j += 1;
     }
-    true
+    false
+}
+
+// How many cars a total says.
+fn cars_in(t: Total) -> u64
+    ensures { λ n. ⌜ n ≡ carsIn t ⌝ }
+{
+    match t {
+        Total::Cars(n) => n,
+        Total::Unsound => 0,
+    }
 }
 
 // How many numbers an image comes with.
 fn wanted(r: u64) -> u64
     ensures { λ w. ⌜ w ≡ wanted r ⌝ }
 {
-    let total = floor::cars(r);
-    let cars = match total {
-        Total::Cars(n) => n,
-        Total::Unsound => 0,
-    };
-    cars + bits::bit(r, COMING) as u64
+    cars_in(floor::cars(r)) + bits::bit(r, COMING) as u64
 }
 
 // Whether the first numbers of ns, so many of them, can be taken with an image.
@@ -220,7 +234,7 @@ pub fn given_as(r: u64, count: u8, ns: [u32; 31]) -> Offered
     if first(&ns, count, 0) < count {
         return Offered::ZeroNumber;
     }
-    if !once_each(&ns, count) {
+    if one_repeats(&ns, count) {
         return Offered::TwiceGiven;
     }
     Offered::Fine
@@ -244,7 +258,7 @@ fn stand_right(r: u64, n: [u32; 42]) -> bool
 pub fn fits(r: u64, n: [u32; 42]) -> bool
     ensures { λ b. ⌜ b ≡ cardsFit r n ⌝ }
 {
-    stand_right(r, n) & once_each(&n, 42)
+    stand_right(r, n) & !one_repeats(&n, 42)
 }
 
 // ---- where a card's car is

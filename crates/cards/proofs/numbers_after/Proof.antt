@@ -13,10 +13,10 @@ use Rattle.cards.proofs.numbers_after.Statement.{statement}
 use Rattle.cards.proofs.numbers_after.Tie as tie
 
 abbrev Inv-loop : tie.InvT-loop
-Inv-loop i r n at new₀ j₀ new j = Filling (newAt i r n) 41 new j × (j ≤ 41)
+Inv-loop i r n at new₀ j₀ new j = Filling (newAt i r n) 42 new j × (j ≤ 42)
 
 abbrev μ-loop : tie.MeasureT-loop
-μ-loop i r n at new₀ j₀ new j = 41 - j
+μ-loop i r n at new₀ j₀ new j = 42 - j
 
 well-formed-requires : tie.Need-well-formed-requires Inv-loop μ-loop
 well-formed-requires c κs = search needs
@@ -28,7 +28,7 @@ low-requires : tie.Need-low-requires Inv-loop μ-loop
 low-requires c κs = search needs
 
 loop-holds : tie.Need-loop-holds Inv-loop μ-loop
-loop-holds c = (fill-starts _ 41, (omega arith))
+loop-holds c = (fill-starts _ 42, (omega arith))
 
 place-of-requires : tie.Need-place-of-requires Inv-loop μ-loop
 place-of-requires c κs = search needs
@@ -59,7 +59,7 @@ loop-again c = let a = c .before .before .before .before .before .before .before
     let v = c .before .before .before .before .before .loop .inv in
     let well = passed (c .before .before .before .before .before .before .before .before .well-formed .ensures) (c .before .before .before .before .before .before .before .if1 .left) in
     let from = c .before .source .ensures ∙ ap₂ (λ (b : Bool) (k : ℕ). sourceOf (a .i) b k) (c .before .before .before .before .before .before .low .ensures) (c .before .before .place-of .ensures) in
-    (fills (v .0) (omega arith) (c .number-at .ensures ∙ ap (numberAt (numbersIn (a .t3))) from ∙ element (a .i) (a .r) (a .t3) (c .before .before .before .before .before .loop .j) well), (omega arith))
+    (fills (v .0) (omega arith) (c .number-at .ensures ∙ ap (numberAt (numbersIn (a .t3))) from ∙ element (a .i) (a .r) (a .t3) (c .before .before .before .before .before .loop .j) (omega arith) well), (omega arith))
 
 returns-2 : tie.Need-returns-2 Inv-loop μ-loop
 returns-2 c = let a = c .before .before .before .before .before .args in

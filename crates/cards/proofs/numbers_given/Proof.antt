@@ -8,22 +8,16 @@ use Rattle.cards.proofs.numbers_given.Statement.{statement}
 use Rattle.cards.proofs.numbers_given.Tie as tie
 
 abbrev Inv-loop : tie.InvT-loop
-Inv-loop r ns new₀ t₀ odd₀ j₀ new t odd j = Giving (bit r) ns new t odd j
+Inv-loop r ns new₀ t₀ j₀ new t j = Giving (bit r) ns new t j
 
 abbrev μ-loop : tie.MeasureT-loop
-μ-loop r ns new₀ t₀ odd₀ j₀ new t odd j = 41 - j
+μ-loop r ns new₀ t₀ j₀ new t j = 42 - j
 
 loop-holds : tie.Need-loop-holds Inv-loop μ-loop
 loop-holds c = giving-starts _ _
 
-place-of-requires : tie.Need-place-of-requires Inv-loop μ-loop
-place-of-requires c κs = search needs
-
-cast-bit : tie.Need-cast-bit Inv-loop μ-loop
-cast-bit c = search needs
-
-bit-requires : tie.Need-bit-requires Inv-loop μ-loop
-bit-requires c κs = search needs
+bears-requires : tie.Need-bears-requires Inv-loop μ-loop
+bears-requires c κs = search needs
 
 given-requires : tie.Need-given-requires Inv-loop μ-loop
 given-requires c κs = search needs
@@ -35,22 +29,22 @@ mul-new : tie.Need-mul-new Inv-loop μ-loop
 mul-new c = search needs
 
 array-write-new : tie.Need-array-write-new Inv-loop μ-loop
-array-write-new c = omega (arith, c .before .before .before .before .before .loop .inv .upto)
+array-write-new c = omega arith
 
 cast-t : tie.Need-cast-t Inv-loop μ-loop
 cast-t c = search needs
 
 loop-again : tie.Need-loop-again Inv-loop μ-loop
-loop-again c = gives-turn (c .before .before .before .before .before .loop .inv) (omega arith) (c .before .before .before .before .before .before .good .1 .0 .1 .0 .1) (c .before .before .before .place-of .ensures) (c .before .before .bit .ensures) (c .given .ensures)
+loop-again c = gives-turn (c .before .before .before .before .loop .inv) (omega arith) (c .before .before .before .before .before .good .1 .0 .1 .0 .1) (c .before .before .bears .ensures) (c .given .ensures)
 
 add-t : tie.Need-add-t Inv-loop μ-loop
 add-t c = omega (arith, loop-again c .few)
 
 add-j : tie.Need-add-j Inv-loop μ-loop
-add-j c = omega (arith, c .before .before .before .before .before .loop .inv .upto)
+add-j c = omega arith
 
 loop-less : tie.Need-loop-less Inv-loop μ-loop
-loop-less c = omega (arith, c .before .before .before .before .before .loop .inv .upto)
+loop-less c = omega arith
 
 returns : tie.Need-returns Inv-loop μ-loop
 returns c = giving-ends _ (c .before .loop .inv) (omega arith)
@@ -62,9 +56,7 @@ numbers-given-spec =
     Inv-loop
     μ-loop
     loop-holds
-    place-of-requires
-    cast-bit
-    bit-requires
+    bears-requires
     given-requires
     cast-new
     mul-new
