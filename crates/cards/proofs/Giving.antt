@@ -1,7 +1,7 @@
 -- The places that bear a number, and the loop that gives an image's numbers to them: its invariant, where it starts, one turn, and what it
 -- says at the end; how many numbers an image comes with. Assumes nothing.
 use mathlib.Core.Path.{_≡_, refl, sym, ap, ap₂, _∙_}
-use mathlib.Core.Bool.{Bool, true, false, cond, _&&_, _||_}
+use mathlib.Core.Bool.{Bool, true, false, cond, _&&_}
 use mathlib.Core.List.{List, [], _∷_}
 use Prim.Native.Nat.{ℕ, zero, suc, _+_, _-_, _*_, _^_, _%_, _≤_, _<_}
 use native.Mathlib.Omega.{arith}
@@ -21,7 +21,7 @@ use Rattle.bits.proofs.Operations.{shl-one}
 use Rattle.bits.proofs.Search.{each}
 use Rattle.floor.specs.declared.Total.{Total}
 use Rattle.floor.specs.declared.Total.the-variants.{Cars, Unsound}
-use Rattle.floor.specs.Floor.{raisedCar, driveIn}
+use Rattle.floor.specs.Floor.{driveIn}
 use Rattle.floor.specs.Sound.{total}
 use Rattle.floor.proofs.Few.{few-cars}
 use Rattle.cards.specs.Given.{bears, numbersGiven, carsIn, wanted}
@@ -45,10 +45,12 @@ pub one-shifted : (j : ℕ) → j < 64 → 1 ≤ 1 * 2 ^ j % 2 ^ 64
 one-shifted j h = omega (arith, shl-one j h, pow-pos j)
 
 module _ (f : Bits) (j : ℕ) {on : Bool} (e : on ≡ f (placeOf j)) where
-  pub bears-half : {even : Bool} → j < 20 → even ≡ eqb (count (places (1 * 2 ^ j % 2 ^ 64 - 1)) f % 2) 0 → on && even ≡ bears f (placeOf j)
+  pub bears-half : {even : Bool} → j < 20
+      → even ≡ eqb (count (places (1 * 2 ^ j % 2 ^ 64 - 1)) f % 2) 0 → on && even ≡ bears f (placeOf j)
   bears-half h d =
       let p = cell-place j (omega arith) in
-      ap₂ _&&_ (e ∙ ap f p) (d ∙ ap (λ (ks : List ℕ). eqb (count ks f % 2) 0) (cells-below j h)) ∙ sym (ap (bears f) p ∙ half (lt-ltb j 20 h))
+      ap₂ _&&_ (e ∙ ap f p) (d ∙ ap (λ (ks : List ℕ). eqb (count ks f % 2) 0) (cells-below j h))
+      ∙ sym (ap (bears f) p ∙ half (lt-ltb j 20 h))
     where
       half : ltb j 20 ≡ true → bears f j ≡ f j && eqb (count (from 0 j) f % 2) 0
       half t = rw t
@@ -113,7 +115,8 @@ module _ {f : Bits} {ns new : List ℕ} {t j : ℕ} (v : Giving f ns new t j) (h
       past : cond (ltb t 31) (getD ns t 0) 0 ≡ getD ns t 0
       past = split (ltb t 31) (λ u. rw u) (λ u. let l = ltb-false t 31 u in rw u (sym (getD-past ns t (omega arith))))
 
-  pub gives-turn : {c : ℕ} {here : Bool} → here ≡ bears f (placeOf j) → c ≡ givenAt ns t here → Giving f ns (set new j c) (t + boolByte here) (j + 1)
+  pub gives-turn : {c : ℕ} {here : Bool} → here ≡ bears f (placeOf j)
+      → c ≡ givenAt ns t here → Giving f ns (set new j c) (t + boolByte here) (j + 1)
   gives-turn {c} {here} e d = record {
     filled = fills (v .filled) h (d ∙ gives e);
     given = λ l. ap₂ _+_ (v .given (omega arith)) (byte here ∙ ap digit e) ∙ sym (before-more f j (omega arith));

@@ -1,6 +1,7 @@
--- Searches through numbers: whether some pass, by the least that does; numbers of which none but 0 stands twice. Assumes nothing.
+-- Searches through numbers: whether some pass, by the least that does; numbers that stand where they should, and none twice; what is said
+-- of an image's numbers, and where a card's car is told. Assumes nothing.
 use mathlib.Core.Path.{_≡_, refl, sym, ap, ap₂, _∙_}
-use mathlib.Core.Bool.{Bool, true, false, not, cond, _&&_, _||_, Bool·beq}
+use mathlib.Core.Bool.{Bool, true, false, not, _&&_, _||_, Bool·beq}
 use mathlib.Core.List.{List}
 use Prim.Native.Nat.{ℕ, zero, suc, _≤_, _<_}
 use native.Mathlib.Omega.{arith}
@@ -9,13 +10,13 @@ use lib.ListN.{getD}
 use borrow.Author.Tests.{lt-ltb, le-ltb, ltb-true, ltb-false, eq-eqb, ne-eqb, not-true, not-false}
 use Rattle.bits.specs.Bits.{bit}
 use Rattle.bits.specs.Search.{some, every, least}
-use Rattle.bits.proofs.Cases.{split, clash}
+use Rattle.bits.proofs.Cases.{split}
 use Rattle.bits.proofs.Search.{none-at, some-same, some-at, none-is, every-is}
 use Rattle.bits.proofs.Least.{found-least, least-below, every-not, Passed}
-use Rattle.cards.specs.declared.Offered.{Offered}
 use Rattle.cards.specs.declared.Offered.the-variants.{Fine, WrongCount, ZeroNumber, TwiceGiven}
+use Rattle.cards.specs.Following.{nowhere}
 use Rattle.cards.specs.Given.{bears, wanted, zeroAt, twiceAt, givenAs}
-use Rattle.cards.specs.Held.{placeOf, cardsFit}
+use Rattle.cards.specs.Held.{placeOf, cardsFit, elementOf, whereIs}
 use Rattle.cards.specs.Private.{standRight, repeats}
 
 -- ---- the least that passes says whether some do
@@ -39,9 +40,16 @@ none-does {p} {m} v h = sym (none-is m p (λ i l. v .none i (omega arith)))
 abbrev pub rightAt : ℕ → List ℕ → ℕ → Bool
 rightAt r a j = Bool·beq (not (eqb (getD a j 0) 0)) (bears (bit r) (placeOf j))
 
-pub stands-wrong : (r : ℕ) (a : List ℕ) (j : ℕ) → j < 42 → not (rightAt r a j) ≡ true → false ≡ standRight r a
-unfolding standRight
-stands-wrong r a j h e = sym (every-not 42 (rightAt r a) j h (not-true (rightAt r a j) e))
+module _ (r : ℕ) (a : List ℕ) (j : ℕ) {here : Bool} (e : here ≡ bears (bit r) (placeOf j)) where
+  asked : not (rightAt r a j) ≡ not (Bool·beq (not (eqb (getD a j 0) 0)) here)
+  asked = ap (λ (b : Bool). not (Bool·beq (not (eqb (getD a j 0) 0)) b)) (sym e)
+
+  pub stands-wrong : j < 42 → not (Bool·beq (not (eqb (getD a j 0) 0)) here) ≡ true → false ≡ standRight r a
+  unfolding standRight
+  stands-wrong h t = sym (every-not 42 (rightAt r a) j h (not-true (rightAt r a j) (asked ∙ t)))
+
+  pub stands-right : not (Bool·beq (not (eqb (getD a j 0) 0)) here) ≡ false → not (rightAt r a j) ≡ false
+  stands-right t = asked ∙ t
 
 pub stand-all : (r : ℕ) (a : List ℕ) {j : ℕ} → Passed (λ i. not (rightAt r a i)) 42 j → 42 ≤ j → true ≡ standRight r a
 unfolding standRight
@@ -68,7 +76,8 @@ every-not-some (suc m) p q e = go (p m) (some m p) ∙ ap₂ _&&_ (sym (e m)) (e
 pub fit-is : (r : ℕ) (a : List ℕ) → standRight r a && not (some 42 (repeats a)) ≡ cardsFit r a
 unfolding standRight cardsFit
 fit-is r a =
-    ap (λ (b : Bool). standRight r a && b) (every-not-some 42 (repeats a) (λ j. eqb (getD a j 0) 0 || not (twiceAt a j)) (λ j. go (eqb (getD a j 0) 0) (twiceAt a j)))
+    ap (λ (b : Bool). standRight r a && b)
+    (every-not-some 42 (repeats a) (λ j. eqb (getD a j 0) 0 || not (twiceAt a j)) (λ j. go (eqb (getD a j 0) 0) (twiceAt a j)))
   where
     go : (z t : Bool) → z || not t ≡ not (not z && t)
     go true t = refl
@@ -101,3 +110,19 @@ module _ (r n : ℕ) (ns : List ℕ) where
       pub all-fine : b ≡ false → Fine ≡ givenAs r n ns
       unfolding givenAs
       all-fine y = rw (eq-eqb n (wanted r) (q ∙ e), none-zero h, sym (same-twice ns n (none-zero h)) ∙ sym t ∙ y)
+
+-- ---- where a card's car is
+
+module _ (a : List ℕ) (c : ℕ) where
+  pub no-card : c ≡ 0 → nowhere ≡ whereIs a c
+  unfolding whereIs
+  no-card z = rw (eq-eqb c 0 z)
+
+  module _ (z : c ≡ 0 → ⊥) {j : ℕ} (e : j ≡ elementOf a c) where
+    pub stands-there : {k : ℕ} → j < 41 → k ≡ placeOf j → k ≡ whereIs a c
+    unfolding whereIs
+    stands-there h p = rw (ne-eqb c 0 z, ← e, lt-ltb j 41 h) p
+
+    pub stands-nowhere : 41 ≤ j → nowhere ≡ whereIs a c
+    unfolding whereIs
+    stands-nowhere h = rw (ne-eqb c 0 z, ← e, le-ltb j 41 h)

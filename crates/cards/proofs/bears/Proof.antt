@@ -26,8 +26,10 @@ even-requires : tie.Need-even-requires
 even-requires c κs = search needs
 
 returns : tie.Need-returns
-returns c = let a = c .before .before .before .before .args in
-    bears-half (bit (a .r)) (a .j) (c .before .before .bit .ensures ∙ ap (bit (a .r)) (c .before .before .before .place-of .ensures)) (c .before .if1 .taken) (c .even .ensures)
+returns c =
+    let x = c .before .before in
+    let a = x .before .before .args in
+    bears-half (bit (a .r)) (a .j) (x .bit .ensures ∙ ap (bit (a .r)) (x .before .place-of .ensures)) (c .before .if1 .taken) (c .even .ensures)
 
 returns-2 : tie.Need-returns-2
 returns-2 c = let a = c .before .before .before .args in

@@ -18,7 +18,8 @@ one-repeats-requires : tie.Need-one-repeats-requires
 one-repeats-requires c κs = search needs
 
 returns : tie.Need-returns
-returns c = let a = c .before .before .before .args in ap₂ _&&_ (c .before .before .stand-right .ensures) (ap not (c .one-repeats .ensures)) ∙ fit-is (a .r) (a .t2)
+returns c = let a = c .before .before .before .args in
+    ap₂ _&&_ (c .before .before .stand-right .ensures) (ap not (c .one-repeats .ensures)) ∙ fit-is (a .r) (a .t2)
 
 pub fits-spec : {M : Type 1} → statement M
 fits-spec =

@@ -1,8 +1,7 @@
 -- `cards::known` meets its contract: by the first element that is the number (proofs/Seeking.antt). Assumes nothing.
 use mathlib.Core.Path.{ap, _∙_}
 use Prim.Native.Nat.{ℕ}
-use lib.Dec.{eqb, ltb}
-use lib.ListN.{getD}
+use lib.Dec.{ltb}
 use Rattle.cards.specs.Held.{isKnown}
 use Rattle.cards.proofs.Seeking.{least-some}
 use borrow.Author.Needs.{needs}

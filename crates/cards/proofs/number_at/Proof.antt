@@ -32,7 +32,8 @@ returns-3 c = let a = c .before .before .before .before .args in
 
 returns-4 : tie.Need-returns-4
 unfolding numbersIn
-returns-4 c = let a = c .before .before .before .args in at-none (a .n .now) (a .k) (c .before .before .if1 .left) (c .before .if2 .left) (c .if3 .left)
+returns-4 c = let a = c .before .before .before .args in
+    at-none (a .n .now) (a .k) (c .before .before .if1 .left) (c .before .if2 .left) (c .if3 .left)
 
 pub number-at-spec : {M : Type 1} → statement M
 number-at-spec =

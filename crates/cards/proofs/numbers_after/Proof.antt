@@ -55,15 +55,22 @@ loop-less : tie.Need-loop-less Inv-loop μ-loop
 loop-less c = omega arith
 
 loop-again : tie.Need-loop-again Inv-loop μ-loop
-loop-again c = let a = c .before .before .before .before .before .before .before .before .before .args in
-    let v = c .before .before .before .before .before .loop .inv in
-    let well = passed (c .before .before .before .before .before .before .before .before .well-formed .ensures) (c .before .before .before .before .before .before .before .if1 .left) in
-    let from = c .before .source .ensures ∙ ap₂ (λ (b : Bool) (k : ℕ). sourceOf (a .i) b k) (c .before .before .before .before .before .before .low .ensures) (c .before .before .place-of .ensures) in
-    (fills (v .0) (omega arith) (c .number-at .ensures ∙ ap (numberAt (numbersIn (a .t3))) from ∙ element (a .i) (a .r) (a .t3) (c .before .before .before .before .before .loop .j) (omega arith) well), (omega arith))
+loop-again c =
+    let x = c .before .before .before .before .before in
+    let y = x .before .before in
+    let a = y .before .before .args in
+    let well = passed (y .before .well-formed .ensures) (y .if1 .left) in
+    let from =
+    c .before .source .ensures
+    ∙ ap₂ (λ (b : Bool) (k : ℕ). sourceOf (a .i) b k) (x .before .low .ensures) (c .before .before .place-of .ensures) in
+    let at-source = c .number-at .ensures ∙ ap (numberAt (numbersIn (a .t3))) from in
+    (fills (x .loop .inv .0) (omega arith) (at-source ∙ element (a .i) (a .r) (a .t3) (x .loop .j) (omega arith) well), (omega arith))
 
 returns-2 : tie.Need-returns-2 Inv-loop μ-loop
-returns-2 c = let a = c .before .before .before .before .before .args in
-    all-new (a .i) (a .r) (a .t3) (passed (c .before .before .before .before .well-formed .ensures) (c .before .before .before .if1 .left)) (fill-ends (c .before .loop .inv .0) (omega arith))
+returns-2 c =
+    let x = c .before .before .before in
+    let a = x .before .before .args in
+    all-new (a .i) (a .r) (a .t3) (passed (x .before .well-formed .ensures) (x .if1 .left)) (fill-ends (c .before .loop .inv .0) (omega arith))
 
 pub numbers-after-spec : {M : Type 1} → statement M
 numbers-after-spec =

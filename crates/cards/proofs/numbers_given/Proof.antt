@@ -35,7 +35,9 @@ cast-t : tie.Need-cast-t Inv-loop μ-loop
 cast-t c = search needs
 
 loop-again : tie.Need-loop-again Inv-loop μ-loop
-loop-again c = gives-turn (c .before .before .before .before .loop .inv) (omega arith) (c .before .before .before .before .before .good .1 .0 .1 .0 .1) (c .before .before .bears .ensures) (c .given .ensures)
+loop-again c =
+    let x = c .before .before .before .before in
+    gives-turn (x .loop .inv) (omega arith) (x .before .good .1 .0 .1 .0 .1) (c .before .before .bears .ensures) (c .given .ensures)
 
 add-t : tie.Need-add-t Inv-loop μ-loop
 add-t c = omega (arith, loop-again c .few)

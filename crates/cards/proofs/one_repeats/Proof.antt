@@ -5,7 +5,6 @@ use Prim.Native.Nat.{_-_}
 use Rattle.bits.proofs.Least.{Passed, start, turn}
 use Rattle.cards.specs.Private.{repeats}
 use Rattle.cards.proofs.Seeking.{one-does, none-does}
-use borrow.Author.Needs.{needs}
 use Rattle.cards.proofs.one_repeats.Statement.{statement}
 use Rattle.cards.proofs.one_repeats.Tie as tie
 use Rattle.cards.proofs.repeats.Reads as repeats-reads

@@ -1,12 +1,9 @@
 -- `cards::stand_right` meets its contract: each element in turn (proofs/Seeking.antt). Assumes nothing.
 use native.Mathlib.Omega.{arith}
-use mathlib.Core.Path.{sym, ap, _∙_}
-use mathlib.Core.Bool.{Bool, not, Bool·beq}
-use lib.Dec.{eqb}
-use lib.ListN.{getD}
+use mathlib.Core.Bool.{not}
 use Prim.Native.Nat.{_-_}
 use Rattle.bits.proofs.Least.{Passed, start, turn}
-use Rattle.cards.proofs.Seeking.{rightAt, stands-wrong, stand-all}
+use Rattle.cards.proofs.Seeking.{rightAt, stands-wrong, stands-right, stand-all}
 use borrow.Author.Needs.{needs}
 use Rattle.cards.proofs.stand_right.Statement.{statement}
 use Rattle.cards.proofs.stand_right.Tie as tie
@@ -34,8 +31,10 @@ bears-requires : tie.Need-bears-requires Inv-loop μ-loop
 bears-requires c κs = search needs
 
 returns : tie.Need-returns Inv-loop μ-loop
-returns c = let a = c .before .before .before .before .args in
-    stands-wrong (a .r) (a .t2) (c .before .before .before .loop .j) (omega arith) (sym (ap (λ (b : Bool). not (Bool·beq (not (eqb (getD (a .t2) (c .before .before .before .loop .j) 0) 0)) b)) (c .before .bears .ensures)) ∙ c .if1 .taken)
+returns c =
+    let x = c .before .before .before in
+    let a = x .before .args in
+    stands-wrong (a .r) (a .t2) (x .loop .j) (c .before .bears .ensures) (omega arith) (c .if1 .taken)
 
 add-j : tie.Need-add-j Inv-loop μ-loop
 add-j c = omega arith
@@ -44,8 +43,10 @@ loop-less : tie.Need-loop-less Inv-loop μ-loop
 loop-less c = omega arith
 
 loop-again : tie.Need-loop-again Inv-loop μ-loop
-loop-again c = let a = c .before .before .before .before .args in
-    turn (c .before .before .before .loop .inv) (omega arith) (sym (ap (λ (b : Bool). not (Bool·beq (not (eqb (getD (a .t2) (c .before .before .before .loop .j) 0) 0)) b)) (c .before .bears .ensures)) ∙ c .if1 .left)
+loop-again c =
+    let x = c .before .before .before in
+    let a = x .before .args in
+    turn (x .loop .inv) (omega arith) (stands-right (a .r) (a .t2) (x .loop .j) (c .before .bears .ensures) (c .if1 .left))
 
 returns-2 : tie.Need-returns-2 Inv-loop μ-loop
 returns-2 c = stand-all _ _ (c .before .loop .inv) (omega arith)

@@ -2,7 +2,6 @@
 use mathlib.Core.Path.{ap, ap₂, _∙_}
 use Prim.Native.Nat.{_+_}
 use Rattle.bits.specs.Bits.{digit}
-use Rattle.floor.specs.Sound.{total}
 use Rattle.cards.specs.Given.{carsIn}
 use Rattle.bits.proofs.Digits.{digit-lt}
 use Rattle.cards.proofs.Giving.{byte, few-in}
@@ -32,7 +31,9 @@ add-result c = let r = c .before .before .before .args .r in
     omega (arith, e, few-in r, byte (c .bit .result), digit-lt (c .bit .result))
 
 returns : tie.Need-returns
-returns c = ap₂ _+_ (c .before .cars-in .ensures ∙ ap carsIn (c .before .before .cars .ensures)) (byte (c .bit .result) ∙ ap digit (c .bit .ensures))
+returns c =
+    ap₂ _+_ (c .before .cars-in .ensures ∙ ap carsIn (c .before .before .cars .ensures))
+    (byte (c .bit .result) ∙ ap digit (c .bit .ensures))
 
 pub wanted-spec : {M : Type 1} → statement M
 wanted-spec =

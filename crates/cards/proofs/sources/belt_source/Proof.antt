@@ -12,7 +12,8 @@ named-requires : tie.Need-named-requires
 named-requires c κs = search needs
 
 returns : tie.Need-returns
-returns c = let a = c .before .before .args in stays (a .row) (a .mask) (a .toward) (a .size) (a .cell) (failed (c .before .named .ensures) (c .if1 .taken))
+returns c = let a = c .before .before .args in
+    stays (a .row) (a .mask) (a .toward) (a .size) (a .cell) (failed (c .before .named .ensures) (c .if1 .taken))
 
 step-requires : tie.Need-step-requires
 step-requires c κs = search needs
@@ -24,14 +25,22 @@ named-requires-2 : tie.Need-named-requires-2
 named-requires-2 c κs = search needs
 
 returns-2 : tie.Need-returns-2
-returns-2 c = let a = c .before .before .before .before .before .before .args in
-    comes (a .row) (a .mask) (a .toward) (a .size) (a .cell) (c .before .before .against .ensures ∙ ap (against (a .cell) (higher (a .toward))) (c .before .before .before .step .ensures))
-    (passed (c .before .before .before .before .before .named .ensures) (c .before .before .before .before .if1 .left)) (sym (c .before .named2 .ensures) ∙ c .if2 .taken)
+returns-2 c =
+    let x = c .before .before in
+    let y = x .before .before in
+    let a = y .before .before .args in
+    let from = x .against .ensures ∙ ap (against (a .cell) (higher (a .toward))) (x .before .step .ensures) in
+    comes (a .row) (a .mask) (a .toward) (a .size) (a .cell) from (passed (y .before .named .ensures) (y .if1 .left))
+    (sym (c .before .named2 .ensures) ∙ c .if2 .taken)
 
 returns-3 : tie.Need-returns-3
-returns-3 c = let a = c .before .before .before .before .before .before .args in
-    none-comes (a .row) (a .mask) (a .toward) (a .size) (a .cell) (c .before .before .against .ensures ∙ ap (against (a .cell) (higher (a .toward))) (c .before .before .before .step .ensures))
-    (passed (c .before .before .before .before .before .named .ensures) (c .before .before .before .before .if1 .left)) (sym (c .before .named2 .ensures) ∙ c .if2 .left)
+returns-3 c =
+    let x = c .before .before in
+    let y = x .before .before in
+    let a = y .before .before .args in
+    let from = x .against .ensures ∙ ap (against (a .cell) (higher (a .toward))) (x .before .step .ensures) in
+    none-comes (a .row) (a .mask) (a .toward) (a .size) (a .cell) from (passed (y .before .named .ensures) (y .if1 .left))
+    (sym (c .before .named2 .ensures) ∙ c .if2 .left)
 
 pub belt-source-spec : {M : Type 1} → statement M
 belt-source-spec =

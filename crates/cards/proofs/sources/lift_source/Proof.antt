@@ -22,11 +22,15 @@ returns-4 c = rw (ne-eqb _ _ (c .before .before .if1 .left), c .before .if4 .tak
 
 returns-5 : tie.Need-returns-5
 unfolding liftSource
-returns-5 c = rw (ne-eqb _ _ (c .before .before .before .if1 .left), c .before .before .if4 .taken, ne-eqb _ _ (c .before .if5 .left), eq-eqb _ _ (c .if6 .taken))
+returns-5 c =
+    let x = c .before .before in
+    rw (ne-eqb _ _ (x .before .if1 .left), x .if4 .taken, ne-eqb _ _ (c .before .if5 .left), eq-eqb _ _ (c .if6 .taken))
 
 returns-6 : tie.Need-returns-6
 unfolding liftSource
-returns-6 c = rw (ne-eqb _ _ (c .before .before .before .if1 .left), c .before .before .if4 .taken, ne-eqb _ _ (c .before .if5 .left), ne-eqb _ _ (c .if6 .left))
+returns-6 c =
+    let x = c .before .before in
+    rw (ne-eqb _ _ (x .before .if1 .left), x .if4 .taken, ne-eqb _ _ (c .before .if5 .left), ne-eqb _ _ (c .if6 .left))
 
 returns-7 : tie.Need-returns-7
 unfolding liftSource

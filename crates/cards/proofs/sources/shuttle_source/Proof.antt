@@ -10,10 +10,12 @@ row-at-requires : tie.Need-row-at-requires
 row-at-requires c κs = search needs
 
 returns : tie.Need-returns
-returns c = let a = c .before .before .args in no-row (a .side) (a .mask) (a .toward) (a .k) (c .before .row-at .ensures) (c .if1 .taken)
+returns c = let a = c .before .before .args in
+    no-row (a .side) (a .mask) (a .toward) (a .k) (c .before .row-at .ensures) (c .if1 .taken)
 
 row-behind-requires : tie.Need-row-behind-requires
-row-behind-requires c κs = let a = c .before .before .args in ((omega (arith, c .if1 .left)), (omega (arith, c .before .row-at .ensures, row-small (a .side) (a .k))))
+row-behind-requires c κs = let a = c .before .before .args in
+    ((omega (arith, c .if1 .left)), (omega (arith, c .before .row-at .ensures, row-small (a .side) (a .k))))
 
 row-named-requires : tie.Need-row-named-requires
 row-named-requires c κs = search needs
@@ -22,16 +24,31 @@ place-at-requires : tie.Need-place-at-requires
 place-at-requires c κs = search needs
 
 returns-2 : tie.Need-returns-2
-returns-2 c = let a = c .before .before .before .before .before .before .args in brought (a .side) (a .mask) (a .toward) (a .k) (c .before .before .before .before .before .row-at .ensures) (c .before .before .before .row-behind .ensures) (c .before .before .before .before .if1 .left) (sym (c .before .before .row-named .ensures) ∙ c .before .if2 .taken) (c .place-at .ensures)
+returns-2 c =
+    let x = c .before .before in
+    let y = x .before .before in
+    let a = y .before .before .args in
+    brought (a .side) (a .mask) (a .toward) (a .k) (y .before .row-at .ensures) (x .before .row-behind .ensures) (y .if1 .left)
+    (sym (x .row-named .ensures) ∙ c .before .if2 .taken) (c .place-at .ensures)
 
 row-named-requires-2 : tie.Need-row-named-requires-2
 row-named-requires-2 c κs = search needs
 
 returns-3 : tie.Need-returns-3
-returns-3 c = let a = c .before .before .before .before .before .before .before .args in left (a .side) (a .mask) (a .toward) (a .k) (c .before .before .before .before .before .before .row-at .ensures) (c .before .before .before .before .row-behind .ensures) (c .before .before .before .before .before .if1 .left) (sym (c .before .before .before .row-named .ensures) ∙ c .before .before .if2 .left) (sym (c .before .row-named2 .ensures) ∙ c .if3 .taken)
+returns-3 c =
+    let x = c .before .before .before in
+    let y = x .before .before in
+    let a = y .before .before .args in
+    left (a .side) (a .mask) (a .toward) (a .k) (y .before .row-at .ensures) (x .before .row-behind .ensures) (y .if1 .left)
+    (sym (x .row-named .ensures) ∙ c .before .before .if2 .left) (sym (c .before .row-named2 .ensures) ∙ c .if3 .taken)
 
 returns-4 : tie.Need-returns-4
-returns-4 c = let a = c .before .before .before .before .before .before .before .args in kept (a .side) (a .mask) (a .toward) (a .k) (c .before .before .before .before .before .before .row-at .ensures) (c .before .before .before .before .row-behind .ensures) (c .before .before .before .before .before .if1 .left) (sym (c .before .before .before .row-named .ensures) ∙ c .before .before .if2 .left) (sym (c .before .row-named2 .ensures) ∙ c .if3 .left)
+returns-4 c =
+    let x = c .before .before .before in
+    let y = x .before .before in
+    let a = y .before .before .args in
+    kept (a .side) (a .mask) (a .toward) (a .k) (y .before .row-at .ensures) (x .before .row-behind .ensures) (y .if1 .left)
+    (sym (x .row-named .ensures) ∙ c .before .before .if2 .left) (sym (c .before .row-named2 .ensures) ∙ c .if3 .left)
 
 pub shuttle-source-spec : {M : Type 1} → statement M
 shuttle-source-spec =
