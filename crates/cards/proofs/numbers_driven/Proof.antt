@@ -30,13 +30,13 @@ returns : tie.Need-returns
 returns c = c .waiting .ensures ∙ rw (c .before .enum-told .given .1)
 
 returns-2 : tie.Need-returns-2
-returns-2 c = rw (c .enum-told2 .given .1) (all-kept _ (c .before .before .good .1 .1 .0 .1 .0 .1) _)
+returns-2 c = let x = c .before .before in rw (c .enum-told2 .given .1) (all-kept (x .args .n) (x .good .1 .1 .0 .1 .0 .1) (x .args .c))
 
 returns-3 : tie.Need-returns-3
-returns-3 c = c .arrived .ensures ∙ rw (c .before .enum-told3 .given .1) (any-number _ _)
+returns-3 c = let a = c .before .before .before .args in c .arrived .ensures ∙ rw (c .before .enum-told3 .given .1) (any-number (a .n) (a .c))
 
 returns-4 : tie.Need-returns-4
-returns-4 c = c .waiting2 .ensures ∙ rw (c .before .enum-told4 .given .1) (waits-no-more _ _)
+returns-4 c = let a = c .before .before .before .args in c .waiting2 .ensures ∙ rw (c .before .enum-told4 .given .1) (waits-no-more (a .n) (a .c))
 
 pub numbers-driven-spec : {M : Type 1} → statement M
 numbers-driven-spec =
