@@ -1,20 +1,17 @@
 -- The numbers as the desk holds them, after five bytes that say an instruction and after a car event: they keep to its area, they are
 -- again those of the record's cars, and which are there is told by which were. Assumes nothing.
 use mathlib.Core.Path.{_≡_, refl, sym, ap, subst, fun-ext, _∙_}
-use mathlib.Core.Logic.{_⊎_, _↔_, inl, inr, ⊎-elim}
+use mathlib.Core.Logic.{_↔_, inl, inr, ⊎-elim}
 use mathlib.Core.Bool.{Bool, true, false, not, cond, _&&_}
 use mathlib.Core.List.{List, []}
-use Prim.Native.Nat.{ℕ, _<_}
-use native.Mathlib.Omega.{arith}
+use Prim.Native.Nat.{ℕ}
 use lib.Dec.{eqb}
-use borrow.Author.Tests.{eqb-true, eqb-false, ne-eqb, not-true, not-false}
-use Rattle.bits.specs.Bits.{Bits, bit, digit, image}
+use borrow.Author.Tests.{eqb-false, ne-eqb, not-true, not-false}
+use Rattle.bits.specs.Bits.{Bits, bit}
 use Rattle.bits.specs.Places.{elem}
 use Rattle.bits.proofs.Cases.{split, clash, both, alike}
-use Rattle.bits.proofs.Digits.{bit-image}
 use Rattle.floor.specs.Floor.{raisedCar, driveIn, driveOut}
-use Rattle.floor.specs.Cars.{Car, Layout, Place}
-use Rattle.floor.specs.Sound.{Sound, sound}
+use Rattle.floor.specs.Sound.{sound}
 use Rattle.floor.proofs.Promises.{sound-exactly}
 use Rattle.rules.specs.declared.Code.{Code}
 use Rattle.rules.specs.declared.Instruction.{Instruction}
@@ -30,18 +27,20 @@ use Rattle.rules.specs.Codes.{readCode}
 use Rattle.rules.specs.Verdicts.{onCode}
 use Rattle.rules.proofs.CodeLaws.{one-form}
 use Rattle.rules_laws.specs.Laws.{liftArea}
-use Rattle.garage.specs.Held.{heldArea, heldAllowed, heldNext}
+use Rattle.garage.specs.Held.{heldArea, heldAllowed}
 use Rattle.garage_laws.proofs.Instance.{onEvent, possibleAs, afterAs}
-use Rattle.cards.specs.Cards.{Numbers, Cards, Numbered, Has}
+use Rattle.cards.specs.Cards.{Numbers, Cards, Has}
 use Rattle.cards.specs.Given.{bears}
 use Rattle.cards.specs.Following.{numbersAfter, numbersDriven}
 use Rattle.cards.specs.Held.{held, numbersIn, cardsAfter, codeCards, cardsDriven, cardsFit, isKnown}
 use Rattle.cards.proofs.Listing.{in-held, none-in}
-use Rattle.cards_laws.specs.Statements.{FitExactly, KnownExactly, New, BringsNew, Remains, SameOn}
+use Rattle.cards_laws.specs.Statements.{New, BringsNew, Remains, SameOn}
 use Rattle.cards_laws.proofs.Anchors.{isPlace, no-place, Marked}
 use Rattle.cards_laws.proofs.Sources.{numbers-outside, numbers-inside}
-use Rattle.cards_laws.proofs.Laws.{kept, same-numbers, next-marked}
-use Rattle.cards_laws.proofs.Events.{event-kept, event-has, event-numbers, after-marked}
+use Rattle.cards_laws.proofs.Laws.{same-numbers, next-marked}
+use Rattle.cards_laws.proofs.Events.{event-has, event-numbers, after-marked}
+use Rattle.desk_laws.proofs.Assumed.{Laws}
+use Rattle.desk_laws.proofs.Numbers.{cards-of, driven-fits}
 
 -- ---- what is held of numbers
 
@@ -61,46 +60,22 @@ held-same g n M = fun-ext (λ k. split (isPlace k)
     (λ e. in-held n k ∙ rw e)
     (λ e. in-held n k ∙ rw e (sym (M .none k (no-place g k e)))))
 
--- the numbers of a record's cars are those of its image's
-cards-image : (g : Bits) (n : Numbers) → Cards g n → Cards (bit (image g)) n
-cards-image g n c l L =
-    let N = c l (record { stand = L .stand; cover = λ k p. L .cover k p ∙ ap digit (bit-image g k (small k p)) }) in
-    record { each = N .each; coming = (λ z. same ∙ N .coming .0 z, λ z. N .coming .1 (sym same ∙ z)); other = N .other; once = N .once }
-  where
-    small : (k : ℕ) → Place k → k < 64
-    small k = ⊎-elim (λ (h : k < 40). omega arith) (λ (h : k ≡ raisedCar). omega arith)
-
-    same : bit (image g) driveIn ≡ g driveIn
-    same = bit-image g driveIn (omega arith)
-
 -- ---- tests of numbers
 
 -- a number that may come in: not 0, and not there
 abbrev pub isNew : List ℕ → ℕ → Bool
 isNew a c = not (eqb c 0) && not (isKnown a c)
 
-module _ (fit-exactly : FitExactly) (known-exactly : KnownExactly) where
-  -- numbers that fit a sound record are those of its cars
-  pub fit-cards : (r : ℕ) (a : List ℕ) → sound r ≡ true → cardsFit r a ≡ true → Cards (bit r) (numbersIn a)
-  fit-cards r a s f = fit-exactly r a (sound-exactly r .0 s) .0 f
-
-  -- numbers that are those of a record's cars fit its image
-  fit-held : (g : Bits) (n : Numbers) → sound (image g) ≡ true → Cards g n → Marked (bears g) n → cardsFit (image g) (held n) ≡ true
-  fit-held g n s c M =
-      fit-exactly (image g) (held n) (sound-exactly (image g) .0 s) .1
-      (subst (Cards (bit (image g))) (sym (held-same g n M)) (cards-image g n c))
-
-  -- ---- which may come in
-
+module _ (LAWS : Laws) where
   pub new-is : (a : List ℕ) (c : ℕ) → isNew a c ≡ true → New c (numbersIn a)
   new-is a c t =
       let (z, u) = both (not (eqb c 0)) (not (isKnown a c)) t in
       let o = eqb-false c 0 (not-true (eqb c 0) z) in
-      (o, λ h. clash (known-exactly a c o .1 h) (not-true (isKnown a c) u))
+      (o, λ h. clash (LAWS .known-exactly a c o .1 h) (not-true (isKnown a c) u))
 
   -- what is other than 0 and not new is there
   old-is : (a : List ℕ) (c : ℕ) → (c ≡ 0 → ⊥) → isNew a c ≡ false → Has (numbersIn a) c
-  old-is a c o t = known-exactly a c o .0 (not-false (isKnown a c) (rw (ne-eqb c 0 o) at t))
+  old-is a c o t = LAWS .known-exactly a c o .0 (not-false (isKnown a c) (rw (ne-eqb c 0 o) at t))
 
   -- two lists of which the same is said
   pub has-same : (a b : List ℕ) (c : ℕ) → isNew a c ≡ isNew b c → (c ≡ 0 → ⊥) → Has (numbersIn a) c → Has (numbersIn b) c
@@ -150,20 +125,7 @@ module _ (x : Code) where
       (λ e n m. clash m refl) e n m
 
 -- on a sound record that its numbers fit
-module _ (fit-exactly : FitExactly) (known-exactly : KnownExactly) (x : Code) (r : ℕ) (a : List ℕ) (s : sound r ≡ true) (f : cardsFit r a ≡ true) (ok : heldAllowed x (bit r) ≡ true) where
-  pub next-fit : sound (image (heldNext x (bit r))) ≡ true → cardsFit (image (heldNext x (bit r))) (codeCards x r a) ≡ true
-  unfolding codeCards heldAllowed heldNext
-  next-fit z = by-reading x
-      (λ v. onCode (λ i. allowed i (bit r)) false v ≡ true → sound (image (onCode (λ i. next i (bit r)) (bit r) v)) ≡ true
-      → cardsFit (image (onCode (λ i. next i (bit r)) (bit r) v)) (onCode (λ i. cardsAfter i r a) a v) ≡ true)
-      (λ i w t z.
-      let S = sound-exactly r .0 s in
-      let c = fit-cards fit-exactly known-exactly r a s f in
-      ap (cardsFit (image (next i (bit r)))) (after-is i r a w)
-      ∙ fit-held fit-exactly known-exactly (next i (bit r)) (numbersAfter i (bit r) (numbersIn a)) z (kept i (bit r) (numbersIn a) S t c)
-      (next-marked i (bit r) S t (numbersIn a) c))
-      (λ t. clash t refl) ok z
-
+module _ (LAWS : Laws) (x : Code) (r : ℕ) (a : List ℕ) (s : sound r ≡ true) (f : cardsFit r a ≡ true) (ok : heldAllowed x (bit r) ≡ true) where
   -- no number is lost and none is made
   pub next-has : (c : ℕ) → (c ≡ 0 → ⊥) → Has (numbersIn (codeCards x r a)) c ↔ Has (numbersIn a) c
   unfolding codeCards heldAllowed
@@ -171,7 +133,7 @@ module _ (fit-exactly : FitExactly) (known-exactly : KnownExactly) (x : Code) (r
       (λ v. onCode (λ i. allowed i (bit r)) false v ≡ true → Has (numbersIn (onCode (λ i. cardsAfter i r a) a v)) c ↔ Has (numbersIn a) c)
       (λ i w t.
       let S = sound-exactly r .0 s in
-      let d = fit-cards fit-exactly known-exactly r a s f in
+      let d = cards-of LAWS r a s f in
       subst (λ (n : Numbers). Has n c ↔ Has (numbersIn a) c)
       (sym (ap numbersIn (after-is i r a w) ∙ held-same (next i (bit r)) _ (next-marked i (bit r) S t (numbersIn a) d)))
       (same-numbers i (bit r) (numbersIn a) S t d c o))
@@ -208,17 +170,12 @@ remains-same BeginOut f g n m b d out on coming h k = h k
 remains-same EndDone f g n m b d out on coming h k = (h (k .0), λ t q. k .1 (sym out ∙ t) (q ∙ on))
 remains-same EndNotDone f g n m b d out on coming h k = (h (k .0), λ q. k .1 (q ∙ coming))
 
-module _ (fit-exactly : FitExactly) (known-exactly : KnownExactly) (r : ℕ) (a : List ℕ) (s : sound r ≡ true) (f : cardsFit r a ≡ true) (b : ℕ) where
+module _ (LAWS : Laws) (r : ℕ) (a : List ℕ) (s : sound r ≡ true) (f : cardsFit r a ≡ true) (b : ℕ) where
   abbrev cards-now : Cards (bit r) (numbersIn a)
-  cards-now = fit-cards fit-exactly known-exactly r a s f
+  cards-now = cards-of LAWS r a s f
 
   pub driven-fit : (v : EventReading) → possibleAs v r ≡ true → BringsNewAs v b a → sound (afterAs v r) ≡ true → cardsFit (afterAs v r) (drivenAs v b a) ≡ true
-  unfolding cardsDriven
-  driven-fit (Told e) ok new z =
-      let S = sound-exactly r .0 s in
-      fit-held fit-exactly known-exactly (after e (bit r)) _ z
-      (event-kept e (bit r) (numbersIn a) b S ok cards-now (brings-new e b a new))
-      (after-marked e (bit r) (numbersIn a) b S ok cards-now (brings-new e b a new))
+  driven-fit (Told e) ok new z = driven-fits LAWS e b r a s ok z (brings-new e b a new) f
   driven-fit Untold ok new z = clash ok refl
 
   pub driven-has : (e : Event) → possible e (bit r) ≡ true → BringsNewAs (Told e) b a → (d : ℕ) → (d ≡ 0 → ⊥)

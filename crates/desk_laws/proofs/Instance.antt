@@ -29,8 +29,10 @@ use Rattle.garage_laws.proofs.Reach.{reach, in-area, outside-area}
 use Rattle.garage_laws.proofs.Instance.{rules, blank, possibleAs, allowed-has}
 use Rattle.cards.specs.Cards.{Has}
 use Rattle.cards.specs.Held.{numbersIn, codeCards, cardsDriven, cardsFit, isKnown}
-use Rattle.cards_laws.specs.Statements.{FitExactly, KnownExactly, Remains}
-use Rattle.desk_laws.proofs.Carrying.{isNew, new-is, has-same, new-same, cards-outside, cards-inside, next-fit, next-has, drivenAs, driven-outside, driven-inside, BringsNewAs, remains-same, driven-fit, driven-has}
+use Rattle.cards_laws.specs.Statements.{Remains}
+use Rattle.desk_laws.proofs.Assumed.{Laws}
+use Rattle.desk_laws.proofs.Numbers.{code-fits}
+use Rattle.desk_laws.proofs.Carrying.{isNew, new-is, has-same, new-same, cards-outside, cards-inside, next-has, drivenAs, driven-outside, driven-inside, BringsNewAs, remains-same, driven-fit, driven-has}
 
 -- a record with its numbers, and what it holds at a place
 abbrev pub Garage : Type 0
@@ -77,10 +79,10 @@ glances glance e w = (glance (e .0) (w .0), isNew (w .1) (e .1))
 tie : {A B : Type 0} {a x : A} {b y : B} → a ≡ x → b ≡ y → _≡_ {A = A × B} (a, b) (x, y)
 tie p q = ap₂ (λ a b. (a, b)) p q
 
-abbrev Fits : Garage → Type 0
+abbrev pub Fits : Garage → Type 0
 Fits w = numbered .sound w ≡ true
 
-parts : (w : Garage) → Fits w → (sound (w .0) ≡ true) × (cardsFit (w .0) (w .1) ≡ true)
+pub parts : (w : Garage) → Fits w → (sound (w .0) ≡ true) × (cardsFit (w .0) (w .1) ≡ true)
 parts w z = both (sound (w .0)) (cardsFit (w .0) (w .1)) z
 
 lift-small : Small (lift ++ drives)
@@ -116,11 +118,11 @@ answered-same e c a b n v = split (eqb c 0)
 
 -- ---- the frame
 
-module _ (fit-exactly : FitExactly) (known-exactly : KnownExactly) where
+module _ (LAWS : Laws) where
   brings-new : (e c : ℕ) (a : List ℕ) → brings e c a ≡ true → BringsNewAs (readEvent e) (brought e c) a
   brings-new e c a t q =
       let one = event-one-form e BeginIn q in
-      rw one (new-is fit-exactly known-exactly a c (rw one at t))
+      rw one (new-is LAWS a c (rw one at t))
 
   -- which numbers are new after an event rests on which were, and on the lift
   module _ (d : ℕ) (x : ℕ × ℕ) (f g : Garage) (p : Fits f) (q : Fits g) (a : Agree 64 looks (numbered .lift) f g)
@@ -132,24 +134,30 @@ module _ (fit-exactly : FitExactly) (known-exactly : KnownExactly) where
     new-after = go (readEvent (x .0)) refl
       where
         go : (r : EventReading) → readEvent (x .0) ≡ r → isNew (drivenAs r b (f .1)) d ≡ isNew (drivenAs r b (g .1)) d
-        go (Told e) m = new-same fit-exactly known-exactly (drivenAs (Told e) b (f .1)) (drivenAs (Told e) b (g .1)) d (λ o.
+        go (Told e) m = new-same LAWS (drivenAs (Told e) b (f .1)) (drivenAs (Told e) b (g .1)) d (λ o.
             let F = there f p t e m o in
             let G = there g q u e m o in
             let out = ap (λ y. y .0) (a driveOut (lift-small driveOut refl) refl) in
             let on = lift-numbers f g a raisedCar refl in
             let coming = lift-numbers f g a driveIn refl in (
-              λ h. G .1 (remains-same e _ _ _ _ b d (sym out) (sym on) (sym coming) (has-same fit-exactly known-exactly (f .1) (g .1) d v o) (F .0 h)),
-              λ h. F .1 (remains-same e _ _ _ _ b d out on coming (has-same fit-exactly known-exactly (g .1) (f .1) d (sym v) o) (G .0 h)),
+              λ h. G .1 (remains-same e _ _ _ _ b d (sym out) (sym on) (sym coming) (has-same LAWS (f .1) (g .1) d v o) (F .0 h)),
+              λ h. F .1 (remains-same e _ _ _ _ b d out on coming (has-same LAWS (g .1) (f .1) d (sym v) o) (G .0 h)),
             ))
           where
             there : (w : Garage) → Fits w → numbered .possible x w ≡ true → (e : Event) → readEvent (x .0) ≡ Told e → (d ≡ 0 → ⊥)
                 → Has (numbersIn (cardsDriven e b (w .1))) d ↔ Remains e (bit (w .0)) (numbersIn (w .1)) b d
             there w z t e m o =
                 let (ok, new) = possible-has x w t in
-                driven-has fit-exactly known-exactly (w .0) (w .1) (parts w z .0) (parts w z .1) b e
+                driven-has LAWS (w .0) (w .1) (parts w z .0) (parts w z .1) b e
                 (ap (λ (r : EventReading). possibleAs r (w .0)) (sym m) ∙ ok)
                 (λ y. brings-new (x .0) (x .1) (w .1) new (m ∙ y)) d o
         go Untold m = v
+
+  -- and after an instruction the same are
+  pub new-next : (x : Code) (w : Garage) → Fits w → numbered .allowed x w ≡ true → (c : ℕ) → isNew (numbered .next x w .1) c ≡ isNew (w .1) c
+  new-next x w z t c =
+      let (s, u) = parts w z in
+      new-same LAWS _ (w .1) c (next-has LAWS x (w .0) (w .1) s u (allowed-has x (w .0) t .0) c)
 
   module _ {O P : Type 0} (view : Code → ℕ → O) (glance : ℕ → ℕ → P) (F : Framed rules view glance) where
     instruction-within : (x : Code) → Within 64 looks (numbered .sound) (views view x) (rules .area x) (numbered .allowed x) (numbered .next x)
@@ -161,7 +169,7 @@ module _ (fit-exactly : FitExactly) (known-exactly : KnownExactly) where
       safe = λ f p t.
           let (s, c) = parts f p in
           let z = F .instruction x .safe (f .0) s t in
-          and-intro z (next-fit fit-exactly known-exactly x (f .0) (f .1) s c (allowed-has x (f .0) t .0) z);
+          and-intro z (code-fits LAWS x (f .0) (f .1) s (allowed-has x (f .0) t .0) z c);
     }
       where
         -- at a place of the reach: in the area, or where nothing changes
@@ -190,7 +198,7 @@ module _ (fit-exactly : FitExactly) (known-exactly : KnownExactly) where
           let (s, c) = parts f p in
           let (ok, new) = possible-has e f t in
           let z = F .event (e .0) .safe (f .0) s ok in
-          and-intro z (driven-fit fit-exactly known-exactly (f .0) (f .1) s c (brought (e .0) (e .1)) (readEvent (e .0)) ok (brings-new (e .0) (e .1) (f .1) new) z);
+          and-intro z (driven-fit LAWS (f .0) (f .1) s c (brought (e .0) (e .1)) (readEvent (e .0)) ok (brings-new (e .0) (e .1) (f .1) new) z);
     }
 
     pub numbered-framed : Framed numbered (views view) (glances glance)
@@ -199,10 +207,7 @@ module _ (fit-exactly : FitExactly) (known-exactly : KnownExactly) where
       event = event-within;
       view-next = λ x y c f z t. F .view-next x y c (f .0) (parts f z .0) t;
       view-after = λ x e c f z t. F .view-after x (e .0) c (f .0) (parts f z .0) (possible-has e f t .0);
-      glance-next = λ e y c f z t.
-          let (s, u) = parts f z in
-          tie (F .glance-next (e .0) y c (f .0) s t)
-          (new-same fit-exactly known-exactly _ (f .1) (e .1) (next-has fit-exactly known-exactly y (f .0) (f .1) s u (allowed-has y (f .0) t .0) (e .1)));
+      glance-next = λ e y c f z t. tie (F .glance-next (e .0) y c (f .0) (parts f z .0) t) (new-next y f z t (e .1));
       glance-after = λ e x f g p q a u v t.
           tie (F .glance-after (e .0) (x .0) (f .0) (g .0) (parts f p .0) (parts g q .0) (bits-agree (rules .lift) f g a) (ap (λ y. y .0) u) (ap (λ y. y .0) v) (possible-has x f t .0))
           (new-after (e .1) x f g p q a (ap (λ y. y .1) u) t (sym (same-possible x f g p q a v) ∙ t));

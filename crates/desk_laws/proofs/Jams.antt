@@ -1,0 +1,184 @@
+-- For every choice of which stuck instructions did in fact finish: the numbers are those of the cars of the record with those applied, they
+-- are the same numbers, and where no part under a car is set apart its number stands at its place. Assumes nothing.
+use mathlib.Core.Path.{_≡_, refl, sym, ap, subst, _∙_}
+use mathlib.Core.Logic.{inl, inr, ⊎-elim}
+use mathlib.Core.Bool.{Bool, true, false, cond, _&&_, _||_}
+use mathlib.Core.List.{List, [], _∷_}
+use Prim.Native.Nat.{ℕ, suc, _<_}
+use native.Mathlib.Omega.{arith}
+use lib.Dec.{eqb, ltb}
+use lib.ListN.{length, getD}
+use borrow.Author.Tests.{eqb-true, eqb-false, lt-ltb, ltb-true, ltb-false}
+use Rattle.bits.specs.Bits.{bit, digit, image}
+use Rattle.bits.specs.Places.{elem}
+use Rattle.bits.proofs.Cases.{split, clash, off, neither, and-intro, alike}
+use Rattle.bits.proofs.Digits.{digit-one}
+use Rattle.floor.specs.Floor.{raisedCar}
+use Rattle.floor.proofs.Promises.{sound-exactly}
+use Rattle.rules.specs.declared.Code.{Code}
+use Rattle.sets.proofs.Rules.{blind}
+use Rattle.sets.proofs.Machine as machine
+use Rattle.sets.proofs.GoodOrder.{Good}
+use Rattle.sets.proofs.Jams as machine-jams
+use Rattle.sets.proofs.Jams.{Whichever}
+use Rattle.sets.proofs.Stuck.{good-whichever}
+use Rattle.garage.specs.declared.Station.{Station}
+use Rattle.garage.specs.Held.{heldArea, heldNext}
+use Rattle.garage_laws.specs.Jams.{jamAt, Picks, applied}
+use Rattle.garage_laws.proofs.Reach.{in-area}
+use Rattle.garage_laws.proofs.Instance.{rules, framed}
+use Rattle.garage_laws.proofs.Apart.{awayOf}
+use Rattle.garage_laws.proofs.Reasons.{least-fault}
+use Rattle.garage_laws.proofs.Link.{view, jamsOf, Sane, fit-sane}
+use Rattle.garage_laws.proofs.Jammed.{sane-calls, picks-same}
+use Rattle.cards.specs.Cards.{Has}
+use Rattle.cards.specs.Following.{nowhere}
+use Rattle.cards.specs.Held.{placeOf, numbersIn, codeCards, cardsFit, elementOf, whereIs}
+use Rattle.desk.specs.declared.Desk.{Desk}
+use Rattle.desk.specs.declared.Whereabouts.{Whereabouts}
+use Rattle.desk.specs.declared.Whereabouts.the-variants.{At, LastKnown, NotHere}
+use Rattle.desk.specs.Desk.{deskFit}
+use Rattle.desk.specs.Questions.{unsure, placed, whereabouts}
+use Rattle.desk_laws.specs.Runs.{DeskCall, calls, DeskBegins, below, appliedCards, stuckAt, finishedRecord, finishedCards}
+use Rattle.desk_laws.specs.Promises.{DeskAlways, WhicheverSame, WhereSure}
+use Rattle.desk_laws.proofs.Assumed.{Laws}
+use Rattle.desk_laws.proofs.Calls.{fit-parts}
+use Rattle.desk_laws.proofs.Numbers.{cards-of}
+use Rattle.desk_laws.proofs.Fits.{fit-always, begins-fit, station-below}
+use Rattle.desk_laws.proofs.Carrying.{isNew, has-same, cards-outside}
+use Rattle.desk_laws.proofs.Instance.{Garage, numbered, views, glances, parts, new-next, numbered-framed}
+
+-- ---- the desk as a machine of the crate `sets`
+
+-- a machine's station with numbers to its record, and a desk as one
+abbrev pub onTop : machine.Station ℕ Code → List ℕ → machine.Station Garage Code
+onTop m a = record { bits = (m .bits, a); set = m .set; answered = m .answered; away = m .away }
+
+abbrev pub deskView : Desk → machine.Station Garage Code
+deskView d = onTop (view (d .station)) (d .numbers)
+
+-- it is in good order where the station is and the numbers fit
+good-desk : (js : List Code) (s : Station) (a : List ℕ) → Sane js s → cardsFit (s .bits) a ≡ true → Good numbered (jamsOf js) (onTop (view s) a)
+good-desk js s a G f = record {
+  sound = and-intro (G .sound) f;
+  apart = G .apart;
+  allowed = G .allowed;
+  jammed = record { apart = G .jammed .apart; allowed = G .jammed .allowed };
+  inside = G .inside;
+  free = G .free;
+}
+
+-- the record and the numbers with some of them applied
+applied-is : (js : List Code) (p : List ℕ) (r : ℕ) (a : List ℕ) → machine-jams.applied numbered (jamsOf js) p (r, a) ≡ (applied js p r, appliedCards js p r a)
+applied-is js [] r a = refl
+applied-is js (i ∷ p) r a = applied-is js p (image (heldNext (jamAt js i) (bit r))) (codeCards (jamAt js i) r a)
+
+digit-same : (a b : Bool) → digit a ≡ digit b → a ≡ b
+digit-same a b e = alike a b (λ t. digit-one b (rw (← e, t) (omega arith))) (λ t. digit-one a (rw (e, t) (omega arith)))
+
+module _ (LAWS : Laws) (d : Desk) (b : DeskBegins d) (l : List DeskCall) where
+  pub fits-now : deskFit (calls d l) ≡ true
+  fits-now = fit-always LAWS l d (begins-fit LAWS d b)
+
+  -- what is stuck, the station below knows
+  pub sane-now : Sane (stuckAt d l) (calls d l .station)
+  sane-now = subst (Sane (stuckAt d l)) (sym (station-below LAWS d b l))
+      (sane-calls (below d l) [] (d .station) (fit-sane (d .station) (fit-parts d (begins-fit LAWS d b) .0)))
+
+  module _ (p : List ℕ) (h : Picks (length (stuckAt d l)) p) where
+    whichever : Whichever numbered (jamsOf (stuckAt d l)) (deskView (calls d l)) p
+    whichever = good-whichever numbered (views blind) (glances blind) (numbered-framed LAWS blind blind framed) _ _
+        (good-desk (stuckAt d l) (calls d l .station) (calls d l .numbers) sane-now (fit-parts (calls d l) fits-now .1)) p (picks-same _ p h)
+
+    finished-is : machine-jams.applied numbered (jamsOf (stuckAt d l)) p (calls d l .station .bits, calls d l .numbers) ≡ (finishedRecord d l p, finishedCards d l p)
+    finished-is = applied-is (stuckAt d l) p (calls d l .station .bits) (calls d l .numbers)
+
+    finished-fits : numbered .sound (finishedRecord d l p, finishedCards d l p) ≡ true
+    finished-fits = ap (numbered .sound) (sym finished-is) ∙ whichever .sound
+
+    -- a number is new with those applied exactly if it is without
+    finished-new : (c : ℕ) → isNew (finishedCards d l p) c ≡ isNew (calls d l .numbers) c
+    finished-new c = digit-same _ _
+        (ap (λ (w : Garage). digit (isNew (w .1) c)) (sym finished-is)
+        ∙ whichever .cars (λ w. digit (isNew (w .1) c)) (λ x w z t. ap digit (new-next LAWS x w z t c)))
+
+module _ (LAWS : Laws) where
+  pub desk-always : DeskAlways
+  desk-always d b l p h =
+      let (s, f) = parts (finishedRecord d l p, finishedCards d l p) (finished-fits LAWS d b l p h) in
+      (sound-exactly (finishedRecord d l p) .0 s, cards-of LAWS (finishedRecord d l p) (finishedCards d l p) s f)
+
+  pub whichever-same : WhicheverSame
+  whichever-same d b l p h c o =
+      let e = finished-new LAWS d b l p h c in
+      (has-same LAWS _ _ c e o, has-same LAWS _ _ c (sym e) o)
+
+-- ---- a place that is told for sure
+
+-- the kind of an answer, and the place in it
+abbrev kind : Whereabouts → ℕ
+kind (At k) = 0
+kind (LastKnown k) = 1
+kind NotHere = 2
+kind Whereabouts.Unfit = 3
+
+abbrev placeIn : Whereabouts → ℕ
+placeIn (At k) = k
+placeIn (LastKnown k) = k
+placeIn NotHere = nowhere
+placeIn Whereabouts.Unfit = nowhere
+
+-- it is a place, and of the car there nothing is set apart
+placed-sure : (apart j k : ℕ) → placed apart j ≡ At k → (j ≡ k) × (j ≡ nowhere → ⊥) × (bit apart j ≡ false)
+placed-sure apart j k e = split (eqb j nowhere)
+    (λ t. let z = ap kind (rw t at e) in absurd (omega arith))
+    (λ t. split (unsure apart j)
+    (λ u. let z = ap kind (rw (t, u) at e) in absurd (omega arith))
+    (λ u. (ap placeIn (rw (t, u) at e), eqb-false j nowhere t, neither (bit apart j) (ltb j 20 && bit apart (suc j)) u .0)))
+
+-- a fit desk that tells one
+told-sure : (d : Desk) (c k : ℕ) → deskFit d ≡ true → whereabouts d c ≡ At k → placed (d .station .apart) (whereIs (d .numbers) c) ≡ At k
+unfolding whereabouts
+told-sure d c k f e = rw f at e
+
+-- the number stands at the place that is told
+element-at : (a : List ℕ) (j : ℕ) → j < 41 → (placeOf j < 53) × (numbersIn a (placeOf j) ≡ getD a j 0)
+unfolding numbersIn
+element-at a j h = split (ltb j 40)
+    (λ t. let l = ltb-true j 40 t in rw t ((omega arith), rw t))
+    (λ t. let l = ltb-false j 40 t in let q : j ≡ 40 = omega arith in rw q ((omega arith), refl))
+
+stands-there : (a : List ℕ) (c : ℕ) → (whereIs a c ≡ nowhere → ⊥) → (whereIs a c < 53) × (numbersIn a (whereIs a c) ≡ c)
+unfolding whereIs
+stands-there a c o = split (eqb c 0)
+    (λ t. absurd (o (rw t)))
+    (λ t. split (ltb (elementOf a c) 41)
+    (λ u. let (h, e) = element-at a (elementOf a c) (ltb-true _ 41 u) in
+    rw (t, u) (h, e ∙ eqb-true _ c (least-fault 41 (λ j. eqb (getD a j 0) c) u .passes)))
+    (λ u. absurd (o (rw (t, u)))))
+
+-- instructions with other areas leave it there
+applied-outside : (js : List Code) (k : ℕ) → ((i : ℕ) → i < length js → elem k (heldArea (jamAt js i)) ≡ false)
+    → (p : List ℕ) → Picks (length js) p → (r : ℕ) (a : List ℕ) → numbersIn (appliedCards js p r a) k ≡ numbersIn a k
+applied-outside js k out [] h r a = refl
+applied-outside js k out (i ∷ p) h r a =
+    applied-outside js k out p (h .2) (image (heldNext (jamAt js i) (bit r))) (codeCards (jamAt js i) r a)
+    ∙ cards-outside (jamAt js i) r a k (out i (h .0))
+
+-- a place of which the bit is not set apart is in no area of what is stuck
+outside-jams : (js : List Code) (s : Station) → Sane js s → (k : ℕ) → k < 53 → bit (s .apart) k ≡ false
+    → (i : ℕ) → i < length js → elem k (heldArea (jamAt js i)) ≡ false
+outside-jams js s G k h o i m = off _ (λ t. clash (G .inside i m k (omega arith) (in-area (jamAt js i) k t)) away)
+  where
+    away : awayOf (s .apart) k ≡ false
+    away = split (ltb k 52)
+        (λ t. rw t o)
+        (λ t. let l = ltb-false k 52 t in let q : k ≡ 52 = omega arith in ap (awayOf (s .apart)) q ∙ sym (ap (bit (s .apart)) q) ∙ o)
+
+module _ (LAWS : Laws) where
+  pub where-sure : WhereSure
+  where-sure d b l c k e p h =
+      let s = calls d l in
+      let (j, there, o) = placed-sure (s .station .apart) (whereIs (s .numbers) c) k (told-sure s c k (fits-now LAWS d b l) e) in
+      let (m, stands) = stands-there (s .numbers) c there in
+      rw (← j) (applied-outside (stuckAt d l) (whereIs (s .numbers) c) (outside-jams (stuckAt d l) (s .station) (sane-now LAWS d b l) _ m o) p h _ _ ∙ stands)
