@@ -90,7 +90,7 @@ module _ (LAWS : Laws) where
 
 -- ---- an instruction
 
-after-is : (i : Instruction) (r : ℕ) (a : List ℕ) → wellFormed i ≡ true → cardsAfter i r a ≡ held (numbersAfter i (bit r) (numbersIn a))
+pub after-is : (i : Instruction) (r : ℕ) (a : List ℕ) → wellFormed i ≡ true → cardsAfter i r a ≡ held (numbersAfter i (bit r) (numbersIn a))
 unfolding cardsAfter
 after-is i r a w = rw w
 

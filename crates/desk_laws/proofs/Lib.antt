@@ -6,3 +6,6 @@ pub mod Carrying
 pub mod Instance
 pub mod Jams
 pub mod Follow
+pub mod Lists
+pub mod Ends
+pub mod AnyOrder
