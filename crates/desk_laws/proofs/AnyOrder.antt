@@ -1,34 +1,29 @@
 -- An accepted set is safe in any order of its results, numbers and all: the numbered machine is, and the desk follows it. At the end the
 -- station holds no set and no mark, so that equal records make equal stations, and with equal numbers equal desks. Assumes nothing.
-use mathlib.Core.Path.{_≡_, refl, sym, ap, ap₂, subst, subst₃, _∙_}
-use mathlib.Core.Logic.{_⊎_, inl, inr, ⊎-elim}
+use mathlib.Core.Path.{_≡_, sym, ap, ap₂, subst, subst₃, _∙_}
+use mathlib.Core.Logic.{_⊎_, inl, ⊎-elim}
 use mathlib.Core.Bool.{Bool, true, cond, _||_}
 use mathlib.Core.List.{List, map}
 use Prim.Native.Nat.{ℕ, _<_}
 use native.Mathlib.Omega.{arith}
-use Rattle.bits.specs.Bits.{bit}
 use Rattle.bits.specs.Search.{some}
 use Rattle.bits.proofs.Cases.{and-intro}
 use Rattle.rules.specs.declared.Code.{Code}
-use Rattle.sets.proofs.Rules.{blind}
 use Rattle.sets.proofs.Machine as machine
-use Rattle.sets.proofs.Machine.{Act, moves}
+use Rattle.sets.proofs.Machine.{Act}
 use Rattle.sets.proofs.Orders as machine-orders
 use Rattle.sets.proofs.AnyOrder as machine-order
 use Rattle.garage.specs.declared.Station.{Station}
 use Rattle.garage.specs.Station.{present, fit, closed, opened}
-use Rattle.garage_laws.specs.Runs as run
 use Rattle.garage_laws.specs.Orders.{Fate}
 use Rattle.garage_laws.specs.Demands.{Acceptable}
-use Rattle.garage_laws.proofs.Instance.{framed}
 use Rattle.garage_laws.proofs.Apart.{awayOf, away-same}
 use Rattle.garage_laws.proofs.Fits.{fit-has}
 use Rattle.garage_laws.proofs.Calls.{request-has, request-is}
-use Rattle.garage_laws.proofs.Link.{view, kept, request-accepted, request-view}
+use Rattle.garage_laws.proofs.Link.{kept, request-accepted, request-view}
 use Rattle.garage_laws.proofs.Lists.{choice}
 use Rattle.garage_laws.proofs.AnyOrder.{Tidy, tidy-step}
 use Rattle.cards.specs.declared.Offered.the-variants.{Fine}
-use Rattle.cards.specs.Held.{numbersIn}
 use Rattle.desk.specs.declared.Desk.{Desk}
 use Rattle.desk.specs.Desk.{deskFit}
 use Rattle.desk_laws.specs.Runs as desk
@@ -38,10 +33,10 @@ use Rattle.desk_laws.specs.Promises.{DeskAnyOrder}
 use Rattle.desk_laws.proofs.Assumed.{Laws}
 use Rattle.desk_laws.proofs.Calls.{fit-parts, answered, left-taken}
 use Rattle.desk_laws.proofs.Fits.{fit-kept, fit-always, begins-fit}
-use Rattle.desk_laws.proofs.Instance.{Garage, numbered, views, glances, numbered-framed}
+use Rattle.desk_laws.proofs.Instance.{Garage, numbered, frame}
 use Rattle.desk_laws.proofs.Jams.{onTop, deskView}
-use Rattle.desk_laws.proofs.Follow.{asDesk, kept-along, next-along, Followed, follows}
-use Rattle.desk_laws.proofs.Lists.{acts, order-acts, succeeds, succeeds-is}
+use Rattle.desk_laws.proofs.Follow.{asDesk, kept-along, next-along, follows}
+use Rattle.desk_laws.proofs.Lists.{acts, order-acts, succeeds-is}
 use Rattle.desk_laws.proofs.Ends.{Whole, whole-always, begins-whole, numbers-same, above, record-same, anyTaken, above-end}
 
 -- ---- what the machine says of two lists, the desk says
@@ -129,7 +124,7 @@ module _ (LAWS : Laws) where
         let O = order-acts k n fate drives a (subst (DeskOrder k n fate drives) p P) in
         let U = order-acts k n fate drives b (subst (DeskOrder k n fate drives) q Q) in
         let (s, c) = fit-parts t f in
-        let T = machine-order.any-order numbered (views blind) (glances blind) (numbered-framed LAWS blind blind framed) (kept (t .station) n set A)
+        let T = machine-order.any-order numbered _ _ (frame LAWS) (kept (t .station) n set A)
         (t .station .bits, t .numbers) (awayOf (t .station .apart)) (and-intro (fit-has (t .station) s .sound) c) (request-accepted (t .station) n set A) (choice k fate) drives a b O U in
         let W : machine-orders.Alike numbered (deskView holds) a b = rw holds-view T in
         subst₃ DeskAlike (sym there) (sym p) (sym q)

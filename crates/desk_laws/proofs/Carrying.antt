@@ -4,9 +4,11 @@ use mathlib.Core.Path.{_≡_, refl, sym, ap, subst, fun-ext, _∙_}
 use mathlib.Core.Logic.{_↔_, inl, inr, ⊎-elim}
 use mathlib.Core.Bool.{Bool, true, false, not, cond, _&&_}
 use mathlib.Core.List.{List, []}
-use Prim.Native.Nat.{ℕ}
-use lib.Dec.{eqb}
-use borrow.Author.Tests.{eqb-false, ne-eqb, not-true, not-false}
+use Prim.Native.Nat.{ℕ, _<_}
+use native.Mathlib.Omega.{arith}
+use lib.Dec.{eqb, ltb}
+use lib.ListN.{getD}
+use borrow.Author.Tests.{eqb-true, eqb-false, ltb-false, ne-eqb, not-true, not-false}
 use Rattle.bits.specs.Bits.{Bits, bit}
 use Rattle.bits.specs.Places.{elem}
 use Rattle.bits.proofs.Cases.{split, clash, both, alike}
@@ -31,8 +33,8 @@ use Rattle.garage.specs.Held.{heldArea, heldAllowed}
 use Rattle.garage_laws.proofs.Instance.{onEvent, possibleAs, afterAs}
 use Rattle.cards.specs.Cards.{Numbers, Cards, Has}
 use Rattle.cards.specs.Given.{bears}
-use Rattle.cards.specs.Following.{numbersAfter, numbersDriven}
-use Rattle.cards.specs.Held.{held, numbersIn, cardsAfter, codeCards, cardsDriven, cardsFit, isKnown}
+use Rattle.cards.specs.Following.{numbersAfter}
+use Rattle.cards.specs.Held.{placeOf, held, numbersIn, cardsAfter, codeCards, cardsDriven, cardsFit, isKnown}
 use Rattle.cards.proofs.Listing.{in-held, none-in}
 use Rattle.cards_laws.specs.Statements.{New, BringsNew, Remains, SameOn}
 use Rattle.cards_laws.proofs.Anchors.{isPlace, no-place, Marked}
@@ -43,6 +45,15 @@ use Rattle.desk_laws.proofs.Assumed.{Laws}
 use Rattle.desk_laws.proofs.Numbers.{cards-of, driven-fits}
 
 -- ---- what is held of numbers
+
+-- the element of each place
+pub element-at : (a : List ℕ) (j : ℕ) → j < 42 → numbersIn a (placeOf j) ≡ getD a j 0
+unfolding numbersIn
+element-at a j h = split (ltb j 40)
+    (λ t. rw t (rw t))
+    (λ t. let l = ltb-false j 40 t in split (eqb j 40)
+    (λ u. rw (eqb-true j 40 u))
+    (λ u. let m = eqb-false j 40 u in let q : j ≡ 41 = omega arith in rw q))
 
 -- of numbers that agree at a place
 pub same-held : (n m : Numbers) (k : ℕ) → n k ≡ m k → numbersIn (held n) k ≡ numbersIn (held m) k

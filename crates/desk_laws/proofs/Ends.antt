@@ -3,12 +3,12 @@
 use mathlib.Core.Path.{_≡_, refl, sym, ap, ap₂, _∙_}
 use mathlib.Core.Bool.{Bool, true, false, cond, _||_}
 use mathlib.Core.List.{List, [], _∷_, map}
-use Prim.Native.Nat.{ℕ, zero, suc, _/_, _^_, _<_}
+use Prim.Native.Nat.{ℕ, suc, _/_, _^_, _<_}
 use native.Mathlib.Omega.{arith}
 use lib.Dec.{eqb, ltb}
 use lib.ListN.{length, getD}
-use borrow.Author.Tests.{eqb-true, eqb-false, ltb-true, ltb-false}
-use Rattle.bits.specs.Bits.{bit, image}
+use borrow.Author.Tests.{eqb-true, eqb-false}
+use Rattle.bits.specs.Bits.{bit}
 use Rattle.bits.proofs.Cases.{split, clash}
 use Rattle.bits.proofs.Digits.{packed-lt, packed-bit, image-ext}
 use Rattle.rules.specs.declared.Code.{Code}
@@ -17,7 +17,6 @@ use Rattle.rules.specs.declared.EventReading.the-variants.{Good as Told, Bad as
 use Rattle.rules.specs.Codes.{readEvent}
 use Rattle.rules.specs.Verdicts.{onCode}
 use Rattle.sets.proofs.Machine.{Outcome, failed, finished, stuck, moves, Act, result, event}
-use Rattle.garage.specs.declared.Station.{Station}
 use Rattle.garage_laws.specs.Runs as run
 use Rattle.garage_laws.proofs.Instance.{possibleAs, afterAs}
 use Rattle.garage_laws.proofs.Calls.{event-has}
@@ -26,14 +25,13 @@ use Rattle.cards.specs.Cards.{Numbers}
 use Rattle.cards.specs.declared.Offered.the-variants.{Fine}
 use Rattle.cards.specs.Held.{listed, placeOf, held, numbersIn, cardsAfter, codeCards, cardsDriven, cardsGiven}
 use Rattle.desk.specs.declared.Desk.{Desk}
-use Rattle.desk.specs.Desk.{startDesk}
 use Rattle.desk.specs.Calls.{passed}
 use Rattle.desk_laws.specs.Runs as desk
-use Rattle.desk_laws.specs.Runs.{DeskCall, said, left, calls, DeskBegins, atStart, byImage, under}
+use Rattle.desk_laws.specs.Runs.{DeskCall, said, left, calls, DeskBegins, atStart, byImage}
 use Rattle.desk_laws.specs.Orders.{DeskFair, deskReplies}
 use Rattle.desk_laws.proofs.Calls.{moved, answered, left-taken, refused-untouched}
 use Rattle.desk_laws.proofs.Fits.{still, success-bits, event-bits}
-use Rattle.desk_laws.proofs.Carrying.{by-reading, after-is}
+use Rattle.desk_laws.proofs.Carrying.{element-at, by-reading, after-is}
 use Rattle.desk_laws.proofs.Follow.{asDesk}
 use Rattle.desk_laws.proofs.Lists.{succeeds}
 
@@ -75,15 +73,6 @@ pub begins-whole : (d : Desk) → DeskBegins d → Whole d
 unfolding cardsGiven
 begins-whole d atStart = refl
 begins-whole d (byImage before p n ns h e) = rw (left-taken before (desk.pictures p n ns) e) (held-long _)
-
--- each stands at its place
-element-at : (a : List ℕ) (j : ℕ) → j < 42 → numbersIn a (placeOf j) ≡ getD a j 0
-unfolding numbersIn
-element-at a j h = split (ltb j 40)
-    (λ t. rw t (rw t))
-    (λ t. let l = ltb-false j 40 t in split (eqb j 40)
-    (λ u. rw (eqb-true j 40 u))
-    (λ u. let m = eqb-false j 40 u in let q : j ≡ 41 = omega arith in rw q))
 
 list-same : (a b : List ℕ) → length a ≡ length b → ((j : ℕ) → j < length a → getD a j 0 ≡ getD b j 0) → a ≡ b
 list-same [] [] h e = refl

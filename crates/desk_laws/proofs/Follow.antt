@@ -1,17 +1,16 @@
 -- The desk follows the machine of the crate `sets` from act to act, as long as the machine's list is fair: it takes each result, answers each
 -- event as the machine does, and shows the machine's station at the end. Its station's part is the station's own following. Assumes nothing.
-use mathlib.Core.Path.{_≡_, refl, sym, ap, ap₂, subst, subst₂, _∙_}
-use mathlib.Core.Logic.{_↔_, inl, inr, ⊎-elim}
-use mathlib.Core.Bool.{Bool, true, false, not, cond, _&&_}
+use mathlib.Core.Path.{_≡_, refl, sym, ap, ap₂, subst, _∙_}
+use mathlib.Core.Logic.{_↔_, ⊎-elim}
+use mathlib.Core.Bool.{Bool, true, false, not, _&&_}
 use mathlib.Core.List.{List, [], _∷_, map}
 use Prim.Native.Nat.{ℕ, _+_, _%_}
 use native.Mathlib.Omega.{arith}
 use lib.Dec.{eqb}
 use lib.ListN.{getD}
 use borrow.Author.Tests.{eqb-true, eqb-false, not-true}
-use Rattle.bits.proofs.Cases.{split, clash, off, both, and-intro}
+use Rattle.bits.proofs.Cases.{split, clash, off, both}
 use Rattle.rules.specs.declared.Code.{Code}
-use Rattle.rules.specs.declared.Event.the-variants.{BeginIn}
 use Rattle.rules.specs.declared.EventReading.{EventReading}
 use Rattle.rules.specs.declared.EventReading.the-variants.{Good as Told, Bad as Untold}
 use Rattle.rules.specs.Codes.{readEvent}
@@ -29,8 +28,8 @@ use Rattle.garage_laws.proofs.Link.{view, drivable}
 use Rattle.garage_laws.proofs.Lists.{ending, asCall}
 use Rattle.garage_laws.proofs.Follow as station
 use Rattle.garage_laws.proofs.Follow.{next-kept}
-use Rattle.cards.specs.declared.Offered.the-variants.{Fine, ZeroNumber, TwiceGiven}
-use Rattle.cards.specs.Held.{cardsDriven, isKnown}
+use Rattle.cards.specs.declared.Offered.the-variants.{Fine}
+use Rattle.cards.specs.Held.{isKnown}
 use Rattle.desk.specs.declared.Desk.{Desk}
 use Rattle.desk.specs.Desk.{deskFit}
 use Rattle.desk.specs.Calls.{passed}
@@ -41,7 +40,7 @@ use Rattle.desk_laws.proofs.Assumed.{Laws}
 use Rattle.desk_laws.proofs.Calls as call
 use Rattle.desk_laws.proofs.Calls.{ruling, moved, rulingNumber, fit-parts, said-ruled, left-taken, refused-untouched, as-station}
 use Rattle.desk_laws.proofs.Fits.{fit-kept}
-use Rattle.desk_laws.proofs.Carrying.{isNew, drivenAs}
+use Rattle.desk_laws.proofs.Carrying.{drivenAs}
 use Rattle.desk_laws.proofs.Instance.{Garage, brings, brought, answered, numbered}
 use Rattle.desk_laws.proofs.Jams.{onTop, deskView}
 

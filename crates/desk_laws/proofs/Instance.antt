@@ -4,13 +4,12 @@
 use mathlib.Core.Path.{_≡_, refl, sym, ap, ap₂, _∙_}
 use mathlib.Core.Logic.{_↔_}
 use mathlib.Core.Bool.{Bool, true, false, not, cond, _&&_}
-use mathlib.Core.List.{List, [], _++_}
+use mathlib.Core.List.{List, _++_}
 use Prim.Native.Nat.{ℕ, _<_}
 use lib.Dec.{eqb}
-use borrow.Author.Tests.{eqb-true, eqb-false, eq-eqb, ne-eqb, not-true, not-false}
 use Rattle.bits.specs.Bits.{bit}
 use Rattle.bits.specs.Places.{elem}
-use Rattle.bits.proofs.Cases.{split, clash, both, and-intro}
+use Rattle.bits.proofs.Cases.{split, both, and-intro}
 use Rattle.bits.proofs.Sharing.{Small, are-small}
 use Rattle.floor.specs.Floor.{raisedCar, lift, driveIn, driveOut, drives}
 use Rattle.floor.specs.Sound.{sound}
@@ -22,11 +21,11 @@ use Rattle.rules.specs.declared.EventReading.the-variants.{Good as Told, Bad as
 use Rattle.rules.specs.Codes.{readEvent}
 use Rattle.rules.proofs.CodeLaws.{event-one-form}
 use Rattle.rules_laws.specs.Laws.{liftArea}
-use Rattle.sets.proofs.Rules.{Rules, Agree, Within, Framed}
+use Rattle.sets.proofs.Rules.{Rules, Agree, Within, Framed, blind}
 use Rattle.garage.specs.Held.{heldArea}
 use Rattle.garage.proofs.Areas.{held-small}
-use Rattle.garage_laws.proofs.Reach.{reach, in-area, outside-area}
-use Rattle.garage_laws.proofs.Instance.{rules, blank, possibleAs, allowed-has}
+use Rattle.garage_laws.proofs.Reach.{in-area, outside-area}
+use Rattle.garage_laws.proofs.Instance.{rules, framed, blank, possibleAs, allowed-has}
 use Rattle.cards.specs.Cards.{Has}
 use Rattle.cards.specs.Held.{numbersIn, codeCards, cardsDriven, cardsFit, isKnown}
 use Rattle.cards_laws.specs.Statements.{Remains}
@@ -201,7 +200,7 @@ module _ (LAWS : Laws) where
           and-intro z (driven-fit LAWS (f .0) (f .1) s c (brought (e .0) (e .1)) (readEvent (e .0)) ok (brings-new (e .0) (e .1) (f .1) new) z);
     }
 
-    pub numbered-framed : Framed numbered (views view) (glances glance)
+    numbered-framed : Framed numbered (views view) (glances glance)
     numbered-framed = record {
       instruction = instruction-within;
       event = event-within;
@@ -215,3 +214,7 @@ module _ (LAWS : Laws) where
           ap (answered (e .0) (e .1) (f .1)) (F .reply (e .0) lost (f .0) (g .0) (parts f p .0) (parts g q .0) (bits-agree (rules .lift) f g a) (ap (λ x. x .0) v))
           ∙ answered-same (e .0) (e .1) (f .1) (g .1) (rules .reply (e .0) lost (g .0)) (ap (λ x. x .1) v);
     }
+
+  -- the station's rules as they are
+  pub frame : Framed numbered (views blind) (glances blind)
+  frame = numbered-framed blind blind framed

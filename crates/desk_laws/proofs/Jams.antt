@@ -1,22 +1,19 @@
 -- For every choice of which stuck instructions did in fact finish: the numbers are those of the cars of the record with those applied, they
 -- are the same numbers, and where no part under a car is set apart its number stands at its place. Assumes nothing.
 use mathlib.Core.Path.{_≡_, refl, sym, ap, subst, _∙_}
-use mathlib.Core.Logic.{inl, inr, ⊎-elim}
-use mathlib.Core.Bool.{Bool, true, false, cond, _&&_, _||_}
+use mathlib.Core.Bool.{Bool, true, false, _&&_}
 use mathlib.Core.List.{List, [], _∷_}
 use Prim.Native.Nat.{ℕ, suc, _<_}
 use native.Mathlib.Omega.{arith}
 use lib.Dec.{eqb, ltb}
 use lib.ListN.{length, getD}
-use borrow.Author.Tests.{eqb-true, eqb-false, lt-ltb, ltb-true, ltb-false}
+use borrow.Author.Tests.{eqb-true, eqb-false, ltb-true, ltb-false}
 use Rattle.bits.specs.Bits.{bit, digit, image}
 use Rattle.bits.specs.Places.{elem}
 use Rattle.bits.proofs.Cases.{split, clash, off, neither, and-intro, alike}
 use Rattle.bits.proofs.Digits.{digit-one}
-use Rattle.floor.specs.Floor.{raisedCar}
 use Rattle.floor.proofs.Promises.{sound-exactly}
 use Rattle.rules.specs.declared.Code.{Code}
-use Rattle.sets.proofs.Rules.{blind}
 use Rattle.sets.proofs.Machine as machine
 use Rattle.sets.proofs.GoodOrder.{Good}
 use Rattle.sets.proofs.Jams as machine-jams
@@ -26,12 +23,10 @@ use Rattle.garage.specs.declared.Station.{Station}
 use Rattle.garage.specs.Held.{heldArea, heldNext}
 use Rattle.garage_laws.specs.Jams.{jamAt, Picks, applied}
 use Rattle.garage_laws.proofs.Reach.{in-area}
-use Rattle.garage_laws.proofs.Instance.{rules, framed}
 use Rattle.garage_laws.proofs.Apart.{awayOf}
 use Rattle.garage_laws.proofs.Reasons.{least-fault}
 use Rattle.garage_laws.proofs.Link.{view, jamsOf, Sane, fit-sane}
 use Rattle.garage_laws.proofs.Jammed.{sane-calls, picks-same}
-use Rattle.cards.specs.Cards.{Has}
 use Rattle.cards.specs.Following.{nowhere}
 use Rattle.cards.specs.Held.{placeOf, numbersIn, codeCards, cardsFit, elementOf, whereIs}
 use Rattle.desk.specs.declared.Desk.{Desk}
@@ -45,8 +40,8 @@ use Rattle.desk_laws.proofs.Assumed.{Laws}
 use Rattle.desk_laws.proofs.Calls.{fit-parts}
 use Rattle.desk_laws.proofs.Numbers.{cards-of}
 use Rattle.desk_laws.proofs.Fits.{fit-always, begins-fit, station-below}
-use Rattle.desk_laws.proofs.Carrying.{isNew, has-same, cards-outside}
-use Rattle.desk_laws.proofs.Instance.{Garage, numbered, views, glances, parts, new-next, numbered-framed}
+use Rattle.desk_laws.proofs.Carrying.{element-at, isNew, has-same, cards-outside}
+use Rattle.desk_laws.proofs.Instance.{Garage, numbered, parts, new-next, frame}
 
 -- ---- the desk as a machine of the crate `sets`
 
@@ -87,7 +82,7 @@ module _ (LAWS : Laws) (d : Desk) (b : DeskBegins d) (l : List DeskCall) where
 
   module _ (p : List ℕ) (h : Picks (length (stuckAt d l)) p) where
     whichever : Whichever numbered (jamsOf (stuckAt d l)) (deskView (calls d l)) p
-    whichever = good-whichever numbered (views blind) (glances blind) (numbered-framed LAWS blind blind framed) _ _
+    whichever = good-whichever numbered _ _ (frame LAWS) _ _
         (good-desk (stuckAt d l) (calls d l .station) (calls d l .numbers) sane-now (fit-parts (calls d l) fits-now .1)) p (picks-same _ p h)
 
     finished-is : machine-jams.applied numbered (jamsOf (stuckAt d l)) p (calls d l .station .bits, calls d l .numbers) ≡ (finishedRecord d l p, finishedCards d l p)
@@ -142,19 +137,16 @@ unfolding whereabouts
 told-sure d c k f e = rw f at e
 
 -- the number stands at the place that is told
-element-at : (a : List ℕ) (j : ℕ) → j < 41 → (placeOf j < 53) × (numbersIn a (placeOf j) ≡ getD a j 0)
-unfolding numbersIn
-element-at a j h = split (ltb j 40)
-    (λ t. let l = ltb-true j 40 t in rw t ((omega arith), rw t))
-    (λ t. let l = ltb-false j 40 t in let q : j ≡ 40 = omega arith in rw q ((omega arith), refl))
+car-place : (j : ℕ) → j < 41 → placeOf j < 53
+car-place j h = split (ltb j 40) (λ t. rw t (omega arith)) (λ t. let l = ltb-false j 40 t in let q : j ≡ 40 = omega arith in rw q (omega arith))
 
 stands-there : (a : List ℕ) (c : ℕ) → (whereIs a c ≡ nowhere → ⊥) → (whereIs a c < 53) × (numbersIn a (whereIs a c) ≡ c)
 unfolding whereIs
 stands-there a c o = split (eqb c 0)
     (λ t. absurd (o (rw t)))
     (λ t. split (ltb (elementOf a c) 41)
-    (λ u. let (h, e) = element-at a (elementOf a c) (ltb-true _ 41 u) in
-    rw (t, u) (h, e ∙ eqb-true _ c (least-fault 41 (λ j. eqb (getD a j 0) c) u .passes)))
+    (λ u. let h = ltb-true (elementOf a c) 41 u in
+    rw (t, u) (car-place (elementOf a c) h, element-at a (elementOf a c) (omega arith) ∙ eqb-true _ c (least-fault 41 (λ j. eqb (getD a j 0) c) u .passes)))
     (λ u. absurd (o (rw (t, u)))))
 
 -- instructions with other areas leave it there

@@ -4,7 +4,7 @@ use mathlib.Core.Path.{_≡_, refl, sym, ap, ap₂, subst, _∙_}
 use mathlib.Core.Logic.{⊎-elim}
 use mathlib.Core.Bool.{Bool, true, false, cond, _||_, or-true}
 use mathlib.Core.List.{List, [], _∷_, _++_, map}
-use Prim.Native.Nat.{ℕ, _+_, _≤_, _<_}
+use Prim.Native.Nat.{ℕ, _+_, _<_}
 use native.Mathlib.Omega.{arith}
 use lib.Dec.{eqb, ltb}
 use borrow.Author.Tests.{eqb-true, eq-eqb, ltb-true, ltb-false}
@@ -13,7 +13,6 @@ use Rattle.bits.proofs.Cases.{split, clash, alike, one-of}
 use Rattle.bits.proofs.Search.{some-at, some-is}
 use Rattle.sets.proofs.Machine.{Outcome, moves, Act, result, event}
 use Rattle.sets.proofs.Orders.{resultsOf, eventsOf, AsChosen, Order}
-use Rattle.garage_laws.specs.Runs.{Call}
 use Rattle.garage_laws.specs.Orders as station
 use Rattle.garage_laws.specs.Orders.{Fate}
 use Rattle.garage_laws.proofs.Lists.{told-outcome, asCall, choice, order-heard}
