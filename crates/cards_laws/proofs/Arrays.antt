@@ -1,7 +1,7 @@
 -- The same of records as the numbers that the station keeps, and of card numbers as arrays of 42: what an instruction, a car event and an
 -- image make of them passes the tests again. Assumes nothing.
 use mathlib.Core.Path.{_≡_, refl, sym, ap, subst, _∙_, fun-ext}
-use mathlib.Core.Logic.{_↔_}
+use mathlib.Core.Logic.{_↔_, inl, inr, ⊎-elim}
 use mathlib.Core.Bool.{Bool, true, false, cond, not, _&&_, _||_}
 use mathlib.Core.List.{List, [], _++_}
 use Prim.Native.Nat.{ℕ, _%_, _≤_, _<_}
@@ -12,13 +12,13 @@ use borrow.Author.Tests.{eqb-true, ltb-true}
 use Rattle.bits.specs.Bits.{Bits, bit, image}
 use Rattle.bits.proofs.Cases.{split, both}
 use Rattle.bits.proofs.Digits.{bit-image}
-use Rattle.floor.specs.Floor.{raisedCar, driveIn}
+use Rattle.floor.specs.Floor.{raisedCar, driveIn, driveOut}
 use Rattle.floor.specs.Cars.{Layout}
 use Rattle.floor.specs.Sound.{Sound, sound}
 use Rattle.floor.proofs.Promises.{sound-exactly}
 use Rattle.rules.specs.declared.Instruction.{Instruction}
 use Rattle.rules.specs.declared.Event.{Event}
-use Rattle.rules.specs.declared.Event.the-variants.{BeginIn}
+use Rattle.rules.specs.declared.Event.the-variants.{BeginIn, BeginOut, EndDone, EndNotDone}
 use Rattle.rules.specs.Rules.{wellFormed, area, allowed, next}
 use Rattle.rules.specs.Events.{possible, after}
 use Rattle.rules_laws.specs.Laws.{Agree, liftArea}
@@ -37,7 +37,7 @@ use Rattle.cards_laws.proofs.Events.{after-marked, event-has, event-num
 use Rattle.cards_laws.proofs.Moving.{empty-garage}
 use Rattle.cards_laws.proofs.Given.{given-cards, given-padded}
 use Rattle.cards_laws.proofs.Elements.{held-length, held-agree, held-kept}
-use Rattle.cards_laws.proofs.Tested.{fit-marked, marked-fit, fine-exactly, isNew, new-exactly, known-same}
+use Rattle.cards_laws.proofs.Tested.{fit-marked, marked-fit, fine-exactly, known-exactly, isNew, new-exactly, known-same}
 
 -- ---- a record as a number, numbers as elements
 
@@ -120,6 +120,36 @@ module _ (r : ℕ) (a : List ℕ) (s : sound r ≡ true) (t : cardsFit r a ≡ t
     driven-has d z =
         subst (λ (m : Numbers). Has m d ↔ Remains e (bit r) (numbersIn a) c d) (sym driven-numbers)
         (event-has e (bit r) (numbersIn a) c is-sound ok fit-cards brings d z)
+
+-- what is known after an event rests on what was known before, and on the lift and the drives
+module _ (r q : ℕ) (a b : List ℕ) (e : Event) (d : ℕ) (out : bit r driveOut ≡ bit q driveOut)
+    (lift : numbersIn a raisedCar ≡ numbersIn b raisedCar) (waits : numbersIn a driveIn ≡ numbersIn b driveIn)
+    (has : Has (numbersIn a) d → Has (numbersIn b) d) where
+  remains : (c : ℕ) → Remains e (bit r) (numbersIn a) c d → Remains e (bit q) (numbersIn b) c d
+  remains c m = go e m
+    where
+      go : (e : Event) → Remains e (bit r) (numbersIn a) c d → Remains e (bit q) (numbersIn b) c d
+      go BeginIn m = ⊎-elim inl (λ (h : Has (numbersIn a) d). inr (has h)) m
+      go BeginOut m = has m
+      go EndDone m = (has (m .0), λ o i. m .1 (out ∙ o) (i ∙ sym lift))
+      go EndNotDone m = (has (m .0), λ i. m .1 (i ∙ sym waits))
+
+module _ (r q : ℕ) (a b : List ℕ) (s : sound r ≡ true) (u : sound q ≡ true) (t : cardsFit r a ≡ true) (v : cardsFit q b ≡ true)
+    (e : Event) (c : ℕ) (ok : possible e (bit r) ≡ true) (can : possible e (bit q) ≡ true)
+    (new : e ≡ BeginIn → isNew c a ≡ true) (fresh : e ≡ BeginIn → isNew c b ≡ true)
+    (bits : Agree liftArea (bit r) (bit q)) (numbers : SameOn liftArea (numbersIn a) (numbersIn b)) where
+  pub driven-known : (d : ℕ) → (d ≡ 0 → ⊥) → isKnown a d ≡ isKnown b d → isKnown (cardsDriven e c a) d ≡ isKnown (cardsDriven e c b) d
+  driven-known d z same =
+      let there : Has (numbersIn a) d → Has (numbersIn b) d = λ h. known-exactly b d z .0 (sym same ∙ known-exactly a d z .1 h) in
+      let back : Has (numbersIn b) d → Has (numbersIn a) d = λ h. known-exactly a d z .0 (same ∙ known-exactly b d z .1 h) in
+      let out = bits driveOut refl in
+      let lift = numbers raisedCar refl in
+      let waits = numbers driveIn refl in
+      let here = driven-has r a s t e c ok new d z in
+      let other = driven-has q b u v e c can fresh d z in
+      known-same d (cardsDriven e c a) (cardsDriven e c b) z
+      (λ h. other .1 (remains r q a b e d out lift waits there c (here .0 h)))
+      (λ h. here .1 (remains q r b a e d (sym out) (sym lift) (sym waits) back c (other .0 h)))
 
 -- ---- the numbers that come with an image
 

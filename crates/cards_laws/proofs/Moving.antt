@@ -28,9 +28,9 @@ use Rattle.cards.specs.Private.{source}
 use Rattle.cards.proofs.Takings.{taken-source}
 use Rattle.cards_laws.specs.Statements.{OneLayout, EmptyGarage, Followed, Brought, OnlyThese}
 use Rattle.cards_laws.proofs.Anchors.{comes, free-none, stands, car-bears, bears-car, cards-marked}
-use Rattle.cards_laws.proofs.Sources.{back, way-back, one-source, one-to-one, drive-stays, waits-on}
+use Rattle.cards_laws.proofs.Sources.{back, way-back, one-source, one-to-one, drive-stays, drive-kept}
 use Rattle.cards_laws.proofs.Others.{gapless, is-gapless}
-use Rattle.cards_laws.proofs.Laws.{fine, follows, next-layout, kept}
+use Rattle.cards_laws.proofs.Laws.{fine, follows, next-layout, next-marked}
 
 -- ---- a car by its anchor
 
@@ -209,11 +209,11 @@ only-these i f n m s ok cards after same waits k =
     let (l, y) = s .layout in
     let (u, z) = next-layout i f s ok in
     let M = cards-marked (next i f) m u z after in
-    let N = cards-marked (next i f) (numbersAfter i f n) u z (kept i f n s ok cards) in
+    let N = next-marked i f s ok n cards in
     split (eqb driveIn k)
     (λ t.
     let here = eqb-true driveIn k t in
-    ap m (sym here) ∙ waits ∙ sym (waits-on i f n (fine i f s ok .0)) ∙ ap (numbersAfter i f n) here)
+    ap m (sym here) ∙ waits ∙ sym (drive-kept i f n (fine i f s ok .0)) ∙ ap (numbersAfter i f n) here)
     (λ t. split (bears (next i f) k)
     (λ e.
     let (b, a, p) = bears-car (next i f) u z k (λ q. eqb-false driveIn k t (sym q)) e in

@@ -21,7 +21,7 @@ use Rattle.rules_laws.proofs.Laws.{same-verdict, kept-outside, sides-kept, stay
 use Rattle.cards.specs.Following.{numbersAfter}
 use Rattle.cards_laws.specs.Statements.{AllAllowed, InNone, Whichever}
 use Rattle.cards_laws.proofs.Sources.{numbers-outside, drive-outside}
-use Rattle.cards_laws.proofs.Laws.{kept}
+use Rattle.cards_laws.proofs.Laws.{cards-after}
 
 module _ (i : Instruction) (f : Bits) (s : Sound f) (ok : allowed i f ≡ true) where
   well : wellFormed i ≡ true
@@ -63,5 +63,5 @@ whichever [] f n s c a p = (s, c, λ k h. refl)
 whichever (i ∷ is) f n s c a p =
     let ok = a .0 in
     let (sound, cards, out) =
-    whichever is (next i f) (numbersAfter i f n) (stays-sound i f s (a .1) ok) (kept i f n s ok c) (still i f s ok is (a .2) (p .0)) (p .1) in
+    whichever is (next i f) (numbersAfter i f n) (stays-sound i f s (a .1) ok) (cards-after i f s ok n c) (still i f s ok is (a .2) (p .0)) (p .1) in
     (sound, cards, λ k h. out k (h .1) ∙ numbers-outside i (well i f s ok) f n k (h .0))
