@@ -1,6 +1,6 @@
 -- The places of a record that bear a number: every layout of it has its cars at the same places, which are told by the record alone. In row
 -- 1 a car starts at an occupied cell with an even number of occupied cells below it. Assumes nothing.
-use mathlib.Core.Path.{_≡_, refl, sym, ap, ap₂, _∙_}
+use mathlib.Core.Path.{_≡_, refl, sym, ap, ap₂, subst, _∙_}
 use mathlib.Core.Logic.{inl, inr, ⊎-elim}
 use mathlib.Core.Bool.{Bool, true, false, cond, _&&_, _||_, and-false}
 use mathlib.Core.List.{List, [], _∷_}
@@ -13,7 +13,7 @@ use Rattle.bits.specs.Places.{from as span}
 use Rattle.bits.proofs.Cases.{split, clash, off}
 use Rattle.bits.proofs.Digits.{digit-lt, digit-one}
 use Rattle.floor.specs.Floor.{raisedCar, driveIn}
-use Rattle.floor.specs.Cars.{Car, pair, single, raised, at, covered, AllStand, Layout}
+use Rattle.floor.specs.Cars.{Car, pair, single, raised, Stands, at, covered, AllStand, Layout}
 use Rattle.floor.proofs.Layouts.{at-same, at-other}
 use Rattle.floor.proofs.Rows.{below, count-from}
 use Rattle.cards.specs.Cards.{Numbers, anchor, Among, Cards, Has}
@@ -60,7 +60,7 @@ anchorsAt (x ∷ l) k = at (anchor x) k + anchorsAt l k
 at-suc : (b k : ℕ) → at (suc b) (suc k) ≡ at b k
 at-suc b k = ap digit (eqb·suc-suc b k)
 
--- a cell of row 1 is covered by the cars anchored there and those anchored at the cell before
+-- a cell of row 1 is covered by the cars with their anchor there and those with it at the cell before
 row-zero : (l : List Car) → AllStand l → covered l 0 ≡ anchorsAt l 0
 unfolding covered AllStand anchorsAt
 row-zero [] s = refl
@@ -75,7 +75,7 @@ row-suc (pair b ∷ l) k s h = omega (arith, row-suc l k (s .1) h, at-suc b k)
 row-suc (single b ∷ l) k s h = omega (arith, row-suc l k (s .1) h, at-other b k (omega arith))
 row-suc (raised ∷ l) k s h = omega (arith, row-suc l k (s .1) h, at-other raisedCar k (omega arith))
 
--- any other place by those anchored there
+-- any other place by those with their anchor there
 others : (l : List Car) (k : ℕ) → AllStand l → 20 ≤ k → covered l k ≡ anchorsAt l k
 unfolding covered AllStand anchorsAt
 others [] k s h = refl
@@ -83,7 +83,7 @@ others (pair b ∷ l) k s h = omega (arith, others l k (s .1) h, at-other (suc b
 others (single b ∷ l) k s h = omega (arith, others l k (s .1) h)
 others (raised ∷ l) k s h = omega (arith, others l k (s .1) h)
 
--- none is anchored where cars can't be
+-- none has it where cars can't be
 none-there : (l : List Car) (k : ℕ) → AllStand l → 40 ≤ k → (raisedCar ≡ k → ⊥) → anchorsAt l k ≡ 0
 unfolding AllStand anchorsAt
 none-there [] k s h n = refl
@@ -129,7 +129,12 @@ module _ (f : Bits) (l : List Car) (y : Layout f l) where
       not-there : k < driveIn → digit (eqb driveIn k && f k) ≡ 0
       not-there h = rw (ne-eqb driveIn k (λ e. omega arith))
 
--- ---- a car of a layout is anchored, and what is anchored is a car
+-- ---- a car of a layout stands where a number is borne, and there is no other such place but where one waits
+
+pub stands : (l : List Car) (x : Car) → AllStand l → Among x l → Stands x
+unfolding AllStand Among
+stands [] x s m = absurd m
+stands (y ∷ l) x s m = ⊎-elim (λ (e : x ≡ y). subst Stands (sym e) (s .0)) (λ (r : Among x l). stands l x (s .1) r) m
 
 among-at : (l : List Car) (x : Car) → Among x l → 0 < anchorsAt l (anchor x)
 unfolding Among anchorsAt

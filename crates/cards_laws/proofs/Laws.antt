@@ -79,8 +79,11 @@ module _ (i : Instruction) (f : Bits) (s : Sound f) (ok : allowed i f ≡ true) 
         subst (Marked (bears (next i f))) (sym after-from)
         (carried-marked (bears f) (bears (next i f)) from n refl carried marked)
 
+    pub cards-after : Cards (next i f) (numbersAfter i f n)
+    cards-after = marked-cards (next i f) (numbersAfter i f n) next-marked
+
 pub kept : Kept
-kept i f n s ok c = marked-cards (next i f) (numbersAfter i f n) (next-marked i f s ok n c)
+kept i f n s ok c = cards-after i f s ok n c
 
 pub same-numbers : SameNumbers
 same-numbers i f n s ok c d z =

@@ -119,11 +119,11 @@ all-settled = tt
 
 -- ---- what the tests say
 
-or-else : (a b : Bool) → a ≡ false → T (a || b) → T b
+pub or-else : (a b : Bool) → a ≡ false → T (a || b) → T b
 or-else true b n t = clash refl n
 or-else false b n t = t
 
-all-same : (p q : ℕ → Bool) (ks : List ℕ) → ((k : ℕ) → T (elem k ks) → p k ≡ q k) → allPass p ks ≡ allPass q ks
+pub all-same : (p q : ℕ → Bool) (ks : List ℕ) → ((k : ℕ) → T (elem k ks) → p k ≡ q k) → allPass p ks ≡ allPass q ks
 all-same p q [] e = refl
 all-same p q (k ∷ ks) e = ap₂ _&&_ (e k (elem-here k ks)) (all-same p q ks (λ j m. e j (elem-there k j ks m)))
 
@@ -250,7 +250,7 @@ module _ (i : Instruction) (o : other i ≡ true) (f : Bits) (v : T (wellFormed 
 
   -- row 1 where the pair changes
   module _ (t : touches i ≡ true) where
-    pf : f a ≡ f (suc a)
+    pub pf : f a ≡ f (suc a)
     pf = pair-cells i f t (pair-before i v o f (known-holds .0) c r)
 
     pg : g a ≡ g (suc a)
@@ -259,7 +259,7 @@ module _ (i : Instruction) (o : other i ≡ true) (f : Bits) (v : T (wellFormed 
     out : (k : ℕ) → k < 20 → (k ≡ a → ⊥) → (k ≡ suc a → ⊥) → g k ≡ f k
     out k l x y = unchanged k l (λ t. ap₂ _||_ (ne-eqb a k (λ q. x (sym q))) (ne-eqb (suc a) k (λ q. y (sym q))))
 
-    ev-f : below f a % 2 ≡ 0
+    pub ev-f : below f a % 2 ≡ 0
     ev-f = known-holds .1 pf
 
     lower : (k : ℕ) → k ≤ a → below g k ≡ below f k

@@ -220,5 +220,15 @@ pub drive-outside : (i : Instruction) → wellFormed i ≡ true → (k : ℕ) �
 unfolding area
 drive-outside i w k m = not-true (elem k (areaOf i)) (T→true _ (pass-at (λ k. not (elem k (areaOf i))) drives (each undriven all-undriven i (true→T w)) k m))
 
+pub drive-stays : (i : Instruction) → wellFormed i ≡ true → (low : Bool) → source (takings i low) driveIn ≡ driveIn
+unfolding area
+drive-stays i w low = source-same (takings i low) driveIn (taker-in i (true→T w) low driveIn (drive-outside i w driveIn tt))
+
+pub drive-kept : (i : Instruction) (f : Bits) (n : Numbers) → wellFormed i ≡ true → numbersAfter i f n driveIn ≡ n driveIn
+unfolding numbersAfter area
+drive-kept i f n w =
+    let low = holds atBasement f in
+    taken-same (takings i low) n driveIn (taker-in i (true→T w) low driveIn (drive-outside i w driveIn tt))
+
 pub waits-on : WaitsOn
-waits-on i f n w = numbers-outside i w f n driveIn (drive-outside i w driveIn tt)
+waits-on = drive-kept
