@@ -30,7 +30,6 @@ use Rattle.desk_laws.specs.Runs as desk
 use Rattle.desk_laws.specs.Runs.{DeskCall, said, left, calls}
 use Rattle.desk_laws.specs.Orders.{DeskOrder, DeskAlike, deskReplies}
 use Rattle.desk_laws.specs.Promises.{DeskAnyOrder}
-use Rattle.desk_laws.proofs.Assumed.{Laws}
 use Rattle.desk_laws.proofs.Calls.{fit-parts, answered, left-taken}
 use Rattle.desk_laws.proofs.Fits.{fit-kept, fit-always, begins-fit}
 use Rattle.desk_laws.proofs.Instance.{Garage, numbered, frame}
@@ -41,7 +40,7 @@ use Rattle.desk_laws.proofs.Ends.{Whole, whole-always, begins-whole, nu
 
 -- ---- what the machine says of two lists, the desk says
 
-module _ (LAWS : Laws) (d : Desk) (f : deskFit d ≡ true) (whole : Whole d) (tidy : Tidy (d .station)) (k : ℕ) (now : k ≡ present (d .station)) where
+module _ (d : Desk) (f : deskFit d ≡ true) (whole : Whole d) (tidy : Tidy (d .station)) (k : ℕ) (now : k ≡ present (d .station)) where
   -- one list, which the machine ends with no set
   module _ (l : List (Act (ℕ × ℕ)))
       (e : machine.run numbered (deskView d) l ≡ machine.idle numbered (machine.run numbered (deskView d) l .bits) (machine.run numbered (deskView d) l .away))
@@ -60,7 +59,7 @@ module _ (LAWS : Laws) (d : Desk) (f : deskFit d ≡ true) (whole : Whole d) (ti
         (kept-along Tidy tidy-step k l d tidy)
 
     end-fit : fit (end .station) ≡ true
-    end-fit = fit-parts end (fit-always LAWS (map (asDesk k) l) d f) .0
+    end-fit = fit-parts end (fit-always (map (asDesk k) l) d f) .0
 
     end-whole : Whole end
     end-whole = whole-always (map (asDesk k) l) d whole
@@ -68,8 +67,8 @@ module _ (LAWS : Laws) (d : Desk) (f : deskFit d ≡ true) (whole : Whole d) (ti
   alike : (n : ℕ) (chosen : ℕ → machine.Outcome) (es : List (ℕ × ℕ)) (l m : List (Act (ℕ × ℕ))) → machine-orders.Order n chosen es l → machine-orders.Order n chosen es m
       → machine-orders.Alike numbered (deskView d) l m → DeskAlike d (map (asDesk k) l) (map (asDesk k) m)
   alike n chosen es l m P Q A =
-      let L = follows LAWS k l d f now (A .fair .0) in
-      let M = follows LAWS k m d f now (A .fair .1) in
+      let L = follows k l d f now (A .fair .0) in
+      let M = follows k m d f now (A .fair .1) in
       let x : Desk = end l (A .closed .0) (L .shows) in
       let y : Desk = end m (A .closed .1) (M .shows) in
       let replied : deskReplies d (map (asDesk k) l) ≡ deskReplies d (map (asDesk k) m) = L .replied ∙ A .replies ∙ sym (M .replied) in
@@ -96,40 +95,39 @@ module _ (LAWS : Laws) (d : Desk) (f : deskFit d ≡ true) (whole : Whole d) (ti
 
 -- ---- the promise
 
-module _ (LAWS : Laws) where
-  -- of a fit desk that takes a request
-  module _ (t : Desk) (f : deskFit t ≡ true) (whole : Whole t) (n : ℕ) (set : List ℕ) (z : said t (desk.request n set) ≡ 0) where
-    A : Acceptable (t .station) n set
-    A = request-has (t .station) n set (answered t (desk.request n set) Fine .0 z .0 .1)
+-- of a fit desk that takes a request
+module _ (t : Desk) (f : deskFit t ≡ true) (whole : Whole t) (n : ℕ) (set : List ℕ) (z : said t (desk.request n set) ≡ 0) where
+  A : Acceptable (t .station) n set
+  A = request-has (t .station) n set (answered t (desk.request n set) Fine .0 z .0 .1)
 
-    -- the desk that holds the set
-    abbrev holds : Desk
-    holds = record { station = opened (t .station) n set; numbers = t .numbers }
+  -- the desk that holds the set
+  abbrev holds : Desk
+  holds = record { station = opened (t .station) n set; numbers = t .numbers }
 
-    there : left t (desk.request n set) ≡ holds
-    there = left-taken t (desk.request n set) z ∙ ap (λ o. record { station = o .station; numbers = t .numbers }) (request-is (t .station) n set A)
+  there : left t (desk.request n set) ≡ holds
+  there = left-taken t (desk.request n set) z ∙ ap (λ o. record { station = o .station; numbers = t .numbers }) (request-is (t .station) n set A)
 
-    holds-view : deskView holds ≡ machine.opened (kept (t .station) n set A) (t .station .bits, t .numbers) (awayOf (t .station .apart))
-    holds-view = ap (λ (m : machine.Station ℕ Code). onTop m (t .numbers)) (request-view (t .station) n set A)
+  holds-view : deskView holds ≡ machine.opened (kept (t .station) n set A) (t .station .bits, t .numbers) (awayOf (t .station .apart))
+  holds-view = ap (λ (m : machine.Station ℕ Code). onTop m (t .numbers)) (request-view (t .station) n set A)
 
-    holds-fit : deskFit holds ≡ true
-    holds-fit = subst (λ (d : Desk). deskFit d ≡ true) there (fit-kept LAWS t (desk.request n set) f)
+  holds-fit : deskFit holds ≡ true
+  holds-fit = subst (λ (d : Desk). deskFit d ≡ true) there (fit-kept t (desk.request n set) f)
 
-    set-alike : (fate : ℕ → Fate) (drives : List (ℕ × ℕ)) (l m : List DeskCall) → let s = left t (desk.request n set) in
-        DeskOrder (present (s .station)) n fate drives l → DeskOrder (present (s .station)) n fate drives m → DeskAlike s l m
-    set-alike fate drives l m P Q =
-        let k = present (left t (desk.request n set) .station) in
-        let (a, p) = acts k fate l (P .order .chosen) in
-        let (b, q) = acts k fate m (Q .order .chosen) in
-        let O = order-acts k n fate drives a (subst (DeskOrder k n fate drives) p P) in
-        let U = order-acts k n fate drives b (subst (DeskOrder k n fate drives) q Q) in
-        let (s, c) = fit-parts t f in
-        let T = machine-order.any-order numbered _ _ (frame LAWS) (kept (t .station) n set A)
-        (t .station .bits, t .numbers) (awayOf (t .station .apart)) (and-intro (fit-has (t .station) s .sound) c) (request-accepted (t .station) n set A) (choice k fate) drives a b O U in
-        let W : machine-orders.Alike numbered (deskView holds) a b = rw holds-view T in
-        subst₃ DeskAlike (sym there) (sym p) (sym q)
-        (alike LAWS holds holds-fit whole (inl (A .some)) k (ap (λ (d : Desk). present (d .station)) there) n (choice k fate) drives a b O U W)
+  set-alike : (fate : ℕ → Fate) (drives : List (ℕ × ℕ)) (l m : List DeskCall) → let s = left t (desk.request n set) in
+      DeskOrder (present (s .station)) n fate drives l → DeskOrder (present (s .station)) n fate drives m → DeskAlike s l m
+  set-alike fate drives l m P Q =
+      let k = present (left t (desk.request n set) .station) in
+      let (a, p) = acts k fate l (P .order .chosen) in
+      let (b, q) = acts k fate m (Q .order .chosen) in
+      let O = order-acts k n fate drives a (subst (DeskOrder k n fate drives) p P) in
+      let U = order-acts k n fate drives b (subst (DeskOrder k n fate drives) q Q) in
+      let (s, c) = fit-parts t f in
+      let T = machine-order.any-order numbered _ _ frame (kept (t .station) n set A)
+      (t .station .bits, t .numbers) (awayOf (t .station .apart)) (and-intro (fit-has (t .station) s .sound) c) (request-accepted (t .station) n set A) (choice k fate) drives a b O U in
+      let W : machine-orders.Alike numbered (deskView holds) a b = rw holds-view T in
+      subst₃ DeskAlike (sym there) (sym p) (sym q)
+      (alike holds holds-fit whole (inl (A .some)) k (ap (λ (d : Desk). present (d .station)) there) n (choice k fate) drives a b O U W)
 
-  pub desk-any-order : DeskAnyOrder
-  desk-any-order d b before n set z =
-      set-alike (calls d before) (fit-always LAWS before d (begins-fit LAWS d b)) (whole-always before d (begins-whole d b)) n set z
+pub desk-any-order : DeskAnyOrder
+desk-any-order d b before n set z =
+    set-alike (calls d before) (fit-always before d (begins-fit d b)) (whole-always before d (begins-whole d b)) n set z

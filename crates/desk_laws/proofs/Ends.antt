@@ -1,29 +1,29 @@
 -- What makes two desks equal at the end of two lists: 42 numbers that are the same at every place, and records that are the same bit by bit
 -- and were left alone by both lists or by neither, so that also an image of more than 64 bits ends alike. Assumes nothing.
-use mathlib.Core.Path.{_≡_, refl, sym, ap, ap₂, _∙_}
+use mathlib.Core.Path.{_≡_, refl, sym, ap, _∙_}
 use mathlib.Core.Bool.{Bool, true, false, cond, _||_}
 use mathlib.Core.List.{List, [], _∷_, map}
-use Prim.Native.Nat.{ℕ, suc, _/_, _^_, _<_}
+use Prim.Native.Nat.{ℕ, _/_, _^_, _≤_, _<_}
 use native.Mathlib.Omega.{arith}
 use lib.Dec.{eqb, ltb}
-use lib.ListN.{length, getD}
-use borrow.Author.Tests.{eqb-true, eqb-false}
+use lib.ListN.{length}
+use borrow.Author.Tests.{eqb-true, eqb-false, ltb-true, ltb-false, le-ltb, ne-eqb}
 use Rattle.bits.specs.Bits.{bit}
 use Rattle.bits.proofs.Cases.{split, clash}
 use Rattle.bits.proofs.Digits.{packed-lt, packed-bit, image-ext}
-use Rattle.rules.specs.declared.Code.{Code}
+use Rattle.floor.specs.Floor.{raisedCar, driveIn}
 use Rattle.rules.specs.declared.EventReading.{EventReading}
 use Rattle.rules.specs.declared.EventReading.the-variants.{Good as Told, Bad as Untold}
 use Rattle.rules.specs.Codes.{readEvent}
-use Rattle.rules.specs.Verdicts.{onCode}
 use Rattle.sets.proofs.Machine.{Outcome, failed, finished, stuck, moves, Act, result, event}
 use Rattle.garage_laws.specs.Runs as run
 use Rattle.garage_laws.proofs.Instance.{possibleAs, afterAs}
 use Rattle.garage_laws.proofs.Calls.{event-has}
 use Rattle.garage_laws.proofs.Lists.{ending}
-use Rattle.cards.specs.Cards.{Numbers}
 use Rattle.cards.specs.declared.Offered.the-variants.{Fine}
-use Rattle.cards.specs.Held.{listed, placeOf, held, numbersIn, cardsAfter, codeCards, cardsDriven, cardsGiven}
+use Rattle.cards.proofs.Listing.{none-in}
+use Rattle.cards.specs.Held.{numbersIn, cardsDriven, cardsGiven}
+use Rattle.cards_laws.proofs.Elements.{held-length, same-array}
 use Rattle.desk.specs.declared.Desk.{Desk}
 use Rattle.desk.specs.Calls.{passed}
 use Rattle.desk_laws.specs.Runs as desk
@@ -31,7 +31,7 @@ use Rattle.desk_laws.specs.Runs.{DeskCall, said, left, calls, DeskBegins
 use Rattle.desk_laws.specs.Orders.{DeskFair, deskReplies}
 use Rattle.desk_laws.proofs.Calls.{moved, answered, left-taken, refused-untouched}
 use Rattle.desk_laws.proofs.Fits.{still, success-bits, event-bits}
-use Rattle.desk_laws.proofs.Carrying.{element-at, by-reading, after-is}
+use Rattle.desk_laws.proofs.Carrying.{code-length}
 use Rattle.desk_laws.proofs.Follow.{asDesk}
 use Rattle.desk_laws.proofs.Lists.{succeeds}
 
@@ -40,24 +40,16 @@ use Rattle.desk_laws.proofs.Lists.{succeeds}
 abbrev pub Whole : Desk → Type 0
 Whole d = length (d .numbers) ≡ 42
 
-held-long : (n : Numbers) → length (held n) ≡ 42
-unfolding held listed
-held-long n = refl
-
-code-long : (x : Code) (r : ℕ) (a : List ℕ) → length a ≡ 42 → length (codeCards x r a) ≡ 42
-unfolding codeCards
-code-long x r a h = by-reading x (λ v. length (onCode (λ i. cardsAfter i r a) a v) ≡ 42) (λ i w. ap length (after-is i r a w) ∙ held-long _) h
-
 moved-long : (d : Desk) (c : DeskCall) → Whole d → length (moved d c) ≡ 42
 unfolding cardsDriven cardsGiven
 moved-long d (desk.request n set) h = h
-moved-long d (desk.reports r) h = split (eqb (r .ending) 1) (λ t. rw t (code-long _ (d .station .bits) (d .numbers) h)) (λ t. rw t h)
-moved-long d (desk.event e c) h = split (eqb e 1) (λ t. rw t (held-long _)) (λ t. rw t (other (readEvent e)))
+moved-long d (desk.reports r) h = split (eqb (r .ending) 1) (λ t. rw t (code-length _ (d .station .bits) (d .numbers) h)) (λ t. rw t h)
+moved-long d (desk.event e c) h = split (eqb e 1) (λ t. rw t (held-length _)) (λ t. rw t (other (readEvent e)))
   where
     other : (v : EventReading) → length (passed v (d .numbers)) ≡ 42
-    other (Told x) = held-long _
+    other (Told x) = held-length _
     other Untold = h
-moved-long d (desk.pictures p n ns) h = held-long _
+moved-long d (desk.pictures p n ns) h = held-length _
 moved-long d desk.ask h = h
 
 pub whole-left : (d : Desk) (c : DeskCall) → Whole d → Whole (left d c)
@@ -72,21 +64,16 @@ whole-always (c ∷ l) d h = whole-always l (left d c) (whole-left d c h)
 pub begins-whole : (d : Desk) → DeskBegins d → Whole d
 unfolding cardsGiven
 begins-whole d atStart = refl
-begins-whole d (byImage before p n ns h e) = rw (left-taken before (desk.pictures p n ns) e) (held-long _)
+begins-whole d (byImage before p n ns h e) = rw (left-taken before (desk.pictures p n ns) e) (held-length _)
 
-list-same : (a b : List ℕ) → length a ≡ length b → ((j : ℕ) → j < length a → getD a j 0 ≡ getD b j 0) → a ≡ b
-list-same [] [] h e = refl
-list-same [] (y ∷ b) h e = absurd (omega arith)
-list-same (x ∷ a) [] h e = absurd (omega arith)
-list-same (x ∷ a) (y ∷ b) h e = ap₂ _∷_ (e 0 (omega arith)) (list-same a b (omega arith) (λ j l. e (suc j) (omega arith)))
+-- past the record's bits there is no number
+none-past : (a : List ℕ) (k : ℕ) → 64 ≤ k → numbersIn a k ≡ 0
+none-past a k h = none-in a k (rw (le-ltb k 40 (omega arith), ne-eqb raisedCar k (λ e. omega arith), ne-eqb driveIn k (λ e. omega arith)))
 
 pub numbers-same : (a b : List ℕ) → length a ≡ 42 → length b ≡ 42 → ((k : ℕ) → k < 64 → numbersIn a k ≡ numbersIn b k) → a ≡ b
-numbers-same a b p q e = list-same a b (p ∙ sym q) (λ j h.
-    let m : j < 42 = omega (arith, p, h) in
-    sym (element-at a j m) ∙ e (placeOf j) (place-small j m) ∙ element-at b j m)
-  where
-    place-small : (j : ℕ) → j < 42 → placeOf j < 64
-    place-small j m = split (ltb j 40) (λ t. rw t (omega arith)) (λ t. rw t (split (eqb j 40) (λ u. rw u (omega arith)) (λ u. rw u (omega arith))))
+numbers-same a b p q e = same-array a b p q (λ k. split (ltb k 64)
+    (λ t. e k (ltb-true k 64 t))
+    (λ t. let h = ltb-false k 64 t in none-past a k h ∙ sym (none-past b k h)))
 
 -- ---- what of a record is above its 64 bits
 

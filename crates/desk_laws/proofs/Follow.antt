@@ -36,7 +36,6 @@ use Rattle.desk.specs.Calls.{passed}
 use Rattle.desk_laws.specs.Runs as desk
 use Rattle.desk_laws.specs.Runs.{DeskCall, said, left, calls, under}
 use Rattle.desk_laws.specs.Orders.{DeskFair, deskReplies}
-use Rattle.desk_laws.proofs.Assumed.{Laws}
 use Rattle.desk_laws.proofs.Calls as call
 use Rattle.desk_laws.proofs.Calls.{ruling, moved, rulingNumber, fit-parts, said-ruled, left-taken, refused-untouched, as-station}
 use Rattle.desk_laws.proofs.Fits.{fit-kept}
@@ -228,23 +227,22 @@ pub record Followed (k : ℕ) (l : List (Act (ℕ × ℕ))) (d : Desk) (m : mach
   pub replied : deskReplies d (map (asDesk k) l) ≡ machine-orders.replies numbered m l
   pub shows : deskView (calls d (map (asDesk k) l)) ≡ machine.run numbered m l
 
-module _ (LAWS : Laws) where
-  pub follows : (k : ℕ) (l : List (Act (ℕ × ℕ))) (d : Desk) → deskFit d ≡ true → k ≡ present (d .station)
-      → machine-orders.Fair numbered (deskView d) l → Followed k l d (deskView d)
-  follows k [] d f p F = record { fair = tt; replied = refl; shows = refl }
-  follows k (result i o ∷ l) d f p F =
-      let c = asDesk k (result i o) in
-      let v = result-view d f k p i o (F .0) (F .1) in
-      let N = follows k l (left d c) (fit-kept LAWS d c f) (present-one k (result i o) d p) (subst (λ (m : machine.Station Garage Code). machine-orders.Fair numbered m l) (sym v) (F .2)) in
-      let M : Followed k l (left d c) (machine.step numbered (deskView d) (result i o)) = subst (Followed k l (left d c)) v N in
-      record {
-        fair = (result-said d f k p i o (F .0) (F .1), beneath d f k p i o (F .0) (F .1) .fair .1, M .fair);
-        replied = M .replied;
-        shows = M .shows;
-      }
-  follows k (event e ∷ l) d f p F =
-      let c = asDesk k (event e) in
-      let v = event-view d f (e .0) (e .1) in
-      let N = follows k l (left d c) (fit-kept LAWS d c f) (present-one k (event e) d p) (subst (λ (m : machine.Station Garage Code). machine-orders.Fair numbered m l) (sym v) F) in
-      let M : Followed k l (left d c) (machine.step numbered (deskView d) (event e)) = subst (Followed k l (left d c)) v N in
-      record { fair = M .fair; replied = ap₂ _∷_ (event-answer d f (e .0) (e .1)) (M .replied); shows = M .shows }
+pub follows : (k : ℕ) (l : List (Act (ℕ × ℕ))) (d : Desk) → deskFit d ≡ true → k ≡ present (d .station)
+    → machine-orders.Fair numbered (deskView d) l → Followed k l d (deskView d)
+follows k [] d f p F = record { fair = tt; replied = refl; shows = refl }
+follows k (result i o ∷ l) d f p F =
+    let c = asDesk k (result i o) in
+    let v = result-view d f k p i o (F .0) (F .1) in
+    let N = follows k l (left d c) (fit-kept d c f) (present-one k (result i o) d p) (subst (λ (m : machine.Station Garage Code). machine-orders.Fair numbered m l) (sym v) (F .2)) in
+    let M : Followed k l (left d c) (machine.step numbered (deskView d) (result i o)) = subst (Followed k l (left d c)) v N in
+    record {
+      fair = (result-said d f k p i o (F .0) (F .1), beneath d f k p i o (F .0) (F .1) .fair .1, M .fair);
+      replied = M .replied;
+      shows = M .shows;
+    }
+follows k (event e ∷ l) d f p F =
+    let c = asDesk k (event e) in
+    let v = event-view d f (e .0) (e .1) in
+    let N = follows k l (left d c) (fit-kept d c f) (present-one k (event e) d p) (subst (λ (m : machine.Station Garage Code). machine-orders.Fair numbered m l) (sym v) F) in
+    let M : Followed k l (left d c) (machine.step numbered (deskView d) (event e)) = subst (Followed k l (left d c)) v N in
+    record { fair = M .fair; replied = ap₂ _∷_ (event-answer d f (e .0) (e .1)) (M .replied); shows = M .shows }

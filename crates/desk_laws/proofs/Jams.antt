@@ -23,12 +23,16 @@ use Rattle.garage.specs.declared.Station.{Station}
 use Rattle.garage.specs.Held.{heldArea, heldNext}
 use Rattle.garage_laws.specs.Jams.{jamAt, Picks, applied}
 use Rattle.garage_laws.proofs.Reach.{in-area}
+use Rattle.garage_laws.proofs.Instance.{allowed-has}
 use Rattle.garage_laws.proofs.Apart.{awayOf}
 use Rattle.garage_laws.proofs.Reasons.{least-fault}
 use Rattle.garage_laws.proofs.Link.{view, jamsOf, Sane, fit-sane}
 use Rattle.garage_laws.proofs.Jammed.{sane-calls, picks-same}
 use Rattle.cards.specs.Following.{nowhere}
-use Rattle.cards.specs.Held.{placeOf, numbersIn, codeCards, cardsFit, elementOf, whereIs}
+use Rattle.cards.specs.Held.{placeOf, numbersIn, codeCards, cardsFit, isKnown, elementOf, whereIs}
+use Rattle.cards_laws.proofs.Elements.{element-number}
+use Rattle.cards_laws.proofs.Tested.{known-exactly}
+use Rattle.cards_laws.proofs.Arrays.{fit-cards}
 use Rattle.desk.specs.declared.Desk.{Desk}
 use Rattle.desk.specs.declared.Whereabouts.{Whereabouts}
 use Rattle.desk.specs.declared.Whereabouts.the-variants.{At, LastKnown, NotHere}
@@ -36,12 +40,10 @@ use Rattle.desk.specs.Desk.{deskFit}
 use Rattle.desk.specs.Questions.{unsure, placed, whereabouts}
 use Rattle.desk_laws.specs.Runs.{DeskCall, calls, DeskBegins, below, appliedCards, stuckAt, finishedRecord, finishedCards}
 use Rattle.desk_laws.specs.Promises.{DeskAlways, WhicheverSame, WhereSure}
-use Rattle.desk_laws.proofs.Assumed.{Laws}
 use Rattle.desk_laws.proofs.Calls.{fit-parts}
-use Rattle.desk_laws.proofs.Numbers.{cards-of}
 use Rattle.desk_laws.proofs.Fits.{fit-always, begins-fit, station-below}
-use Rattle.desk_laws.proofs.Carrying.{element-at, isNew, has-same, cards-outside}
-use Rattle.desk_laws.proofs.Instance.{Garage, numbered, parts, new-next, frame}
+use Rattle.desk_laws.proofs.Carrying.{code-outside, code-known}
+use Rattle.desk_laws.proofs.Instance.{Garage, numbered, parts, frame}
 
 -- ---- the desk as a machine of the crate `sets`
 
@@ -71,18 +73,18 @@ applied-is js (i ∷ p) r a = applied-is js p (image (heldNext (jamAt js i) (bit
 digit-same : (a b : Bool) → digit a ≡ digit b → a ≡ b
 digit-same a b e = alike a b (λ t. digit-one b (rw (← e, t) (omega arith))) (λ t. digit-one a (rw (e, t) (omega arith)))
 
-module _ (LAWS : Laws) (d : Desk) (b : DeskBegins d) (l : List DeskCall) where
+module _ (d : Desk) (b : DeskBegins d) (l : List DeskCall) where
   pub fits-now : deskFit (calls d l) ≡ true
-  fits-now = fit-always LAWS l d (begins-fit LAWS d b)
+  fits-now = fit-always l d (begins-fit d b)
 
   -- what is stuck, the station below knows
   pub sane-now : Sane (stuckAt d l) (calls d l .station)
-  sane-now = subst (Sane (stuckAt d l)) (sym (station-below LAWS d b l))
-      (sane-calls (below d l) [] (d .station) (fit-sane (d .station) (fit-parts d (begins-fit LAWS d b) .0)))
+  sane-now = subst (Sane (stuckAt d l)) (sym (station-below d b l))
+      (sane-calls (below d l) [] (d .station) (fit-sane (d .station) (fit-parts d (begins-fit d b) .0)))
 
   module _ (p : List ℕ) (h : Picks (length (stuckAt d l)) p) where
     whichever : Whichever numbered (jamsOf (stuckAt d l)) (deskView (calls d l)) p
-    whichever = good-whichever numbered _ _ (frame LAWS) _ _
+    whichever = good-whichever numbered _ _ frame _ _
         (good-desk (stuckAt d l) (calls d l .station) (calls d l .numbers) sane-now (fit-parts (calls d l) fits-now .1)) p (picks-same _ p h)
 
     finished-is : machine-jams.applied numbered (jamsOf (stuckAt d l)) p (calls d l .station .bits, calls d l .numbers) ≡ (finishedRecord d l p, finishedCards d l p)
@@ -91,22 +93,23 @@ module _ (LAWS : Laws) (d : Desk) (b : DeskBegins d) (l : List DeskCall) where
     finished-fits : numbered .sound (finishedRecord d l p, finishedCards d l p) ≡ true
     finished-fits = ap (numbered .sound) (sym finished-is) ∙ whichever .sound
 
-    -- a number is new with those applied exactly if it is without
-    finished-new : (c : ℕ) → isNew (finishedCards d l p) c ≡ isNew (calls d l .numbers) c
-    finished-new c = digit-same _ _
-        (ap (λ (w : Garage). digit (isNew (w .1) c)) (sym finished-is)
-        ∙ whichever .cars (λ w. digit (isNew (w .1) c)) (λ x w z t. ap digit (new-next LAWS x w z t c)))
+    -- a number is known with those applied exactly if it is without
+    finished-known : (c : ℕ) → (c ≡ 0 → ⊥) → isKnown (finishedCards d l p) c ≡ isKnown (calls d l .numbers) c
+    finished-known c o = digit-same _ _
+        (ap (λ (w : Garage). digit (isKnown (w .1) c)) (sym finished-is)
+        ∙ whichever .cars (λ w. digit (isKnown (w .1) c)) (λ x w z t.
+        let (s, f) = parts w z in ap digit (code-known x (w .0) (w .1) s f (allowed-has x (w .0) t .0) c o)))
 
-module _ (LAWS : Laws) where
-  pub desk-always : DeskAlways
-  desk-always d b l p h =
-      let (s, f) = parts (finishedRecord d l p, finishedCards d l p) (finished-fits LAWS d b l p h) in
-      (sound-exactly (finishedRecord d l p) .0 s, cards-of LAWS (finishedRecord d l p) (finishedCards d l p) s f)
+pub desk-always : DeskAlways
+desk-always d b l p h =
+    let (s, f) = parts (finishedRecord d l p, finishedCards d l p) (finished-fits d b l p h) in
+    (sound-exactly (finishedRecord d l p) .0 s, fit-cards (finishedRecord d l p) (finishedCards d l p) s f)
 
-  pub whichever-same : WhicheverSame
-  whichever-same d b l p h c o =
-      let e = finished-new LAWS d b l p h c in
-      (has-same LAWS _ _ c e o, has-same LAWS _ _ c (sym e) o)
+pub whichever-same : WhicheverSame
+whichever-same d b l p h c o =
+    let e = finished-known d b l p h c o in
+    let (x, y) = (finishedCards d l p, calls d l .numbers) in
+    (λ k. known-exactly y c o .0 (sym e ∙ known-exactly x c o .1 k), λ k. known-exactly x c o .0 (e ∙ known-exactly y c o .1 k))
 
 -- ---- a place that is told for sure
 
@@ -146,7 +149,7 @@ stands-there a c o = split (eqb c 0)
     (λ t. absurd (o (rw t)))
     (λ t. split (ltb (elementOf a c) 41)
     (λ u. let h = ltb-true (elementOf a c) 41 u in
-    rw (t, u) (car-place (elementOf a c) h, element-at a (elementOf a c) (omega arith) ∙ eqb-true _ c (least-fault 41 (λ j. eqb (getD a j 0) c) u .passes)))
+    rw (t, u) (car-place (elementOf a c) h, element-number a (elementOf a c) (omega arith) ∙ eqb-true _ c (least-fault 41 (λ j. eqb (getD a j 0) c) u .passes)))
     (λ u. absurd (o (rw (t, u)))))
 
 -- instructions with other areas leave it there
@@ -155,7 +158,7 @@ applied-outside : (js : List Code) (k : ℕ) → ((i : ℕ) → i < length js �
 applied-outside js k out [] h r a = refl
 applied-outside js k out (i ∷ p) h r a =
     applied-outside js k out p (h .2) (image (heldNext (jamAt js i) (bit r))) (codeCards (jamAt js i) r a)
-    ∙ cards-outside (jamAt js i) r a k (out i (h .0))
+    ∙ code-outside (jamAt js i) r a k (out i (h .0))
 
 -- a place of which the bit is not set apart is in no area of what is stuck
 outside-jams : (js : List Code) (s : Station) → Sane js s → (k : ℕ) → k < 53 → bit (s .apart) k ≡ false
@@ -167,10 +170,9 @@ outside-jams js s G k h o i m = off _ (λ t. clash (G .inside i m k (omega arith
         (λ t. rw t o)
         (λ t. let l = ltb-false k 52 t in let q : k ≡ 52 = omega arith in ap (awayOf (s .apart)) q ∙ sym (ap (bit (s .apart)) q) ∙ o)
 
-module _ (LAWS : Laws) where
-  pub where-sure : WhereSure
-  where-sure d b l c k e p h =
-      let s = calls d l in
-      let (j, there, o) = placed-sure (s .station .apart) (whereIs (s .numbers) c) k (told-sure s c k (fits-now LAWS d b l) e) in
-      let (m, stands) = stands-there (s .numbers) c there in
-      rw (← j) (applied-outside (stuckAt d l) (whereIs (s .numbers) c) (outside-jams (stuckAt d l) (s .station) (sane-now LAWS d b l) _ m o) p h _ _ ∙ stands)
+pub where-sure : WhereSure
+where-sure d b l c k e p h =
+    let s = calls d l in
+    let (j, there, o) = placed-sure (s .station .apart) (whereIs (s .numbers) c) k (told-sure s c k (fits-now d b l) e) in
+    let (m, stands) = stands-there (s .numbers) c there in
+    rw (← j) (applied-outside (stuckAt d l) (whereIs (s .numbers) c) (outside-jams (stuckAt d l) (s .station) (sane-now d b l) _ m o) p h _ _ ∙ stands)
