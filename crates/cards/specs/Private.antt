@@ -1,11 +1,12 @@
 -- What the contracts of private functions cite; no public one rests on it. The place from which a place takes its number, as the rules
 -- list it, and as the code finds it place by place; that the two are the same is shown in proofs/. Assumes nothing.
-use mathlib.Core.Bool.{Bool, false, cond, not, _&&_}
+use mathlib.Core.Bool.{Bool, false, cond, not, _&&_, _||_, Bool·beq}
 use mathlib.Core.List.{List, [], _∷_}
 use Prim.Native.Nat.{ℕ, _+_, _-_, _*_}
 use lib.Dec.{eqb, ltb}
 use lib.ListN.{getD}
 use Rattle.bits.specs.Bits.{bit}
+use Rattle.bits.specs.Search.{every}
 use Rattle.floor.specs.declared.Belt.{Belt}
 use Rattle.floor.specs.declared.Belt.the-variants.{On, NoCell}
 use Rattle.floor.specs.Floor.{beltOf, raisedCar, basement, lowered}
@@ -13,6 +14,8 @@ use Rattle.rules.specs.declared.Instruction.{Instruction}
 use Rattle.rules.specs.declared.Instruction.the-variants.{Belts, Shuttles, Tilt, Lift, Rotate}
 use Rattle.rules.specs.Named.{higher, step}
 use Rattle.cards.specs.Following.{nowhere, onLift, Taking, _⟵_}
+use Rattle.cards.specs.Given.{bears, twiceAt}
+use Rattle.cards.specs.Held.{placeOf}
 
 -- as the rules list it: its own place where nothing is said of it
 unfoldable pub source : List Taking → ℕ → ℕ
@@ -80,3 +83,13 @@ sourceOf Rotate low k = k
 
 abbrev pub givenAt : List ℕ → ℕ → Bool → ℕ
 givenAt ns t here = cond here (cond (ltb t 31) (getD ns t 0) 0) 0
+
+-- ---- the two tests of numbers
+
+-- a number stands exactly at the places that bear one
+unfoldable pub standRight : ℕ → List ℕ → Bool
+standRight r a = every 42 (λ j. Bool·beq (not (eqb (getD a j 0) 0)) (bears (bit r) (placeOf j)))
+
+-- of the first m none but 0 stands twice
+unfoldable pub onceEach : List ℕ → ℕ → Bool
+onceEach a m = every m (λ j. eqb (getD a j 0) 0 || not (twiceAt a j))

@@ -1,0 +1,2 @@
+pub mod Takings
+pub mod Listing
