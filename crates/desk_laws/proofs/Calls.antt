@@ -7,8 +7,8 @@ use mathlib.Core.List.{List, [], _∷_}
 use Prim.Native.Nat.{ℕ, _≤_}
 use native.Mathlib.Omega.{arith}
 use lib.Dec.{eqb, leb}
-use borrow.Author.Tests.{eqb-true, eqb-false, ne-eqb, eq-eqb, le-leb}
-use Rattle.bits.proofs.Cases.{split, clash, both, and-intro}
+use borrow.Author.Tests.{eqb-true, eqb-false, ne-eqb, eq-eqb, le-leb, leb-true}
+use Rattle.bits.proofs.Cases.{split, clash, off, both, and-intro}
 use Rattle.rules.specs.declared.Event.the-variants.{BeginIn}
 use Rattle.rules.specs.Codes.{readEvent}
 use Rattle.answers.specs.declared.Answer.{Answer}
@@ -128,6 +128,11 @@ rulingNumber TwiceGiven = 38
 station-other : (a : Answer) (k : ℕ) → inTable k ≡ false → numberOf a ≡ k → ⊥
 station-other a k o e = clash (table-exactly k .1 (a, sym e)) o
 
+own-number : (k : ℕ) → 37 ≤ k → k ≤ 39 → inTable k ≡ false
+own-number k h l = split (eqb k 37)
+    (λ t. rw (eqb-true k 37 t))
+    (λ t. split (eqb k 38) (λ u. rw (eqb-true k 38 u)) (λ u. let e : k ≡ 39 = omega (arith, eqb-false k 37 t, eqb-false k 38 u) in rw e))
+
 -- the number of a ruling is no refusal of the station's
 ruling-other : (a : Answer) (v : Offered) → (numberOf a ≡ 0 → ⊥) → numberOf a ≡ rulingNumber v → ⊥
 ruling-other a Fine n e = n e
@@ -206,6 +211,17 @@ as-station d c f = each-call (λ o. Said o) d c (λ u. clash f u) (λ g n. inl (
     by p WrongCount = inr (p .1, (omega arith), (omega arith))
     by p ZeroNumber = inr (p .1, (omega arith), (omega arith))
     by p TwiceGiven = inr (p .1, (omega arith), (omega arith))
+
+-- so a call that the desk doesn't refuse by itself is the station's, and one that it does leaves all
+pub its-own : (d : Desk) (c : DeskCall) → deskFit d ≡ true
+    → ((itself d c ≡ false) × (left d c .station ≡ run.left (d .station) (under c))) ⊎ ((itself d c ≡ true) × (left d c ≡ d))
+its-own d c f = ⊎-elim
+    (λ h. inl (off _ (λ t. station's (h .0) (both (leb 37 (said d c)) (leb (said d c) 39) t)), h .1))
+    (λ h. inr (and-intro (le-leb 37 (said d c) (h .1)) (le-leb (said d c) 39 (h .2)), refused-untouched d c (λ z. omega (arith, h .1))))
+    (as-station d c f)
+  where
+    station's : said d c ≡ run.said (d .station) (under c) → (leb 37 (said d c) ≡ true) × (leb (said d c) 39 ≡ true) → ⊥
+    station's e t = station-other (beneath d c .answer) (said d c) (own-number (said d c) (leb-true 37 _ (t .0)) (leb-true _ 39 (t .1))) (sym e)
 
 pub other-events : OtherEvents
 unfolding calling.event

@@ -44,7 +44,7 @@ use Rattle.desk_laws.specs.Runs as desk
 use Rattle.desk_laws.specs.Runs.{DeskCall, said, left, calls, DeskBegins, atStart, byImage, under, itself, below}
 use Rattle.desk_laws.specs.Promises.{FitStays, NeverUnfit, StationBelow, Passes}
 use Rattle.desk_laws.proofs.Assumed.{Laws}
-use Rattle.desk_laws.proofs.Calls.{ruling, moved, rulingNumber, fit-parts, fit-of, answered, left-taken, refused-untouched, as-station, call-unfit}
+use Rattle.desk_laws.proofs.Calls.{ruling, moved, rulingNumber, fit-parts, fit-of, answered, left-taken, refused-untouched, as-station, its-own, call-unfit}
 use Rattle.desk_laws.proofs.Numbers.{code-fits, driven-fits, given-fits}
 
 -- ---- the record that the station's call leaves
@@ -157,3 +157,19 @@ module _ (LAWS : Laws) where
 
   pub never-unfit : NeverUnfit
   never-unfit d b l c = fit-says-other (calls d l) c (fit-always l d (begins-fit d b))
+
+  below-fit : (l : List DeskCall) (d : Desk) → deskFit d ≡ true → calls d l .station ≡ run.calls (d .station) (below d l)
+  below-fit [] d f = refl
+  below-fit (c ∷ l) d f =
+      let rest = below-fit l (left d c) (fit-kept d c f) in
+      ⊎-elim
+      (λ h. rest ∙ ap (λ (s : Station). run.calls s (below (left d c) l)) (h .1) ∙ sym (ap (through d c l) (h .0)))
+      (λ h. rest ∙ ap (λ (b : Desk). run.calls (b .station) (below (left d c) l)) (h .1) ∙ sym (ap (through d c l) (h .0)))
+      (its-own d c f)
+    where
+      -- the station after them, where the desk refuses the first by itself or not
+      through : Desk → DeskCall → List DeskCall → Bool → Station
+      through d c l b = let rest = below (left d c) l in run.calls (d .station) (cond b rest (under c ∷ rest))
+
+  pub station-below : StationBelow
+  station-below d b l = below-fit l d (begins-fit d b)
