@@ -2,7 +2,7 @@
 -- record after it. Assumes nothing.
 use mathlib.Core.Path.{_≡_, refl, sym, ap, subst, fun-ext, _∙_}
 use mathlib.Core.Logic.{_↔_, inl, inr}
-use mathlib.Core.Bool.{Bool, true, false, not, cond, _||_}
+use mathlib.Core.Bool.{Bool, true, false, not, cond, _||_, Bool·beq}
 use mathlib.Core.List.{List, [], _∷_, _++_}
 use Prim.Native.Nat.{ℕ, _≤_, _<_}
 use native.Mathlib.Omega.{arith}
@@ -10,10 +10,10 @@ use lib.Dec.{eqb, ltb}
 use lib.ListN.{length, take, drop, getD, take-append-drop, List·getD-eq-default}
 use borrow.Author.Tests.{lt-ltb, ltb-true, ltb-false, eqb-true, eq-eqb}
 use Rattle.bits.specs.Bits.{Bits, bit, digit, image}
-use Rattle.bits.specs.Search.{some}
-use Rattle.bits.proofs.Cases.{split, clash, neither}
+use Rattle.bits.specs.Search.{some, every}
+use Rattle.bits.proofs.Cases.{split, clash, both, neither, true→T, beq→eq}
 use Rattle.bits.proofs.Digits.{bit-image}
-use Rattle.bits.proofs.Search.{some-at}
+use Rattle.bits.proofs.Search.{some-at, every-at}
 use Rattle.floor.specs.Floor.{raisedCar, driveIn}
 use Rattle.floor.specs.Cars.{Car, pair, single, raised, Stands, AllStand, Place, Layout}
 use Rattle.floor.specs.Sound.{sound}
@@ -32,8 +32,8 @@ use Rattle.garage.specs.Held.{heldAllowed, heldNext}
 use Rattle.cards.specs.declared.Offered.the-variants.{Fine, WrongCount, ZeroNumber, TwiceGiven}
 use Rattle.cards.specs.Cards.{Numbers, anchor, Among, Numbered, Cards}
 use Rattle.cards.specs.Following.{numbersAfter, numbersDriven}
-use Rattle.cards.specs.Given.{numbersGiven, wanted, zeroAt, twiceAt, givenAs}
-use Rattle.cards.specs.Held.{held, numbersIn, cardsAfter, codeCards, cardsDriven, cardsGiven, cardsFit}
+use Rattle.cards.specs.Given.{bears, numbersGiven, wanted, zeroAt, twiceAt, givenAs}
+use Rattle.cards.specs.Held.{placeOf, held, numbersIn, cardsAfter, codeCards, cardsDriven, cardsGiven, cardsFit}
 use Rattle.cards.proofs.Listing.{in-held}
 use Rattle.cards_laws.specs.Statements.{BringsNew}
 use Rattle.desk_laws.proofs.Assumed.{Laws}
@@ -86,6 +86,31 @@ held-cards f r n e C l L =
       other = N .other;
       once = N .once;
     })
+
+-- ---- numbers that fit, element by element
+
+module _ (r : ℕ) (a : List ℕ) where
+  abbrev standsAt : ℕ → Bool
+  standsAt j = Bool·beq (not (eqb (getD a j 0) 0)) (bears (bit r) (placeOf j))
+
+  abbrev onceAt : ℕ → Bool
+  onceAt j = eqb (getD a j 0) 0 || not (some j (λ i. eqb (getD a i 0) (getD a j 0)))
+
+  module _ (f : cardsFit r a ≡ true) where
+    each-fits : (every 42 standsAt ≡ true) × (every 42 onceAt ≡ true)
+    unfolding cardsFit
+    each-fits = both (every 42 standsAt) (every 42 onceAt) f
+
+    -- a number stands exactly at the places that bear one
+    pub fit-stands : (j : ℕ) → j < 42 → not (eqb (getD a j 0) 0) ≡ bears (bit r) (placeOf j)
+    fit-stands j h = beq→eq _ _ (true→T (every-at 42 standsAt (each-fits .0) j h))
+
+    -- and none stands twice
+    pub fit-once : (i j : ℕ) → i < j → j < 42 → getD a i 0 ≡ getD a j 0 → getD a j 0 ≡ 0
+    fit-once i j h l e = split (eqb (getD a j 0) 0)
+        (λ t. eqb-true _ 0 t)
+        (λ t. let two : some j (λ i. eqb (getD a i 0) (getD a j 0)) ≡ true = some-at j _ i h (eq-eqb _ _ e) in
+        clash (rw (t, two) at (every-at 42 onceAt (each-fits .1) j l)) refl)
 
 module _ (LAWS : Laws) where
   -- numbers that fit are those of the cars
