@@ -49,7 +49,7 @@ stands-of x (y ∷ l) s (inl e) = subst Stands (sym e) (s .0)
 stands-of x (y ∷ l) s (inr a) = stands-of x l (s .1) a
 
 -- has its number at a place that is held
-abbrev isHeld : ℕ → Bool
+abbrev pub isHeld : ℕ → Bool
 isHeld k = ltb k 40 || (eqb raisedCar k || eqb driveIn k)
 
 anchor-held : (x : Car) → Stands x → isHeld (anchor x) ≡ true
@@ -67,12 +67,15 @@ held-is f l n L N k = in-held n k ∙ split (isHeld k) (λ t. rw t) (λ t. rw t 
         let (t₂, t₃) = neither (eqb raisedCar k) (eqb driveIn k) rest in
         N .other k (λ x a e. clash (ap isHeld (sym e) ∙ anchor-held x (stands-of x l (L .stand) a)) t) (λ e. clash (eq-eqb driveIn k (sym e)) t₃)
 
+pub held-same : (f : Bits) (l : List Car) (n : Numbers) → Layout f l → Numbered f l n → numbersIn (held n) ≡ n
+held-same f l n L N = fun-ext (held-is f l n L N)
+
 -- a layout of bits is one of the record that carries them
 place-small : (k : ℕ) → Place k → k < 64
 place-small k (inl h) = omega arith
 place-small k (inr e) = omega arith
 
-layout-same : (f g : Bits) (l : List Car) → ((k : ℕ) → k < 64 → f k ≡ g k) → Layout f l → Layout g l
+pub layout-same : (f g : Bits) (l : List Car) → ((k : ℕ) → k < 64 → f k ≡ g k) → Layout f l → Layout g l
 layout-same f g l e L = record { stand = L .stand; cover = λ k p. L .cover k p ∙ ap digit (e k (place-small k p)) }
 
 -- the numbers of the cars of some bits are, as they are held, those of the record that carries these
@@ -80,7 +83,7 @@ pub held-cards : (f : Bits) (r : ℕ) (n : Numbers) → ((k : ℕ) → k < 64 �
 held-cards f r n e C l L =
     let M = layout-same (bit r) f l e L in
     let N = C l M in
-    subst (Numbered (bit r) l) (sym (fun-ext (held-is f l n M N))) (record {
+    subst (Numbered (bit r) l) (sym (held-same f l n M N)) (record {
       each = N .each;
       coming = subst (λ (b : Bool). (n driveIn ≡ 0) ↔ (b ≡ false)) (sym (e driveIn (omega arith))) (N .coming);
       other = N .other;
