@@ -6,7 +6,7 @@ use mathlib.Core.Bool.{Bool, true, false, not, cond, _&&_, _||_, and-false}
 use mathlib.Core.List.{List, [], _∷_}
 use Prim.Native.Nat.{ℕ, suc, _+_, _<_}
 use native.Mathlib.Omega.{arith}
-use lib.Dec.{eqb, ltb}
+use lib.Dec.{T, eqb, ltb}
 use lib.ListN.{getD}
 use borrow.Author.Tests.{lt-ltb, ltb-true, ltb-false, eqb-true, eqb-false, ne-eqb, eq-eqb, not-true, not-false}
 use Rattle.bits.specs.Bits.{bit, digit, image, count}
@@ -15,7 +15,7 @@ use Rattle.bits.proofs.Cases.{split, clash, off, alike, both, true→T, T→tru
 use Rattle.bits.proofs.Digits.{digit-zero, bit-image}
 use Rattle.bits.proofs.Search.{some-at, some-is, none-is, some-same}
 use Rattle.floor.specs.Floor.{raisedCar, driveIn, driveOut, drives}
-use Rattle.floor.specs.Tests.{free, holds, underWay}
+use Rattle.floor.specs.Tests.{fact, free, holds}
 use Rattle.floor.specs.Cars.{Car, Layout}
 use Rattle.floor.specs.Sound.{Sound, sound, soundRules}
 use Rattle.floor.proofs.Promises.{sound-exactly}
@@ -42,6 +42,7 @@ use Rattle.garage_laws.proofs.Fits.{fit-has, waits-allowed}
 use Rattle.garage_laws.proofs.Calls.{event-has}
 use Rattle.cards.specs.declared.Offered.the-variants.{Fine}
 use Rattle.cards.specs.Cards.{Numbers, Numbered, Cards, Has}
+use Rattle.cards.specs.Given.{bears}
 use Rattle.cards.specs.Following.{taken, numbersAfter, numbersDriven}
 use Rattle.cards.specs.Held.{placeOf, held, numbersIn, cardsAfter, codeCards, cardsDriven, cardsFit}
 use Rattle.cards.proofs.Listing.{in-held, none-in, cell-place, by-place}
@@ -153,3 +154,182 @@ module _ (LAWS : Laws) where
           at : (j : ℕ) → numbersIn (held m) j ≡ m j
           at j = ap (λ (p : Numbers). p j) same
       read Bad e t z f n = refl
+
+-- ---- a car event
+
+-- one that leaves the elements of cars
+same-elements : (a b : List ℕ) (x : ℕ) → ((j : ℕ) → j < 41 → getD b j 0 ≡ getD a j 0) → cardedBy b x ≡ cardedBy a x
+same-elements a b x e = some-same 41 _ _ (λ j h. ap (λ (c : ℕ). eqb c x) (e j h))
+
+-- a begin and an end that isn't done change none but the one that waits
+waiting-only : (e : Event) (c : ℕ) (a : List ℕ) (j : ℕ) → j < 42 → numbersDriven e c (numbersIn a) (placeOf j) ≡ numbersIn a (placeOf j) → getD (cardsDriven e c a) j 0 ≡ getD a j 0
+unfolding cardsDriven
+waiting-only e c a j h q = element-held (numbersDriven e c (numbersIn a)) j h ∙ q ∙ sym (element-in a j h)
+
+begin-in-same : (c : ℕ) (a : List ℕ) (x : ℕ) → cardedBy (cardsDriven BeginIn c a) x ≡ cardedBy a x
+unfolding numbersDriven
+begin-in-same c a x = same-elements a (cardsDriven BeginIn c a) x (λ j h. waiting-only BeginIn c a j (omega arith) (rw (ne-eqb driveIn (placeOf j) (λ q. place-other j h (sym q)))))
+
+begin-out-same : (c : ℕ) (a : List ℕ) (x : ℕ) → cardedBy (cardsDriven BeginOut c a) x ≡ cardedBy a x
+unfolding numbersDriven
+begin-out-same c a x = same-elements a (cardsDriven BeginOut c a) x (λ j h. waiting-only BeginOut c a j (omega arith) refl)
+
+not-done-same : (c : ℕ) (a : List ℕ) (x : ℕ) → cardedBy (cardsDriven EndNotDone c a) x ≡ cardedBy a x
+unfolding numbersDriven taken
+not-done-same c a x = same-elements a (cardsDriven EndNotDone c a) x (λ j h. waiting-only EndNotDone c a j (omega arith) (rw (ne-eqb driveIn (placeOf j) (λ q. place-other j h (sym q)))))
+
+-- an end that is done brings the one that waits to the raised lift, and leaves the cells
+module _ (a : List ℕ) (c x : ℕ) where
+  -- a cell has it; the raised lift; it waits
+  abbrev inCell : Bool
+  inCell = some 40 (λ j. eqb (getD a j 0) x)
+
+  abbrev onLift : Bool
+  onLift = eqb (getD a 40 0) x
+
+  abbrev waits : Bool
+  waits = eqb (getD a 41 0) x
+
+  done-cell : (j : ℕ) → j < 40 → getD (cardsDriven EndDone c a) j 0 ≡ getD a j 0
+  unfolding numbersDriven taken
+  done-cell j h = waiting-only EndDone c a j (omega arith)
+      (rw (ne-eqb raisedCar (placeOf j) (λ q. omega (arith, q ∙ cell-place j h)), ne-eqb driveIn (placeOf j) (λ q. omega (arith, q ∙ cell-place j h))))
+
+  done-lift : getD (cardsDriven EndDone c a) 40 0 ≡ getD a 41 0
+  unfolding cardsDriven numbersDriven taken
+  done-lift = element-held (numbersDriven EndDone c (numbersIn a)) 40 (omega arith) ∙ sym (element-in a 41 (omega arith))
+
+  done-carded : cardedBy (cardsDriven EndDone c a) x ≡ waits || inCell
+  unfolding some
+  done-carded = ap₂ _||_ (ap (λ (k : ℕ). eqb k x) done-lift) (some-same 40 _ _ (λ j h. ap (λ (k : ℕ). eqb k x) (done-cell j h)))
+
+  was-carded : cardedBy a x ≡ onLift || inCell
+  unfolding some
+  was-carded = refl
+
+-- the counts: with a drive-in under way the raised lift has none, and no cell the one that waits; else none waits, and no cell has the one
+-- on the raised lift
+counts : (i o cell lift wait : Bool) → (i ≡ true → (o ≡ false) × (lift ≡ false)) → (i ≡ false → (o ≡ true) × (wait ≡ false)) → (wait ≡ true → cell ≡ false) → (lift ≡ true → cell ≡ false)
+    → digit (wait || cell) + digit (o && lift) ≡ digit (lift || cell) + digit (i && wait)
+counts true o cell lift true fi fo fw fl = rw (fi refl .0, fi refl .1, fw refl)
+counts true o cell lift false fi fo fw fl = rw (fi refl .0, fi refl .1)
+counts false o cell true wait fi fo fw fl = rw (fo refl .0, fo refl .1, fl refl)
+counts false o cell false wait fi fo fw fl = rw (fo refl .0, fo refl .1)
+
+-- what the rules of drives say: not both, into an empty lift, and an end ends one
+not-both : (i o : Bool) → not (i && (o && true)) ≡ true → i ≡ true → o ≡ false
+not-both true true e t = clash refl (sym e)
+not-both true false e t = refl
+not-both false o e t = clash t refl
+
+is-empty : (b : Bool) → eqb (digit b + 0) 0 ≡ true → b ≡ false
+is-empty true e = clash e refl
+is-empty false e = refl
+
+one-drives : (i o : Bool) → not (eqb (digit i + (digit o + 0)) 0) && true ≡ true → i ≡ false → o ≡ true
+one-drives true o e t = clash refl t
+one-drives false true e t = refl
+one-drives false false e t = clash e refl
+
+module _ (r : ℕ) (a : List ℕ) (x : ℕ) (s : sound r ≡ true) (f : cardsFit r a ≡ true) (n : x ≡ 0 → ⊥) where
+  rule : (j : ℕ) → T (holds (getD soundRules j (fact true)) (bit r))
+  rule j = nth-holds (bit r) soundRules (true→T (sound-exactly r .0 s .rules)) j
+
+  -- of drives at most one is under way, and one into an empty lift
+  in-only : bit r driveIn ≡ true → bit r driveOut ≡ false
+  in-only = not-both (bit r driveIn) (bit r driveOut) (T→true _ (rule 12))
+
+  in-empty : bit r driveIn ≡ true → bit r raisedCar ≡ false
+  in-empty t = is-empty (bit r raisedCar) (or-else (driveIn ∷ []) (free (raisedCar ∷ [])) (bit r) (rule 14) driveIn tt t)
+
+  -- a place that bears none has none
+  none-there : (j : ℕ) → j < 42 → bears (bit r) (placeOf j) ≡ false → eqb (getD a j 0) x ≡ false
+  none-there j h b = ne-eqb _ x (λ e. n (sym e ∙ eqb-true _ 0 (not-false _ (fit-stands r a f j h ∙ b))))
+
+  -- what stands at one element stands at none before it
+  none-before : (j m : ℕ) → j < 42 → m < suc j → eqb (getD a j 0) x ≡ true → some m (λ i. eqb (getD a i 0) x) ≡ false
+  none-before j m h l t = none-is m _ (λ i k. ne-eqb _ x (λ e.
+      let q = eqb-true (getD a j 0) x t in
+      n (sym q ∙ fit-once r a f i j (omega arith) h (e ∙ sym q))))
+
+  done-same : (c : ℕ) → possible EndDone (bit r) ≡ true
+      → digit (cardedBy (cardsDriven EndDone c a) x) + digit (bit r driveOut && eqb (numbersIn a raisedCar) x)
+      ≡ digit (cardedBy a x) + digit (bit r driveIn && eqb (numbersIn a driveIn) x)
+  unfolding possible numbersIn
+  done-same c p = rw (done-carded a c x, was-carded a c x) (counts (bit r driveIn) (bit r driveOut) (inCell a c x) (onLift a c x) (waits a c x)
+      (λ t. (in-only t, none-there 40 (omega arith) (in-empty t)))
+      (λ t. (one-drives (bit r driveIn) (bit r driveOut) p t, none-there 41 (omega arith) t))
+      (none-before 41 40 (omega arith) (omega arith))
+      (none-before 40 40 (omega arith) (omega arith)))
+
+event-same : (e c r : ℕ) (a : List ℕ) (x : ℕ) (v : EventReading) → readEvent e ≡ v → sound r ≡ true → cardsFit r a ≡ true → (x ≡ 0 → ⊥) → possibleAs v r ≡ true
+    → digit (cardedBy (cond (eqb e 1) (cardsDriven BeginIn c a) (passed v a)) x) + digit (eqb e 3 && (bit r driveOut && eqb (numbersIn a raisedCar) x))
+    ≡ digit (cardedBy a x) + digit (eqb e 3 && (bit r driveIn && eqb (numbersIn a driveIn) x))
+event-same e c r a x (Told BeginIn) q s f n p = rw (event-one-form e BeginIn q, begin-in-same c a x)
+event-same e c r a x (Told BeginOut) q s f n p = rw (event-one-form e BeginOut q, begin-out-same 0 a x)
+event-same e c r a x (Told EndDone) q s f n p = rw (event-one-form e EndDone q) (done-same r a x s f n 0 p)
+event-same e c r a x (Told EndNotDone) q s f n p = rw (event-one-form e EndNotDone q, not-done-same 0 a x)
+event-same e c r a x Untold q s f n p = clash p refl
+
+-- ---- any calls
+
+-- a call that is refused drives no car
+came-none : (x : ℕ) (d : Desk) (c : DeskCall) → (said d c ≡ 0 → ⊥) → came x d c ≡ 0
+came-none x d (desk.request n set) o = refl
+came-none x d (desk.reports r) o = refl
+came-none x d (desk.event e c) o =
+    ap (λ (b : Bool). digit (eqb e 3 && (b && (bit (d .station .bits) driveIn && eqb (numbersIn (d .numbers) driveIn) x)))) (ne-eqb (said d (desk.event e c)) 0 o) ∙ ap digit (and-false (eqb e 3))
+came-none x d (desk.pictures p n ns) o = refl
+came-none x d desk.ask o = refl
+
+went-none : (x : ℕ) (d : Desk) (c : DeskCall) → (said d c ≡ 0 → ⊥) → went x d c ≡ 0
+went-none x d (desk.request n set) o = refl
+went-none x d (desk.reports r) o = refl
+went-none x d (desk.event e c) o =
+    ap (λ (b : Bool). digit (eqb e 3 && (b && (bit (d .station .bits) driveOut && eqb (numbersIn (d .numbers) raisedCar) x)))) (ne-eqb (said d (desk.event e c)) 0 o) ∙ ap digit (and-false (eqb e 3))
+went-none x d (desk.pictures p n ns) o = refl
+went-none x d desk.ask o = refl
+
+-- a list without images is a call that is none, and such a list
+parts : (c : DeskCall) (l : List DeskCall) → NoImages (c ∷ l) → NoImages (c ∷ []) × NoImages l
+parts (desk.request n set) l p = (tt, p)
+parts (desk.reports r) l p = (tt, p)
+parts (desk.event e c) l p = (tt, p)
+parts (desk.pictures x n ns) l p = absurd p
+parts desk.ask l p = (tt, p)
+
+module _ (LAWS : Laws) (x : ℕ) (n : x ≡ 0 → ⊥) where
+  moved-same : (d : Desk) (c : DeskCall) → NoImages (c ∷ []) → said d c ≡ 0 → digit (cardedBy (moved d c) x) + went x d c ≡ carded x d + came x d c
+  moved-same d (desk.request m set) i z = refl
+  moved-same d (desk.reports r) i z =
+      let (p, v) = answered d (desk.reports r) Fine .0 z in
+      let (f, g) = fit-parts d (p .0) in
+      let s = d .station in
+      split (eqb (r .ending) 1)
+      (λ t. let (w, b) = success-bits s r (eqb-true (r .ending) 1 t) (p .1) in
+      let F = fit-has s f in
+      let y = codeAt (s .set) (r .number) in
+      let a = waits-allowed s (r .number) w in
+      rw t (ap (λ (b : Bool). digit b + 0) (code-same LAWS y (s .bits) (d .numbers) x (F .sound) a
+      (next-sound y (s .bits) (F .sound) a (crosses-none (s .bits) (s .set) (s .count) (F .clear) (r .number) (w .1))) g n)))
+      (λ t. rw t)
+  moved-same d (desk.event e c) i z =
+      let (p, v) = answered d (desk.event e c) Fine .0 z in
+      let (f, g) = fit-parts d (p .0) in
+      rw z (event-same e c (d .station .bits) (d .numbers) x (readEvent e) refl (fit-has (d .station) f .sound) g n (event-has (d .station) e (p .1) .3))
+  moved-same d (desk.pictures y m ns) i z = absurd i
+  moved-same d desk.ask i z = refl
+
+  step-same : (d : Desk) (c : DeskCall) → NoImages (c ∷ []) → carded x (left d c) + went x d c ≡ carded x d + came x d c
+  step-same d c i = split (eqb (said d c) 0)
+      (λ t. let z = eqb-true (said d c) 0 t in ap (λ (b : Desk). carded x b + went x d c) (left-taken d c z) ∙ moved-same d c i z)
+      (λ t. let o = eqb-false (said d c) 0 t in rw (refused-untouched d c o, went-none x d c o, came-none x d c o))
+
+  calls-same : (l : List DeskCall) → NoImages l → (d : Desk) → carded x (calls d l) + drivenOut x d l ≡ carded x d + drivenIn x d l
+  calls-same [] i d = refl
+  calls-same (c ∷ l) i d =
+      let (p, q) = parts c l i in
+      omega (arith, step-same d c p, calls-same l q (left d c))
+
+pub same-numbers-kept : Laws → SameNumbers
+same-numbers-kept LAWS d b before l i x n = calls-same LAWS x n l i (calls d before)
