@@ -178,6 +178,12 @@ module _ (a : List ℕ) (len : length a ≡ 42) where
       ap (λ (l : List ℕ). set l 41 0) (set-one 40 (getD a 41 0) (omega arith)) ∙ set-listed 42 41 _ 0 (omega arith)
       ∙ driven EndDone c _ (λ j h. rw (ne-eqb 41 j (λ q. omega arith), ne-eqb 40 j (λ q. omega arith))) refl refl
 
-  pub waits-no-more : (c : ℕ) → set a 41 0 ≡ cardsDriven EndNotDone c a
-  unfolding numbersDriven numbersIn taken
-  waits-no-more c = set-one 41 0 (omega arith) ∙ driven EndNotDone c _ (λ j h. rw (ne-eqb 41 j (λ q. omega arith))) refl refl
+-- a drive-in that is not done is as if the number 0 waited
+pub waits-no-more : (a : List ℕ) (c : ℕ) → cardsDriven BeginIn 0 a ≡ cardsDriven EndNotDone c a
+unfolding cardsDriven numbersDriven taken
+waits-no-more a c = refl
+
+-- an end that is done doesn't look at the number handed in
+pub any-number : (a : List ℕ) (c : ℕ) → cardsDriven EndDone 0 a ≡ cardsDriven EndDone c a
+unfolding cardsDriven numbersDriven
+any-number a c = refl

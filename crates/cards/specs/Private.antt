@@ -1,6 +1,6 @@
 -- What the contracts of private functions cite; no public one rests on it. The place from which a place takes its number, as the rules
 -- list it, and as the code finds it place by place; that the two are the same is shown in proofs/. Assumes nothing.
-use mathlib.Core.Bool.{Bool, false, cond, not, _&&_, _||_, Bool·beq}
+use mathlib.Core.Bool.{Bool, false, cond, not, _&&_, Bool·beq}
 use mathlib.Core.List.{List, [], _∷_}
 use Prim.Native.Nat.{ℕ, _+_, _-_, _*_}
 use lib.Dec.{eqb, ltb}
@@ -90,6 +90,6 @@ givenAt ns t here = cond here (cond (ltb t 31) (getD ns t 0) 0) 0
 unfoldable pub standRight : ℕ → List ℕ → Bool
 standRight r a = every 42 (λ j. Bool·beq (not (eqb (getD a j 0) 0)) (bears (bit r) (placeOf j)))
 
--- of the first m none but 0 stands twice
-unfoldable pub onceEach : List ℕ → ℕ → Bool
-onceEach a m = every m (λ j. eqb (getD a j 0) 0 || not (twiceAt a j))
+-- an element other than 0 is among those before it
+abbrev pub repeats : List ℕ → ℕ → Bool
+repeats a j = not (eqb (getD a j 0) 0) && twiceAt a j

@@ -24,11 +24,11 @@ use Rattle.cards.specs.Cards.{Has}
 use Rattle.cards.specs.Given.{wanted, zeroAt, twiceAt, givenAs, AllNew}
 use Rattle.cards.specs.Held.{numbersIn, isKnown}
 use Rattle.cards_laws.specs.Statements.{ThatMany}
+use Rattle.cards_laws.proofs.Tested.{known-exactly, fine-exactly}
 use Rattle.desk.specs.declared.Desk.{Desk}
 use Rattle.desk_laws.specs.Runs as desk
 use Rattle.desk_laws.specs.Runs.{DeskCall}
 use Rattle.desk_laws.specs.Promises.{Passes, BeginNumbers, AnyZero, ImageNumbers}
-use Rattle.desk_laws.proofs.Assumed.{Laws}
 use Rattle.desk_laws.proofs.Calls.{rulingNumber, answered}
 
 -- past the station, one condition for another
@@ -62,25 +62,24 @@ begun-fine true k e = absurd (omega (arith, ap rulingNumber e))
 begun-fine false true e = absurd (omega (arith, ap rulingNumber e))
 begun-fine false false e = (refl, refl)
 
-module _ (LAWS : Laws) where
-  pub begin-numbers : BeginNumbers
-  begin-numbers d c = (
-    past (answered d (desk.event 1 c) ZeroNumber) (λ p. (λ e. eqb-true c 0 (begun-zero (eqb c 0) known e), λ z. rw (eq-eqb c 0 z))),
-    past-two (answered d (desk.event 1 c) TwiceGiven) (λ p. (
-      λ e. let (z, k) = begun-known (eqb c 0) known e in let n = eqb-false c 0 z in (n, exactly n .0 k),
-      λ h. rw (ne-eqb c 0 (h .0), exactly (h .0) .1 (h .1)),
-    )),
-    past-two (answered d (desk.event 1 c) Fine) (λ p. (
-      λ e. let (z, k) = begun-fine (eqb c 0) known e in let n = eqb-false c 0 z in (n, λ h. clash (exactly n .1 h) k),
-      λ h. rw (ne-eqb c 0 (h .0), off known (λ k. h .1 (exactly (h .0) .0 k))),
-    )),
-  )
-    where
-      known : Bool
-      known = isKnown (d .numbers) c
+pub begin-numbers : BeginNumbers
+begin-numbers d c = (
+  past (answered d (desk.event 1 c) ZeroNumber) (λ p. (λ e. eqb-true c 0 (begun-zero (eqb c 0) known e), λ z. rw (eq-eqb c 0 z))),
+  past-two (answered d (desk.event 1 c) TwiceGiven) (λ p. (
+    λ e. let (z, k) = begun-known (eqb c 0) known e in let n = eqb-false c 0 z in (n, exactly n .0 k),
+    λ h. rw (ne-eqb c 0 (h .0), exactly (h .0) .1 (h .1)),
+  )),
+  past-two (answered d (desk.event 1 c) Fine) (λ p. (
+    λ e. let (z, k) = begun-fine (eqb c 0) known e in let n = eqb-false c 0 z in (n, λ h. clash (exactly n .1 h) k),
+    λ h. rw (ne-eqb c 0 (h .0), off known (λ k. h .1 (exactly (h .0) .0 k))),
+  )),
+)
+  where
+    known : Bool
+    known = isKnown (d .numbers) c
 
-      exactly : (c ≡ 0 → ⊥) → (known ≡ true) ↔ Has (numbersIn (d .numbers)) c
-      exactly = LAWS .known-exactly (d .numbers) c
+    exactly : (c ≡ 0 → ⊥) → (known ≡ true) ↔ Has (numbersIn (d .numbers)) c
+    exactly = known-exactly (d .numbers) c
 
 -- ---- an image
 
@@ -127,47 +126,46 @@ zero-is n ns = (
   λ a. some-at n (zeroAt ns) (a .0) (a .1) (eq-eqb _ 0 (a .2)),
 )
 
-module _ (LAWS : Laws) where
-  pub image-numbers : ImageNumbers
-  image-numbers d p n ns h = (
-    past (answered d call WrongCount) (λ q. (
-      λ e m. clash (enough q .1 m) (given-wrong right zero twice (sym by ∙ e)),
-      λ m. by ∙ rw (off right (λ e. m (enough q .0 e))),
-    )),
-    past-two (answered d call ZeroNumber) (λ q. (
-      λ e. let (w, z) = given-zero right zero twice (sym by ∙ e) in (enough q .0 w, zero-is n ns .0 z),
-      λ m. by ∙ rw (enough q .1 (m .0), zero-is n ns .1 (m .1)),
-    )),
-    past-three (answered d call TwiceGiven) (λ q. (
-      λ e. let (w, z, t) = given-twice right zero twice (sym by ∙ e) in
-      (enough q .0 w, (λ a. clash (zero-is n ns .1 a) z), λ new. absurd (omega (arith, ap rulingNumber (sym e ∙ fine q .1 (enough q .0 w, new))))),
-      λ m. let w = enough q .1 (m .0) in
-      let z = off zero (λ e. m .1 (zero-is n ns .0 e)) in
-      by ∙ rw (w, z) (split twice (λ t. rw t) (λ t. absurd (m .2 (fine q .0 (by ∙ rw (w, z, t)) .1)))),
-    )),
-    past-two (answered d call Fine) fine,
-  )
-    where
-      call : DeskCall
-      call = desk.pictures p n ns
+pub image-numbers : ImageNumbers
+image-numbers d p n ns h = (
+  past (answered d call WrongCount) (λ q. (
+    λ e m. clash (enough q .1 m) (given-wrong right zero twice (sym by ∙ e)),
+    λ m. by ∙ rw (off right (λ e. m (enough q .0 e))),
+  )),
+  past-two (answered d call ZeroNumber) (λ q. (
+    λ e. let (w, z) = given-zero right zero twice (sym by ∙ e) in (enough q .0 w, zero-is n ns .0 z),
+    λ m. by ∙ rw (enough q .1 (m .0), zero-is n ns .1 (m .1)),
+  )),
+  past-three (answered d call TwiceGiven) (λ q. (
+    λ e. let (w, z, t) = given-twice right zero twice (sym by ∙ e) in
+    (enough q .0 w, (λ a. clash (zero-is n ns .1 a) z), λ new. absurd (omega (arith, ap rulingNumber (sym e ∙ fine q .1 (enough q .0 w, new))))),
+    λ m. let w = enough q .1 (m .0) in
+    let z = off zero (λ e. m .1 (zero-is n ns .0 e)) in
+    by ∙ rw (w, z) (split twice (λ t. rw t) (λ t. absurd (m .2 (fine q .0 (by ∙ rw (w, z, t)) .1)))),
+  )),
+  past-two (answered d call Fine) fine,
+)
+  where
+    call : DeskCall
+    call = desk.pictures p n ns
 
-      right : Bool
-      right = eqb n (wanted (p .bits))
+    right : Bool
+    right = eqb n (wanted (p .bits))
 
-      zero : Bool
-      zero = some n (zeroAt ns)
+    zero : Bool
+    zero = some n (zeroAt ns)
 
-      twice : Bool
-      twice = some n (twiceAt ns)
+    twice : Bool
+    twice = some n (twiceAt ns)
 
-      by : givenAs (p .bits) n ns ≡ given right zero twice
-      by = given-as (p .bits) n ns
+    by : givenAs (p .bits) n ns ≡ given right zero twice
+    by = given-as (p .bits) n ns
 
-      good : Passes d call → sound (p .bits) ≡ true
-      good q = image-has (d .station) (p .bits) (p .apart) (q .1) .2
+    good : Passes d call → sound (p .bits) ≡ true
+    good q = image-has (d .station) (p .bits) (p .apart) (q .1) .2
 
-      enough : Passes d call → (right ≡ true) ↔ ThatMany (bit (p .bits)) (take n ns)
-      enough q = enough-is (p .bits) n ns (good q) h
+    enough : Passes d call → (right ≡ true) ↔ ThatMany (bit (p .bits)) (take n ns)
+    enough q = enough-is (p .bits) n ns (good q) h
 
-      fine : Passes d call → (givenAs (p .bits) n ns ≡ Fine) ↔ (ThatMany (bit (p .bits)) (take n ns) × AllNew (take n ns))
-      fine q = LAWS .fine-exactly (p .bits) n ns (sound-exactly (p .bits) .0 (good q)) h
+    fine : Passes d call → (givenAs (p .bits) n ns ≡ Fine) ↔ (ThatMany (bit (p .bits)) (take n ns) × AllNew (take n ns))
+    fine q = fine-exactly (p .bits) n ns (sound-exactly (p .bits) .0 (good q)) h

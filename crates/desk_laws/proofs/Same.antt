@@ -46,29 +46,29 @@ use Rattle.cards.specs.Given.{bears}
 use Rattle.cards.specs.Following.{taken, numbersAfter, numbersDriven}
 use Rattle.cards.specs.Held.{placeOf, held, numbersIn, cardsAfter, codeCards, cardsDriven, cardsFit}
 use Rattle.cards.proofs.Listing.{in-held, none-in, cell-place, by-place}
+use Rattle.cards_laws.proofs.Anchors.{isPlace}
+use Rattle.cards_laws.proofs.Sources.{waits-on}
+use Rattle.cards_laws.proofs.Laws as laws
+use Rattle.cards_laws.proofs.Elements.{element-number, one-place}
+use Rattle.cards_laws.proofs.Tested.{fit-marked}
+use Rattle.cards_laws.proofs.Arrays.{fit-cards, after-numbers, after-fit}
 use Rattle.desk.specs.declared.Desk.{Desk}
 use Rattle.desk.specs.Desk.{deskFit}
 use Rattle.desk.specs.Calls.{passed}
 use Rattle.desk_laws.specs.Runs as desk
 use Rattle.desk_laws.specs.Runs.{DeskCall, said, left, calls, NoImages, carded, came, went, drivenIn, drivenOut}
 use Rattle.desk_laws.specs.Promises.{SameNumbers, Passes}
-use Rattle.desk_laws.proofs.Assumed.{Laws}
 use Rattle.desk_laws.proofs.Calls.{moved, fit-parts, answered, left-taken, refused-untouched}
-use Rattle.desk_laws.proofs.Numbers.{isHeld, held-same, layout-same, fit-stands, fit-once, cards-of, code-fits}
-use Rattle.desk_laws.proofs.Fits.{success-bits, fit-kept, fit-always, begins-fit}
+use Rattle.desk_laws.proofs.Fits.{success-bits}
 
 -- ---- elements and places
 
-place-held : (j : ℕ) → j < 42 → isHeld (placeOf j) ≡ true
-place-held = by-place (λ j. isHeld (placeOf j) ≡ true) (λ j h. rw (lt-ltb j 40 h, lt-ltb j 40 h)) refl refl
+place-held : (j : ℕ) → j < 42 → isPlace (placeOf j) ≡ true
+place-held = by-place (λ j. isPlace (placeOf j) ≡ true) (λ j h. rw (lt-ltb j 40 h, lt-ltb j 40 h)) refl refl
 
--- an element is the number at its place
-element-in : (a : List ℕ) (j : ℕ) → j < 42 → getD a j 0 ≡ numbersIn a (placeOf j)
-unfolding numbersIn
-element-in a = by-place (λ j. getD a j 0 ≡ numbersIn a (placeOf j)) (λ j h. rw (lt-ltb j 40 h, lt-ltb j 40 h)) refl refl
-
+-- an element of what is held is the number at its place
 element-held : (n : Numbers) (j : ℕ) → j < 42 → getD (held n) j 0 ≡ n (placeOf j)
-element-held n j h = element-in (held n) j h ∙ in-held n (placeOf j) ∙ rw (place-held j h)
+element-held n j h = sym (element-number (held n) j h) ∙ in-held n (placeOf j) ∙ rw (place-held j h)
 
 -- ---- which numbers cars have
 
@@ -84,12 +84,12 @@ place-other j h e = split (ltb j 40)
 -- exactly if it stands at a place where none waits
 carded-is : (a : List ℕ) (x : ℕ) → (x ≡ 0 → ⊥) → (cardedBy a x ≡ true) ↔ ((k : ℕ) × (k ≡ driveIn → ⊥) × (numbersIn a k ≡ x))
 carded-is a x n = (
-  λ t. let (j, h, e) = some-is 41 (λ j. eqb (getD a j 0) x) t in (placeOf j, place-other j h, sym (element-in a j (omega arith)) ∙ eqb-true _ x e),
+  λ t. let (j, h, e) = some-is 41 (λ j. eqb (getD a j 0) x) t in (placeOf j, place-other j h, element-number a j (omega arith) ∙ eqb-true _ x e),
   λ w. at (w .0) (w .1) (w .2),
 )
   where
     here : (j k : ℕ) → j < 41 → placeOf j ≡ k → numbersIn a k ≡ x → cardedBy a x ≡ true
-    here j k h p e = some-at 41 (λ j. eqb (getD a j 0) x) j h (eq-eqb _ x (element-in a j (omega arith) ∙ ap (numbersIn a) p ∙ e))
+    here j k h p e = some-at 41 (λ j. eqb (getD a j 0) x) j h (eq-eqb _ x (sym (element-number a j (omega arith)) ∙ ap (numbersIn a) p ∙ e))
 
     at : (k : ℕ) → (k ≡ driveIn → ⊥) → numbersIn a k ≡ x → cardedBy a x ≡ true
     at k o e = split (ltb k 40)
@@ -98,62 +98,41 @@ carded-is a x n = (
         (λ u. here 40 k (omega arith) (eqb-true raisedCar k u) e)
         (λ u. absurd (n (sym e ∙ none-in a k (rw (t, u) (ne-eqb driveIn k (λ q. o (sym q))))))))
 
--- two numberings with the same numbers, each once, of which the same waits
-same-carded : (a b : List ℕ) (x : ℕ) → (x ≡ 0 → ⊥) → (Has (numbersIn a) x → Has (numbersIn b) x) → numbersIn b driveIn ≡ numbersIn a driveIn
-    → ((j k : ℕ) → numbersIn a j ≡ numbersIn a k → (numbersIn a j ≡ 0 → ⊥) → j ≡ k)
-    → cardedBy a x ≡ true → cardedBy b x ≡ true
-same-carded a b x n has waits once t =
+-- numbers that fit stand once
+once : (r : ℕ) (a : List ℕ) → cardsFit r a ≡ true → (j k : ℕ) → numbersIn a j ≡ numbersIn a k → (numbersIn a j ≡ 0 → ⊥) → j ≡ k
+once r a f j k e o = let M = fit-marked r a f in split (bears (bit r) j) (λ b. M .once j k e b) (λ b. absurd (o (M .none j b)))
+
+-- so where the same numbers are there and the same one waits, the cars have the same
+same-carded : (r : ℕ) (a b : List ℕ) (x : ℕ) → (x ≡ 0 → ⊥) → cardsFit r a ≡ true → (Has (numbersIn a) x → Has (numbersIn b) x)
+    → numbersIn b driveIn ≡ numbersIn a driveIn → cardedBy a x ≡ true → cardedBy b x ≡ true
+same-carded r a b x n f has waits t =
     let (k, o, e) = carded-is a x n .0 t in
     let (j, i) = has (k, e) in
-    carded-is b x n .1 (j, (λ q. o (once k driveIn (e ∙ sym i ∙ ap (numbersIn b) q ∙ waits) (λ z. n (sym e ∙ z)))), i)
+    carded-is b x n .1 (j, (λ q. o (once r a f k driveIn (e ∙ sym i ∙ ap (numbersIn b) q ∙ waits) (λ z. n (sym e ∙ z)))), i)
 
 -- ---- a success
 
-module _ (LAWS : Laws) where
-  code-same : (y : Code) (r : ℕ) (a : List ℕ) (x : ℕ) → sound r ≡ true → heldAllowed y (bit r) ≡ true → sound (image (heldNext y (bit r))) ≡ true → cardsFit r a ≡ true
-      → (x ≡ 0 → ⊥) → cardedBy (codeCards y r a) x ≡ cardedBy a x
-  unfolding heldAllowed heldNext codeCards cardsAfter
-  code-same y r a x s = read (readCode y) refl
-    where
-      read : (v : Reading) → readCode y ≡ v → onCode (λ i. allowed i (bit r)) false v ≡ true → sound (image (onCode (λ i. next i (bit r)) (bit r) v)) ≡ true
-          → cardsFit r a ≡ true → (x ≡ 0 → ⊥) → cardedBy (onCode (λ i. cardsAfter i r a) a v) x ≡ cardedBy a x
-      read (Good i) e t z f n = rw w (alike (cardedBy (held m) x) (cardedBy a x)
-          (same-carded (held m) a x n (λ h. numbers .0 (subst (λ (p : Numbers). Has p x) same h)) (sym waits ∙ ap (λ (p : Numbers). p driveIn) (sym same)) (λ j k e o. M .once j k (sym (at j) ∙ e ∙ at k) (λ q. o (at j ∙ q))))
-          (same-carded a (held m) x n (λ h. subst (λ (p : Numbers). Has p x) (sym same) (numbers .1 h)) (ap (λ (p : Numbers). p driveIn) same ∙ waits) (λ j k e o. N .once j k e o)))
-        where
-          w : wellFormed i ≡ true
-          w = one-form y i e .1
+instruction-same : (i : Instruction) (r : ℕ) (a : List ℕ) (x : ℕ) → wellFormed i ≡ true → sound r ≡ true → allowed i (bit r) ≡ true → cardsFit r a ≡ true → (x ≡ 0 → ⊥)
+    → cardedBy (cardsAfter i r a) x ≡ cardedBy a x
+instruction-same i r a x w s t f n =
+    let b = cardsAfter i r a in
+    let e = after-numbers r a s f i t in
+    let numbers : Has (numbersIn b) x ↔ Has (numbersIn a) x =
+    subst (λ (m : Numbers). Has m x ↔ Has (numbersIn a) x) (sym e) (laws.same-numbers i (bit r) (numbersIn a) (sound-exactly r .0 s) t (fit-cards r a s f) x n) in
+    let waits : numbersIn b driveIn ≡ numbersIn a driveIn = ap (λ (m : Numbers). m driveIn) e ∙ waits-on i (bit r) (numbersIn a) w in
+    alike (cardedBy b x) (cardedBy a x)
+    (same-carded (image (next i (bit r))) b a x n (after-fit r a s f i t) (numbers .0) (sym waits))
+    (same-carded r a b x n f (numbers .1) waits)
 
-          m : Numbers
-          m = numbersAfter i (bit r) (numbersIn a)
-
-          S : Sound (bit r)
-          S = sound-exactly r .0 s
-
-          C : Cards (bit r) (numbersIn a)
-          C = cards-of LAWS r a s f
-
-          N : Numbered (bit r) (S .layout .0) (numbersIn a)
-          N = C (S .layout .0) (S .layout .1)
-
-          numbers : Has m x ↔ Has (numbersIn a) x
-          numbers = LAWS .same-numbers i (bit r) (numbersIn a) S t C x n
-
-          waits : m driveIn ≡ numbersIn a driveIn
-          waits = LAWS .waits-on i (bit r) (numbersIn a) w
-
-          L : (l : List Car) × Layout (next i (bit r)) l
-          L = let (l, q) = sound-exactly (image (next i (bit r))) .0 z .layout in (l, layout-same (bit (image (next i (bit r)))) (next i (bit r)) l (bit-image (next i (bit r))) q)
-
-          M : Numbered (next i (bit r)) (L .0) m
-          M = LAWS .kept i (bit r) (numbersIn a) S t C (L .0) (L .1)
-
-          same : numbersIn (held m) ≡ m
-          same = held-same (next i (bit r)) (L .0) m (L .1) M
-
-          at : (j : ℕ) → numbersIn (held m) j ≡ m j
-          at j = ap (λ (p : Numbers). p j) same
-      read Bad e t z f n = refl
+code-same : (y : Code) (r : ℕ) (a : List ℕ) (x : ℕ) → sound r ≡ true → heldAllowed y (bit r) ≡ true → cardsFit r a ≡ true → (x ≡ 0 → ⊥)
+    → cardedBy (codeCards y r a) x ≡ cardedBy a x
+unfolding heldAllowed codeCards
+code-same y r a x s = read (readCode y) refl
+  where
+    read : (v : Reading) → readCode y ≡ v → onCode (λ i. allowed i (bit r)) false v ≡ true → cardsFit r a ≡ true → (x ≡ 0 → ⊥)
+        → cardedBy (onCode (λ i. cardsAfter i r a) a v) x ≡ cardedBy a x
+    read (Good i) e t f n = instruction-same i r a x (one-form y i e .1) s t f n
+    read Bad e t f n = refl
 
 -- ---- a car event
 
@@ -164,7 +143,7 @@ same-elements a b x e = some-same 41 _ _ (λ j h. ap (λ (c : ℕ). eqb c x) (e 
 -- a begin and an end that isn't done change none but the one that waits
 waiting-only : (e : Event) (c : ℕ) (a : List ℕ) (j : ℕ) → j < 42 → numbersDriven e c (numbersIn a) (placeOf j) ≡ numbersIn a (placeOf j) → getD (cardsDriven e c a) j 0 ≡ getD a j 0
 unfolding cardsDriven
-waiting-only e c a j h q = element-held (numbersDriven e c (numbersIn a)) j h ∙ q ∙ sym (element-in a j h)
+waiting-only e c a j h q = element-held (numbersDriven e c (numbersIn a)) j h ∙ q ∙ element-number a j h
 
 begin-in-same : (c : ℕ) (a : List ℕ) (x : ℕ) → cardedBy (cardsDriven BeginIn c a) x ≡ cardedBy a x
 unfolding numbersDriven
@@ -197,7 +176,7 @@ module _ (a : List ℕ) (c x : ℕ) where
 
   done-lift : getD (cardsDriven EndDone c a) 40 0 ≡ getD a 41 0
   unfolding cardsDriven numbersDriven taken
-  done-lift = element-held (numbersDriven EndDone c (numbersIn a)) 40 (omega arith) ∙ sym (element-in a 41 (omega arith))
+  done-lift = element-held (numbersDriven EndDone c (numbersIn a)) 40 (omega arith) ∙ element-number a 41 (omega arith)
 
   done-carded : cardedBy (cardsDriven EndDone c a) x ≡ waits || inCell
   unfolding some
@@ -244,13 +223,15 @@ module _ (r : ℕ) (a : List ℕ) (x : ℕ) (s : sound r ≡ true) (f : cardsFit
 
   -- a place that bears none has none
   none-there : (j : ℕ) → j < 42 → bears (bit r) (placeOf j) ≡ false → eqb (getD a j 0) x ≡ false
-  none-there j h b = ne-eqb _ x (λ e. n (sym e ∙ eqb-true _ 0 (not-false _ (fit-stands r a f j h ∙ b))))
+  none-there j h b = ne-eqb _ x (λ e. n (sym e ∙ sym (element-number a j h) ∙ fit-marked r a f .none (placeOf j) b))
 
   -- what stands at one element stands at none before it
   none-before : (j m : ℕ) → j < 42 → m < suc j → eqb (getD a j 0) x ≡ true → some m (λ i. eqb (getD a i 0) x) ≡ false
   none-before j m h l t = none-is m _ (λ i k. ne-eqb _ x (λ e.
-      let q = eqb-true (getD a j 0) x t in
-      n (sym q ∙ fit-once r a f i j (omega arith) h (e ∙ sym q))))
+      let p = element-number a i (omega arith) ∙ e in
+      let q = element-number a j h ∙ eqb-true (getD a j 0) x t in
+      let same : i ≡ j = one-place i j (omega arith) h (once r a f (placeOf i) (placeOf j) (p ∙ sym q) (λ z. n (sym p ∙ z))) in
+      omega arith))
 
   done-same : (c : ℕ) → possible EndDone (bit r) ≡ true
       → digit (cardedBy (cardsDriven EndDone c a) x) + digit (bit r driveOut && eqb (numbersIn a raisedCar) x)
@@ -298,7 +279,7 @@ parts (desk.event e c) l p = (tt, p)
 parts (desk.pictures x n ns) l p = absurd p
 parts desk.ask l p = (tt, p)
 
-module _ (LAWS : Laws) (x : ℕ) (n : x ≡ 0 → ⊥) where
+module _ (x : ℕ) (n : x ≡ 0 → ⊥) where
   moved-same : (d : Desk) (c : DeskCall) → NoImages (c ∷ []) → said d c ≡ 0 → digit (cardedBy (moved d c) x) + went x d c ≡ carded x d + came x d c
   moved-same d (desk.request m set) i z = refl
   moved-same d (desk.reports r) i z =
@@ -307,11 +288,7 @@ module _ (LAWS : Laws) (x : ℕ) (n : x ≡ 0 → ⊥) where
       let s = d .station in
       split (eqb (r .ending) 1)
       (λ t. let (w, b) = success-bits s r (eqb-true (r .ending) 1 t) (p .1) in
-      let F = fit-has s f in
-      let y = codeAt (s .set) (r .number) in
-      let a = waits-allowed s (r .number) w in
-      rw t (ap (λ (b : Bool). digit b + 0) (code-same LAWS y (s .bits) (d .numbers) x (F .sound) a
-      (next-sound y (s .bits) (F .sound) a (crosses-none (s .bits) (s .set) (s .count) (F .clear) (r .number) (w .1))) g n)))
+      rw t (ap (λ (b : Bool). digit b + 0) (code-same (codeAt (s .set) (r .number)) (s .bits) (d .numbers) x (fit-has s f .sound) (waits-allowed s (r .number) w) g n)))
       (λ t. rw t)
   moved-same d (desk.event e c) i z =
       let (p, v) = answered d (desk.event e c) Fine .0 z in
@@ -331,5 +308,5 @@ module _ (LAWS : Laws) (x : ℕ) (n : x ≡ 0 → ⊥) where
       let (p, q) = parts c l i in
       omega (arith, step-same d c p, calls-same l q (left d c))
 
-pub same-numbers-kept : Laws → SameNumbers
-same-numbers-kept LAWS d b before l i x n = calls-same LAWS x n l i (calls d before)
+pub same-numbers : SameNumbers
+same-numbers d b before l i x n = calls-same x n l i (calls d before)

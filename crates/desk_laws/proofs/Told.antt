@@ -20,6 +20,10 @@ use Rattle.garage_laws.proofs.Fits.{fit-has}
 use Rattle.cards.specs.Cards.{anchor}
 use Rattle.cards.specs.Following.{nowhere}
 use Rattle.cards.specs.Held.{numbersIn, cardsFit, whereIs}
+use Rattle.cards_laws.proofs.Anchors.{stands}
+use Rattle.cards_laws.proofs.Tested.{fit-marked}
+use Rattle.cards_laws.proofs.Where.{where-right}
+use Rattle.cards_laws.proofs.Arrays.{fit-cards}
 use Rattle.desk.specs.declared.Desk.{Desk}
 use Rattle.desk.specs.declared.Whereabouts.the-variants.{At, LastKnown}
 use Rattle.desk.specs.declared.Leaving.{Leaving}
@@ -27,9 +31,7 @@ use Rattle.desk.specs.declared.Leaving.the-variants.{Card, Nobody, Unfit}
 use Rattle.desk.specs.Desk.{deskFit}
 use Rattle.desk.specs.Questions.{unsure, placed, whereabouts, leaving}
 use Rattle.desk_laws.specs.Promises.{onApart, WhereTold, LeavingTold}
-use Rattle.desk_laws.proofs.Assumed.{Laws}
 use Rattle.desk_laws.proofs.Calls.{fit-parts}
-use Rattle.desk_laws.proofs.Numbers.{stands-of, fit-stands, cards-of}
 
 -- ---- where a car is
 
@@ -52,15 +54,14 @@ whereabouts-fit : (d : Desk) (c : ℕ) → deskFit d ≡ true → whereabouts d 
 unfolding whereabouts
 whereabouts-fit d c f = rw f
 
-module _ (LAWS : Laws) where
-  pub where-told : WhereTold
-  where-told d l f L c n =
-      let (s, g) = fit-parts d f in
-      let (here, gone) = LAWS .where-right (bit (d .station .bits)) (d .numbers) l L (cards-of LAWS (d .station .bits) (d .numbers) (fit-has (d .station) s .sound) g) c n in
-      (
-        λ x a e. whereabouts-fit d c f ∙ ap (placed (d .station .apart)) (here x a e) ∙ placed-at (d .station .apart) x (stands-of x l (L .stand) a),
-        λ none. whereabouts-fit d c f ∙ ap (placed (d .station .apart)) (gone none),
-      )
+pub where-told : WhereTold
+where-told d l f L c n =
+    let (s, g) = fit-parts d f in
+    let (here, gone) = where-right (bit (d .station .bits)) (d .numbers) l L (fit-cards (d .station .bits) (d .numbers) (fit-has (d .station) s .sound) g) c n in
+    (
+      λ x a e. whereabouts-fit d c f ∙ ap (placed (d .station .apart)) (here x a e) ∙ placed-at (d .station .apart) x (stands l x (L .stand) a),
+      λ none. whereabouts-fit d c f ∙ ap (placed (d .station .apart)) (gone none),
+    )
 
 -- ---- which card is leaving
 
@@ -71,8 +72,7 @@ out-raised r s o =
 
 -- and has a number
 leaving-numbered : (r : ℕ) (a : List ℕ) → sound r ≡ true → cardsFit r a ≡ true → bit r driveOut ≡ true → numbersIn a raisedCar ≡ 0 → ⊥
-unfolding numbersIn
-leaving-numbered r a s f o e = clash (fit-stands r a f 40 (omega arith) ∙ out-raised r s o) (ap (λ (c : ℕ). not (eqb c 0)) e)
+leaving-numbered r a s f o = fit-marked r a f .some raisedCar (out-raised r s o)
 
 -- the number that an answer has, 0 for none
 abbrev cardIn : Leaving → ℕ
