@@ -3,7 +3,7 @@
 use mathlib.Core.Path.{_≡_, refl, sym, ap, _∙_}
 use mathlib.Core.Logic.{_↔_, _⊎_, inl, inr, ⊎-elim}
 use mathlib.Core.Bool.{Bool, true, false, cond}
-use mathlib.Core.List.{List, [], _∷_}
+use mathlib.Core.List.{List}
 use Prim.Native.Nat.{ℕ, _≤_}
 use native.Mathlib.Omega.{arith}
 use lib.Dec.{eqb, leb}
@@ -15,7 +15,6 @@ use Rattle.answers.specs.declared.Answer.{Answer}
 use Rattle.answers.specs.declared.Answer.the-variants.{Unfit}
 use Rattle.answers.specs.Answers.{numberOf, inTable}
 use Rattle.answers.proofs.Promises.{table-exactly}
-use Rattle.garage.specs.declared.Station.{Station}
 use Rattle.garage.specs.declared.Outcome.{Outcome}
 use Rattle.garage.specs.Held.{codeAt}
 use Rattle.garage.specs.Station.{fit}
@@ -33,7 +32,7 @@ use Rattle.desk.specs.Desk.{deskFit, isTaken, replyNumber}
 use Rattle.desk.specs.Calls.{refused, onFit, whereTaken, offered, passed}
 use Rattle.desk.specs.Calls as calling
 use Rattle.desk_laws.specs.Runs as desk
-use Rattle.desk_laws.specs.Runs.{DeskCall, call, said, left, calls, under, itself, below}
+use Rattle.desk_laws.specs.Runs.{DeskCall, call, said, left, under, itself}
 use Rattle.desk_laws.specs.Promises.{RefusedUntouched, AsStation, Passes, OtherEvents, Changes, OnlySuccessMoves}
 
 -- ---- one form
@@ -49,11 +48,15 @@ past d desk.ask = station.taken (d .station)
 abbrev pub beneath : Desk → DeskCall → Outcome
 beneath d c = run.call (d .station) (under c)
 
+-- what the number of a begin of a drive-in is found to be, by whether it is zero and whether it is known
+abbrev pub begun : Bool → Bool → Offered
+begun z k = cond z ZeroNumber (cond k TwiceGiven Fine)
+
 -- what the numbers that come with a call are found to be
 abbrev pub ruling : Desk → DeskCall → Offered
 ruling d (desk.request n set) = Fine
 ruling d (desk.reports r) = Fine
-ruling d (desk.event e c) = cond (eqb e 1) (cond (eqb c 0) ZeroNumber (cond (isKnown (d .numbers) c) TwiceGiven Fine)) Fine
+ruling d (desk.event e c) = cond (eqb e 1) (begun (eqb c 0) (isKnown (d .numbers) c)) Fine
 ruling d (desk.pictures p n ns) = givenAs (p .bits) n ns
 ruling d desk.ask = Fine
 
@@ -164,6 +167,11 @@ ruling-of TwiceGiven = refl
 
 ruling-same : (v w : Offered) → rulingNumber v ≡ rulingNumber w → v ≡ w
 ruling-same v w e = sym (ruling-of v) ∙ ap rulingOf e ∙ ruling-of w
+
+pub begun-fine : (z k : Bool) → begun z k ≡ Fine → (z ≡ false) × (k ≡ false)
+begun-fine true k e = absurd (omega (arith, ap rulingNumber e))
+begun-fine false true e = absurd (omega (arith, ap rulingNumber e))
+begun-fine false false e = (refl, refl)
 
 not-sixteen : (v : Offered) → 16 ≡ rulingNumber v → ⊥
 not-sixteen Fine e = omega arith

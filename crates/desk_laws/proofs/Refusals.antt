@@ -6,7 +6,7 @@ use mathlib.Core.List.{List}
 use Prim.Native.Nat.{ℕ, _+_, _≤_}
 use native.Mathlib.Omega.{arith}
 use lib.Dec.{eqb}
-use lib.ListN.{length, take, getD, length-take}
+use lib.ListN.{length, take, length-take}
 use borrow.Author.Tests.{eqb-true, eqb-false, ne-eqb, eq-eqb}
 use Rattle.bits.specs.Bits.{bit, digit}
 use Rattle.bits.specs.Search.{some}
@@ -16,7 +16,6 @@ use Rattle.floor.specs.Floor.{driveIn}
 use Rattle.floor.specs.Cars.{cars}
 use Rattle.floor.specs.Sound.{sound, total}
 use Rattle.floor.proofs.Promises.{sound-exactly}
-use Rattle.garage.specs.declared.Picture.{Picture}
 use Rattle.garage_laws.proofs.Calls.{image-has}
 use Rattle.cards.specs.declared.Offered.{Offered}
 use Rattle.cards.specs.declared.Offered.the-variants.{Fine, WrongCount, ZeroNumber, TwiceGiven}
@@ -25,11 +24,10 @@ use Rattle.cards.specs.Given.{wanted, zeroAt, twiceAt, givenAs, AllNew}
 use Rattle.cards.specs.Held.{numbersIn, isKnown}
 use Rattle.cards_laws.specs.Statements.{ThatMany}
 use Rattle.cards_laws.proofs.Tested.{known-exactly, fine-exactly}
-use Rattle.desk.specs.declared.Desk.{Desk}
 use Rattle.desk_laws.specs.Runs as desk
 use Rattle.desk_laws.specs.Runs.{DeskCall}
 use Rattle.desk_laws.specs.Promises.{Passes, BeginNumbers, AnyZero, ImageNumbers}
-use Rattle.desk_laws.proofs.Calls.{rulingNumber, answered}
+use Rattle.desk_laws.proofs.Calls.{begun, begun-fine, rulingNumber, answered}
 
 -- past the station, one condition for another
 past : {A P B C : Type 0} → A ↔ (P × B) → (P → B ↔ C) → A ↔ (P × C)
@@ -43,10 +41,6 @@ past-three e f = (λ a. let (p, b) = e .0 a in let (c, d, g) = f p .0 b in (p, c
 
 -- ---- a begin of a drive-in
 
--- by whether its number is zero, and known
-abbrev begun : Bool → Bool → Offered
-begun z k = cond z ZeroNumber (cond k TwiceGiven Fine)
-
 begun-zero : (z k : Bool) → begun z k ≡ ZeroNumber → z ≡ true
 begun-zero true k e = refl
 begun-zero false true e = absurd (omega (arith, ap rulingNumber e))
@@ -56,11 +50,6 @@ begun-known : (z k : Bool) → begun z k ≡ TwiceGiven → (z ≡ false) × (k 
 begun-known true k e = absurd (omega (arith, ap rulingNumber e))
 begun-known false true e = (refl, refl)
 begun-known false false e = absurd (omega (arith, ap rulingNumber e))
-
-begun-fine : (z k : Bool) → begun z k ≡ Fine → (z ≡ false) × (k ≡ false)
-begun-fine true k e = absurd (omega (arith, ap rulingNumber e))
-begun-fine false true e = absurd (omega (arith, ap rulingNumber e))
-begun-fine false false e = (refl, refl)
 
 pub begin-numbers : BeginNumbers
 begin-numbers d c = (
@@ -138,10 +127,10 @@ image-numbers d p n ns h = (
   )),
   past-three (answered d call TwiceGiven) (λ q. (
     λ e. let (w, z, t) = given-twice right zero twice (sym by ∙ e) in
-    (enough q .0 w, (λ a. clash (zero-is n ns .1 a) z), λ new. absurd (omega (arith, ap rulingNumber (sym e ∙ fine q .1 (enough q .0 w, new))))),
+        (enough q .0 w, (λ a. clash (zero-is n ns .1 a) z), λ new. absurd (omega (arith, ap rulingNumber (sym e ∙ fine q .1 (enough q .0 w, new))))),
     λ m. let w = enough q .1 (m .0) in
-    let z = off zero (λ e. m .1 (zero-is n ns .0 e)) in
-    by ∙ rw (w, z) (split twice (λ t. rw t) (λ t. absurd (m .2 (fine q .0 (by ∙ rw (w, z, t)) .1)))),
+        let z = off zero (λ e. m .1 (zero-is n ns .0 e)) in
+        by ∙ rw (w, z) (split twice (λ t. rw t) (λ t. absurd (m .2 (fine q .0 (by ∙ rw (w, z, t)) .1)))),
   )),
   past-two (answered d call Fine) fine,
 )

@@ -1,23 +1,21 @@
 -- None is lost and none is made: which numbers cars have stays with every call but an image, but for those driven in and out.
 -- Assumes nothing.
-use mathlib.Core.Path.{_≡_, refl, sym, ap, ap₂, subst, fun-ext, _∙_}
+use mathlib.Core.Path.{_≡_, refl, sym, ap, ap₂, subst, _∙_}
 use mathlib.Core.Logic.{_↔_}
 use mathlib.Core.Bool.{Bool, true, false, not, cond, _&&_, _||_, and-false}
 use mathlib.Core.List.{List, [], _∷_}
-use Prim.Native.Nat.{ℕ, suc, _+_, _<_}
+use Prim.Native.Nat.{ℕ, suc, _+_, _≤_, _<_}
 use native.Mathlib.Omega.{arith}
 use lib.Dec.{T, eqb, ltb}
 use lib.ListN.{getD}
-use borrow.Author.Tests.{lt-ltb, ltb-true, ltb-false, eqb-true, eqb-false, ne-eqb, eq-eqb, not-true, not-false}
-use Rattle.bits.specs.Bits.{bit, digit, image, count}
+use borrow.Author.Tests.{lt-ltb, ltb-true, ltb-false, eqb-true, eqb-false, ne-eqb, eq-eqb}
+use Rattle.bits.specs.Bits.{bit, digit, image}
 use Rattle.bits.specs.Search.{some}
-use Rattle.bits.proofs.Cases.{split, clash, off, alike, both, true→T, T→true}
-use Rattle.bits.proofs.Digits.{digit-zero, bit-image}
+use Rattle.bits.proofs.Cases.{split, clash, alike, true→T, T→true}
 use Rattle.bits.proofs.Search.{some-at, some-is, none-is, some-same}
-use Rattle.floor.specs.Floor.{raisedCar, driveIn, driveOut, drives}
+use Rattle.floor.specs.Floor.{raisedCar, driveIn, driveOut}
 use Rattle.floor.specs.Tests.{fact, free, holds}
-use Rattle.floor.specs.Cars.{Car, Layout}
-use Rattle.floor.specs.Sound.{Sound, sound, soundRules}
+use Rattle.floor.specs.Sound.{sound, soundRules}
 use Rattle.floor.proofs.Promises.{sound-exactly}
 use Rattle.floor.proofs.Reading.{nth-holds}
 use Rattle.floor.proofs.Standing.{or-else}
@@ -34,16 +32,14 @@ use Rattle.rules.specs.Events.{possible}
 use Rattle.rules.specs.Codes.{readCode, readEvent}
 use Rattle.rules.specs.Verdicts.{onCode}
 use Rattle.rules.proofs.CodeLaws.{one-form, event-one-form}
-use Rattle.garage.specs.Held.{codeAt, heldAllowed, heldNext}
-use Rattle.garage_laws.specs.Runs as run
-use Rattle.garage_laws.proofs.Reach.{crosses-none}
-use Rattle.garage_laws.proofs.Instance.{possibleAs, next-sound}
+use Rattle.garage.specs.Held.{codeAt, heldAllowed}
+use Rattle.garage_laws.proofs.Instance.{possibleAs}
 use Rattle.garage_laws.proofs.Fits.{fit-has, waits-allowed}
 use Rattle.garage_laws.proofs.Calls.{event-has}
 use Rattle.cards.specs.declared.Offered.the-variants.{Fine}
-use Rattle.cards.specs.Cards.{Numbers, Numbered, Cards, Has}
+use Rattle.cards.specs.Cards.{Numbers, Has}
 use Rattle.cards.specs.Given.{bears}
-use Rattle.cards.specs.Following.{taken, numbersAfter, numbersDriven}
+use Rattle.cards.specs.Following.{taken, numbersDriven}
 use Rattle.cards.specs.Held.{placeOf, held, numbersIn, cardsAfter, codeCards, cardsDriven, cardsFit}
 use Rattle.cards.proofs.Listing.{in-held, none-in, cell-place, by-place}
 use Rattle.cards_laws.proofs.Anchors.{isPlace}
@@ -53,11 +49,10 @@ use Rattle.cards_laws.proofs.Elements.{element-number, one-place}
 use Rattle.cards_laws.proofs.Tested.{fit-marked}
 use Rattle.cards_laws.proofs.Arrays.{fit-cards, after-numbers, after-fit}
 use Rattle.desk.specs.declared.Desk.{Desk}
-use Rattle.desk.specs.Desk.{deskFit}
 use Rattle.desk.specs.Calls.{passed}
 use Rattle.desk_laws.specs.Runs as desk
 use Rattle.desk_laws.specs.Runs.{DeskCall, said, left, calls, NoImages, carded, came, went, drivenIn, drivenOut}
-use Rattle.desk_laws.specs.Promises.{SameNumbers, Passes}
+use Rattle.desk_laws.specs.Promises.{SameNumbers}
 use Rattle.desk_laws.proofs.Calls.{moved, fit-parts, answered, left-taken, refused-untouched}
 use Rattle.desk_laws.proofs.Fits.{success-bits}
 
@@ -112,13 +107,14 @@ same-carded r a b x n f has waits t =
 
 -- ---- a success
 
-instruction-same : (i : Instruction) (r : ℕ) (a : List ℕ) (x : ℕ) → wellFormed i ≡ true → sound r ≡ true → allowed i (bit r) ≡ true → cardsFit r a ≡ true → (x ≡ 0 → ⊥)
-    → cardedBy (cardsAfter i r a) x ≡ cardedBy a x
+instruction-same : (i : Instruction) (r : ℕ) (a : List ℕ) (x : ℕ) → wellFormed i ≡ true → sound r ≡ true → allowed i (bit r) ≡ true
+    → cardsFit r a ≡ true → (x ≡ 0 → ⊥) → cardedBy (cardsAfter i r a) x ≡ cardedBy a x
 instruction-same i r a x w s t f n =
     let b = cardsAfter i r a in
     let e = after-numbers r a s f i t in
     let numbers : Has (numbersIn b) x ↔ Has (numbersIn a) x =
-    subst (λ (m : Numbers). Has m x ↔ Has (numbersIn a) x) (sym e) (laws.same-numbers i (bit r) (numbersIn a) (sound-exactly r .0 s) t (fit-cards r a s f) x n) in
+    subst (λ (m : Numbers). Has m x ↔ Has (numbersIn a) x) (sym e)
+    (laws.same-numbers i (bit r) (numbersIn a) (sound-exactly r .0 s) t (fit-cards r a s f) x n) in
     let waits : numbersIn b driveIn ≡ numbersIn a driveIn = ap (λ (m : Numbers). m driveIn) e ∙ waits-on i (bit r) (numbersIn a) w in
     alike (cardedBy b x) (cardedBy a x)
     (same-carded (image (next i (bit r))) b a x n (after-fit r a s f i t) (numbers .0) (sym waits))
@@ -141,21 +137,24 @@ same-elements : (a b : List ℕ) (x : ℕ) → ((j : ℕ) → j < 41 → getD b 
 same-elements a b x e = some-same 41 _ _ (λ j h. ap (λ (c : ℕ). eqb c x) (e j h))
 
 -- a begin and an end that isn't done change none but the one that waits
-waiting-only : (e : Event) (c : ℕ) (a : List ℕ) (j : ℕ) → j < 42 → numbersDriven e c (numbersIn a) (placeOf j) ≡ numbersIn a (placeOf j) → getD (cardsDriven e c a) j 0 ≡ getD a j 0
+unmoved : (e : Event) (c : ℕ) (a : List ℕ) (j : ℕ) → j < 42 → numbersDriven e c (numbersIn a) (placeOf j) ≡ numbersIn a (placeOf j)
+    → getD (cardsDriven e c a) j 0 ≡ getD a j 0
 unfolding cardsDriven
-waiting-only e c a j h q = element-held (numbersDriven e c (numbersIn a)) j h ∙ q ∙ element-number a j h
+unmoved e c a j h q = element-held (numbersDriven e c (numbersIn a)) j h ∙ q ∙ element-number a j h
 
 begin-in-same : (c : ℕ) (a : List ℕ) (x : ℕ) → cardedBy (cardsDriven BeginIn c a) x ≡ cardedBy a x
 unfolding numbersDriven
-begin-in-same c a x = same-elements a (cardsDriven BeginIn c a) x (λ j h. waiting-only BeginIn c a j (omega arith) (rw (ne-eqb driveIn (placeOf j) (λ q. place-other j h (sym q)))))
+begin-in-same c a x = same-elements a (cardsDriven BeginIn c a) x
+    (λ j h. unmoved BeginIn c a j (omega arith) (rw (ne-eqb driveIn (placeOf j) (λ q. place-other j h (sym q)))))
 
 begin-out-same : (c : ℕ) (a : List ℕ) (x : ℕ) → cardedBy (cardsDriven BeginOut c a) x ≡ cardedBy a x
 unfolding numbersDriven
-begin-out-same c a x = same-elements a (cardsDriven BeginOut c a) x (λ j h. waiting-only BeginOut c a j (omega arith) refl)
+begin-out-same c a x = same-elements a (cardsDriven BeginOut c a) x (λ j h. unmoved BeginOut c a j (omega arith) refl)
 
 not-done-same : (c : ℕ) (a : List ℕ) (x : ℕ) → cardedBy (cardsDriven EndNotDone c a) x ≡ cardedBy a x
 unfolding numbersDriven taken
-not-done-same c a x = same-elements a (cardsDriven EndNotDone c a) x (λ j h. waiting-only EndNotDone c a j (omega arith) (rw (ne-eqb driveIn (placeOf j) (λ q. place-other j h (sym q)))))
+not-done-same c a x = same-elements a (cardsDriven EndNotDone c a) x
+    (λ j h. unmoved EndNotDone c a j (omega arith) (rw (ne-eqb driveIn (placeOf j) (λ q. place-other j h (sym q)))))
 
 -- an end that is done brings the one that waits to the raised lift, and leaves the cells
 module _ (a : List ℕ) (c x : ℕ) where
@@ -171,8 +170,11 @@ module _ (a : List ℕ) (c x : ℕ) where
 
   done-cell : (j : ℕ) → j < 40 → getD (cardsDriven EndDone c a) j 0 ≡ getD a j 0
   unfolding numbersDriven taken
-  done-cell j h = waiting-only EndDone c a j (omega arith)
-      (rw (ne-eqb raisedCar (placeOf j) (λ q. omega (arith, q ∙ cell-place j h)), ne-eqb driveIn (placeOf j) (λ q. omega (arith, q ∙ cell-place j h))))
+  done-cell j h = unmoved EndDone c a j (omega arith)
+      (rw (ne-eqb raisedCar (placeOf j) (other raisedCar (omega arith)), ne-eqb driveIn (placeOf j) (other driveIn (omega arith))))
+    where
+      other : (k : ℕ) → 40 ≤ k → k ≡ placeOf j → ⊥
+      other k l q = omega (arith, q ∙ cell-place j h)
 
   done-lift : getD (cardsDriven EndDone c a) 40 0 ≡ getD a 41 0
   unfolding cardsDriven numbersDriven taken
@@ -188,7 +190,8 @@ module _ (a : List ℕ) (c x : ℕ) where
 
 -- the counts: with a drive-in under way the raised lift has none, and no cell the one that waits; else none waits, and no cell has the one
 -- on the raised lift
-counts : (i o cell lift wait : Bool) → (i ≡ true → (o ≡ false) × (lift ≡ false)) → (i ≡ false → (o ≡ true) × (wait ≡ false)) → (wait ≡ true → cell ≡ false) → (lift ≡ true → cell ≡ false)
+counts : (i o cell lift wait : Bool) → (i ≡ true → (o ≡ false) × (lift ≡ false)) → (i ≡ false → (o ≡ true) × (wait ≡ false))
+    → (wait ≡ true → cell ≡ false) → (lift ≡ true → cell ≡ false)
     → digit (wait || cell) + digit (o && lift) ≡ digit (lift || cell) + digit (i && wait)
 counts true o cell lift true fi fo fw fl = rw (fi refl .0, fi refl .1, fw refl)
 counts true o cell lift false fi fo fw fl = rw (fi refl .0, fi refl .1)
@@ -243,8 +246,10 @@ module _ (r : ℕ) (a : List ℕ) (x : ℕ) (s : sound r ≡ true) (f : cardsFit
       (none-before 41 40 (omega arith) (omega arith))
       (none-before 40 40 (omega arith) (omega arith)))
 
-event-same : (e c r : ℕ) (a : List ℕ) (x : ℕ) (v : EventReading) → readEvent e ≡ v → sound r ≡ true → cardsFit r a ≡ true → (x ≡ 0 → ⊥) → possibleAs v r ≡ true
-    → digit (cardedBy (cond (eqb e 1) (cardsDriven BeginIn c a) (passed v a)) x) + digit (eqb e 3 && (bit r driveOut && eqb (numbersIn a raisedCar) x))
+event-same : (e c r : ℕ) (a : List ℕ) (x : ℕ) (v : EventReading) → readEvent e ≡ v → sound r ≡ true → cardsFit r a ≡ true → (x ≡ 0 → ⊥)
+    → possibleAs v r ≡ true
+    → digit (cardedBy (cond (eqb e 1) (cardsDriven BeginIn c a) (passed v a)) x)
+    + digit (eqb e 3 && (bit r driveOut && eqb (numbersIn a raisedCar) x))
     ≡ digit (cardedBy a x) + digit (eqb e 3 && (bit r driveIn && eqb (numbersIn a driveIn) x))
 event-same e c r a x (Told BeginIn) q s f n p = rw (event-one-form e BeginIn q, begin-in-same c a x)
 event-same e c r a x (Told BeginOut) q s f n p = rw (event-one-form e BeginOut q, begin-out-same 0 a x)
@@ -259,7 +264,9 @@ came-none : (x : ℕ) (d : Desk) (c : DeskCall) → (said d c ≡ 0 → ⊥) →
 came-none x d (desk.request n set) o = refl
 came-none x d (desk.reports r) o = refl
 came-none x d (desk.event e c) o =
-    ap (λ (b : Bool). digit (eqb e 3 && (b && (bit (d .station .bits) driveIn && eqb (numbersIn (d .numbers) driveIn) x)))) (ne-eqb (said d (desk.event e c)) 0 o) ∙ ap digit (and-false (eqb e 3))
+    ap (λ (b : Bool). digit (eqb e 3 && (b && (bit (d .station .bits) driveIn && eqb (numbersIn (d .numbers) driveIn) x))))
+    (ne-eqb (said d (desk.event e c)) 0 o)
+    ∙ ap digit (and-false (eqb e 3))
 came-none x d (desk.pictures p n ns) o = refl
 came-none x d desk.ask o = refl
 
@@ -267,7 +274,9 @@ went-none : (x : ℕ) (d : Desk) (c : DeskCall) → (said d c ≡ 0 → ⊥) →
 went-none x d (desk.request n set) o = refl
 went-none x d (desk.reports r) o = refl
 went-none x d (desk.event e c) o =
-    ap (λ (b : Bool). digit (eqb e 3 && (b && (bit (d .station .bits) driveOut && eqb (numbersIn (d .numbers) raisedCar) x)))) (ne-eqb (said d (desk.event e c)) 0 o) ∙ ap digit (and-false (eqb e 3))
+    ap (λ (b : Bool). digit (eqb e 3 && (b && (bit (d .station .bits) driveOut && eqb (numbersIn (d .numbers) raisedCar) x))))
+    (ne-eqb (said d (desk.event e c)) 0 o)
+    ∙ ap digit (and-false (eqb e 3))
 went-none x d (desk.pictures p n ns) o = refl
 went-none x d desk.ask o = refl
 
@@ -288,12 +297,14 @@ module _ (x : ℕ) (n : x ≡ 0 → ⊥) where
       let s = d .station in
       split (eqb (r .ending) 1)
       (λ t. let (w, b) = success-bits s r (eqb-true (r .ending) 1 t) (p .1) in
-      rw t (ap (λ (b : Bool). digit b + 0) (code-same (codeAt (s .set) (r .number)) (s .bits) (d .numbers) x (fit-has s f .sound) (waits-allowed s (r .number) w) g n)))
+      rw t (ap (λ (b : Bool). digit b + 0)
+      (code-same (codeAt (s .set) (r .number)) (s .bits) (d .numbers) x (fit-has s f .sound) (waits-allowed s (r .number) w) g n)))
       (λ t. rw t)
   moved-same d (desk.event e c) i z =
       let (p, v) = answered d (desk.event e c) Fine .0 z in
       let (f, g) = fit-parts d (p .0) in
-      rw z (event-same e c (d .station .bits) (d .numbers) x (readEvent e) refl (fit-has (d .station) f .sound) g n (event-has (d .station) e (p .1) .3))
+      rw z (event-same e c (d .station .bits) (d .numbers) x (readEvent e) refl (fit-has (d .station) f .sound) g n
+      (event-has (d .station) e (p .1) .3))
   moved-same d (desk.pictures y m ns) i z = absurd i
   moved-same d desk.ask i z = refl
 

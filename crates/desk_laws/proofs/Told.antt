@@ -1,17 +1,15 @@
 -- What the desk tells: where a card's car is, and which card is leaving. Assumes nothing.
 use mathlib.Core.Path.{_≡_, refl, sym, ap, _∙_}
-use mathlib.Core.Bool.{Bool, true, false, cond, not, _&&_, _||_, or-false}
+use mathlib.Core.Bool.{Bool, true, false, cond, or-false}
 use mathlib.Core.List.{List, [], _∷_}
-use Prim.Native.Nat.{ℕ, suc}
+use Prim.Native.Nat.{ℕ}
 use native.Mathlib.Omega.{arith}
-use lib.Dec.{eqb, ltb}
-use lib.ListN.{getD}
-use borrow.Author.Tests.{lt-ltb, le-ltb, ne-eqb, eq-eqb}
+use borrow.Author.Tests.{lt-ltb, le-ltb, ne-eqb}
 use Rattle.bits.specs.Bits.{bit}
 use Rattle.bits.proofs.Cases.{split, clash, both, true→T}
 use Rattle.floor.specs.Floor.{raisedCar, driveOut}
 use Rattle.floor.specs.Tests.{set}
-use Rattle.floor.specs.Cars.{Car, pair, single, raised, Stands, Layout}
+use Rattle.floor.specs.Cars.{Car, pair, single, raised, Stands}
 use Rattle.floor.specs.Sound.{sound, soundRules}
 use Rattle.floor.proofs.Promises.{sound-exactly}
 use Rattle.floor.proofs.Reading.{nth-holds}
@@ -57,8 +55,8 @@ whereabouts-fit d c f = rw f
 pub where-told : WhereTold
 where-told d l f L c n =
     let (s, g) = fit-parts d f in
-    let (here, gone) = where-right (bit (d .station .bits)) (d .numbers) l L (fit-cards (d .station .bits) (d .numbers) (fit-has (d .station) s .sound) g) c n in
-    (
+    let r = d .station .bits in
+    let (here, gone) = where-right (bit r) (d .numbers) l L (fit-cards r (d .numbers) (fit-has (d .station) s .sound) g) c n in (
       λ x a e. whereabouts-fit d c f ∙ ap (placed (d .station .apart)) (here x a e) ∙ placed-at (d .station .apart) x (stands l x (L .stand) a),
       λ none. whereabouts-fit d c f ∙ ap (placed (d .station .apart)) (gone none),
     )
@@ -68,7 +66,8 @@ where-told d l f L c n =
 -- a car that is being driven out is on the raised lift
 out-raised : (r : ℕ) → sound r ≡ true → bit r driveOut ≡ true → bit r raisedCar ≡ true
 out-raised r s o =
-    both _ _ (or-else (driveOut ∷ []) (set (raisedCar ∷ [])) (bit r) (nth-holds (bit r) soundRules (true→T (sound-exactly r .0 s .rules)) 15) driveOut tt o) .0
+    let rule = nth-holds (bit r) soundRules (true→T (sound-exactly r .0 s .rules)) 15 in
+    both _ _ (or-else (driveOut ∷ []) (set (raisedCar ∷ [])) (bit r) rule driveOut tt o) .0
 
 -- and has a number
 leaving-numbered : (r : ℕ) (a : List ℕ) → sound r ≡ true → cardsFit r a ≡ true → bit r driveOut ≡ true → numbersIn a raisedCar ≡ 0 → ⊥
