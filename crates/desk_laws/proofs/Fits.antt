@@ -48,7 +48,7 @@ use Rattle.desk.specs.Calls.{passed}
 use Rattle.desk_laws.specs.Runs as desk
 use Rattle.desk_laws.specs.Runs.{DeskCall, said, left, calls, DeskBegins, atStart, byImage, under, below}
 use Rattle.desk_laws.specs.Promises.{FitStays, NeverUnfit, StationBelow, Passes}
-use Rattle.desk_laws.proofs.Calls.{begun, begun-fine, ruling, moved, rulingNumber, fit-parts, fit-of, answered, left-taken, refused-untouched, as-station, its-own, call-unfit}
+use Rattle.desk_laws.proofs.Calls.{begun, begun-fine, ruling, moved, rulingNumber, fit-parts, fit-of, answered, left-taken, untouched, as-beneath, its-own, call-unfit}
 
 -- ---- the record that the station's call leaves
 
@@ -146,7 +146,7 @@ fit-kept d c f = split (eqb (said d c) 0)
     (λ t. let e = eqb-true (said d c) 0 t in
     let (p, v) = answered d c Fine .0 e in
     rw (left-taken d c e) (fit-of _ (always.fit-kept (d .station) (under c) (fit-parts d f .0)) (cards-kept d c p v)))
-    (λ t. rw (refused-untouched d c (eqb-false (said d c) 0 t)) f)
+    (λ t. rw (untouched d c (eqb-false (said d c) 0 t)) f)
 
 pub fit-stays : FitStays
 fit-stays d c = split (deskFit d)
@@ -170,7 +170,7 @@ fit-says-other : (d : Desk) (c : DeskCall) → deskFit d ≡ true → said d c �
 fit-says-other d c f e = ⊎-elim
     (λ h. fit-says (d .station) (fit-parts d f .0) (under c) (sym (h .0) ∙ e))
     (λ h. omega (arith, h .1))
-    (as-station d c f)
+    (as-beneath d c f)
 
 pub never-unfit : NeverUnfit
 never-unfit d b l c = fit-says-other (calls d l) c (fit-always l d (begins-fit d b))

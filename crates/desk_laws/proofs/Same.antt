@@ -53,7 +53,7 @@ use Rattle.desk.specs.Calls.{passed}
 use Rattle.desk_laws.specs.Runs as desk
 use Rattle.desk_laws.specs.Runs.{DeskCall, said, left, calls, NoImages, carded, came, went, drivenIn, drivenOut}
 use Rattle.desk_laws.specs.Promises.{SameNumbers}
-use Rattle.desk_laws.proofs.Calls.{moved, fit-parts, answered, left-taken, refused-untouched}
+use Rattle.desk_laws.proofs.Calls.{moved, fit-parts, answered, left-taken, untouched}
 use Rattle.desk_laws.proofs.Fits.{success-bits}
 
 -- ---- elements and places
@@ -311,7 +311,7 @@ module _ (x : ℕ) (n : x ≡ 0 → ⊥) where
   step-same : (d : Desk) (c : DeskCall) → NoImages (c ∷ []) → carded x (left d c) + went x d c ≡ carded x d + came x d c
   step-same d c i = split (eqb (said d c) 0)
       (λ t. let z = eqb-true (said d c) 0 t in ap (λ (b : Desk). carded x b + went x d c) (left-taken d c z) ∙ moved-same d c i z)
-      (λ t. let o = eqb-false (said d c) 0 t in rw (refused-untouched d c o, went-none x d c o, came-none x d c o))
+      (λ t. let o = eqb-false (said d c) 0 t in rw (untouched d c o, went-none x d c o, came-none x d c o))
 
   calls-same : (l : List DeskCall) → NoImages l → (d : Desk) → carded x (calls d l) + drivenOut x d l ≡ carded x d + drivenIn x d l
   calls-same [] i d = refl
