@@ -3,7 +3,7 @@
 use mathlib.Core.Path.{_≡_, refl, sym, ap, _∙_}
 use mathlib.Core.Logic.{_↔_, _⊎_, inl, inr, ⊎-elim}
 use mathlib.Core.Bool.{Bool, true, false, cond}
-use mathlib.Core.List.{List, [], _∷_}
+use mathlib.Core.List.{List}
 use Prim.Native.Nat.{ℕ, _≤_}
 use native.Mathlib.Omega.{arith}
 use lib.Dec.{eqb, leb}
@@ -15,7 +15,6 @@ use Rattle.answers.specs.declared.Answer.{Answer}
 use Rattle.answers.specs.declared.Answer.the-variants.{Unfit}
 use Rattle.answers.specs.Answers.{numberOf, inTable}
 use Rattle.answers.proofs.Promises.{table-exactly}
-use Rattle.garage.specs.declared.Station.{Station}
 use Rattle.garage.specs.declared.Outcome.{Outcome}
 use Rattle.garage.specs.Held.{codeAt}
 use Rattle.garage.specs.Station.{fit}
@@ -33,7 +32,7 @@ use Rattle.desk.specs.Desk.{deskFit, isTaken, replyNumber}
 use Rattle.desk.specs.Calls.{refused, onFit, whereTaken, offered, passed}
 use Rattle.desk.specs.Calls as calling
 use Rattle.desk_laws.specs.Runs as desk
-use Rattle.desk_laws.specs.Runs.{DeskCall, call, said, left, calls, under, itself, below}
+use Rattle.desk_laws.specs.Runs.{DeskCall, call, said, left, under, itself}
 use Rattle.desk_laws.specs.Promises.{RefusedUntouched, AsStation, Passes, OtherEvents, Changes, OnlySuccessMoves}
 
 -- ---- one form
@@ -49,11 +48,15 @@ past d desk.ask = station.taken (d .station)
 abbrev pub beneath : Desk → DeskCall → Outcome
 beneath d c = run.call (d .station) (under c)
 
+-- what the number of a begin of a drive-in is found to be, by whether it is zero and whether it is known
+abbrev pub begun : Bool → Bool → Offered
+begun z k = cond z ZeroNumber (cond k TwiceGiven Fine)
+
 -- what the numbers that come with a call are found to be
 abbrev pub ruling : Desk → DeskCall → Offered
 ruling d (desk.request n set) = Fine
 ruling d (desk.reports r) = Fine
-ruling d (desk.event e c) = cond (eqb e 1) (cond (eqb c 0) ZeroNumber (cond (isKnown (d .numbers) c) TwiceGiven Fine)) Fine
+ruling d (desk.event e c) = cond (eqb e 1) (begun (eqb c 0) (isKnown (d .numbers) c)) Fine
 ruling d (desk.pictures p n ns) = givenAs (p .bits) n ns
 ruling d desk.ask = Fine
 
@@ -165,6 +168,11 @@ ruling-of TwiceGiven = refl
 ruling-same : (v w : Offered) → rulingNumber v ≡ rulingNumber w → v ≡ w
 ruling-same v w e = sym (ruling-of v) ∙ ap rulingOf e ∙ ruling-of w
 
+pub begun-fine : (z k : Bool) → begun z k ≡ Fine → (z ≡ false) × (k ≡ false)
+begun-fine true k e = absurd (omega (arith, ap rulingNumber e))
+begun-fine false true e = absurd (omega (arith, ap rulingNumber e))
+begun-fine false false e = (refl, refl)
+
 not-sixteen : (v : Offered) → 16 ≡ rulingNumber v → ⊥
 not-sixteen Fine e = omega arith
 not-sixteen WrongCount e = omega arith
@@ -189,36 +197,47 @@ left-taken d c e =
 
 -- ---- the promises that go by this form
 
-pub refused-untouched : RefusedUntouched
-refused-untouched d c = each-call (λ o. (replyNumber (o .reply) ≡ 0 → ⊥) → o .desk ≡ d) d c (λ f n. refl) (λ f m n. refl) (λ p v r. by p v)
+pub untouched : (d : Desk) (c : DeskCall) → (said d c ≡ 0 → ⊥) → left d c ≡ d
+untouched d c = each-call (λ o. (replyNumber (o .reply) ≡ 0 → ⊥) → o .desk ≡ d) d c (λ f n. refl) (λ f m n. refl) (λ p v r. by p v)
   where
-    by : Passes d c → (v : Offered) → (replyNumber (offered d (beneath d c) (moved d c) v .reply) ≡ 0 → ⊥) → offered d (beneath d c) (moved d c) v .desk ≡ d
+    by : Passes d c → (v : Offered) → (replyNumber (offered d (beneath d c) (moved d c) v .reply) ≡ 0 → ⊥)
+        → offered d (beneath d c) (moved d c) v .desk ≡ d
     by p Fine n = absurd (n (p .1))
     by p WrongCount n = refl
     by p ZeroNumber n = refl
     by p TwiceGiven n = refl
 
-pub as-station : AsStation
-as-station d c f = each-call (λ o. Said o) d c (λ u. clash f u) (λ g n. inl (refl, sym (each.untouched (d .station) (under c) n))) (λ p v r. by p v)
-  where
-    Said : DeskOutcome → Type 0
-    Said o =
-        ((replyNumber (o .reply) ≡ run.said (d .station) (under c)) × (o .desk .station ≡ run.left (d .station) (under c)))
-        ⊎ ((run.said (d .station) (under c) ≡ 0) × (37 ≤ replyNumber (o .reply)) × (replyNumber (o .reply) ≤ 39))
+pub refused-untouched : RefusedUntouched
+refused-untouched = untouched
 
-    by : Passes d c → (v : Offered) → Said (offered d (beneath d c) (moved d c) v)
+-- an outcome says what the station would and leaves what that leaves, or is a refusal of the desk's own
+abbrev pub AsBeneath : Desk → DeskCall → DeskOutcome → Type 0
+AsBeneath d c o =
+    ((replyNumber (o .reply) ≡ run.said (d .station) (under c)) × (o .desk .station ≡ run.left (d .station) (under c)))
+    ⊎ ((run.said (d .station) (under c) ≡ 0) × (37 ≤ replyNumber (o .reply)) × (replyNumber (o .reply) ≤ 39))
+
+pub as-beneath : (d : Desk) (c : DeskCall) → deskFit d ≡ true → AsBeneath d c (call d c)
+as-beneath d c f = each-call (AsBeneath d c) d c
+    (λ u. clash f u)
+    (λ g n. inl (refl, sym (each.untouched (d .station) (under c) n)))
+    (λ p v r. by p v)
+  where
+    by : Passes d c → (v : Offered) → AsBeneath d c (offered d (beneath d c) (moved d c) v)
     by p Fine = inl (refl, refl)
     by p WrongCount = inr (p .1, (omega arith), (omega arith))
     by p ZeroNumber = inr (p .1, (omega arith), (omega arith))
     by p TwiceGiven = inr (p .1, (omega arith), (omega arith))
+
+pub as-station : AsStation
+as-station = as-beneath
 
 -- so a call that the desk doesn't refuse by itself is the station's, and one that it does leaves all
 pub its-own : (d : Desk) (c : DeskCall) → deskFit d ≡ true
     → ((itself d c ≡ false) × (left d c .station ≡ run.left (d .station) (under c))) ⊎ ((itself d c ≡ true) × (left d c ≡ d))
 its-own d c f = ⊎-elim
     (λ h. inl (off _ (λ t. station's (h .0) (both (leb 37 (said d c)) (leb (said d c) 39) t)), h .1))
-    (λ h. inr (and-intro (le-leb 37 (said d c) (h .1)) (le-leb (said d c) 39 (h .2)), refused-untouched d c (λ z. omega (arith, h .1))))
-    (as-station d c f)
+    (λ h. inr (and-intro (le-leb 37 (said d c) (h .1)) (le-leb (said d c) 39 (h .2)), untouched d c (λ z. omega (arith, h .1))))
+    (as-beneath d c f)
   where
     station's : said d c ≡ run.said (d .station) (under c) → (leb 37 (said d c) ≡ true) × (leb (said d c) 39 ≡ true) → ⊥
     station's e t = station-other (beneath d c .answer) (said d c) (own-number (said d c) (leb-true 37 _ (t .0)) (leb-true _ 39 (t .1))) (sym e)
@@ -239,4 +258,4 @@ pub only-success-moves : OnlySuccessMoves
 only-success-moves d c = split (eqb (said d c) 0)
     (λ t. let e = eqb-true (said d c) 0 t in
     ⊎-elim (λ m. inl (ap (λ (b : Desk). b .numbers) (left-taken d c e) ∙ m)) (λ h. inr (e, h)) (moved-by d c))
-    (λ t. inl (ap (λ (b : Desk). b .numbers) (refused-untouched d c (eqb-false (said d c) 0 t))))
+    (λ t. inl (ap (λ (b : Desk). b .numbers) (untouched d c (eqb-false (said d c) 0 t))))

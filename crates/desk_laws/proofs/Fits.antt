@@ -2,7 +2,7 @@
 -- calls no desk says that it is unfit, and its station is the one that its own calls make. Assumes nothing.
 use mathlib.Core.Path.{_≡_, refl, sym, ap, subst, _∙_}
 use mathlib.Core.Logic.{⊎-elim}
-use mathlib.Core.Bool.{Bool, true, false, not, cond, _&&_}
+use mathlib.Core.Bool.{Bool, true, false, not, cond}
 use mathlib.Core.List.{List, [], _∷_}
 use Prim.Native.Nat.{ℕ, _≤_}
 use native.Mathlib.Omega.{arith}
@@ -25,11 +25,9 @@ use Rattle.rules.specs.Rules.{allowed, next}
 use Rattle.rules.specs.Codes.{readCode, readEvent, eventCode}
 use Rattle.rules.specs.Verdicts.{onCode}
 use Rattle.rules.proofs.CodeLaws.{event-one-form}
-use Rattle.answers.specs.Answers.{numberOf}
 use Rattle.garage.specs.declared.Station.{Station}
 use Rattle.garage.specs.declared.Report.{Report}
 use Rattle.garage.specs.Held.{codeAt, heldAllowed, heldNext}
-use Rattle.garage.specs.Station.{fit}
 use Rattle.garage_laws.specs.Runs as run
 use Rattle.garage_laws.specs.Runs.{Call}
 use Rattle.garage_laws.specs.Demands.{Waiting, Changes}
@@ -39,8 +37,7 @@ use Rattle.garage_laws.proofs.Calls.{following, success-has, success-is, answer
 use Rattle.garage_laws.proofs.EachCall.{fit-says}
 use Rattle.garage_laws.proofs.Changes.{only-success-changes}
 use Rattle.garage_laws.proofs.Always as always
-use Rattle.cards.specs.declared.Offered.{Offered}
-use Rattle.cards.specs.declared.Offered.the-variants.{Fine, WrongCount, ZeroNumber, TwiceGiven}
+use Rattle.cards.specs.declared.Offered.the-variants.{Fine, WrongCount, ZeroNumber}
 use Rattle.cards.specs.Given.{wanted, zeroAt, givenAs}
 use Rattle.cards.specs.Held.{cardsAfter, codeCards, cardsDriven, cardsFit, isKnown}
 use Rattle.cards_laws.proofs.Tested.{isNew}
@@ -49,9 +46,9 @@ use Rattle.desk.specs.declared.Desk.{Desk}
 use Rattle.desk.specs.Desk.{deskFit, startDesk}
 use Rattle.desk.specs.Calls.{passed}
 use Rattle.desk_laws.specs.Runs as desk
-use Rattle.desk_laws.specs.Runs.{DeskCall, said, left, calls, DeskBegins, atStart, byImage, under, itself, below}
+use Rattle.desk_laws.specs.Runs.{DeskCall, said, left, calls, DeskBegins, atStart, byImage, under, below}
 use Rattle.desk_laws.specs.Promises.{FitStays, NeverUnfit, StationBelow, Passes}
-use Rattle.desk_laws.proofs.Calls.{ruling, moved, rulingNumber, fit-parts, fit-of, answered, left-taken, refused-untouched, as-station, its-own, call-unfit}
+use Rattle.desk_laws.proofs.Calls.{begun, begun-fine, ruling, moved, rulingNumber, fit-parts, fit-of, answered, left-taken, untouched, as-beneath, its-own, call-unfit}
 
 -- ---- the record that the station's call leaves
 
@@ -91,10 +88,8 @@ code-fits x r a s = read (readCode x)
     read Bad t f = clash t refl
 
 -- a number that is found fine at a begin is new
-fine-begin : (z k : Bool) → cond z ZeroNumber (cond k TwiceGiven Fine) ≡ Fine → not z && not k ≡ true
-fine-begin true k e = absurd (omega (arith, ap rulingNumber e))
-fine-begin false true e = absurd (omega (arith, ap rulingNumber e))
-fine-begin false false e = refl
+begun-new : (c : ℕ) (a : List ℕ) → begun (eqb c 0) (isKnown a c) ≡ Fine → isNew c a ≡ true
+begun-new c a e = let (z, k) = begun-fine (eqb c 0) (isKnown a c) e in rw (z, k)
 
 -- an event that is no begin of a drive-in brings none
 other-event : (e : Event) (c : ℕ) (a : List ℕ) → (eventCode e ≡ 1 → ⊥) → e ≡ BeginIn → isNew c a ≡ true
@@ -104,7 +99,7 @@ event-fits : (d : Desk) (e c : ℕ) (v : EventReading) → readEvent e ≡ v →
     → cardsFit (d .station .bits) (d .numbers) ≡ true → ruling d (desk.event e c) ≡ Fine
     → cardsFit (afterAs v (d .station .bits)) (cond (eqb e 1) (cardsDriven BeginIn c (d .numbers)) (passed v (d .numbers))) ≡ true
 event-fits d e c (Told BeginIn) r s p f =
-    rw (event-one-form e BeginIn r) (λ g. driven-fit _ (d .numbers) s f BeginIn c p (λ q. fine-begin (eqb c 0) (isKnown (d .numbers) c) g))
+    rw (event-one-form e BeginIn r) (λ g. driven-fit _ (d .numbers) s f BeginIn c p (λ q. begun-new c (d .numbers) g))
 event-fits d e c (Told BeginOut) r s p f =
     rw (event-one-form e BeginOut r) (λ g. driven-fit _ (d .numbers) s f BeginOut 0 p (other-event BeginOut 0 (d .numbers) (λ z. omega arith)))
 event-fits d e c (Told EndDone) r s p f =
@@ -131,14 +126,17 @@ cards-kept d (desk.request n set) p v = rw (still (d .station) (run.request n se
 cards-kept d (desk.reports r) p v = split (eqb (r .ending) 1)
     (λ t. let s = d .station in
     let (w, b) = success-bits s r (eqb-true (r .ending) 1 t) (p .1) in
-    rw (t, b) (code-fits (codeAt (s .set) (r .number)) (s .bits) (d .numbers) (fit-has s (w .0) .sound) (waits-allowed s (r .number) w) (fit-parts d (p .0) .1)))
+    rw (t, b)
+    (code-fits (codeAt (s .set) (r .number)) (s .bits) (d .numbers) (fit-has s (w .0) .sound) (waits-allowed s (r .number) w) (fit-parts d (p .0) .1)))
     (λ t. rw (t, still (d .station) (run.reports r) (λ e. eqb-false (r .ending) 1 t e)) (fit-parts d (p .0) .1))
 cards-kept d (desk.event e c) p v =
     let (f, g) = fit-parts d (p .0) in
-    rw (event-bits (d .station) e (p .1)) (event-fits d e c (readEvent e) refl (fit-has (d .station) f .sound) (event-has (d .station) e (p .1) .3) g v)
+    rw (event-bits (d .station) e (p .1))
+    (event-fits d e c (readEvent e) refl (fit-has (d .station) f .sound) (event-has (d .station) e (p .1) .3) g v)
 cards-kept d (desk.pictures x n ns) p v =
     let w = image-has (d .station) (x .bits) (x .apart) (p .1) in
-    rw (ap (λ o. o .station .bits) (image-is (d .station) (x .bits) (x .apart) w)) (given-fit (x .bits) n ns (w .2) (fine-length (x .bits) n ns v) v)
+    rw (ap (λ o. o .station .bits) (image-is (d .station) (x .bits) (x .apart) w))
+    (given-fit (x .bits) n ns (w .2) (fine-length (x .bits) n ns v) v)
 cards-kept d desk.ask p v = rw (still (d .station) run.ask (λ x. x)) (fit-parts d (p .0) .1)
 
 -- ---- the promises
@@ -148,7 +146,7 @@ fit-kept d c f = split (eqb (said d c) 0)
     (λ t. let e = eqb-true (said d c) 0 t in
     let (p, v) = answered d c Fine .0 e in
     rw (left-taken d c e) (fit-of _ (always.fit-kept (d .station) (under c) (fit-parts d f .0)) (cards-kept d c p v)))
-    (λ t. rw (refused-untouched d c (eqb-false (said d c) 0 t)) f)
+    (λ t. rw (untouched d c (eqb-false (said d c) 0 t)) f)
 
 pub fit-stays : FitStays
 fit-stays d c = split (deskFit d)
@@ -172,7 +170,7 @@ fit-says-other : (d : Desk) (c : DeskCall) → deskFit d ≡ true → said d c �
 fit-says-other d c f e = ⊎-elim
     (λ h. fit-says (d .station) (fit-parts d f .0) (under c) (sym (h .0) ∙ e))
     (λ h. omega (arith, h .1))
-    (as-station d c f)
+    (as-beneath d c f)
 
 pub never-unfit : NeverUnfit
 never-unfit d b l c = fit-says-other (calls d l) c (fit-always l d (begins-fit d b))

@@ -36,7 +36,7 @@ RefusedUntouched = (d : Desk) (c : DeskCall) → (said d c ≡ 0 → ⊥) → le
 
 -- a call leaves a fit desk fit, and one that isn't unfit
 abbrev pub FitStays : Type 0
-FitStays = (d : Desk) (c : DeskCall) → length (d .numbers) ≡ 42 → deskFit (left d c) ≡ deskFit d
+FitStays = (d : Desk) (c : DeskCall) → deskFit (left d c) ≡ deskFit d
 
 -- whatever calls came before, images too, the desk never answers 16
 abbrev pub NeverUnfit : Type 0
@@ -66,7 +66,7 @@ Passes d c = (deskFit d ≡ true) × (run.said (d .station) (under c) ≡ 0)
 -- or waits, and taken exactly with any other
 abbrev pub BeginNumbers : Type 0
 BeginNumbers =
-    (d : Desk) (c : ℕ) → length (d .numbers) ≡ 42
+    (d : Desk) (c : ℕ)
     → ((said d (desk.event 1 c) ≡ 37) ↔ (Passes d (desk.event 1 c) × (c ≡ 0)))
     × ((said d (desk.event 1 c) ≡ 38) ↔ (Passes d (desk.event 1 c) × (c ≡ 0 → ⊥) × Has (numbersIn (d .numbers)) c))
     × ((said d (desk.event 1 c) ≡ 0) ↔ (Passes d (desk.event 1 c) × (c ≡ 0 → ⊥) × (Has (numbersIn (d .numbers)) c → ⊥)))
@@ -146,7 +146,7 @@ onApart apart raised = bit apart raisedCar
 -- here exactly if no car has the number
 abbrev pub WhereTold : Type 0
 WhereTold =
-    (d : Desk) (l : List Car) → deskFit d ≡ true → length (d .numbers) ≡ 42 → Layout (bit (d .station .bits)) l
+    (d : Desk) (l : List Car) → deskFit d ≡ true → Layout (bit (d .station .bits)) l
     → (c : ℕ) → (c ≡ 0 → ⊥)
     → ((x : Car) → Among x l → numbersIn (d .numbers) (anchor x) ≡ c
     → whereabouts d c ≡ cond (onApart (d .station .apart) x) (LastKnown (anchor x)) (At (anchor x)))
@@ -161,5 +161,5 @@ WhereSure =
 -- a card is leaving exactly while a drive-out is under way, and it is that of the car on the raised lift
 abbrev pub LeavingTold : Type 0
 LeavingTold =
-    (d : Desk) (c : ℕ) → deskFit d ≡ true → length (d .numbers) ≡ 42
+    (d : Desk) (c : ℕ) → deskFit d ≡ true
     → (leaving d ≡ Card c) ↔ ((bit (d .station .bits) driveOut ≡ true) × (numbersIn (d .numbers) raisedCar ≡ c) × (c ≡ 0 → ⊥))
