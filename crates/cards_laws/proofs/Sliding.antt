@@ -88,6 +88,6 @@ module _ (a m n : ℕ) (f g : Bits) (s : Slid a m n f g) where
           le-ltb (a + d) 20 (omega arith),
           lt-ltb (a + d + n) 40 (omega arith),
           lt-ltb (a + d) 40 (omega arith),
-          s .moved d h
+          s .moved d h,
         ))
         row
