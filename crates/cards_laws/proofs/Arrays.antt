@@ -43,7 +43,8 @@ use Rattle.cards_laws.proofs.Tested.{fit-marked, marked-fit, fine-exact
 
 image-bears : (g : Bits) (k : ℕ) → bears (bit (image g)) k ≡ bears g k
 image-bears g k = split (isPlace k)
-    (λ t. bears-same g (bit (image g)) k (bit-image g k (small k t)) (λ h. ap (λ (x : ℕ). x % 2) (below-same g (bit (image g)) 20 (λ j l. bit-image g j (omega arith)) k (omega arith))))
+    (λ t. bears-same g (bit (image g)) k (bit-image g k (small k t)) (λ h.
+    ap (λ (x : ℕ). x % 2) (below-same g (bit (image g)) 20 (λ j l. bit-image g j (omega arith)) k (omega arith))))
     (λ t. no-place (bit (image g)) k t ∙ sym (no-place g k t))
   where
     small : (k : ℕ) → isPlace k ≡ true → k < 64
@@ -65,7 +66,9 @@ module _ (g : Bits) (n : Numbers) (M : Marked (bears g) n) where
 
   -- they fit the record's image
   pub held-fit : cardsFit (image g) (held n) ≡ true
-  held-fit = marked-fit (image g) (held n) (subst (Marked (bears (bit (image g)))) (sym held-bears) (subst (λ (A : Bits). Marked A n) (sym (fun-ext (image-bears g))) M))
+  held-fit =
+      let in-image : Marked (bears (bit (image g))) n = subst (λ (A : Bits). Marked A n) (sym (fun-ext (image-bears g))) M in
+      marked-fit (image g) (held n) (subst (Marked (bears (bit (image g)))) (sym held-bears) in-image)
 
 -- ---- an array that fits a sound record
 
@@ -97,7 +100,8 @@ module _ (r : ℕ) (a : List ℕ) (s : sound r ≡ true) (t : cardsFit r a ≡ t
     -- no number is lost or made
     pub after-known : (c : ℕ) → (c ≡ 0 → ⊥) → isKnown (cardsAfter i r a) c ≡ isKnown a c
     after-known c o =
-        let h = subst (λ (m : Numbers). Has m c ↔ Has (numbersIn a) c) (sym after-numbers) (same-numbers i (bit r) (numbersIn a) is-sound ok fit-cards c o) in
+        let h = subst (λ (m : Numbers). Has m c ↔ Has (numbersIn a) c) (sym after-numbers)
+        (same-numbers i (bit r) (numbersIn a) is-sound ok fit-cards c o) in
         known-same c (cardsAfter i r a) a o (h .0) (h .1)
 
   -- a possible event, with a new number where it begins a drive-in
@@ -160,7 +164,8 @@ module _ (r n : ℕ) (ns : List ℕ) (s : sound r ≡ true) (h : n ≤ length ns
       let (m, new) = fine-exactly r n ns S h .0 t in
       let padded : numbersGiven (bit r) (take n ns) ≡ numbersGiven (bit r) ns =
       fun-ext (λ k. sym (given-padded (bit r) (take n ns) (drop n ns) S m k) ∙ ap (λ (l : List ℕ). numbersGiven (bit r) l k) (take-append-drop n ns)) in
-      subst (Marked (bears (bit r))) padded (cards-marked (bit r) _ (S .layout .0) (S .layout .1) (given-cards (bit r) (take n ns) S m new))
+      subst (Marked (bears (bit r))) padded
+      (cards-marked (bit r) _ (S .layout .0) (S .layout .1) (given-cards (bit r) (take n ns) S m new))
 
   pub given-numbers : numbersIn (cardsGiven r ns) ≡ numbersGiven (bit r) ns
   unfolding cardsGiven
@@ -213,6 +218,7 @@ module _ (e : Event) (c : ℕ) where
   unfolding cardsDriven
   driven-outside a k o = held-kept (numbersDriven e c (numbersIn a)) a k (event-numbers .outside e c (numbersIn a) k o)
 
-  pub driven-inside : (a b : List ℕ) → SameOn liftArea (numbersIn a) (numbersIn b) → SameOn liftArea (numbersIn (cardsDriven e c a)) (numbersIn (cardsDriven e c b))
+  pub driven-inside : (a b : List ℕ) → SameOn liftArea (numbersIn a) (numbersIn b)
+      → SameOn liftArea (numbersIn (cardsDriven e c a)) (numbersIn (cardsDriven e c b))
   unfolding cardsDriven
   driven-inside a b n k h = held-agree _ _ k (event-numbers .inside e c (numbersIn a) (numbersIn b) n k h)

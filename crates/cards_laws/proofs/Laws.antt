@@ -97,7 +97,10 @@ stays-within i f n s ok c k here z =
     let a : bears f k ≡ true = split (bears f k) (λ t. t) (λ t. absurd (z (M .none k t))) in
     let (j, q) = follows i f s ok .goes k a in
     let there : (k ≡ nowhere → ⊥) = λ e. clash a (ap (bears f) e) in
-    let number : numbersAfter i f n j ≡ n k = ap (λ (m : Numbers). m j) (after-from i f s ok n c) ∙ ap (numberAt n) q ∙ ap (λ (b : Bool). cond b 0 (n k)) (ne-eqb k nowhere there) in
+    let number : numbersAfter i f n j ≡ n k =
+    ap (λ (m : Numbers). m j) (after-from i f s ok n c) ∙ ap (numberAt n) q ∙ ap (λ (b : Bool). cond b 0 (n k)) (ne-eqb k nowhere there) in
+    let low = holds atBasement f in
     split (elem j (areaOf i))
     (λ t. (j, t, number))
-    (λ t. clash here (ap (λ (x : ℕ). elem x (areaOf i)) (sym q ∙ source-same (takings i (holds atBasement f)) j (taker-in i (true→T (fine i f s ok .0)) (holds atBasement f) j t)) ∙ t))
+    (λ t. clash here (
+    ap (λ (x : ℕ). elem x (areaOf i)) (sym q ∙ source-same (takings i low) j (taker-in i (true→T (fine i f s ok .0)) low j t)) ∙ t))

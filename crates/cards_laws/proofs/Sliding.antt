@@ -1,5 +1,5 @@
--- A span of cells that slides by n toward a free end takes along the places that bear a number, and leaves all others. Over every span and n.
--- Assumes nothing.
+-- A span of cells that slides by n toward a free end takes along the places that bear a number, and leaves all others. Over every span and
+-- n. Assumes nothing.
 use mathlib.Core.Path.{_≡_, refl, sym, ap, ap₂, _∙_}
 use mathlib.Core.Logic.{_⊎_, inl, inr, ⊎-elim}
 use mathlib.Core.Bool.{Bool, false, _&&_}
@@ -88,6 +88,6 @@ module _ (a m n : ℕ) (f g : Bits) (s : Slid a m n f g) where
           le-ltb (a + d) 20 (omega arith),
           lt-ltb (a + d + n) 40 (omega arith),
           lt-ltb (a + d) 40 (omega arith),
-          s .moved d h
+          s .moved d h,
         ))
         row

@@ -1,5 +1,5 @@
--- Instructions with areas apart, each allowed and clear of drives, stay so while others of them finish: so whichever do, the numbers are those
--- of the cars. Assumes nothing.
+-- Instructions with areas apart, each allowed and clear of drives, stay so while others of them finish: so whichever do, the numbers are
+-- those of the cars. Assumes nothing.
 use mathlib.Core.Path.{_≡_, refl, ap₂, _∙_}
 use mathlib.Core.Logic.{inl, inr, ⊎-elim}
 use mathlib.Core.Bool.{Bool, true, false, not}
