@@ -108,7 +108,8 @@ desk-always d b l p h =
 pub whichever-same : WhicheverSame
 whichever-same d b l p h c o =
     let e = finished-known d b l p h c o in
-    let (x, y) = (finishedCards d l p, calls d l .numbers) in
+    let x = finishedCards d l p in
+    let y = calls d l .numbers in
     (λ k. known-exactly y c o .0 (sym e ∙ known-exactly x c o .1 k), λ k. known-exactly x c o .0 (e ∙ known-exactly y c o .1 k))
 
 -- ---- a place that is told for sure
