@@ -43,7 +43,7 @@ use Rattle.desk_laws.proofs.Ends.{Whole, whole-always, begins-whole, nu
 module _ (d : Desk) (f : deskFit d ≡ true) (whole : Whole d) (tidy : Tidy (d .station)) (k : ℕ) (now : k ≡ present (d .station)) where
   -- one list, which the machine ends with no set
   module _ (l : List (Act (ℕ × ℕ)))
-      (e : machine.run numbered (deskView d) l ≡ machine.idle numbered (machine.run numbered (deskView d) l .bits) (machine.run numbered (deskView d) l .away))
+      (e : let m = machine.run numbered (deskView d) l in m ≡ machine.idle numbered (m .bits) (m .away))
       (v : deskView (calls d (map (asDesk k) l)) ≡ machine.run numbered (deskView d) l) where
     -- where the calls end
     abbrev end : Desk
@@ -64,7 +64,8 @@ module _ (d : Desk) (f : deskFit d ≡ true) (whole : Whole d) (tidy : Tidy (d .
     end-whole : Whole end
     end-whole = whole-always (map (asDesk k) l) d whole
 
-  alike : (n : ℕ) (chosen : ℕ → machine.Outcome) (es : List (ℕ × ℕ)) (l m : List (Act (ℕ × ℕ))) → machine-orders.Order n chosen es l → machine-orders.Order n chosen es m
+  alike : (n : ℕ) (chosen : ℕ → machine.Outcome) (es : List (ℕ × ℕ)) (l m : List (Act (ℕ × ℕ)))
+      → machine-orders.Order n chosen es l → machine-orders.Order n chosen es m
       → machine-orders.Alike numbered (deskView d) l m → DeskAlike d (map (asDesk k) l) (map (asDesk k) m)
   alike n chosen es l m P Q A =
       let L = follows k l d f now (A .fair .0) in
@@ -73,17 +74,21 @@ module _ (d : Desk) (f : deskFit d ≡ true) (whole : Whole d) (tidy : Tidy (d .
       let y : Desk = end m (A .closed .1) (M .shows) in
       let replied : deskReplies d (map (asDesk k) l) ≡ deskReplies d (map (asDesk k) m) = L .replied ∙ A .replies ∙ sym (M .replied) in
       let looks : (j : ℕ) → j < 64 → numbered .look (deskView x .bits) j ≡ numbered .look (deskView y .bits) j =
-      (λ j h. ap (λ (u : machine.Station Garage Code). numbered .look (u .bits) j) (L .shows) ∙ A .bits j h ∙ sym (ap (λ (u : machine.Station Garage Code). numbered .look (u .bits) j) (M .shows))) in
+      (λ j h. ap (λ (u : machine.Station Garage Code). numbered .look (u .bits) j) (L .shows) ∙ A .bits j h
+      ∙ sym (ap (λ (u : machine.Station Garage Code). numbered .look (u .bits) j) (M .shows))) in
       let over : above (x .station .bits) ≡ above (y .station .bits) =
       above-end k l d (L .fair)
-      ∙ ap₂ (λ (s t : Bool). cond (s || t) 0 (above (d .station .bits))) (succeeds-is n chosen es l P ∙ sym (succeeds-is n chosen es m Q)) (ap anyTaken replied)
+      ∙ ap₂ (λ (s t : Bool). cond (s || t) 0 (above (d .station .bits)))
+      (succeeds-is n chosen es l P ∙ sym (succeeds-is n chosen es m Q)) (ap anyTaken replied)
       ∙ sym (above-end k m d (M .fair)) in
       let same : x .station .bits ≡ y .station .bits = record-same _ _ over (λ j h. ap (λ w. w .0) (looks j h)) in
       let gone : x .station .apart ≡ y .station .apart =
       away-same _ _ (fit-has _ (end-fit l (A .closed .0) (L .shows)) .within) (fit-has _ (end-fit m (A .closed .1) (M .shows)) .within) (λ j.
-      ap (λ (u : machine.Station Garage Code). u .away j) (L .shows) ∙ A .away j ∙ sym (ap (λ (u : machine.Station Garage Code). u .away j) (M .shows))) in
+      ap (λ (u : machine.Station Garage Code). u .away j) (L .shows) ∙ A .away j
+      ∙ sym (ap (λ (u : machine.Station Garage Code). u .away j) (M .shows))) in
       let stations : x .station ≡ y .station =
-      end-closed l (A .closed .0) (L .shows) ∙ ap₂ (λ (r a : ℕ). closed r (d .station .next) a) same gone ∙ sym (end-closed m (A .closed .1) (M .shows)) in
+      end-closed l (A .closed .0) (L .shows) ∙ ap₂ (λ (r a : ℕ). closed r (d .station .next) a) same gone
+      ∙ sym (end-closed m (A .closed .1) (M .shows)) in
       let numbers : x .numbers ≡ y .numbers =
       numbers-same _ _ (end-whole l (A .closed .0) (L .shows)) (end-whole m (A .closed .1) (M .shows)) (λ j h. ap (λ w. w .1) (looks j h)) in
       record {
@@ -105,7 +110,9 @@ module _ (t : Desk) (f : deskFit t ≡ true) (whole : Whole t) (n : ℕ) (set : 
   holds = record { station = opened (t .station) n set; numbers = t .numbers }
 
   there : left t (desk.request n set) ≡ holds
-  there = left-taken t (desk.request n set) z ∙ ap (λ o. record { station = o .station; numbers = t .numbers }) (request-is (t .station) n set A)
+  there =
+      left-taken t (desk.request n set) z
+      ∙ ap (λ o. record { station = o .station; numbers = t .numbers }) (request-is (t .station) n set A)
 
   holds-view : deskView holds ≡ machine.opened (kept (t .station) n set A) (t .station .bits, t .numbers) (awayOf (t .station .apart))
   holds-view = ap (λ (m : machine.Station ℕ Code). onTop m (t .numbers)) (request-view (t .station) n set A)
@@ -123,7 +130,8 @@ module _ (t : Desk) (f : deskFit t ≡ true) (whole : Whole t) (n : ℕ) (set : 
       let U = order-acts k n fate drives b (subst (DeskOrder k n fate drives) q Q) in
       let (s, c) = fit-parts t f in
       let T = machine-order.any-order numbered _ _ frame (kept (t .station) n set A)
-      (t .station .bits, t .numbers) (awayOf (t .station .apart)) (and-intro (fit-has (t .station) s .sound) c) (request-accepted (t .station) n set A) (choice k fate) drives a b O U in
+      (t .station .bits, t .numbers) (awayOf (t .station .apart)) (and-intro (fit-has (t .station) s .sound) c)
+      (request-accepted (t .station) n set A) (choice k fate) drives a b O U in
       let W : machine-orders.Alike numbered (deskView holds) a b = rw holds-view T in
       subst₃ DeskAlike (sym there) (sym p) (sym q)
       (alike holds holds-fit whole (inl (A .some)) k (ap (λ (d : Desk). present (d .station)) there) n (choice k fate) drives a b O U W)

@@ -61,7 +61,8 @@ module _ (x : Code) where
       (λ i w o. array.after-outside i w r a k o)
       (λ o. refl)
 
-  pub code-inside : (r q : ℕ) (a b : List ℕ) → Agree (λ k. elem k (heldArea x)) (bit r) (bit q) → SameOn (λ k. elem k (heldArea x)) (numbersIn a) (numbersIn b)
+  pub code-inside : (r q : ℕ) (a b : List ℕ) → Agree (λ k. elem k (heldArea x)) (bit r) (bit q)
+      → SameOn (λ k. elem k (heldArea x)) (numbersIn a) (numbersIn b)
       → SameOn (λ k. elem k (heldArea x)) (numbersIn (codeCards x r a)) (numbersIn (codeCards x q b))
   unfolding codeCards heldArea area
   code-inside r q a b = by-reading

@@ -93,16 +93,20 @@ none-above r h = omega arith
 -- a result that is taken leaves nothing there if it is a success, else what was
 result-above : (d : Desk) (k i : ℕ) (o : Outcome) → said d (asDesk k (result i o)) ≡ 0
     → above (left d (asDesk k (result i o)) .station .bits) ≡ cond (moves o) 0 (above (d .station .bits))
-result-above d k i o z = ap (λ (b : Desk). above (b .station .bits)) (left-taken d (asDesk k (result i o)) z) ∙ by o (answered d (asDesk k (result i o)) Fine .0 z .0 .1)
+result-above d k i o z =
+    ap (λ (b : Desk). above (b .station .bits)) (left-taken d (asDesk k (result i o)) z)
+    ∙ by o (answered d (asDesk k (result i o)) Fine .0 z .0 .1)
   where
     by : (o : Outcome) → run.said (d .station) (run.result k i (ending o)) ≡ 0
         → above (run.left (d .station) (run.result k i (ending o)) .bits) ≡ cond (moves o) 0 (above (d .station .bits))
     by failed y = ap above (still (d .station) (run.result k i 0) (λ e. omega arith))
-    by finished y = ap above (success-bits (d .station) (record { issue = k; number = i; ending = 1 }) refl y .1) ∙ none-above _ (packed-lt 64 0 _)
+    by finished y =
+        ap above (success-bits (d .station) (record { issue = k; number = i; ending = 1 }) refl y .1) ∙ none-above _ (packed-lt 64 0 _)
     by stuck y = ap above (still (d .station) (run.result k i 2) (λ e. omega arith))
 
 -- an event leaves nothing there if it is taken
-event-above : (d : Desk) (e c : ℕ) → above (left d (desk.event e c) .station .bits) ≡ cond (eqb (said d (desk.event e c)) 0) 0 (above (d .station .bits))
+event-above : (d : Desk) (e c : ℕ)
+    → above (left d (desk.event e c) .station .bits) ≡ cond (eqb (said d (desk.event e c)) 0) 0 (above (d .station .bits))
 event-above d e c = split (eqb (said d (desk.event e c)) 0)
     (λ t. rw t (
     let z = eqb-true _ 0 t in
@@ -134,7 +138,8 @@ last-counts false false y h = refl
 
 -- so a list leaves nothing there if it has a success or an event that is taken, else what was
 pub above-end : (k : ℕ) (l : List (Act (ℕ × ℕ))) (d : Desk) → DeskFair d (map (asDesk k) l)
-    → above (calls d (map (asDesk k) l) .station .bits) ≡ cond (succeeds l || anyTaken (deskReplies d (map (asDesk k) l))) 0 (above (d .station .bits))
+    → above (calls d (map (asDesk k) l) .station .bits)
+    ≡ cond (succeeds l || anyTaken (deskReplies d (map (asDesk k) l))) 0 (above (d .station .bits))
 above-end k [] d F = refl
 above-end k (result i o ∷ l) d F =
     let t = left d (asDesk k (result i o)) in

@@ -132,7 +132,7 @@ ruling-number d e c = split (eqb e 1)
 brings-fine : (d : Desk) (e c : ℕ) → (brings e c (d .numbers) ≡ true) ↔ (ruling d (desk.event e c) ≡ Fine)
 brings-fine d e c = split (eqb e 1)
     (λ t. rw t (split (eqb c 0)
-    (λ z. rw z (never , λ u. absurd (omega (arith, ap rulingNumber u))))
+    (λ z. rw z (never, λ u. absurd (omega (arith, ap rulingNumber u))))
     (λ z. rw z (split (isKnown (d .numbers) c)
     (λ u. rw u (never, λ v. absurd (omega (arith, ap rulingNumber v))))
     (λ u. rw u ((λ v. refl), (λ v. refl)))))))
@@ -175,7 +175,7 @@ module _ (d : Desk) (f : deskFit d ≡ true) (e c : ℕ) where
   said-is : said d (desk.event e c) ≡ answered e c (d .numbers) (run.said s (run.event e))
   said-is = split (eqb (run.said s (run.event e)) 0)
       (λ t. let z = eqb-true (run.said s (run.event e)) 0 t in rw z (said-ruled d (desk.event e c) (f, z) ∙ ruling-number d e c))
-      (λ t. ap (λ (n : ℕ). n) (⊎-elim (λ h. h .0) (λ h. absurd (eqb-false _ 0 t (h .0))) (as-station d (desk.event e c) f)) ∙ sym (rw t))
+      (λ t. ⊎-elim (λ h. h .0) (λ h. absurd (eqb-false _ 0 t (h .0))) (as-station d (desk.event e c) f) ∙ sym (rw t))
 
   event-answer : said d (desk.event e c) ≡ machine.says numbered (deskView d) (e, c)
   event-answer = said-is ∙ ap (answered e c (d .numbers)) (ap first (under-it .replied)) ∙ sym says-is
@@ -185,7 +185,8 @@ module _ (d : Desk) (f : deskFit d ≡ true) (e c : ℕ) where
 
   -- the machine takes what the station takes and the desk lets pass
   taken-is : machine.taken numbered (deskView d) (event (e, c)) ≡ machine.taken rules (view s) (event e) && brings e c (d .numbers)
-  taken-is = grouped (not (machine.blocked rules (view s))) (not (machine.lost rules (view s .away))) (rules .possible e (s .bits)) (brings e c (d .numbers))
+  taken-is =
+      grouped (not (machine.blocked rules (view s))) (not (machine.lost rules (view s .away))) (rules .possible e (s .bits)) (brings e c (d .numbers))
     where
       grouped : (x y z w : Bool) → x && (y && (z && w)) ≡ (x && (y && z)) && w
       grouped true true z w = refl
@@ -227,13 +228,17 @@ pub record Followed (k : ℕ) (l : List (Act (ℕ × ℕ))) (d : Desk) (m : mach
   pub replied : deskReplies d (map (asDesk k) l) ≡ machine-orders.replies numbered m l
   pub shows : deskView (calls d (map (asDesk k) l)) ≡ machine.run numbered m l
 
+-- the machine's list is fair on another station that is the same
+fair-at : (l : List (Act (ℕ × ℕ))) {m n : machine.Station Garage Code} → m ≡ n → machine-orders.Fair numbered n l → machine-orders.Fair numbered m l
+fair-at l e F = subst (λ (m : machine.Station Garage Code). machine-orders.Fair numbered m l) (sym e) F
+
 pub follows : (k : ℕ) (l : List (Act (ℕ × ℕ))) (d : Desk) → deskFit d ≡ true → k ≡ present (d .station)
     → machine-orders.Fair numbered (deskView d) l → Followed k l d (deskView d)
 follows k [] d f p F = record { fair = tt; replied = refl; shows = refl }
 follows k (result i o ∷ l) d f p F =
     let c = asDesk k (result i o) in
     let v = result-view d f k p i o (F .0) (F .1) in
-    let N = follows k l (left d c) (fit-kept d c f) (present-one k (result i o) d p) (subst (λ (m : machine.Station Garage Code). machine-orders.Fair numbered m l) (sym v) (F .2)) in
+    let N = follows k l (left d c) (fit-kept d c f) (present-one k (result i o) d p) (fair-at l v (F .2)) in
     let M : Followed k l (left d c) (machine.step numbered (deskView d) (result i o)) = subst (Followed k l (left d c)) v N in
     record {
       fair = (result-said d f k p i o (F .0) (F .1), beneath d f k p i o (F .0) (F .1) .fair .1, M .fair);
@@ -243,6 +248,6 @@ follows k (result i o ∷ l) d f p F =
 follows k (event e ∷ l) d f p F =
     let c = asDesk k (event e) in
     let v = event-view d f (e .0) (e .1) in
-    let N = follows k l (left d c) (fit-kept d c f) (present-one k (event e) d p) (subst (λ (m : machine.Station Garage Code). machine-orders.Fair numbered m l) (sym v) F) in
+    let N = follows k l (left d c) (fit-kept d c f) (present-one k (event e) d p) (fair-at l v F) in
     let M : Followed k l (left d c) (machine.step numbered (deskView d) (event e)) = subst (Followed k l (left d c)) v N in
     record { fair = M .fair; replied = ap₂ _∷_ (event-answer d f (e .0) (e .1)) (M .replied); shows = M .shows }

@@ -26,7 +26,8 @@ use Rattle.garage_laws.proofs.Instance.{rules, seenOf, framed, blank, allowed-h
 use Rattle.cards.specs.Held.{numbersIn, codeCards, cardsFit, isKnown}
 use Rattle.cards_laws.proofs.Tested.{isNew, new-same}
 use Rattle.desk_laws.proofs.Fits.{code-fits}
-use Rattle.desk_laws.proofs.Carrying.{known-alike, code-outside, code-inside, code-known, drivenAs, driven-outside, driven-inside, BringsNewAs, driven-fit, driven-new}
+use Rattle.desk_laws.proofs.Carrying.{known-alike, code-outside, code-inside, code-known, drivenAs, driven-outside, driven-inside}
+use Rattle.desk_laws.proofs.Carrying.{BringsNewAs, driven-fit, driven-new}
 
 -- a record with its numbers, and what it holds at a place
 abbrev pub Garage : Type 0
@@ -92,7 +93,8 @@ lift-numbers f g a k m = ap (λ x. x .1) (a k (lift-small k m) m)
 -- ---- events
 
 -- the station's event is possible, and it brings a new number if it brings one
-possible-has : (e : ℕ × ℕ) (w : Garage) → numbered .possible e w ≡ true → (rules .possible (e .0) (w .0) ≡ true) × (brings (e .0) (e .1) (w .1) ≡ true)
+possible-has : (e : ℕ × ℕ) (w : Garage) → numbered .possible e w ≡ true
+    → (rules .possible (e .0) (w .0) ≡ true) × (brings (e .0) (e .1) (w .1) ≡ true)
 possible-has e w t = both (rules .possible (e .0) (w .0)) (brings (e .0) (e .1) (w .1)) t
 
 brings-same : (e c : ℕ) (a b : List ℕ) → isNew c a ≡ isNew c b → brings e c a ≡ brings e c b
@@ -111,7 +113,9 @@ brings-new e c a t q = let one = event-one-form e BeginIn q in rw one (rw one at
 
 -- after an instruction the same numbers are new
 pub new-next : (x : Code) (w : Garage) → Fits w → numbered .allowed x w ≡ true → (c : ℕ) → isNew c (numbered .next x w .1) ≡ isNew c (w .1)
-new-next x w z t c = let (s, u) = parts w z in new-same c (codeCards x (w .0) (w .1)) (w .1) (code-known x (w .0) (w .1) s u (allowed-has x (w .0) t .0) c)
+new-next x w z t c =
+    let (s, u) = parts w z in
+    new-same c (codeCards x (w .0) (w .1)) (w .1) (code-known x (w .0) (w .1) s u (allowed-has x (w .0) t .0) c)
 
 -- and after an event those of which it was alike before
 new-after : (d : ℕ) (x : ℕ × ℕ) (f g : Garage) → Fits f → Fits g → Agree 64 looks (numbered .lift) f g → isNew d (f .1) ≡ isNew d (g .1)
@@ -154,10 +158,12 @@ module _ {O P : Type 0} (view : Code → ℕ → O) (glance : ℕ → ℕ → P)
   event-within e = record {
     reads = same-possible e;
     writes = λ f g p q a v t k h y.
-        tie (F .event (e .0) .writes (f .0) (g .0) (parts f p .0) (parts g q .0) (bits-agree (rules .lift) f g a) (ap (λ x. x .0) v) (possible-has e f t .0) k h y)
+        tie (F .event (e .0) .writes (f .0) (g .0) (parts f p .0) (parts g q .0) (bits-agree (rules .lift) f g a) (ap (λ x. x .0) v)
+        (possible-has e f t .0) k h y)
         (driven-inside (readEvent (e .0)) (brought (e .0) (e .1)) (f .1) (g .1) (lift-numbers f g a) k y);
     keeps = λ f p t k h o.
-        tie (F .event (e .0) .keeps (f .0) (parts f p .0) (possible-has e f t .0) k h o) (driven-outside (readEvent (e .0)) (brought (e .0) (e .1)) (f .1) k o);
+        tie (F .event (e .0) .keeps (f .0) (parts f p .0) (possible-has e f t .0) k h o)
+        (driven-outside (readEvent (e .0)) (brought (e .0) (e .1)) (f .1) k o);
     safe = λ f p t.
         let (s, c) = parts f p in
         let (ok, new) = possible-has e f t in
@@ -173,10 +179,12 @@ module _ {O P : Type 0} (view : Code → ℕ → O) (glance : ℕ → ℕ → P)
     view-after = λ x e c f z t. F .view-after x (e .0) c (f .0) (parts f z .0) (possible-has e f t .0);
     glance-next = λ e y c f z t. tie (F .glance-next (e .0) y c (f .0) (parts f z .0) t) (new-next y f z t (e .1));
     glance-after = λ e x f g p q a u v t.
-        tie (F .glance-after (e .0) (x .0) (f .0) (g .0) (parts f p .0) (parts g q .0) (bits-agree (rules .lift) f g a) (ap (λ y. y .0) u) (ap (λ y. y .0) v) (possible-has x f t .0))
+        tie (F .glance-after (e .0) (x .0) (f .0) (g .0) (parts f p .0) (parts g q .0) (bits-agree (rules .lift) f g a)
+        (ap (λ y. y .0) u) (ap (λ y. y .0) v) (possible-has x f t .0))
         (new-after (e .1) x f g p q a (ap (λ y. y .1) u) t (sym (same-possible x f g p q a v) ∙ t));
     reply = λ e lost f g p q a v.
-        ap (answered (e .0) (e .1) (f .1)) (F .reply (e .0) lost (f .0) (g .0) (parts f p .0) (parts g q .0) (bits-agree (rules .lift) f g a) (ap (λ x. x .0) v))
+        ap (answered (e .0) (e .1) (f .1))
+        (F .reply (e .0) lost (f .0) (g .0) (parts f p .0) (parts g q .0) (bits-agree (rules .lift) f g a) (ap (λ x. x .0) v))
         ∙ answered-same (e .0) (e .1) (f .1) (g .1) (rules .reply (e .0) lost (g .0)) (ap (λ x. x .1) v);
   }
 

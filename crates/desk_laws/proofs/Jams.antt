@@ -37,11 +37,12 @@ use Rattle.desk.specs.declared.Desk.{Desk}
 use Rattle.desk.specs.declared.Whereabouts.{Whereabouts}
 use Rattle.desk.specs.declared.Whereabouts.the-variants.{At, LastKnown, NotHere}
 use Rattle.desk.specs.Desk.{deskFit}
-use Rattle.desk.specs.Questions.{unsure, placed, whereabouts}
+use Rattle.desk.specs.Questions.{unsure, placed}
 use Rattle.desk_laws.specs.Runs.{DeskCall, calls, DeskBegins, below, appliedCards, stuckAt, finishedRecord, finishedCards}
 use Rattle.desk_laws.specs.Promises.{DeskAlways, WhicheverSame, WhereSure}
 use Rattle.desk_laws.proofs.Calls.{fit-parts}
 use Rattle.desk_laws.proofs.Fits.{fit-always, begins-fit, station-below}
+use Rattle.desk_laws.proofs.Told.{whereabouts-fit}
 use Rattle.desk_laws.proofs.Carrying.{code-outside, code-known}
 use Rattle.desk_laws.proofs.Instance.{Garage, numbered, parts, frame}
 
@@ -55,7 +56,8 @@ abbrev pub deskView : Desk → machine.Station Garage Code
 deskView d = onTop (view (d .station)) (d .numbers)
 
 -- it is in good order where the station is and the numbers fit
-good-desk : (js : List Code) (s : Station) (a : List ℕ) → Sane js s → cardsFit (s .bits) a ≡ true → Good numbered (jamsOf js) (onTop (view s) a)
+good-desk : (js : List Code) (s : Station) (a : List ℕ) → Sane js s → cardsFit (s .bits) a ≡ true
+    → Good numbered (jamsOf js) (onTop (view s) a)
 good-desk js s a G f = record {
   sound = and-intro (G .sound) f;
   apart = G .apart;
@@ -66,7 +68,8 @@ good-desk js s a G f = record {
 }
 
 -- the record and the numbers with some of them applied
-applied-is : (js : List Code) (p : List ℕ) (r : ℕ) (a : List ℕ) → machine-jams.applied numbered (jamsOf js) p (r, a) ≡ (applied js p r, appliedCards js p r a)
+applied-is : (js : List Code) (p : List ℕ) (r : ℕ) (a : List ℕ)
+    → machine-jams.applied numbered (jamsOf js) p (r, a) ≡ (applied js p r, appliedCards js p r a)
 applied-is js [] r a = refl
 applied-is js (i ∷ p) r a = applied-is js p (image (heldNext (jamAt js i) (bit r))) (codeCards (jamAt js i) r a)
 
@@ -87,7 +90,8 @@ module _ (d : Desk) (b : DeskBegins d) (l : List DeskCall) where
     whichever = good-whichever numbered _ _ frame _ _
         (good-desk (stuckAt d l) (calls d l .station) (calls d l .numbers) sane-now (fit-parts (calls d l) fits-now .1)) p (picks-same _ p h)
 
-    finished-is : machine-jams.applied numbered (jamsOf (stuckAt d l)) p (calls d l .station .bits, calls d l .numbers) ≡ (finishedRecord d l p, finishedCards d l p)
+    finished-is : machine-jams.applied numbered (jamsOf (stuckAt d l)) p (calls d l .station .bits, calls d l .numbers)
+        ≡ (finishedRecord d l p, finishedCards d l p)
     finished-is = applied-is (stuckAt d l) p (calls d l .station .bits) (calls d l .numbers)
 
     finished-fits : numbered .sound (finishedRecord d l p, finishedCards d l p) ≡ true
@@ -135,14 +139,11 @@ placed-sure apart j k e = split (eqb j nowhere)
     (λ u. let z = ap kind (rw (t, u) at e) in absurd (omega arith))
     (λ u. (ap placeIn (rw (t, u) at e), eqb-false j nowhere t, neither (bit apart j) (ltb j 20 && bit apart (suc j)) u .0)))
 
--- a fit desk that tells one
-told-sure : (d : Desk) (c k : ℕ) → deskFit d ≡ true → whereabouts d c ≡ At k → placed (d .station .apart) (whereIs (d .numbers) c) ≡ At k
-unfolding whereabouts
-told-sure d c k f e = rw f at e
-
 -- the number stands at the place that is told
 car-place : (j : ℕ) → j < 41 → placeOf j < 53
-car-place j h = split (ltb j 40) (λ t. rw t (omega arith)) (λ t. let l = ltb-false j 40 t in let q : j ≡ 40 = omega arith in rw q (omega arith))
+car-place j h = split (ltb j 40)
+    (λ t. rw t (omega arith))
+    (λ t. let l = ltb-false j 40 t in let q : j ≡ 40 = omega arith in rw q (omega arith))
 
 stands-there : (a : List ℕ) (c : ℕ) → (whereIs a c ≡ nowhere → ⊥) → (whereIs a c < 53) × (numbersIn a (whereIs a c) ≡ c)
 unfolding whereIs
@@ -150,7 +151,11 @@ stands-there a c o = split (eqb c 0)
     (λ t. absurd (o (rw t)))
     (λ t. split (ltb (elementOf a c) 41)
     (λ u. let h = ltb-true (elementOf a c) 41 u in
-    rw (t, u) (car-place (elementOf a c) h, element-number a (elementOf a c) (omega arith) ∙ eqb-true _ c (least-fault 41 (λ j. eqb (getD a j 0) c) u .passes)))
+    rw (t, u) (
+      car-place (elementOf a c) h,
+      element-number a (elementOf a c) (omega arith)
+          ∙ eqb-true _ c (least-fault 41 (λ j. eqb (getD a j 0) c) u .passes),
+    ))
     (λ u. absurd (o (rw (t, u)))))
 
 -- instructions with other areas leave it there
@@ -174,6 +179,7 @@ outside-jams js s G k h o i m = off _ (λ t. clash (G .inside i m k (omega arith
 pub where-sure : WhereSure
 where-sure d b l c k e p h =
     let s = calls d l in
-    let (j, there, o) = placed-sure (s .station .apart) (whereIs (s .numbers) c) k (told-sure s c k (fits-now d b l) e) in
+    let (j, there, o) = placed-sure (s .station .apart) (whereIs (s .numbers) c) k (sym (whereabouts-fit s c (fits-now d b l)) ∙ e) in
     let (m, stands) = stands-there (s .numbers) c there in
-    rw (← j) (applied-outside (stuckAt d l) (whereIs (s .numbers) c) (outside-jams (stuckAt d l) (s .station) (sane-now d b l) _ m o) p h _ _ ∙ stands)
+    let out = outside-jams (stuckAt d l) (s .station) (sane-now d b l) (whereIs (s .numbers) c) m o in
+    rw (← j) (applied-outside (stuckAt d l) (whereIs (s .numbers) c) out p h _ _ ∙ stands)

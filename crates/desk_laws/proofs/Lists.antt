@@ -29,8 +29,7 @@ module _ (k : ℕ) (fate : ℕ → Fate) where
   acts (desk.reports r ∷ l) c =
       let (a, e) = acts l (c .2) in
       let j = r .number in
-      let told-so = c .1 ∙ sym (told-outcome (fate j)) in
-      (
+      let told-so = c .1 ∙ sym (told-outcome (fate j)) in (
         result j (choice k fate j) ∷ a,
         ap (λ (x : ℕ). desk.reports (record { issue = x; number = j; ending = r .ending }) ∷ l) (c .0)
             ∙ ap₂ (λ (x : ℕ) (m : List DeskCall). desk.reports (record { issue = k; number = j; ending = x }) ∷ m) told-so e,
@@ -100,7 +99,8 @@ module _ {E : Type 0} where
   succeeds (event e ∷ a) = succeeds a
 
   module _ (n : ℕ) (chosen : ℕ → Outcome) where
-    some-success : (a : List (Act E)) → AsChosen chosen a → ((j : ℕ) → 0 < resultsOf j a → j < n) → succeeds a ≡ true → some n (λ j. moves (chosen j)) ≡ true
+    some-success : (a : List (Act E)) → AsChosen chosen a → ((j : ℕ) → 0 < resultsOf j a → j < n) → succeeds a ≡ true
+        → some n (λ j. moves (chosen j)) ≡ true
     some-success [] c within e = clash e refl
     some-success (result i o ∷ a) c within e = ⊎-elim
         (λ (t : moves o ≡ true). some-at n _ i (within i (rw (eq-eqb i i refl) (omega arith))) (ap moves (sym (c .0)) ∙ t))
@@ -117,5 +117,7 @@ module _ {E : Type 0} where
 
     pub succeeds-is : (es : List E) (a : List (Act E)) → Order n chosen es a → succeeds a ≡ some n (λ j. moves (chosen j))
     succeeds-is es a O = alike (succeeds a) (some n (λ j. moves (chosen j)))
-        (some-success a (O .chosen) (λ j h. split (ltb j n) (λ t. ltb-true j n t) (λ t. absurd (omega (arith, O .only j (ltb-false j n t))))))
+        (some-success a (O .chosen) (λ j h. split (ltb j n)
+        (λ t. ltb-true j n t)
+        (λ t. absurd (omega (arith, O .only j (ltb-false j n t))))))
         (λ e. let (j, h, t) = some-is n (λ j. moves (chosen j)) e in success-there a (O .chosen) j (rw (O .once j h) (omega arith)) t)

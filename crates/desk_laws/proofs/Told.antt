@@ -48,7 +48,7 @@ somewhere raised h e = omega arith
 placed-at : (apart : ℕ) (x : Car) → Stands x → placed apart (anchor x) ≡ cond (onApart apart x) (LastKnown (anchor x)) (At (anchor x))
 placed-at apart x h = rw (ne-eqb (anchor x) nowhere (somewhere x h), unsure-is apart x h)
 
-whereabouts-fit : (d : Desk) (c : ℕ) → deskFit d ≡ true → whereabouts d c ≡ placed (d .station .apart) (whereIs (d .numbers) c)
+pub whereabouts-fit : (d : Desk) (c : ℕ) → deskFit d ≡ true → whereabouts d c ≡ placed (d .station .apart) (whereIs (d .numbers) c)
 unfolding whereabouts
 whereabouts-fit d c f = rw f
 
