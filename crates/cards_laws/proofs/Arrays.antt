@@ -2,15 +2,15 @@
 -- image make of them passes the tests again. Assumes nothing.
 use mathlib.Core.Path.{_≡_, refl, sym, ap, subst, _∙_, fun-ext}
 use mathlib.Core.Logic.{_↔_, inl, inr, ⊎-elim}
-use mathlib.Core.Bool.{Bool, true, false, cond, not, _&&_, _||_}
-use mathlib.Core.List.{List, [], _++_}
+use mathlib.Core.Bool.{Bool, true, false, cond}
+use mathlib.Core.List.{List, []}
 use Prim.Native.Nat.{ℕ, _%_, _≤_, _<_}
 use native.Mathlib.Omega.{arith}
 use lib.Dec.{eqb, ltb}
-use lib.ListN.{length, getD, replicate, take, drop, getD-replicate, take-append-drop}
+use lib.ListN.{length, replicate, take, drop, getD-replicate, take-append-drop}
 use borrow.Author.Tests.{eqb-true, ltb-true}
 use Rattle.bits.specs.Bits.{Bits, bit, image}
-use Rattle.bits.proofs.Cases.{split, both}
+use Rattle.bits.proofs.Cases.{split}
 use Rattle.bits.proofs.Digits.{bit-image}
 use Rattle.floor.specs.Floor.{raisedCar, driveIn, driveOut}
 use Rattle.floor.specs.Cars.{Layout}
@@ -22,6 +22,7 @@ use Rattle.rules.specs.declared.Event.the-variants.{BeginIn, BeginOut, EndDone,
 use Rattle.rules.specs.Rules.{wellFormed, area, allowed, next}
 use Rattle.rules.specs.Events.{possible, after}
 use Rattle.rules_laws.specs.Laws.{Agree, liftArea}
+use Rattle.rules_laws.proofs.Shift.{below-same}
 use Rattle.cards.specs.declared.Offered.the-variants.{Fine}
 use Rattle.cards.specs.Cards.{Numbers, Cards, Has}
 use Rattle.cards.specs.Given.{bears, numbersGiven, givenAs}
@@ -30,7 +31,6 @@ use Rattle.cards.specs.Held.{held, numbersIn, cardsAfter, cardsDriven, cardsGiv
 use Rattle.cards.proofs.Listing.{in-held}
 use Rattle.cards_laws.specs.Statements.{SameOn, BringsNew, Remains}
 use Rattle.cards_laws.proofs.Anchors.{isPlace, bears-same, no-place, Marked, cards-marked, marked-cards}
-use Rattle.cards_laws.proofs.Sliding.{below-same}
 use Rattle.cards_laws.proofs.Sources.{numbers-outside, numbers-inside}
 use Rattle.cards_laws.proofs.Laws.{fine, next-marked, same-numbers}
 use Rattle.cards_laws.proofs.Events.{after-marked, event-has, event-numbers}

@@ -3,12 +3,11 @@
 use mathlib.Core.Path.{_≡_, refl, sym, ap, ap₂, subst, _∙_, fun-ext}
 use mathlib.Core.Logic.{_↔_}
 use mathlib.Core.Bool.{Bool, true, false, cond, not, _&&_, _||_, and-true}
-use mathlib.Core.List.{[], _∷_}
 use Prim.Native.Nat.{ℕ, _+_, _%_, _<_}
 use native.Mathlib.Omega.{arith}
-use lib.Dec.{eqb, ltb}
+use lib.Dec.{eqb}
 use lib.ListN.{getD}
-use borrow.Author.Tests.{eqb-true, eqb-false, ne-eqb, ltb-true}
+use borrow.Author.Tests.{eqb-true, ne-eqb}
 use Rattle.bits.specs.Bits.{Bits, digit}
 use Rattle.bits.proofs.Cases.{split, clash, off, true→T, T→true}
 use Rattle.floor.specs.Floor.{raisedCar, driveIn, driveOut}
@@ -19,12 +18,12 @@ use Rattle.rules.specs.declared.Event.{Event}
 use Rattle.rules.specs.declared.Event.the-variants.{BeginIn, BeginOut, EndDone, EndNotDone}
 use Rattle.rules.specs.Events.{eventConditions, possible, after}
 use Rattle.rules_laws.specs.Laws.{liftArea}
+use Rattle.rules_laws.proofs.Shift.{below-same}
 use Rattle.cards.specs.Cards.{Numbers, Cards, Has}
 use Rattle.cards.specs.Given.{bears}
 use Rattle.cards.specs.Following.{nowhere, numberAt, taken, numbersDriven}
 use Rattle.cards_laws.specs.Statements.{BringsNew, New, EventKept, Remains, EventHas, DrivenInHas, SameOn, EventNumbers}
 use Rattle.cards_laws.proofs.Anchors.{bears-same, isPlace, no-place, Marked, cards-marked, marked-cards, Carried, carried-marked, carried-numbers}
-use Rattle.cards_laws.proofs.Sliding.{below-same}
 use Rattle.cards_laws.proofs.Driving.{put, put-marked, put-numbers, drop-marked, drop-numbers, arriving, arrives}
 
 -- ---- the places that bear a number after an event

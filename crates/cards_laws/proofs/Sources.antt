@@ -6,7 +6,7 @@ use mathlib.Core.List.{List, [], _∷_}
 use Prim.Native.Nat.{ℕ, _<_}
 use native.Mathlib.Omega.{arith}
 use lib.Dec.{T, eqb, eqb→eq}
-use borrow.Author.Tests.{eqb-true, eqb-false, eq-eqb, not-true}
+use borrow.Author.Tests.{eqb-true, eqb-false, eq-eqb, ne-eqb, not-true}
 use Rattle.bits.specs.Bits.{Bits}
 use Rattle.bits.specs.Places.{elem}
 use Rattle.bits.specs.Search.{every}
@@ -78,8 +78,8 @@ nowhereOr ks k = eqb k nowhere || elem k ks
 abbrev oneToOne : List Taking → Bool
 oneToOne ts = allPass (leadsBack ts) (takers ts) && allPass (nowhereOr (takers ts)) (givers ts)
 
-or-else : (a b : Bool) → (a ≡ true → ⊥) → T (a || b) → T b
-or-else true b n t = absurd (n refl)
+pub or-else : (a b : Bool) → a ≡ false → T (a || b) → T b
+or-else true b n t = clash refl n
 or-else false b n t = t
 
 takers-back : (ts : List Taking) (k : ℕ) → elem k (takers (back ts)) ≡ elem k (givers ts)
@@ -89,13 +89,13 @@ takers-back (j ⟵ s ∷ ts) k = ap (λ (b : Bool). eqb s k || b) (takers-back t
 module _ (ts : List Taking) (t : T (oneToOne ts)) where
   giver-takes : (k : ℕ) → (k ≡ nowhere → ⊥) → T (elem k (givers ts)) → T (elem k (takers ts))
   giver-takes k n m =
-      or-else (eqb k nowhere) (elem k (takers ts)) (λ e. n (eqb-true k nowhere e))
+      or-else (eqb k nowhere) (elem k (takers ts)) (ne-eqb k nowhere n)
       (pass-at (nowhereOr (takers ts)) (givers ts) (and-r (allPass (leadsBack ts) (takers ts)) _ t) k m)
 
   -- the way back from a source
   pub way-back : (k : ℕ) → (source ts k ≡ nowhere → ⊥) → source (back ts) (source ts k) ≡ k
   way-back k n = split (elem k (takers ts))
-      (λ m. eqb→eq _ k (or-else (eqb (source ts k) nowhere) _ (λ e. n (eqb-true (source ts k) nowhere e))
+      (λ m. eqb→eq _ k (or-else (eqb (source ts k) nowhere) _ (ne-eqb (source ts k) nowhere n)
       (pass-at (leadsBack ts) (takers ts) (and-l (allPass (leadsBack ts) (takers ts)) (allPass (nowhereOr (takers ts)) (givers ts)) t) k (true→T m))))
       (λ m.
       let e = source-same ts k m in
@@ -146,7 +146,7 @@ module _ (i : Instruction) (w : T (wellFormed i)) where
       (and-l (allPass (λ k. elem k (areaOf i)) (takers (takings i low))) (allPass (nowhereOr (areaOf i)) (givers (takings i low))) (in-area low)) k (true→T m))) o)
 
   giver-in : (low : Bool) (k : ℕ) → (k ≡ nowhere → ⊥) → T (elem k (givers (takings i low))) → T (elem k (areaOf i))
-  giver-in low k n m = or-else (eqb k nowhere) (elem k (areaOf i)) (λ e. n (eqb-true k nowhere e))
+  giver-in low k n m = or-else (eqb k nowhere) (elem k (areaOf i)) (ne-eqb k nowhere n)
       (pass-at (nowhereOr (areaOf i)) (givers (takings i low)) (and-r (allPass (λ k. elem k (areaOf i)) (takers (takings i low))) _ (in-area low)) k m)
 
   -- a place of the area takes from the area

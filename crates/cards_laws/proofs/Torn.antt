@@ -1,8 +1,8 @@
 -- No car stands half in the area of an allowed instruction: at each border of the area in row 1 the number of occupied cells below is even,
 -- before and after. For belts that is their even count and their free end, for the lift and for shuttles the pair that they change, else a
 -- free cell. Assumes nothing.
-use mathlib.Core.Path.{_≡_, refl, sym, ap, ap₂, subst, _∙_}
-use mathlib.Core.Logic.{inl, inr, ⊎-elim}
+use mathlib.Core.Path.{_≡_, refl, sym, ap, subst, _∙_}
+use mathlib.Core.Logic.{⊎-elim}
 use mathlib.Core.Bool.{Bool, true, false, cond, not, _&&_, _||_, Bool·beq}
 use mathlib.Core.List.{List, [], _∷_, _++_}
 use Prim.Native.Nat.{ℕ, suc, _+_, _-_, _%_, _≤_, _<_}
@@ -13,7 +13,7 @@ use borrow.Author.Tests.{lt-ltb, eqb-true, eq-eqb, not-true, not-false}
 use Rattle.bits.specs.Bits.{Bits, digit, count}
 use Rattle.bits.specs.Places.{from, elem, isEmpty, adjacent}
 use Rattle.bits.specs.Search.{every}
-use Rattle.bits.proofs.Cases.{split, clash, both, and-l, and-r, and-T, and-intro, under, T→true, true→T, beq→eq}
+use Rattle.bits.proofs.Cases.{split, clash, both, and-l, and-r, and-intro, under, T→true, true→T, beq→eq}
 use Rattle.bits.proofs.Counts.{count-zero}
 use Rattle.bits.proofs.Fills.{On}
 use Rattle.bits.proofs.Lists.{same, same-eq}
@@ -37,11 +37,11 @@ use Rattle.rules_laws.proofs.Moves.{belts-named, other-kept}
 use Rattle.rules_laws.proofs.RulesKept.{both-lists}
 use Rattle.rules_laws.proofs.Tried.{tried, tried-law}
 use Rattle.cards.specs.Cards.{Among}
-use Rattle.cards.specs.Given.{bears}
 use Rattle.cards.specs.Following.{first}
 use Rattle.cards_laws.specs.Statements.{NoneTorn}
 use Rattle.cards_laws.proofs.Anchors.{bears-row, stands, car-bears}
-use Rattle.cards_laws.proofs.Others.{gapless, is-gapless, or-else, all-same, pf, ev-f}
+use Rattle.cards_laws.proofs.Sources.{or-else}
+use Rattle.cards_laws.proofs.Others.{gapless, is-gapless, all-same, pf, ev-f}
 use Rattle.cards_laws.proofs.Laws.{fine}
 
 -- of cell b and the next one is in the area, the other isn't
@@ -85,8 +85,14 @@ module _ (row mask toward size : ℕ) where
   abbrev atEnd : ℕ → Bool
   atEnd b = eqb row 1 && ((eqb a (suc b) || eqb (a + n) (suc b)) && besides (suc b) cs)
 
+  abbrev spanTest : Bool
+  spanTest = cond (eqb row 1) spanned true
+
+  abbrev borderTest : ℕ → Bool
+  borderTest b = cond (border i b) (atEnd b) true
+
   abbrev beltRight : Bool
-  beltRight = cond (not (isEmpty cs) && adjacent cs) (cond (eqb row 1) spanned true && every 19 (λ b. cond (border i b) (atEnd b) true)) true
+  beltRight = cond (not (isEmpty cs) && adjacent cs) (spanTest && every 19 borderTest) true
 
 abbrev right : Instruction → Bool
 right (Belts row mask toward size) = beltRight row mask toward size
@@ -99,17 +105,19 @@ all-right : T (everywhere right)
 unfolding everywhere every
 all-right = tt
 
-module _ (row mask toward size : ℕ) (f : Bits) (v : T (wellFormed (Belts row mask toward size))) (t : T (allHold (conditions (Belts row mask toward size)) f)) (w : Whole 20 f)
+module _ (row mask toward size : ℕ) (f : Bits)
+    (v : T (wellFormed (Belts row mask toward size))) (t : T (allHold (conditions (Belts row mask toward size)) f)) (w : Whole 20 f)
     (b : ℕ) (h : b < 19) (o : border (Belts row mask toward size) b ≡ true) where
-  tests : T (cond (eqb row 1) (spanned row mask toward size) true && every 19 (λ b. cond (border (Belts row mask toward size) b) (atEnd row mask toward size b) true))
+  tests : T (spanTest row mask toward size && every 19 (borderTest row mask toward size))
   tests =
       let c = nth-holds f (conditions (Belts row mask toward size)) t in
       under (not (isEmpty (cells row mask)) && adjacent (cells row mask)) _
-      (and-intro (T→true (not (isEmpty (cells row mask))) (c 1)) (T→true (adjacent (cells row mask)) (c 2))) (each right all-right (Belts row mask toward size) v)
+      (and-intro (T→true (not (isEmpty (cells row mask))) (c 1)) (T→true (adjacent (cells row mask)) (c 2)))
+      (each right all-right (Belts row mask toward size) v)
 
   ends : T (atEnd row mask toward size b)
   ends = under (border (Belts row mask toward size) b) (atEnd row mask toward size b) o
-      (each-below 19 (λ b. cond (border (Belts row mask toward size) b) (atEnd row mask toward size b) true) (and-r (cond (eqb row 1) (spanned row mask toward size) true) _ tests) b h)
+      (each-below 19 (borderTest row mask toward size) (and-r (spanTest row mask toward size) _ tests) b h)
 
   belts-even : below f (suc b) % 2 ≡ 0
   belts-even = at-end (eqb A (suc b)) refl (and-l (eqb A (suc b) || eqb (A + N) (suc b)) (besides (suc b) C) (and-r (eqb row 1) _ ends))
@@ -127,7 +135,7 @@ module _ (row mask toward size : ℕ) (f : Bits) (v : T (wellFormed (Belts row m
       one = T→true (eqb row 1) (and-l (eqb row 1) _ ends)
 
       span : T (spanned row mask toward size)
-      span = under (eqb row 1) (spanned row mask toward size) one (and-l (cond (eqb row 1) (spanned row mask toward size) true) _ tests)
+      span = under (eqb row 1) (spanned row mask toward size) one (and-l (spanTest row mask toward size) _ tests)
 
       rest : T (elem (head row mask toward size) (end toward (step row size) C) && (leb 1 N && leb (A + N) 20))
       rest = and-r (same C (from A N)) _ span
@@ -141,7 +149,8 @@ module _ (row mask toward size : ℕ) (f : Bits) (v : T (wellFormed (Belts row m
       counted : count (from A N) f % 2 ≡ 0
       counted =
           ap (λ (l : List ℕ). count l f % 2) (sym (same-eq C (from A N) (and-l (same C (from A N)) _ span)))
-          ∙ eqb→eq (count C f % 2) 0 (subst (λ (x : Bool). T (holds (when x (even C)) f)) one (nth-holds f (conditions (Belts row mask toward size)) t 5))
+          ∙ eqb→eq (count C f % 2) 0
+          (subst (λ (x : Bool). T (holds (when x (even C)) f)) one (nth-holds f (conditions (Belts row mask toward size)) t 5))
 
       free-head : f (head row mask toward size) ≡ false
       free-head =
@@ -155,7 +164,8 @@ module _ (row mask toward size : ℕ) (f : Bits) (v : T (wellFormed (Belts row m
           go : (up : Bool) → f (cond up (A + N - 1) A) ≡ false → (below f A % 2 ≡ 0) × (below f (A + N) % 2 ≡ 0)
           go true e =
               let q : suc (A + N - 1) ≡ A + N = omega (arith, bounds .0) in
-              let z : below f (A + N) % 2 ≡ 0 = ap (λ (k : ℕ). below f k % 2) (sym q) ∙ even-past f w (A + N - 1) (omega (arith, bounds .1)) e in
+              let z : below f (A + N) % 2 ≡ 0 =
+              ap (λ (k : ℕ). below f k % 2) (sym q) ∙ even-past f w (A + N - 1) (omega (arith, bounds .1)) e in
               (omega (arith, count-from f N A, counted), z)
           go false e =
               let z = even-at f w A (omega (arith, bounds .1)) e in
@@ -168,7 +178,8 @@ module _ (row mask toward size : ℕ) (f : Bits) (v : T (wellFormed (Belts row m
   belts-same : below (changed (changes (Belts row mask toward size)) f) (suc b) ≡ below f (suc b)
   belts-same =
       belts-carried row mask toward size f (belts-named row mask toward size v) t .same (suc b)
-      (and-r (eqb (first (cells row mask)) (suc b) || eqb (first (cells row mask) + length (cells row mask)) (suc b)) _ (and-r (eqb row 1) _ ends))
+      (and-r (eqb (first (cells row mask)) (suc b) || eqb (first (cells row mask) + length (cells row mask)) (suc b)) _
+      (and-r (eqb row 1) _ ends))
 
 -- ---- the others
 
@@ -197,27 +208,31 @@ besidePair i b = touches i && (eqb (pairAt i) (suc b) || eqb (suc (suc (pairAt i
 abbrev settled : Instruction → ℕ → Bool
 settled i b = not (eqb (suc b) (suc (pairAt i))) && (besidePair i b || (elem b (clear i) || elem (suc b) (clear i)))
 
+abbrev freeTest : Instruction → Bool
+freeTest i = tried (teller i) [] (conditions i ++ soundRules) (changes i) (allFree i)
+
+abbrev settledTest : Instruction → ℕ → Bool
+settledTest i b = cond (border i b) (settled i b) true
+
 abbrev otherRight : Instruction → Bool
-otherRight i =
-    cond (other i && gapless i)
-    (inside (teller i) (clear i) && (tried (teller i) [] (conditions i ++ soundRules) (changes i) (allFree i) && every 19 (λ b. cond (border i b) (settled i b) true)))
-    true
+otherRight i = cond (other i && gapless i) (inside (teller i) (clear i) && (freeTest i && every 19 (settledTest i))) true
 
 all-other : T (everywhere otherRight)
 unfolding everywhere every
 all-other = tt
 
-module _ (i : Instruction) (o : other i ≡ true) (f : Bits) (v : T (wellFormed i)) (c : T (allHold (conditions i) f)) (r : T (allHold soundRules f)) (w : Whole 20 f) where
-  tested : T (inside (teller i) (clear i) && (tried (teller i) [] (conditions i ++ soundRules) (changes i) (allFree i) && every 19 (λ b. cond (border i b) (settled i b) true)))
+module _ (i : Instruction) (o : other i ≡ true) (f : Bits) (v : T (wellFormed i))
+    (c : T (allHold (conditions i) f)) (r : T (allHold soundRules f)) (w : Whole 20 f) where
+  tested : T (inside (teller i) (clear i) && (freeTest i && every 19 (settledTest i)))
   tested = under (other i && gapless i) _ (and-intro o (T→true (gapless i) (is-gapless i f c))) (each otherRight all-other i v)
 
-  more : T (tried (teller i) [] (conditions i ++ soundRules) (changes i) (allFree i) && every 19 (λ b. cond (border i b) (settled i b) true))
+  more : T (freeTest i && every 19 (settledTest i))
   more = and-r (inside (teller i) (clear i)) _ tested
 
   is-clear : (k : ℕ) → T (elem k (clear i)) → f k ≡ false
   is-clear k m = not-true (f k) (T→true (not (f k)) (pass-at (λ k. not (f k)) (clear i)
       (tried-law (teller i) [] (conditions i ++ soundRules) (changes i) (allFree i) local
-      (and-l (tried (teller i) [] (conditions i ++ soundRules) (changes i) (allFree i)) _ more) f (both-lists f (conditions i) soundRules c r)) k m))
+      (and-l (freeTest i) _ more) f (both-lists f (conditions i) soundRules c r)) k m))
     where
       local : (f f′ g g′ : Bits) → On (teller i) f f′ → On [] g g′ → allFree i f g ≡ allFree i f′ g′
       local f f′ g g′ a b = all-same (λ k. not (f k)) (λ k. not (f′ k)) (clear i) (λ k m.
@@ -226,7 +241,7 @@ module _ (i : Instruction) (o : other i ≡ true) (f : Bits) (v : T (wellFormed 
   module _ (b : ℕ) (h : b < 19) (e : border i b ≡ true) where
     at : T (settled i b)
     at = under (border i b) (settled i b) e
-        (each-below 19 (λ b. cond (border i b) (settled i b) true) (and-r (tried (teller i) [] (conditions i ++ soundRules) (changes i) (allFree i)) _ more) b h)
+        (each-below 19 (settledTest i) (and-r (freeTest i) _ more) b h)
 
     other-even : below f (suc b) % 2 ≡ 0
     other-even = split (besidePair i b)
@@ -246,7 +261,8 @@ module _ (i : Instruction) (o : other i ≡ true) (f : Bits) (v : T (wellFormed 
 
     other-same : below (changed (changes i) f) (suc b) % 2 ≡ below f (suc b) % 2
     other-same = other-kept i o f v c r w .parity (suc b) (omega arith) (λ q.
-        clash (eq-eqb (suc b) (suc (pairAt i)) q) (not-true (eqb (suc b) (suc (pairAt i))) (T→true _ (and-l (not (eqb (suc b) (suc (pairAt i)))) _ at))))
+        clash (eq-eqb (suc b) (suc (pairAt i)) q)
+        (not-true (eqb (suc b) (suc (pairAt i))) (T→true _ (and-l (not (eqb (suc b) (suc (pairAt i)))) _ at))))
 
 -- ---- all
 
@@ -292,7 +308,8 @@ none-torn i f s ok l y c m = split (border i c)
     ⊎-elim
     (λ (z : Layout f l). let q = half-odd f l z c m in absurd (omega (arith, even .0)))
     (λ (z : Layout (next i f) l). let q = half-odd (next i f) l z c m in absurd (omega (arith, even .1))) y)
-    (λ e. beq→eq (elem c (areaOf i)) (elem (suc c) (areaOf i)) (true→T (not-false (Bool·beq (elem c (areaOf i)) (elem (suc c) (areaOf i))) e)))
+    (λ e.
+    beq→eq (elem c (areaOf i)) (elem (suc c) (areaOf i)) (true→T (not-false (Bool·beq (elem c (areaOf i)) (elem (suc c) (areaOf i))) e)))
   where
     low : c < 19
     low = ⊎-elim (λ (z : Layout f l). stands l (pair c) (z .stand) m) (λ (z : Layout (next i f) l). stands l (pair c) (z .stand) m) y

@@ -8,25 +8,24 @@ use Prim.Native.Nat.{ℕ, _+_}
 use lib.Dec.{eqb}
 use Rattle.bits.specs.Bits.{Bits, digit}
 use Rattle.bits.specs.Places.{share}
-use Rattle.bits.proofs.Cases.{both, clash, off}
+use Rattle.bits.proofs.Cases.{clash, off}
 use Rattle.bits.proofs.Sharing.{share-at}
 use Rattle.floor.specs.Floor.{lift, driveIn, driveOut}
-use Rattle.floor.specs.Tests.{holds, allHold, underWay}
+use Rattle.floor.specs.Tests.{holds, underWay}
 use Rattle.floor.specs.Sound.{Sound}
 use Rattle.rules.specs.declared.Instruction.{Instruction}
 use Rattle.rules.specs.declared.Instruction.the-variants.{Belts, Shuttles, Tilt, Lift, Rotate}
-use Rattle.rules.specs.Rules.{wellFormed, areaOf, area, overlap, seen, conditions, allowed, next}
+use Rattle.rules.specs.Rules.{wellFormed, areaOf, area, overlap, seen, allowed, next}
 use Rattle.rules_laws.specs.Laws.{Clear}
 use Rattle.rules_laws.proofs.Laws.{same-verdict, kept-outside, sides-kept, stays-sound}
 use Rattle.cards.specs.Following.{numbersAfter}
 use Rattle.cards_laws.specs.Statements.{AllAllowed, InNone, Whichever}
 use Rattle.cards_laws.proofs.Sources.{numbers-outside, drive-outside}
-use Rattle.cards_laws.proofs.Laws.{cards-after}
+use Rattle.cards_laws.proofs.Laws.{fine, cards-after}
 
 module _ (i : Instruction) (f : Bits) (s : Sound f) (ok : allowed i f ≡ true) where
   well : wellFormed i ≡ true
-  unfolding allowed
-  well = both (wellFormed i) (allHold (conditions i) f) ok .0
+  well = fine i f s ok .0
 
   -- no drive begins or ends
   same-drives : holds underWay (next i f) ≡ holds underWay f

@@ -18,7 +18,7 @@ use Rattle.rules.specs.Events.{possible, after}
 use Rattle.rules_laws.specs.Laws.{Agree, liftArea, Clear}
 use Rattle.cards.specs.Cards.{Numbers, anchor, Among, Cards, Has}
 use Rattle.cards.specs.declared.Offered.the-variants.{Fine}
-use Rattle.cards.specs.Given.{bears, numbersGiven, wanted, givenAs, AllNew, Rising}
+use Rattle.cards.specs.Given.{bears, numbersGiven, givenAs, AllNew, Rising}
 use Rattle.cards.specs.Held.{numbersIn, cardsFit, isKnown, whereIs}
 use Rattle.cards.specs.Following.{nowhere, numbersAfter, numbersDriven, moved}
 

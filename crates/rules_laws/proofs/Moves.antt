@@ -38,7 +38,7 @@ unfolding cars
 cars-same f g a b c = ap₂ _+_ (ap₂ (λ (x y : ℕ). x / 2 + y) a b) (ap digit c)
 
 -- the count of a row from its start
-row-count : (h : Bits) (n : ℕ) → count (from 0 n) h ≡ below h n
+pub row-count : (h : Bits) (n : ℕ) → count (from 0 n) h ≡ below h n
 row-count h n = let e : 0 + n ≡ n = omega arith in omega (arith, count-from h n 0, ap (below h) e)
 
 -- whole rows with the same weight
