@@ -47,10 +47,10 @@ tiltMask side row orientation =
     let here = bitOr (positions side (rowBit row)) (tiltedSlots side (rowBit row)) in
     cond (eqb orientation 1) here (bitOr here (cond (eqb side 0) 0x70000000000 0x380000000000))
 
--- the area of each instruction; the lift with all of row 1, and with its six cells
+-- the area of each instruction; the lift with its two cells, and with the six for its turn
 unfoldable pub areaMask : Instruction → ℕ
 areaMask (Belts row mask toward size) = beltsMask row mask
 areaMask (Shuttles side mask orientation toward) = shuttlesMask side mask orientation toward
 areaMask (Tilt side row orientation) = tiltMask side row orientation
-areaMask (Lift height) = 0x700000000FFFFF
+areaMask (Lift height) = 0x70000000001800
 areaMask Rotate = 0x7000000000E700

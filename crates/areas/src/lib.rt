@@ -10,7 +10,6 @@ use floor::masks::LEFT_BELT;
 use floor::masks::LEFT_LOWERED;
 use floor::masks::LEFT_TILTED_1;
 use floor::masks::LIFT_AND_CELLS;
-use floor::masks::LIFT_AND_ROW_1;
 use floor::masks::LIFT_AND_TURNING_CELLS;
 use floor::masks::MIDDLE_BELT_2;
 use floor::masks::MIDDLE_BELT_3;
@@ -118,7 +117,7 @@ fn tilt_mask(side: u8, row: u8, orientation: u8) -> u64
     here | RIGHT_LOWERED
 }
 
-// The area of each; the lift's with all of row 1, rotate's with its six cells.
+// The area of each; the lift's with its two cells, rotate's with its six.
 fn area_mask(i: Instruction) -> u64
     ensures { λ x. ⌜ x ≡ areaMask i ⌝ }
 {
@@ -140,7 +139,7 @@ fn area_mask(i: Instruction) -> u64
             row,
             orientation,
         } => tilt_mask(side, row, orientation),
-        Instruction::Lift { height: _ } => LIFT_AND_ROW_1,
+        Instruction::Lift { height: _ } => LIFT_AND_CELLS,
         Instruction::Rotate => LIFT_AND_TURNING_CELLS,
     }
 }

@@ -7,7 +7,7 @@ use Prim.Native.Nat.{ℕ, zero, suc, _+_, _≤_, _<_}
 use native.Mathlib.Omega.{arith}
 use lib.Dec.{eqb, ltb, eqb·zero-suc, eqb·suc-zero, eqb·suc-suc}
 use lib.ListN.{length, getD, set, replicate}
-use borrow.Author.Tests.{lt-ltb, le-ltb, eq-eqb, ne-eqb, eqb-true, eqb-false, ltb-true, ltb-false}
+use borrow.Author.Tests.{lt-ltb, le-ltb, ne-eqb, eqb-true, eqb-false, ltb-true, ltb-false}
 use Rattle.bits.specs.Bits.{bit}
 use Rattle.bits.proofs.Cases.{split, neither, true→T}
 use Rattle.floor.specs.Floor.{raisedCar, driveIn}
@@ -32,7 +32,8 @@ unfolding listed
 set-listed zero k f v h = absurd (omega arith)
 set-listed (suc m) zero f v h = ap (λ (l : List ℕ). v ∷ l) (listed-same m _ _ (λ j l. rw eqb·zero-suc))
 set-listed (suc m) (suc k) f v h =
-    rw eqb·suc-zero (ap (λ (l : List ℕ). f 0 ∷ l) (set-listed m k (λ j. f (suc j)) v (omega arith) ∙ listed-same m _ _ (λ j l. rw eqb·suc-suc)))
+    rw eqb·suc-zero (ap (λ (l : List ℕ). f 0 ∷ l)
+    (set-listed m k (λ j. f (suc j)) v (omega arith) ∙ listed-same m _ _ (λ j l. rw eqb·suc-suc)))
 
 -- the first k of m elements are those of f, the others 0
 pub record Filling (f : Numbers) (m : ℕ) (kept : List ℕ) (k : ℕ) : Type 0 where
@@ -113,7 +114,8 @@ abbrev pub newAt : Instruction → ℕ → List ℕ → Numbers
 newAt i r a j = numbersAfter i (bit r) (numbersIn a) (placeOf j)
 
 -- an element is the number at the source that the code finds
-pub element : (i : Instruction) (r : ℕ) (a : List ℕ) (j : ℕ) → j < 42 → wellFormed i ≡ true → numberAt (numbersIn a) (sourceOf i (holds atBasement (bit r)) (placeOf j)) ≡ newAt i r a j
+pub element : (i : Instruction) (r : ℕ) (a : List ℕ) (j : ℕ) → j < 42 → wellFormed i ≡ true
+    → numberAt (numbersIn a) (sourceOf i (holds atBasement (bit r)) (placeOf j)) ≡ newAt i r a j
 unfolding numbersAfter
 element i r a j h w =
     let s = place-small j h in
@@ -124,7 +126,8 @@ pub no-new : (i : Instruction) (r : ℕ) (a : List ℕ) → wellFormed i ≡ fal
 unfolding cardsAfter
 no-new i r a w = rw w
 
-pub all-new : (i : Instruction) (r : ℕ) (a : List ℕ) {new : List ℕ} → wellFormed i ≡ true → new ≡ listed 42 (newAt i r a) → new ≡ cardsAfter i r a
+pub all-new : (i : Instruction) (r : ℕ) (a : List ℕ) {new : List ℕ} → wellFormed i ≡ true
+    → new ≡ listed 42 (newAt i r a) → new ≡ cardsAfter i r a
 unfolding cardsAfter held
 all-new i r a w e = rw w e
 

@@ -39,7 +39,9 @@ unfolding everywhere every source beltOf against beltSource rowAt placeAt rowNam
 all-found = tt
 
 pub source-is : (i : Instruction) → T (wellFormed i) → (low : Bool) (k : ℕ) → k < 64 → sourceOf i low k ≡ source (takings i low) k
-source-is i w low k h = eqb→eq (sourceOf i low k) (source (takings i low) k) (each-below 64 (λ k. eqb (sourceOf i low k) (source (takings i low) k)) (go low) k h)
+source-is i w low k h =
+    eqb→eq (sourceOf i low k) (source (takings i low) k)
+    (each-below 64 (λ k. eqb (sourceOf i low k) (source (takings i low) k)) (go low) k h)
   where
     go : (low : Bool) → T (foundAt i low)
     go true = and-l (foundAt i true) (foundAt i false) (each found all-found i w)

@@ -8,23 +8,20 @@ use Prim.Native.Nat.{ℕ, zero, suc, _+_, _%_, _≤_, _<_}
 use native.Mathlib.Omega.{arith}
 use lib.Dec.{eqb, ltb, eqb·suc-suc}
 use borrow.Author.Tests.{eqb-true, eqb-false, ne-eqb, lt-ltb, ltb-true, ltb-false}
-use Rattle.bits.specs.Bits.{Bits, digit, count}
-use Rattle.bits.specs.Places.{from as span}
+use Rattle.bits.specs.Bits.{Bits, digit}
 use Rattle.bits.proofs.Cases.{split, clash, off}
 use Rattle.bits.proofs.Digits.{digit-lt, digit-one}
 use Rattle.floor.specs.Floor.{raisedCar, driveIn}
 use Rattle.floor.specs.Cars.{Car, pair, single, raised, Stands, at, covered, AllStand, Layout}
 use Rattle.floor.proofs.Layouts.{at-same, at-other}
-use Rattle.floor.proofs.Rows.{below, count-from}
+use Rattle.floor.proofs.Rows.{below}
+use Rattle.rules_laws.proofs.Moves.{row-count}
 use Rattle.cards.specs.Cards.{Numbers, anchor, Among, Cards, Has}
 use Rattle.cards.specs.Given.{bears}
 use Rattle.cards.specs.Following.{nowhere, numberAt}
 use Rattle.cards_laws.specs.Statements.{BearsExactly}
 
 -- ---- the places that bear a number: in row 1, and elsewhere
-
-pub row-count : (f : Bits) (k : ℕ) → count (span 0 k) f ≡ below f k
-row-count f k = let e : 0 + k ≡ k = omega arith in omega (arith, count-from f k 0, ap (below f) e)
 
 pub bears-row : (f : Bits) (k : ℕ) → ltb k 20 ≡ true → bears f k ≡ f k && eqb (below f k % 2) 0
 bears-row f k e = rw (e, row-count f k)

@@ -1,5 +1,5 @@
--- A belt move carries along the places of its span that bear a number. That its takings and its bits are those of a span that slides is computed at
--- every well-formed move. Assumes nothing.
+-- A belt move carries along the places of its span that bear a number. That its takings and its bits are those of a span that slides is
+-- computed at every well-formed move. Assumes nothing.
 use mathlib.Core.Path.{_≡_, sym, ap, subst, _∙_}
 use mathlib.Core.Logic.{_⊎_, inl, inr, ⊎-elim}
 use mathlib.Core.Bool.{Bool, true, false, cond, not, _&&_, and-true}
@@ -232,9 +232,11 @@ all-right : T (everywhere beltRight)
 unfolding everywhere every source
 all-right = tt
 
-pub belts-follow : (row mask toward size : ℕ) (f : Bits) → T (wellFormed (Belts row mask toward size)) → T (allHold (conditions (Belts row mask toward size)) f)
+pub belts-follow : (row mask toward size : ℕ) (f : Bits)
+    → T (wellFormed (Belts row mask toward size)) → T (allHold (conditions (Belts row mask toward size)) f)
     → Follows f (changed (changes (Belts row mask toward size)) f) (source (takings (Belts row mask toward size) true))
-belts-follow row mask toward size f w t = span-follows A M N S (end toward N C) f g in-row new kept free (higher toward) (and-l (moves row mask toward size) (bits row mask toward size) moving)
+belts-follow row mask toward size f w t =
+    span-follows A M N S (end toward N C) f g in-row new kept free (higher toward) (and-l (moves row mask toward size) (bits row mask toward size) moving)
   where
     C : List ℕ
     C = cells row mask
@@ -258,7 +260,9 @@ belts-follow row mask toward size f w t = span-follows A M N S (end toward N C) 
     c = nth-holds f (conditions (Belts row mask toward size)) t
 
     all : T (span row mask toward size && (moves row mask toward size && bits row mask toward size))
-    all = under (not (isEmpty C) && adjacent C) _ (T→true _ (and-T (not (isEmpty C)) (adjacent C) (c 1) (c 2))) (each beltRight all-right (Belts row mask toward size) w)
+    all =
+        under (not (isEmpty C) && adjacent C) _ (T→true _ (and-T (not (isEmpty C)) (adjacent C) (c 1) (c 2)))
+        (each beltRight all-right (Belts row mask toward size) w)
 
     moving : T (moves row mask toward size && bits row mask toward size)
     moving = and-r (span row mask toward size) _ all
@@ -287,7 +291,7 @@ belts-follow row mask toward size f w t = span-follows A M N S (end toward N C) 
         found-law (changes (Belts row mask toward size)) f k
         ∙ asks-law f (found (changes (Belts row mask toward size)) k) (source S k)
         (pass-at (λ k. asks (found (changes (Belts row mask toward size)) k) (source S k)) C
-        (and-l (allPass (λ k. asks (found (changes (Belts row mask toward size)) k) (source S k)) C) (allPass (λ k. elem k C) (targets (changes (Belts row mask toward size)))) made) k
+        (and-l (allPass (λ k. asks (found (changes (Belts row mask toward size)) k) (source S k)) C) _ made) k
         (subst (λ (ks : List ℕ). T (elem k ks)) (sym is-span) (elem-from k A (M + N) l (omega arith))))
 
     not-in : (k : ℕ) → (k < A) ⊎ (A + M + N ≤ k) → elem k C ≡ false
@@ -299,7 +303,7 @@ belts-follow row mask toward size f w t = span-follows A M N S (end toward N C) 
     kept k o = (
       not-target (changes (Belts row mask toward size)) f k (off (elem k (targets (changes (Belts row mask toward size)))) (λ m.
           clash (T→true (elem k C) (pass-at (λ k. elem k C) (targets (changes (Belts row mask toward size)))
-          (and-r (allPass (λ k. asks (found (changes (Belts row mask toward size)) k) (source S k)) C) (allPass (λ k. elem k C) (targets (changes (Belts row mask toward size)))) made) k (true→T m)))
+          (and-r (allPass (λ k. asks (found (changes (Belts row mask toward size)) k) (source S k)) C) _ made) k (true→T m)))
           (not-in k o))),
       source-same S k (ap (elem k) take-span ∙ not-in k o),
     )

@@ -82,10 +82,12 @@ module _ (p : ℕ) (A B : Bits) (n : Numbers) (M : Marked A n) where
       λ h. split (eqb p (h .0))
           (λ t. absurd (z (sym (rw t at (h .1)))))
           (λ t.
-          let here : n (h .0) ≡ d = rw t at (h .1) in
-          ((h .0, here), λ q. split (A p)
-          (λ a. eqb-false p (h .0) t (M .once p (h .0) (sym q ∙ sym here) a))
-          (λ a. z (q ∙ M .none p a)))),
+          let here : n (h .0) ≡ d = rw t at (h .1) in (
+            (h .0, here),
+            λ q. split (A p)
+                (λ a. eqb-false p (h .0) t (M .once p (h .0) (sym q ∙ sym here) a))
+                (λ a. z (q ∙ M .none p a)),
+          )),
       λ h. split (eqb p (h .0 .0))
           (λ t. absurd (h .1 (sym (h .0 .1) ∙ ap n (sym (eqb-true p (h .0 .0) t)))))
           (λ t. (h .0 .0, rw t (h .0 .1))),

@@ -1,7 +1,7 @@
 -- Places and elements: each place where a number may stand has one element of an array of 42, and what is held there is its number.
 -- Assumes nothing.
 use mathlib.Core.Path.{_≡_, refl, sym, ap, _∙_, fun-ext}
-use mathlib.Core.Bool.{Bool, true, false, cond, _||_}
+use mathlib.Core.Bool.{Bool, true, cond}
 use mathlib.Core.List.{List}
 use Prim.Native.Nat.{ℕ, zero, suc, _<_}
 use native.Mathlib.Omega.{arith}
@@ -13,21 +13,21 @@ use Rattle.bits.proofs.Cases.{split, clash}
 use Rattle.floor.specs.Floor.{raisedCar, driveIn}
 use Rattle.cards.specs.Cards.{Numbers}
 use Rattle.cards.specs.Held.{listed, placeOf, held, numbersIn}
-use Rattle.cards.proofs.Listing.{in-held, none-in, by-place}
+use Rattle.cards.proofs.Listing.{in-held, none-in, cell-place, by-place}
 use Rattle.cards_laws.proofs.Anchors.{isPlace}
 
 -- ---- the place of an element
 
 pub element-number : (a : List ℕ) (j : ℕ) → j < 42 → numbersIn a (placeOf j) ≡ getD a j 0
 unfolding numbersIn
-element-number a = by-place (λ j. numbersIn a (placeOf j) ≡ getD a j 0) (λ j h. rw (lt-ltb j 40 h) (ap (λ (b : Bool). cond b (getD a j 0) (cond (eqb raisedCar j) (getD a 40 0) (cond (eqb driveIn j) (getD a 41 0) 0))) (lt-ltb j 40 h))) refl refl
+element-number a = by-place (λ j. numbersIn a (placeOf j) ≡ getD a j 0) (λ j h. ap (numbersIn a) (cell-place j h) ∙ rw (lt-ltb j 40 h)) refl refl
 
 -- and the reverse
 abbrev elementAt : ℕ → ℕ
 elementAt k = cond (ltb k 40) k (cond (eqb raisedCar k) 40 41)
 
 element-back : (j : ℕ) → j < 42 → elementAt (placeOf j) ≡ j
-element-back = by-place (λ j. elementAt (placeOf j) ≡ j) (λ j h. rw (lt-ltb j 40 h) (ap (λ (b : Bool). cond b j (cond (eqb raisedCar j) 40 41)) (lt-ltb j 40 h))) refl refl
+element-back = by-place (λ j. elementAt (placeOf j) ≡ j) (λ j h. ap elementAt (cell-place j h) ∙ rw (lt-ltb j 40 h)) refl refl
 
 -- no two elements have one place
 pub one-place : (i j : ℕ) → i < 42 → j < 42 → placeOf i ≡ placeOf j → i ≡ j

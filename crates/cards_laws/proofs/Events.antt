@@ -3,12 +3,11 @@
 use mathlib.Core.Path.{_≡_, refl, sym, ap, ap₂, subst, _∙_, fun-ext}
 use mathlib.Core.Logic.{_↔_}
 use mathlib.Core.Bool.{Bool, true, false, cond, not, _&&_, _||_, and-true}
-use mathlib.Core.List.{[], _∷_}
 use Prim.Native.Nat.{ℕ, _+_, _%_, _<_}
 use native.Mathlib.Omega.{arith}
-use lib.Dec.{eqb, ltb}
+use lib.Dec.{eqb}
 use lib.ListN.{getD}
-use borrow.Author.Tests.{eqb-true, eqb-false, ne-eqb, ltb-true}
+use borrow.Author.Tests.{eqb-true, ne-eqb}
 use Rattle.bits.specs.Bits.{Bits, digit}
 use Rattle.bits.proofs.Cases.{split, clash, off, true→T, T→true}
 use Rattle.floor.specs.Floor.{raisedCar, driveIn, driveOut}
@@ -19,12 +18,12 @@ use Rattle.rules.specs.declared.Event.{Event}
 use Rattle.rules.specs.declared.Event.the-variants.{BeginIn, BeginOut, EndDone, EndNotDone}
 use Rattle.rules.specs.Events.{eventConditions, possible, after}
 use Rattle.rules_laws.specs.Laws.{liftArea}
+use Rattle.rules_laws.proofs.Shift.{below-same}
 use Rattle.cards.specs.Cards.{Numbers, Cards, Has}
 use Rattle.cards.specs.Given.{bears}
 use Rattle.cards.specs.Following.{nowhere, numberAt, taken, numbersDriven}
 use Rattle.cards_laws.specs.Statements.{BringsNew, New, EventKept, Remains, EventHas, DrivenInHas, SameOn, EventNumbers}
-use Rattle.cards_laws.proofs.Anchors.{bears-same, isPlace, no-place, Marked, cards-marked, marked-cards, carried-marked, carried-numbers}
-use Rattle.cards_laws.proofs.Sliding.{below-same}
+use Rattle.cards_laws.proofs.Anchors.{bears-same, isPlace, no-place, Marked, cards-marked, marked-cards, Carried, carried-marked, carried-numbers}
 use Rattle.cards_laws.proofs.Driving.{put, put-marked, put-numbers, drop-marked, drop-numbers, arriving, arrives}
 
 -- ---- the places that bear a number after an event
@@ -111,110 +110,117 @@ out-of f ok e = go (f driveIn) (f driveOut) e (T→true _ (nth-holds f (eventCon
     go false true e p = refl
     go false false e p = clash p refl
 
--- ---- the numbers after an event
+-- ---- the numbers after an event: they stand at the places that bear one, and those that remain are there
 
--- they stand at the places that bear one, and those that remain are there
-record Right (e : Event) (f : Bits) (n : Numbers) (c : ℕ) : Type 0 where
-  marked : Marked (bears (after e f)) (numbersDriven e c n)
-  has : (d : ℕ) → (d ≡ 0 → ⊥) → Has (numbersDriven e c n) d ↔ Remains e f n c d
-
-module _ (f : Bits) (n : Numbers) (c : ℕ) (s : Sound f) (M : Marked (bears f) n) where
-  begin-in-right : possible BeginIn f ≡ true → New c n → Right BeginIn f n c
-  unfolding numbersDriven
-  begin-in-right ok new = record {
-    marked = put-marked driveIn (bears f) (bears (after BeginIn f)) n M (idle f ok) (begin-in f) c new;
-    has = put-numbers driveIn (bears f) (bears (after BeginIn f)) n M (idle f ok) (begin-in f) c new;
-  }
-
-  begin-out-right : Right BeginOut f n c
-  unfolding numbersDriven
-  begin-out-right = record {
-    marked = subst (λ (A : Bits). Marked A n) (sym (fun-ext (begin-out f))) M;
-    has = λ d z. (λ h. h, λ h. h);
-  }
+module _ (f : Bits) (n : Numbers) (c : ℕ) (M : Marked (bears f) n) where
+  -- a begin of a drive-out changes none
+  same-bears : bears (after BeginOut f) ≡ bears f
+  same-bears = fun-ext (begin-out f)
 
   -- an end that isn't done drops what waits
   dropped : numbersDriven EndNotDone c n ≡ put driveIn 0 n
   unfolding numbersDriven taken
   dropped = refl
 
-  end-not-done-right : Right EndNotDone f n c
-  end-not-done-right = record {
-    marked = subst (Marked (bears (after EndNotDone f))) (sym dropped) (drop-marked driveIn (bears f) (bears (after EndNotDone f)) n M (end-not-done f));
-    has = λ d z. subst (λ (m : Numbers). Has m d ↔ Remains EndNotDone f n c d) (sym dropped) (drop-numbers driveIn (bears f) (bears (after EndNotDone f)) n M (end-not-done f) d z);
-  }
+  -- an end that is done, of a drive-in: what waits arrives on the raised lift
+  arrived : numbersDriven EndDone c n ≡ (λ k. numberAt n (arriving raisedCar driveIn k))
+  unfolding numbersDriven taken
+  arrived = fun-ext (λ k. split (eqb raisedCar k)
+      (λ t. rw t)
+      (λ t. split (eqb driveIn k)
+      (λ u. rw (t, u))
+      (λ u. split (eqb k nowhere)
+      (λ v. rw (t, u, v) (ap n (eqb-true k nowhere v) ∙ M .none nowhere refl))
+      (λ v. rw (t, u, v)))))
 
-  module _ (ok : possible EndDone f ≡ true) where
-    abbrev B : Bits
-    B = bears (after EndDone f)
+  arriving-bears : Sound f → f driveIn ≡ true → Carried (bears f) (bears (after EndDone f)) (arriving raisedCar driveIn)
+  arriving-bears s e =
+      arrives raisedCar driveIn (bears f) (bears (after EndDone f)) (λ q. omega arith) refl (into f s e .1) e
+      (λ k. end-done f k ∙ ap (λ (b : Bool). cond (eqb raisedCar k) b (cond (eqb driveIn k) false (bears f k))) e)
 
-    -- of a drive-in: what waits arrives on the raised lift
-    arrived : numbersDriven EndDone c n ≡ (λ k. numberAt n (arriving raisedCar driveIn k))
-    unfolding numbersDriven taken
-    arrived = fun-ext (λ k. split (eqb raisedCar k)
-        (λ t. rw t)
-        (λ t. split (eqb driveIn k)
-        (λ u. rw (t, u))
-        (λ u. split (eqb k nowhere)
-        (λ v. rw (t, u, v) (ap n (eqb-true k nowhere v) ∙ M .none nowhere refl))
-        (λ v. rw (t, u, v)))))
+  -- of a drive-out: what is on the raised lift is dropped, since nothing waits
+  left : f driveIn ≡ false → numbersDriven EndDone c n ≡ put raisedCar 0 n
+  unfolding numbersDriven taken
+  left e = fun-ext (λ k. split (eqb raisedCar k)
+      (λ t. rw t (M .none driveIn e))
+      (λ t. split (eqb driveIn k)
+      (λ u. rw (t, u) (sym (ap n (sym (eqb-true driveIn k u)) ∙ M .none driveIn e)))
+      (λ u. rw (t, u))))
 
-    in-right : f driveIn ≡ true → Right EndDone f n c
-    in-right e =
-        let (not-out, free) = into f s e in
-        let K = arrives raisedCar driveIn (bears f) B (λ q. omega arith) refl free e (λ k. end-done f k ∙ ap (λ (b : Bool). cond (eqb raisedCar k) b (cond (eqb driveIn k) false (bears f k))) e) in
-        record {
-          marked = subst (Marked B) (sym arrived) (carried-marked (bears f) B (arriving raisedCar driveIn) n refl K M);
-          has = λ d z. subst (λ (m : Numbers). Has m d ↔ Remains EndDone f n c d) (sym arrived)
-              (let (there, back) = carried-numbers (bears f) B (arriving raisedCar driveIn) n refl K M d z in
-              (λ h. (there h, λ o. clash o not-out), λ h. back (h .0)));
-        }
+  leaving-bears : f driveIn ≡ false → (k : ℕ) → bears (after EndDone f) k ≡ cond (eqb raisedCar k) false (bears f k)
+  leaving-bears e k =
+      end-done f k
+      ∙ none-waits (eqb raisedCar k) (eqb driveIn k) (f driveIn) (bears f k) e (λ t. ap (bears f) (sym (eqb-true driveIn k t)) ∙ e)
+    where
+      none-waits : (a b x y : Bool) → x ≡ false → (b ≡ true → y ≡ false) → cond a x (cond b false y) ≡ cond a false y
+      none-waits true b x y o h = o
+      none-waits false true x y o h = sym (h refl)
+      none-waits false false x y o h = refl
 
-    -- of a drive-out: what is on the raised lift is dropped, since nothing waits
-    left : f driveIn ≡ false → numbersDriven EndDone c n ≡ put raisedCar 0 n
-    unfolding numbersDriven taken
-    left e = fun-ext (λ k. split (eqb raisedCar k)
-        (λ t. rw t (M .none driveIn e))
-        (λ t. split (eqb driveIn k)
-        (λ u. rw (t, u) (sym (ap n (sym (eqb-true driveIn k u)) ∙ M .none driveIn e)))
-        (λ u. rw (t, u))))
+marked-after : (e : Event) (f : Bits) (n : Numbers) (c : ℕ) → Sound f → possible e f ≡ true → Marked (bears f) n → BringsNew e c n
+    → Marked (bears (after e f)) (numbersDriven e c n)
+unfolding numbersDriven
+marked-after BeginIn f n c s ok M new = put-marked driveIn (bears f) (bears (after BeginIn f)) n M (idle f ok) (begin-in f) c (new refl)
+marked-after BeginOut f n c s ok M new = subst (λ (A : Bits). Marked A n) (sym (same-bears f n c M)) M
+marked-after EndDone f n c s ok M new = split (f driveIn)
+    (λ e.
+    subst (Marked (bears (after EndDone f))) (sym (arrived f n c M))
+    (carried-marked (bears f) (bears (after EndDone f)) (arriving raisedCar driveIn) n refl (arriving-bears f n c M s e) M))
+    (λ e.
+    subst (Marked (bears (after EndDone f))) (sym (left f n c M e))
+    (drop-marked raisedCar (bears f) (bears (after EndDone f)) n M (leaving-bears f n c M e)))
+marked-after EndNotDone f n c s ok M new =
+    subst (Marked (bears (after EndNotDone f))) (sym (dropped f n c M))
+    (drop-marked driveIn (bears f) (bears (after EndNotDone f)) n M (end-not-done f))
 
-    none-waits : (a b x y : Bool) → x ≡ false → (b ≡ true → y ≡ false) → cond a x (cond b false y) ≡ cond a false y
-    none-waits true b x y o h = o
-    none-waits false true x y o h = sym (h refl)
-    none-waits false false x y o h = refl
+-- those that are there
+abbrev Right : Event → Bits → Numbers → ℕ → ℕ → Type 0
+Right e f n c d = Has (numbersDriven e c n) d ↔ Remains e f n c d
 
-    out-right : f driveIn ≡ false → Right EndDone f n c
-    out-right e =
-        let drops : (k : ℕ) → B k ≡ cond (eqb raisedCar k) false (bears f k) = λ k.
-        end-done f k ∙ none-waits (eqb raisedCar k) (eqb driveIn k) (f driveIn) (bears f k) e (λ t. ap (bears f) (sym (eqb-true driveIn k t)) ∙ e) in
-        record {
-          marked = subst (Marked B) (sym (left e)) (drop-marked raisedCar (bears f) B n M drops);
-          has = λ d z. subst (λ (m : Numbers). Has m d ↔ Remains EndDone f n c d) (sym (left e))
-              (let (there, back) = drop-numbers raisedCar (bears f) B n M drops d z in
-              (λ h. (there h .0, λ o. there h .1), λ h. back (h .0, h .1 (out-of f ok e))));
-        }
+module _ (f : Bits) (n : Numbers) (c : ℕ) (M : Marked (bears f) n) (d : ℕ) (z : d ≡ 0 → ⊥) where
+  begun-in : possible BeginIn f ≡ true → New c n → Right BeginIn f n c d
+  unfolding numbersDriven
+  begun-in ok new = put-numbers driveIn (bears f) (bears (after BeginIn f)) n M (idle f ok) (begin-in f) c new d z
 
-right : (e : Event) (f : Bits) (n : Numbers) (c : ℕ) → Sound f → possible e f ≡ true → Marked (bears f) n → BringsNew e c n → Right e f n c
-right BeginIn f n c s ok M new = begin-in-right f n c s M ok (new refl)
-right BeginOut f n c s ok M new = begin-out-right f n c s M
-right EndDone f n c s ok M new = split (f driveIn) (in-right f n c s M ok) (out-right f n c s M ok)
-right EndNotDone f n c s ok M new = end-not-done-right f n c s M
+  begun-out : Right BeginOut f n c d
+  unfolding numbersDriven
+  begun-out = (λ h. h, λ h. h)
+
+  done-in : Sound f → f driveIn ≡ true → Right EndDone f n c d
+  done-in s e =
+      subst (λ (m : Numbers). Has m d ↔ Remains EndDone f n c d) (sym (arrived f n c M))
+      (let (there, back) =
+      carried-numbers (bears f) (bears (after EndDone f)) (arriving raisedCar driveIn) n refl (arriving-bears f n c M s e) M d z in
+      (λ h. (there h, λ o. clash o (into f s e .0)), λ h. back (h .0)))
+
+  done-out : possible EndDone f ≡ true → f driveIn ≡ false → Right EndDone f n c d
+  done-out ok e =
+      subst (λ (m : Numbers). Has m d ↔ Remains EndDone f n c d) (sym (left f n c M e))
+      (let (there, back) = drop-numbers raisedCar (bears f) (bears (after EndDone f)) n M (leaving-bears f n c M e) d z in
+      (λ h. (there h .0, λ o. there h .1), λ h. back (h .0, h .1 (out-of f ok e))))
+
+  not-done : Right EndNotDone f n c d
+  not-done =
+      subst (λ (m : Numbers). Has m d ↔ Remains EndNotDone f n c d) (sym (dropped f n c M))
+      (drop-numbers driveIn (bears f) (bears (after EndNotDone f)) n M (end-not-done f) d z)
 
 -- ---- the statements
 
-module _ (e : Event) (f : Bits) (n : Numbers) (c : ℕ) (s : Sound f) (ok : possible e f ≡ true) (cards : Cards f n) (new : BringsNew e c n) where
-  all-right : Right e f n c
-  all-right = right e f n c s ok (cards-marked f n (s .layout .0) (s .layout .1) cards) new
-
-  pub after-marked : Marked (bears (after e f)) (numbersDriven e c n)
-  after-marked = all-right .marked
+pub after-marked : (e : Event) (f : Bits) (n : Numbers) (c : ℕ) → Sound f → possible e f ≡ true → Cards f n → BringsNew e c n
+    → Marked (bears (after e f)) (numbersDriven e c n)
+after-marked e f n c s ok cards = marked-after e f n c s ok (cards-marked f n (s .layout .0) (s .layout .1) cards)
 
 pub event-kept : EventKept
 event-kept e f n c s ok cards new = marked-cards (after e f) (numbersDriven e c n) (after-marked e f n c s ok cards new)
 
 pub event-has : EventHas
-event-has e f n c s ok cards new = all-right e f n c s ok cards new .has
+event-has e f n c s ok cards new d z = go e ok new (cards-marked f n (s .layout .0) (s .layout .1) cards)
+  where
+    go : (e : Event) → possible e f ≡ true → BringsNew e c n → Marked (bears f) n → Right e f n c d
+    go BeginIn ok new M = begun-in f n c M d z ok (new refl)
+    go BeginOut ok new M = begun-out f n c M d z
+    go EndDone ok new M = split (f driveIn) (done-in f n c M d z s) (done-out f n c M d z ok)
+    go EndNotDone ok new M = not-done f n c M d z
 
 pub driven-in-has : DrivenInHas
 unfolding numbersDriven taken

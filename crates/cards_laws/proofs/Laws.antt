@@ -79,8 +79,11 @@ module _ (i : Instruction) (f : Bits) (s : Sound f) (ok : allowed i f ≡ true) 
         subst (Marked (bears (next i f))) (sym after-from)
         (carried-marked (bears f) (bears (next i f)) from n refl carried marked)
 
+    pub cards-after : Cards (next i f) (numbersAfter i f n)
+    cards-after = marked-cards (next i f) (numbersAfter i f n) next-marked
+
 pub kept : Kept
-kept i f n s ok c = marked-cards (next i f) (numbersAfter i f n) (next-marked i f s ok n c)
+kept i f n s ok c = cards-after i f s ok n c
 
 pub same-numbers : SameNumbers
 same-numbers i f n s ok c d z =
@@ -94,7 +97,10 @@ stays-within i f n s ok c k here z =
     let a : bears f k ≡ true = split (bears f k) (λ t. t) (λ t. absurd (z (M .none k t))) in
     let (j, q) = follows i f s ok .goes k a in
     let there : (k ≡ nowhere → ⊥) = λ e. clash a (ap (bears f) e) in
-    let number : numbersAfter i f n j ≡ n k = ap (λ (m : Numbers). m j) (after-from i f s ok n c) ∙ ap (numberAt n) q ∙ ap (λ (b : Bool). cond b 0 (n k)) (ne-eqb k nowhere there) in
+    let number : numbersAfter i f n j ≡ n k =
+    ap (λ (m : Numbers). m j) (after-from i f s ok n c) ∙ ap (numberAt n) q ∙ ap (λ (b : Bool). cond b 0 (n k)) (ne-eqb k nowhere there) in
+    let low = holds atBasement f in
     split (elem j (areaOf i))
     (λ t. (j, t, number))
-    (λ t. clash here (ap (λ (x : ℕ). elem x (areaOf i)) (sym q ∙ source-same (takings i (holds atBasement f)) j (taker-in i (true→T (fine i f s ok .0)) (holds atBasement f) j t)) ∙ t))
+    (λ t. clash here (
+    ap (λ (x : ℕ). elem x (areaOf i)) (sym q ∙ source-same (takings i low) j (taker-in i (true→T (fine i f s ok .0)) low j t)) ∙ t))

@@ -13,3 +13,4 @@ pub mod Where
 pub mod Tested
 pub mod Whichever
 pub mod Arrays
+pub mod Torn

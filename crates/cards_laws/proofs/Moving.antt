@@ -1,8 +1,8 @@
--- Each car goes where the instruction takes it, with its number: the place to which a car's number goes is the car's new anchor, computed at
--- every well-formed instruction and every car. Assumes nothing.
+-- Each car goes where the instruction takes it, with its number: the place to which a car's number goes is the car's new anchor, computed
+-- at every well-formed instruction and every car. Assumes nothing.
 use mathlib.Core.Path.{_≡_, refl, sym, ap, subst, _∙_}
 use mathlib.Core.Bool.{Bool, true, false, cond, not, _&&_, _||_}
-use mathlib.Core.List.{List, [], _∷_}
+use mathlib.Core.List.{List, []}
 use Prim.Native.Nat.{ℕ, _+_, _-_}
 use native.Mathlib.Omega.{arith}
 use lib.Dec.{T, eqb, ltb, leb, eqb→eq, ltb→lt, leb→le}
@@ -28,9 +28,9 @@ use Rattle.cards.specs.Private.{source}
 use Rattle.cards.proofs.Takings.{taken-source}
 use Rattle.cards_laws.specs.Statements.{OneLayout, EmptyGarage, Followed, Brought, OnlyThese}
 use Rattle.cards_laws.proofs.Anchors.{comes, free-none, stands, car-bears, bears-car, cards-marked}
-use Rattle.cards_laws.proofs.Sources.{back, way-back, one-source, one-to-one, drive-stays, waits-on}
+use Rattle.cards_laws.proofs.Sources.{back, way-back, one-source, one-to-one, drive-stays, drive-kept}
 use Rattle.cards_laws.proofs.Others.{gapless, is-gapless}
-use Rattle.cards_laws.proofs.Laws.{fine, follows, next-layout, kept}
+use Rattle.cards_laws.proofs.Laws.{fine, follows, next-layout, next-marked}
 
 -- ---- a car by its anchor
 
@@ -112,14 +112,20 @@ module _ (i : Instruction) (w : T (wellFormed i)) (p : T (gapless i)) (low : Boo
       go true t = and-l (carsRight i true) (carsRight i false) t
       go false t = and-r (carsRight i true) (carsRight i false) t
 
+  abbrev singlesRight : Bool
+  singlesRight = every 20 (λ c. goesRight i low (single (20 + c)))
+
+  others-right : T (singlesRight && goesRight i low raised)
+  others-right = and-r (every 19 (λ c. goesRight i low (pair c))) _ cars-right
+
   car-right : (x : Car) → Stands x → T (goesRight i low x)
   car-right (pair c) s = each-below 19 (λ c. goesRight i low (pair c)) (and-l (every 19 (λ c. goesRight i low (pair c))) _ cars-right) c s
   car-right (single c) s =
       let e : 20 + (c - 20) ≡ c = omega (arith, s .0) in
       subst (λ (x : ℕ). T (goesRight i low (single x))) e
       (each-below 20 (λ c. goesRight i low (single (20 + c)))
-      (and-l (every 20 (λ c. goesRight i low (single (20 + c)))) (goesRight i low raised) (and-r (every 19 (λ c. goesRight i low (pair c))) _ cars-right)) (c - 20) (omega (arith, s .0, s .1)))
-  car-right raised s = and-r (every 20 (λ c. goesRight i low (single (20 + c)))) (goesRight i low raised) (and-r (every 19 (λ c. goesRight i low (pair c))) _ cars-right)
+      (and-l singlesRight (goesRight i low raised) others-right) (c - 20) (omega (arith, s .0, s .1)))
+  car-right raised s = and-r singlesRight (goesRight i low raised) others-right
 
 -- ---- what the rules of a sound record say
 
@@ -174,7 +180,8 @@ followed i f n s ok l m y z x a =
     let e = car-bears f l y x a in
     let ts = takings i (holds atBasement f) in
     let (from, right) = leads i f s ok x (stands l x (y .stand) a) e in
-    let new : bears (next i f) (anchor (moved i x)) ≡ true = follows i f s ok .there (anchor (moved i x)) ∙ ap (comes (bears f)) from ∙ there (bears f) (anchor x) false e ∙ e in
+    let new : bears (next i f) (anchor (moved i x)) ≡ true =
+    follows i f s ok .there (anchor (moved i x)) ∙ ap (comes (bears f)) from ∙ there (bears f) (anchor x) false e ∙ e in
     let (b, c, d) = bears-car (next i f) m z (anchor (moved i x)) (not-waiting (moved i x) right) new in (
       subst (λ (v : Car). Among v m) (same-car b (moved i x) (stands m b (z .stand) c) right d) c,
       taken-source ts n (anchor (moved i x)) (λ q. clash new (ap (bears (next i f)) q)) ∙ ap (numberAt n) from ∙ there n (anchor x) 0 e,
@@ -209,11 +216,11 @@ only-these i f n m s ok cards after same waits k =
     let (l, y) = s .layout in
     let (u, z) = next-layout i f s ok in
     let M = cards-marked (next i f) m u z after in
-    let N = cards-marked (next i f) (numbersAfter i f n) u z (kept i f n s ok cards) in
+    let N = next-marked i f s ok n cards in
     split (eqb driveIn k)
     (λ t.
     let here = eqb-true driveIn k t in
-    ap m (sym here) ∙ waits ∙ sym (waits-on i f n (fine i f s ok .0)) ∙ ap (numbersAfter i f n) here)
+    ap m (sym here) ∙ waits ∙ sym (drive-kept i f n (fine i f s ok .0)) ∙ ap (numbersAfter i f n) here)
     (λ t. split (bears (next i f) k)
     (λ e.
     let (b, a, p) = bears-car (next i f) u z k (λ q. eqb-false driveIn k t (sym q)) e in

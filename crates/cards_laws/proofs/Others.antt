@@ -1,4 +1,4 @@
--- Instructions other than belts carry along those of the few places that they change which bear a number: tried at every setting of those places.
+-- Instructions other than belts carry along the numbers at the few places that they change: tried at every setting of those places.
 -- In row 1 they change one pair of cells, which holds a whole car or none before and after. Assumes nothing.
 use mathlib.Core.Path.{_≡_, refl, sym, ap, ap₂, subst, _∙_}
 use mathlib.Core.Logic.{⊎-elim}
@@ -31,12 +31,12 @@ use Rattle.rules_laws.proofs.RulesKept.{both-lists}
 use Rattle.rules_laws.proofs.CarsKept.{other, pairAt, known, touches, in-row, left-alone, pair-before, pair-after}
 use Rattle.rules_laws.proofs.Pair.{low, high}
 use Rattle.rules_laws.proofs.Moves.{Ready, ready, pair-cells, alone}
+use Rattle.rules_laws.proofs.Shift.{below-same}
 use Rattle.cards.specs.Given.{bears}
 use Rattle.cards.specs.Following.{nowhere, onLift, onShuttle, rowsTouched, Taking, takings}
 use Rattle.cards.specs.Private.{source}
 use Rattle.cards_laws.proofs.Anchors.{bears-row, isPlace, bears-place, bears-same, no-place, comes}
-use Rattle.cards_laws.proofs.Sliding.{below-same}
-use Rattle.cards_laws.proofs.Sources.{takers, back, source-same}
+use Rattle.cards_laws.proofs.Sources.{takers, back, source-same, or-else}
 use Rattle.cards_laws.proofs.Belts.{Follows}
 
 -- belts and rows without a gap, and a row to go to
@@ -119,11 +119,7 @@ all-settled = tt
 
 -- ---- what the tests say
 
-or-else : (a b : Bool) → a ≡ false → T (a || b) → T b
-or-else true b n t = clash refl n
-or-else false b n t = t
-
-all-same : (p q : ℕ → Bool) (ks : List ℕ) → ((k : ℕ) → T (elem k ks) → p k ≡ q k) → allPass p ks ≡ allPass q ks
+pub all-same : (p q : ℕ → Bool) (ks : List ℕ) → ((k : ℕ) → T (elem k ks) → p k ≡ q k) → allPass p ks ≡ allPass q ks
 all-same p q [] e = refl
 all-same p q (k ∷ ks) e = ap₂ _&&_ (e k (elem-here k ks)) (all-same p q ks (λ j m. e j (elem-there k j ks m)))
 
@@ -137,6 +133,15 @@ module _ (i : Instruction) (w : T (wellFormed i)) (o : other i && gapless i ≡ 
   abbrev ts : List Taking
   ts = takings i at
 
+  abbrev takersRight : Bool
+  takersRight = allPass (λ k. elem k (spots i)) (takers ts)
+
+  abbrev changesRight : Bool
+  changesRight = allPass (changeRight i) js
+
+  abbrev pairRight : Bool
+  pairRight = not (touches i) || elem (pairAt i) (spots i)
+
   tested : T (settled i at)
   tested = go at (under (other i && gapless i) _ o (each settledOther all-settled i w))
     where
@@ -144,17 +149,17 @@ module _ (i : Instruction) (w : T (wellFormed i)) (o : other i && gapless i ≡ 
       go true t = and-l (settled i true) (settled i false) t
       go false t = and-r (settled i true) (settled i false) t
 
-  rest : T (allPass (spotRight i ts) (spots i) && (allPass (λ k. elem k (spots i)) (takers ts) && (allPass (changeRight i) js && ((not (touches i) || elem (pairAt i) (spots i)) && trial i at))))
+  rest : T (allPass (spotRight i ts) (spots i) && (takersRight && (changesRight && (pairRight && trial i at))))
   rest = and-r (allPass (placed i ts) (spots i)) _ tested
 
-  rest₂ : T (allPass (λ k. elem k (spots i)) (takers ts) && (allPass (changeRight i) js && ((not (touches i) || elem (pairAt i) (spots i)) && trial i at)))
+  rest₂ : T (takersRight && (changesRight && (pairRight && trial i at)))
   rest₂ = and-r (allPass (spotRight i ts) (spots i)) _ rest
 
-  rest₃ : T (allPass (changeRight i) js && ((not (touches i) || elem (pairAt i) (spots i)) && trial i at))
-  rest₃ = and-r (allPass (λ k. elem k (spots i)) (takers ts)) _ rest₂
+  rest₃ : T (changesRight && (pairRight && trial i at))
+  rest₃ = and-r takersRight _ rest₂
 
-  rest₄ : T ((not (touches i) || elem (pairAt i) (spots i)) && trial i at)
-  rest₄ = and-r (allPass (changeRight i) js) _ rest₃
+  rest₄ : T (pairRight && trial i at)
+  rest₄ = and-r changesRight _ rest₃
 
   is-placed : (k : ℕ) → T (elem k (spots i)) → T (placed i ts k)
   is-placed = pass-at (placed i ts) (spots i) (and-l (allPass (placed i ts) (spots i)) _ tested)
@@ -164,20 +169,22 @@ module _ (i : Instruction) (w : T (wellFormed i)) (o : other i && gapless i ≡ 
 
   -- a spot takes from a spot
   spot-source : (k : ℕ) → T (elem k (spots i)) → eqb (source ts k) nowhere ≡ false → T (elem (source ts k) (spots i))
-  spot-source k m n = or-else (eqb (source ts k) nowhere) (elem (source ts k) (spots i)) n (and-r ((leb 20 k && isPlace k) || (touches i && eqb (pairAt i) k)) _ (is-spot k m))
+  spot-source k m n =
+      or-else (eqb (source ts k) nowhere) (elem (source ts k) (spots i)) n
+      (and-r ((leb 20 k && isPlace k) || (touches i && eqb (pairAt i) k)) _ (is-spot k m))
 
   -- any other place keeps its number
   not-spot : (k : ℕ) → elem k (spots i) ≡ false → source ts k ≡ k
   not-spot k n = source-same ts k (off (elem k (takers ts)) (λ m.
-      clash (T→true (elem k (spots i)) (pass-at (λ k. elem k (spots i)) (takers ts) (and-l (allPass (λ k. elem k (spots i)) (takers ts)) _ rest₂) k (true→T m))) n))
+      clash (T→true (elem k (spots i)) (pass-at (λ k. elem k (spots i)) (takers ts) (and-l takersRight _ rest₂) k (true→T m))) n))
 
   pair-spot : touches i ≡ true → T (elem (pairAt i) (spots i))
-  pair-spot t = or-else (not (touches i)) (elem (pairAt i) (spots i)) (rw t) (and-l (not (touches i) || elem (pairAt i) (spots i)) (trial i at) rest₄)
+  pair-spot t = or-else (not (touches i)) (elem (pairAt i) (spots i)) (rw t) (and-l pairRight (trial i at) rest₄)
 
   -- a place outside row 1 that is no spot doesn't change
   place-kept : (f : Bits) (k : ℕ) → ltb k 20 ≡ false → isPlace k ≡ true → elem k (spots i) ≡ false → changed (changes i) f k ≡ f k
   place-kept f k a b n = not-target (changes i) f k (off (elem k js) (λ m.
-      let t = pass-at (changeRight i) js (and-l (allPass (changeRight i) js) _ rest₃) k (true→T m) in
+      let t = pass-at (changeRight i) js (and-l changesRight _ rest₃) k (true→T m) in
       absurd (subst (λ (x : Bool). T (not x)) b (or-else (elem k (spots i)) (not (isPlace k)) n (or-else (ltb k 20) _ a t)))))
 
   local : (f f′ g g′ : Bits) → On ks f f′ → On js g g′ → allFollow i at f g ≡ allFollow i at f′ g′
@@ -198,16 +205,20 @@ module _ (i : Instruction) (w : T (wellFormed i)) (o : other i && gapless i ≡ 
     all-follow : T (allFollow i at f (changed (changes i) f))
     all-follow =
         tried-law ks js (heightAt at ∷ (known i ++ (conditions i ++ soundRules))) (changes i) (allFollow i at) local
-        (and-r (not (touches i) || elem (pairAt i) (spots i)) (trial i at) rest₄) f
-        (and-T (holds (heightAt at) f) _ (height-holds at h) (both-lists f (known i) (conditions i ++ soundRules) k (both-lists f (conditions i) soundRules c r)))
+        (and-r pairRight (trial i at) rest₄) f
+        (and-T (holds (heightAt at) f) _ (height-holds at h)
+        (both-lists f (known i) (conditions i ++ soundRules) k (both-lists f (conditions i) soundRules c r)))
+
+    at-spot : (j : ℕ) → T (elem j (spots i)) → T (follows ts f (changed (changes i) f) j)
+    at-spot = pass-at (follows ts f (changed (changes i) f)) (spots i) all-follow
 
     -- a spot has after what its source had before
     spot-new : (j : ℕ) → T (elem j (spots i)) → changed (changes i) f j ≡ comes f (source ts j)
-    spot-new j m = beq→eq _ _ (and-l (Bool·beq (changed (changes i) f j) (comes f (source ts j))) _ (pass-at (follows ts f (changed (changes i) f)) (spots i) all-follow j m))
+    spot-new j m = beq→eq _ _ (and-l (Bool·beq (changed (changes i) f j) (comes f (source ts j))) _ (at-spot j m))
 
     -- and what it had goes somewhere
     spot-goes : (j : ℕ) → T (elem j (spots i)) → f j ≡ true → source ts (source (back ts) j) ≡ j
-    spot-goes j m e = eqb→eq _ j (or-else (not (f j)) _ (rw e) (and-r (Bool·beq (changed (changes i) f j) (comes f (source ts j))) _ (pass-at (follows ts f (changed (changes i) f)) (spots i) all-follow j m)))
+    spot-goes j m e = eqb→eq _ j (or-else (not (f j)) _ (rw e) (and-r (Bool·beq (changed (changes i) f j) (comes f (source ts j))) _ (at-spot j m)))
 
 -- ---- the places that bear a number
 
@@ -226,7 +237,8 @@ module _ (h : Bits) (a : ℕ) (l : suc a < 20) (e : h a ≡ h (suc a)) (ev : bel
 place-bears : (h : Bits) (k : ℕ) → 20 ≤ k → isPlace k ≡ true → bears h k ≡ h k
 place-bears h k l s = bears-place h k (le-ltb k 20 l) ∙ ap (λ (b : Bool). b && h k) s
 
-module _ (i : Instruction) (o : other i ≡ true) (f : Bits) (v : T (wellFormed i)) (c : T (allHold (conditions i) f)) (r : T (allHold soundRules f)) (w : Whole 20 f) where
+module _ (i : Instruction) (o : other i ≡ true) (f : Bits) (v : T (wellFormed i))
+    (c : T (allHold (conditions i) f)) (r : T (allHold soundRules f)) (w : Whole 20 f) where
   abbrev g : Bits
   g = changed (changes i) f
 
@@ -250,7 +262,7 @@ module _ (i : Instruction) (o : other i ≡ true) (f : Bits) (v : T (wellFormed 
 
   -- row 1 where the pair changes
   module _ (t : touches i ≡ true) where
-    pf : f a ≡ f (suc a)
+    pub pf : f a ≡ f (suc a)
     pf = pair-cells i f t (pair-before i v o f (known-holds .0) c r)
 
     pg : g a ≡ g (suc a)
@@ -259,7 +271,7 @@ module _ (i : Instruction) (o : other i ≡ true) (f : Bits) (v : T (wellFormed 
     out : (k : ℕ) → k < 20 → (k ≡ a → ⊥) → (k ≡ suc a → ⊥) → g k ≡ f k
     out k l x y = unchanged k l (λ t. ap₂ _||_ (ne-eqb a k (λ q. x (sym q))) (ne-eqb (suc a) k (λ q. y (sym q))))
 
-    ev-f : below f a % 2 ≡ 0
+    pub ev-f : below f a % 2 ≡ 0
     ev-f = known-holds .1 pf
 
     lower : (k : ℕ) → k ≤ a → below g k ≡ below f k

@@ -1,6 +1,6 @@
--- A span of cells that slides by n toward a free end takes along the places that bear a number, and leaves all others. Over every span and n.
--- Assumes nothing.
-use mathlib.Core.Path.{_≡_, refl, sym, ap, ap₂, _∙_}
+-- A span of cells that slides by n toward a free end takes along the places that bear a number, and leaves all others. Over every span and
+-- n. Assumes nothing.
+use mathlib.Core.Path.{_≡_, sym, ap, ap₂, _∙_}
 use mathlib.Core.Logic.{_⊎_, inl, inr, ⊎-elim}
 use mathlib.Core.Bool.{Bool, false, _&&_}
 use Prim.Native.Nat.{ℕ, zero, suc, _+_, _-_, _%_, _≤_, _<_}
@@ -9,6 +9,7 @@ use lib.Dec.{eqb}
 use borrow.Author.Tests.{lt-ltb, le-ltb}
 use Rattle.bits.specs.Bits.{Bits, digit}
 use Rattle.floor.proofs.Rows.{below}
+use Rattle.rules_laws.proofs.Shift.{below-same}
 use Rattle.cards.specs.Given.{bears}
 use Rattle.cards_laws.proofs.Anchors.{bears-row, bears-same}
 
@@ -21,11 +22,6 @@ pub record Slid (a m n : ℕ) (f g : Bits) : Type 0 where
   pub end : (d : ℕ) → d < n → f (a + m + d) ≡ false
 
 -- ---- how many are occupied below a place
-
--- as many where nothing differs
-pub below-same : (f g : Bits) (n : ℕ) → ((k : ℕ) → k < n → g k ≡ f k) → (k : ℕ) → k ≤ n → below g k ≡ below f k
-below-same f g n e zero h = refl
-below-same f g n e (suc k) h = omega (arith, below-same f g n e k (omega arith), ap digit (e k (omega arith)))
 
 -- as many past free cells
 past-free : (f : Bits) (a n : ℕ) → ((d : ℕ) → d < n → f (a + d) ≡ false) → (d : ℕ) → d ≤ n → below f (a + d) ≡ below f a
@@ -88,6 +84,6 @@ module _ (a m n : ℕ) (f g : Bits) (s : Slid a m n f g) where
           le-ltb (a + d) 20 (omega arith),
           lt-ltb (a + d + n) 40 (omega arith),
           lt-ltb (a + d) 40 (omega arith),
-          s .moved d h
+          s .moved d h,
         ))
         row

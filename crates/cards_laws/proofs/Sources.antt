@@ -6,7 +6,7 @@ use mathlib.Core.List.{List, [], _∷_}
 use Prim.Native.Nat.{ℕ, _<_}
 use native.Mathlib.Omega.{arith}
 use lib.Dec.{T, eqb, eqb→eq}
-use borrow.Author.Tests.{eqb-true, eqb-false, eq-eqb, not-true}
+use borrow.Author.Tests.{eqb-true, eqb-false, eq-eqb, ne-eqb, not-true}
 use Rattle.bits.specs.Bits.{Bits}
 use Rattle.bits.specs.Places.{elem}
 use Rattle.bits.specs.Search.{every}
@@ -68,13 +68,18 @@ back [] = []
 back (k ⟵ s ∷ ts) = s ⟵ k ∷ back ts
 
 -- who takes takes from nowhere or from one that takes, and the way back leads to it
-abbrev oneToOne : List Taking → Bool
-oneToOne ts =
-    allPass (λ k. eqb (source ts k) nowhere || eqb (source (back ts) (source ts k)) k) (takers ts)
-    && allPass (λ k. eqb k nowhere || elem k (takers ts)) (givers ts)
+abbrev leadsBack : List Taking → ℕ → Bool
+leadsBack ts k = eqb (source ts k) nowhere || eqb (source (back ts) (source ts k)) k
 
-or-else : (a b : Bool) → (a ≡ true → ⊥) → T (a || b) → T b
-or-else true b n t = absurd (n refl)
+-- nowhere, or one of some places
+abbrev nowhereOr : List ℕ → ℕ → Bool
+nowhereOr ks k = eqb k nowhere || elem k ks
+
+abbrev oneToOne : List Taking → Bool
+oneToOne ts = allPass (leadsBack ts) (takers ts) && allPass (nowhereOr (takers ts)) (givers ts)
+
+pub or-else : (a b : Bool) → a ≡ false → T (a || b) → T b
+or-else true b n t = clash refl n
 or-else false b n t = t
 
 takers-back : (ts : List Taking) (k : ℕ) → elem k (takers (back ts)) ≡ elem k (givers ts)
@@ -84,17 +89,18 @@ takers-back (j ⟵ s ∷ ts) k = ap (λ (b : Bool). eqb s k || b) (takers-back t
 module _ (ts : List Taking) (t : T (oneToOne ts)) where
   giver-takes : (k : ℕ) → (k ≡ nowhere → ⊥) → T (elem k (givers ts)) → T (elem k (takers ts))
   giver-takes k n m =
-      or-else (eqb k nowhere) (elem k (takers ts)) (λ e. n (eqb-true k nowhere e))
-      (pass-at (λ k. eqb k nowhere || elem k (takers ts)) (givers ts) (and-r (allPass (λ k. eqb (source ts k) nowhere || eqb (source (back ts) (source ts k)) k) (takers ts)) _ t) k m)
+      or-else (eqb k nowhere) (elem k (takers ts)) (ne-eqb k nowhere n)
+      (pass-at (nowhereOr (takers ts)) (givers ts) (and-r (allPass (leadsBack ts) (takers ts)) _ t) k m)
 
   -- the way back from a source
   pub way-back : (k : ℕ) → (source ts k ≡ nowhere → ⊥) → source (back ts) (source ts k) ≡ k
   way-back k n = split (elem k (takers ts))
-      (λ m. eqb→eq _ k (or-else (eqb (source ts k) nowhere) _ (λ e. n (eqb-true (source ts k) nowhere e))
-      (pass-at (λ k. eqb (source ts k) nowhere || eqb (source (back ts) (source ts k)) k) (takers ts) (and-l (allPass (λ k. eqb (source ts k) nowhere || eqb (source (back ts) (source ts k)) k) (takers ts)) (allPass (λ k. eqb k nowhere || elem k (takers ts)) (givers ts)) t) k (true→T m))))
+      (λ m. eqb→eq _ k (or-else (eqb (source ts k) nowhere) _ (ne-eqb (source ts k) nowhere n)
+      (pass-at (leadsBack ts) (takers ts) (and-l (allPass (leadsBack ts) (takers ts)) (allPass (nowhereOr (takers ts)) (givers ts)) t) k (true→T m))))
       (λ m.
       let e = source-same ts k m in
-      let o : elem k (givers ts) ≡ false = off (elem k (givers ts)) (λ g. clash (T→true (elem k (takers ts)) (giver-takes k (λ z. n (e ∙ z)) (true→T g))) m) in
+      let o : elem k (givers ts) ≡ false = off (elem k (givers ts)) (λ g.
+      clash (T→true (elem k (takers ts)) (giver-takes k (λ z. n (e ∙ z)) (true→T g))) m) in
       ap (source (back ts)) e ∙ source-same (back ts) k (takers-back ts k ∙ o))
 
   pub one-source : (j k : ℕ) → source ts j ≡ source ts k → (source ts j ≡ nowhere → ⊥) → j ≡ k
@@ -103,7 +109,7 @@ module _ (ts : List Taking) (t : T (oneToOne ts)) where
 -- ---- an instruction's takings, with the lift in the basement or not
 
 abbrev inArea : List ℕ → List Taking → Bool
-inArea a ts = allPass (λ k. elem k a) (takers ts) && allPass (λ k. eqb k nowhere || elem k a) (givers ts)
+inArea a ts = allPass (λ k. elem k a) (takers ts) && allPass (nowhereOr a) (givers ts)
 
 -- for the lift the height is in the area
 abbrev reader : Instruction → Bool
@@ -137,12 +143,11 @@ module _ (i : Instruction) (w : T (wellFormed i)) where
   pub taker-in : (low : Bool) (k : ℕ) → elem k (areaOf i) ≡ false → elem k (takers (takings i low)) ≡ false
   taker-in low k o = off (elem k (takers (takings i low))) (λ m.
       clash (T→true (elem k (areaOf i)) (pass-at (λ k. elem k (areaOf i)) (takers (takings i low))
-      (and-l (allPass (λ k. elem k (areaOf i)) (takers (takings i low))) (allPass (λ k. eqb k nowhere || elem k (areaOf i)) (givers (takings i low))) (in-area low)) k (true→T m))) o)
+      (and-l (allPass (λ k. elem k (areaOf i)) (takers (takings i low))) (allPass (nowhereOr (areaOf i)) (givers (takings i low))) (in-area low)) k (true→T m))) o)
 
   giver-in : (low : Bool) (k : ℕ) → (k ≡ nowhere → ⊥) → T (elem k (givers (takings i low))) → T (elem k (areaOf i))
-  giver-in low k n m = or-else (eqb k nowhere) (elem k (areaOf i)) (λ e. n (eqb-true k nowhere e))
-      (pass-at (λ k. eqb k nowhere || elem k (areaOf i)) (givers (takings i low))
-      (and-r (allPass (λ k. elem k (areaOf i)) (takers (takings i low))) (allPass (λ k. eqb k nowhere || elem k (areaOf i)) (givers (takings i low))) (in-area low)) k m)
+  giver-in low k n m = or-else (eqb k nowhere) (elem k (areaOf i)) (ne-eqb k nowhere n)
+      (pass-at (nowhereOr (areaOf i)) (givers (takings i low)) (and-r (allPass (λ k. elem k (areaOf i)) (takers (takings i low))) _ (in-area low)) k m)
 
   -- a place of the area takes from the area
   source-in : (low : Bool) (k : ℕ) → T (elem k (areaOf i)) → (source (takings i low) k ≡ nowhere → ⊥) → T (elem (source (takings i low) k) (areaOf i))
@@ -159,7 +164,8 @@ same-takings (Tilt side row orientation) w f g e = refl
 same-takings (Lift height) w f g e =
     ap (takings (Lift height))
     (holds-agree (areaOf (Lift height)) f g e atBasement
-    (and-r (right (Lift height) false) (reader (Lift height)) (and-r (right (Lift height) true) (right (Lift height) false && reader (Lift height)) (each allRight all-right (Lift height) w))))
+    (and-r (right (Lift height) false) (reader (Lift height))
+    (and-r (right (Lift height) true) (right (Lift height) false && reader (Lift height)) (each allRight all-right (Lift height) w))))
 same-takings Rotate w f g e = refl
 
 -- ---- the numbers outside an area and in it
@@ -194,15 +200,18 @@ numbers-inside i w f g n m a e k h =
     taken-source ts n k o
     ∙ split (eqb (source ts k) nowhere)
     (λ z. rw z)
-    (λ z. rw z (e (source ts k) (T→true (elem (source ts k) (areaOf i)) (source-in i (true→T w) (holds atBasement f) k (true→T h) (eqb-false (source ts k) nowhere z)))))
+    (λ z. rw z (e (source ts k) (T→true (elem (source ts k) (areaOf i))
+    (source-in i (true→T w) (holds atBasement f) k (true→T h) (eqb-false (source ts k) nowhere z)))))
     ∙ ap (λ (v : List Taking). numberAt m (source v k)) same
     ∙ sym (taken-source us m k o)
 
 -- where nowhere has no number, the numbers after are those of the sources
-pub taken-all : (i : Instruction) → wellFormed i ≡ true → (low : Bool) (n : Numbers) → n nowhere ≡ 0 → taken (takings i low) n ≡ (λ k. numberAt n (source (takings i low) k))
+pub taken-all : (i : Instruction) → wellFormed i ≡ true → (low : Bool) (n : Numbers) → n nowhere ≡ 0
+    → taken (takings i low) n ≡ (λ k. numberAt n (source (takings i low) k))
 taken-all i w low n z = fun-ext (λ k. split (eqb k nowhere)
     (λ e. let q = eqb-true k nowhere e in
-    let o : elem nowhere (takers (takings i low)) ≡ false = taker-in i (true→T w) low nowhere (off (elem nowhere (areaOf i)) (λ m. in-not-nowhere i w nowhere m refl)) in
+    let out : elem nowhere (areaOf i) ≡ false = off (elem nowhere (areaOf i)) (λ m. in-not-nowhere i w nowhere m refl) in
+    let o = taker-in i (true→T w) low nowhere out in
     subst (λ (x : ℕ). taken (takings i low) n x ≡ numberAt n (source (takings i low) x)) (sym q)
     (taken-same (takings i low) n nowhere o ∙ z ∙ sym (ap (numberAt n) (source-same (takings i low) nowhere o))))
     (λ e. taken-source (takings i low) n k (eqb-false k nowhere e)))
@@ -218,11 +227,18 @@ all-undriven = tt
 
 pub drive-outside : (i : Instruction) → wellFormed i ≡ true → (k : ℕ) → T (elem k drives) → area i k ≡ false
 unfolding area
-drive-outside i w k m = not-true (elem k (areaOf i)) (T→true _ (pass-at (λ k. not (elem k (areaOf i))) drives (each undriven all-undriven i (true→T w)) k m))
+drive-outside i w k m =
+    not-true (elem k (areaOf i)) (T→true _ (pass-at (λ k. not (elem k (areaOf i))) drives (each undriven all-undriven i (true→T w)) k m))
 
 pub drive-stays : (i : Instruction) → wellFormed i ≡ true → (low : Bool) → source (takings i low) driveIn ≡ driveIn
 unfolding area
 drive-stays i w low = source-same (takings i low) driveIn (taker-in i (true→T w) low driveIn (drive-outside i w driveIn tt))
 
+pub drive-kept : (i : Instruction) (f : Bits) (n : Numbers) → wellFormed i ≡ true → numbersAfter i f n driveIn ≡ n driveIn
+unfolding numbersAfter area
+drive-kept i f n w =
+    let low = holds atBasement f in
+    taken-same (takings i low) n driveIn (taker-in i (true→T w) low driveIn (drive-outside i w driveIn tt))
+
 pub waits-on : WaitsOn
-waits-on i f n w = numbers-outside i w f n driveIn (drive-outside i w driveIn tt)
+waits-on = drive-kept

@@ -1,5 +1,5 @@
--- Whether numbers are those of a record's cars, whether a number is known, and whether an image's numbers are fine, as tests: what they say.
--- Assumes nothing.
+-- Whether numbers are those of a record's cars, whether a number is known, and whether an image's numbers are fine, as tests: what they
+-- say. Assumes nothing.
 use mathlib.Core.Path.{_≡_, refl, sym, ap, _∙_}
 use mathlib.Core.Logic.{⊎-elim}
 use mathlib.Core.Bool.{Bool, true, false, cond, not, _&&_, _||_, Bool·beq}
@@ -38,8 +38,12 @@ module _ (r : ℕ) (a : List ℕ) where
   abbrev marks : ℕ → Bool
   marks j = Bool·beq (not (eqb (getD a j 0) 0)) (bears (bit r) (placeOf j))
 
+  -- element i is element j
+  abbrev alike-at : ℕ → ℕ → Bool
+  alike-at j i = eqb (getD a i 0) (getD a j 0)
+
   abbrev onces : ℕ → Bool
-  onces j = eqb (getD a j 0) 0 || not (some j (λ i. eqb (getD a i 0) (getD a j 0)))
+  onces j = eqb (getD a j 0) 0 || not (some j (alike-at j))
 
   pub fit-marked : cardsFit r a ≡ true → Marked (bears (bit r)) (numbersIn a)
   unfolding cardsFit
@@ -68,7 +72,8 @@ module _ (r : ℕ) (a : List ℕ) where
       -- none before it is the same
       first : (i j : ℕ) → i < j → j < 42 → (getD a j 0 ≡ 0 → ⊥) → getD a i 0 ≡ getD a j 0 → ⊥
       first i j l h z q = clash (eq-eqb (getD a i 0) (getD a j 0) q)
-          (none-at j (λ i. eqb (getD a i 0) (getD a j 0)) (not-true _ (ap (λ (b : Bool). b || not (some j (λ i. eqb (getD a i 0) (getD a j 0)))) (sym (ne-eqb (getD a j 0) 0 z)) ∙ every-at 42 onces (parts .1) j h)) i l)
+          (none-at j (alike-at j)
+          (not-true _ (ap (λ (b : Bool). b || not (some j (alike-at j))) (sym (ne-eqb (getD a j 0) 0 z)) ∙ every-at 42 onces (parts .1) j h)) i l)
 
       one : (i j : ℕ) → i < 42 → j < 42 → (getD a i 0 ≡ 0 → ⊥) → getD a i 0 ≡ getD a j 0 → i ≡ j
       one i j h l z q = ⊎-elim
@@ -102,14 +107,19 @@ module _ (r : ℕ) (a : List ℕ) where
           other x y p q = rw (p, q)
 
       bearing : (j : ℕ) → j < 42 → eqb (getD a j 0) 0 ≡ false → bears (bit r) (placeOf j) ≡ true
-      bearing j h z = split (bears (bit r) (placeOf j)) (λ e. e) (λ e. absurd (eqb-false (getD a j 0) 0 z (sym (element-number a j h) ∙ M .none (placeOf j) e)))
+      bearing j h z = split (bears (bit r) (placeOf j))
+          (λ e. e)
+          (λ e. absurd (eqb-false (getD a j 0) 0 z (sym (element-number a j h) ∙ M .none (placeOf j) e)))
 
       once : (j : ℕ) → j < 42 → onces j ≡ true
       once j h = split (eqb (getD a j 0) 0)
           (λ z. rw z)
-          (λ z. ap (λ (b : Bool). b || not (some j (λ i. eqb (getD a i 0) (getD a j 0)))) z ∙ ap not (none-is j (λ i. eqb (getD a i 0) (getD a j 0)) (λ i l. ne-eqb (getD a i 0) (getD a j 0) (λ q.
+          (λ z.
+          ap (λ (b : Bool). b || not (some j (alike-at j))) z
+          ∙ ap not (none-is j (alike-at j) (λ i l. ne-eqb (getD a i 0) (getD a j 0) (λ q.
           let w : i < 42 = omega arith in
-          let e : j ≡ i = one-place j i h w (M .once (placeOf j) (placeOf i) (element-number a j h ∙ sym q ∙ sym (element-number a i w)) (bearing j h z)) in
+          let p : placeOf j ≡ placeOf i = M .once (placeOf j) (placeOf i) (element-number a j h ∙ sym q ∙ sym (element-number a i w)) (bearing j h z) in
+          let e : j ≡ i = one-place j i h w p in
           omega arith))))
 
 pub fit-exactly : FitExactly
@@ -220,7 +230,8 @@ pub fine-exactly : FineExactly
 unfolding givenAs
 fine-exactly r n ns s h = (
   λ e.
-      let (p, rest) = both (eqb n (wanted r)) (not (some n (zeroAt ns)) && not (some n (twiceAt ns))) (sym (fine-test (eqb n (wanted r)) (some n (zeroAt ns)) (some n (twiceAt ns))) ∙ ap isFine e) in
+      let (p, rest) = both (eqb n (wanted r)) (not (some n (zeroAt ns)) && not (some n (twiceAt ns)))
+      (sym (fine-test (eqb n (wanted r)) (some n (zeroAt ns)) (some n (twiceAt ns))) ∙ ap isFine e) in
       let (q, t) = both (not (some n (zeroAt ns))) (not (some n (twiceAt ns))) rest in
       fine-new r n ns s h p (not-true (some n (zeroAt ns)) q) (not-true (some n (twiceAt ns)) t),
   λ m. let (p, q, t) = new-fine r n ns s h (m .0) (m .1) in all-fine (eqb n (wanted r)) (some n (zeroAt ns)) (some n (twiceAt ns)) p q t,

@@ -4,11 +4,11 @@ use mathlib.Core.Path.{_≡_}
 use mathlib.Core.Logic.{_⊎_, _↔_}
 use mathlib.Core.Bool.{true, false}
 use mathlib.Core.List.{List, [], _∷_, _++_, map}
-use Prim.Native.Nat.{ℕ, _+_, _≤_}
+use Prim.Native.Nat.{ℕ, suc, _+_, _≤_}
 use lib.ListN.{length, take}
 use Rattle.bits.specs.Bits.{Bits, bit, digit}
 use Rattle.floor.specs.Floor.{raisedCar, driveIn, driveOut}
-use Rattle.floor.specs.Cars.{Car, Layout, cars}
+use Rattle.floor.specs.Cars.{Car, pair, Layout, cars}
 use Rattle.floor.specs.Sound.{Sound}
 use Rattle.rules.specs.declared.Instruction.{Instruction}
 use Rattle.rules.specs.declared.Event.{Event}
@@ -18,7 +18,7 @@ use Rattle.rules.specs.Events.{possible, after}
 use Rattle.rules_laws.specs.Laws.{Agree, liftArea, Clear}
 use Rattle.cards.specs.Cards.{Numbers, anchor, Among, Cards, Has}
 use Rattle.cards.specs.declared.Offered.the-variants.{Fine}
-use Rattle.cards.specs.Given.{bears, numbersGiven, wanted, givenAs, AllNew, Rising}
+use Rattle.cards.specs.Given.{bears, numbersGiven, givenAs, AllNew, Rising}
 use Rattle.cards.specs.Held.{numbersIn, cardsFit, isKnown, whereIs}
 use Rattle.cards.specs.Following.{nowhere, numbersAfter, numbersDriven, moved}
 
@@ -142,6 +142,13 @@ abbrev pub StaysWithin : Type 0
 StaysWithin =
     (i : Instruction) (f : Bits) (n : Numbers) → Sound f → allowed i f ≡ true → Cards f n
     → (k : ℕ) → area i k ≡ true → (n k ≡ 0 → ⊥) → (j : ℕ) × (area i j ≡ true) × (numbersAfter i f n j ≡ n k)
+
+-- no car stands half in it: of the two cells of a car in row 1 both are in the area of an allowed instruction or none is, before it and
+-- after it
+abbrev pub NoneTorn : Type 0
+NoneTorn =
+    (i : Instruction) (f : Bits) → Sound f → allowed i f ≡ true → (l : List Car) → Layout f l ⊎ Layout (next i f) l
+    → (c : ℕ) → Among (pair c) l → area i c ≡ area i (suc c)
 
 -- ---- several instructions, as those of a set of which it is not known which have finished
 

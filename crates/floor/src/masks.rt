@@ -87,9 +87,7 @@ pub const LIFT: u64 = 0x70_0000_0000_0000;
 
 pub const LIFT_AND_CELLS: u64 = 0x70_0000_0000_1800;
 
-// The lift with all of row 1, and with the cells that must be free for it to turn.
-pub const LIFT_AND_ROW_1: u64 = 0x70_0000_000F_FFFF;
-
+// The lift with the cells that must be free for it to turn.
 pub const LIFT_AND_TURNING_CELLS: u64 = 0x70_0000_0000_E700;
 
 // A shuttle's position: its lowered slot and its cells, by side and row.

@@ -1,39 +1,41 @@
 -- The garage's rules as rules of the crate `sets`: records are numbers, instructions five bytes, car events their numbers.
 -- An instruction that moves the lift under a driver is not allowed, so that with the lift its reach has the drives too. Each instruction and
--- each event reads and writes only its reach and keeps records sound, so the rules are framed. Assumes nothing.
+-- each event writes only its reach and keeps records sound; an event reads only its reach, an instruction besides what it sees: a lift run
+-- whether each side's count is even. No instruction with another reach changes that, so the rules are framed. Assumes nothing.
 use mathlib.Core.Path.{_≡_, refl, ap, ap₂, _∙_, sym}
-use mathlib.Core.Logic.{_⊎_, inl, inr, ⊎-elim}
+use mathlib.Core.Logic.{inl, inr}
 use mathlib.Core.Bool.{Bool, true, false, cond, not, _&&_, and-false}
-use mathlib.Core.List.{[], _++_}
-use Prim.Native.Nat.{ℕ}
+use mathlib.Core.List.{List, [], _++_}
+use Prim.Native.Nat.{ℕ, _<_}
+use lib.Dec.{lit<}
 use Rattle.bits.specs.Bits.{bit, image}
 use Rattle.bits.specs.Places.{elem, share}
-use Rattle.bits.proofs.Cases.{split, clash, both, T→true}
+use Rattle.bits.proofs.Cases.{split, clash, off, both, T→true}
 use Rattle.bits.proofs.Digits.{bit-image}
-use Rattle.bits.proofs.Sharing.{Small, are-small}
+use Rattle.bits.proofs.Sharing.{Small, are-small, share-at}
 use borrow.Author.Tests.{not-true}
-use Rattle.floor.specs.Floor.{lift, drives}
+use Rattle.floor.specs.Floor.{lift, raisedCar, drives}
 use Rattle.floor.specs.Tests.{holds, underWay}
 use Rattle.floor.specs.Cars.{cars}
 use Rattle.floor.specs.Sound.{sound}
 use Rattle.rules.specs.declared.Code.{Code}
 use Rattle.rules.specs.declared.Instruction.{Instruction}
+use Rattle.rules.specs.declared.Instruction.the-variants.{Belts, Shuttles, Tilt, Lift, Rotate}
 use Rattle.rules.specs.declared.Reading.{Reading}
 use Rattle.rules.specs.declared.Reading.the-variants.{Good, Bad}
 use Rattle.rules.specs.declared.Event.{Event}
 use Rattle.rules.specs.declared.EventReading.{EventReading}
 use Rattle.rules.specs.declared.EventReading.the-variants.{Good as Told, Bad as Untold}
-use Rattle.rules.specs.Rules.{wellFormed, areaOf, area, allowed, next}
+use Rattle.rules.specs.Rules.{wellFormed, areaOf, area, overlap, seen, allowed, next}
 use Rattle.floor.proofs.Reading.{holds-agree}
 use Rattle.rules.specs.Events.{inTurn, possible, after}
 use Rattle.rules.specs.Codes.{readCode, readEvent}
 use Rattle.rules.specs.Verdicts.{onCode}
 use Rattle.rules.proofs.Frame.{area-small}
 use Rattle.rules.proofs.CodeLaws.{one-form}
-use Rattle.rules_laws.specs.Laws.{Clear}
-use Rattle.rules_laws.proofs.Laws.{same-verdict, same-bits, kept-outside, events-local, image-sound, image-cars, event-image-sound}
-use Rattle.sets.proofs.Rules.{Rules, Agree, Local, LocalRules, Framed, blind}
-use Rattle.sets.proofs.Frames.{local-framed}
+use Rattle.rules_laws.proofs.Laws.{same-verdict, same-bits, events-local, image-sound, image-cars, image-sides, event-image-sound}
+use Rattle.sets.proofs.Rules.{Rules, Clear, Agree, Local, Within, Quiet, Framed, blind}
+use Rattle.sets.proofs.Frames.{local-within}
 use Rattle.garage.specs.Held.{heldArea, heldAllowed, heldNext, crosses}
 use Rattle.garage_laws.proofs.Reach.{reach, in-area, in-drives, outside-area, held-outside}
 
@@ -55,6 +57,13 @@ heldAs v = onEvent (λ e. 6) 4 v
 
 abbrev pub replyAs : EventReading → Bool → ℕ → ℕ
 replyAs v lost r = onEvent (λ e. cond (inTurn e (bit r)) (cond lost 32 (cond (possible e (bit r)) 0 10)) 31) 4 v
+
+-- what five bytes see of a record outside their area
+abbrev pub seenAs : Reading → ℕ → List Bool
+seenAs v r = onCode (λ i. seen i (bit r)) [] v
+
+abbrev pub seenOf : Code → ℕ → List Bool
+seenOf x r = seenAs (readCode x) r
 
 -- five zeros
 abbrev pub blank : Code
@@ -86,40 +95,40 @@ module _ (x : Code) where
   well : (i : Instruction) → readCode x ≡ Good i → wellFormed i ≡ true
   well i e = one-form x i e .1
 
--- ---- each reads and writes only its area
+-- ---- an instruction, on two records that agree on its reach
 
-read-local : (v : Reading) → ((i : Instruction) → v ≡ Good i → wellFormed i ≡ true)
-    → Local 64 bit (λ k. elem k (onCode areaOf [] v)) (λ r. onCode (λ i. allowed i (bit r)) false v) (λ r. image (onCode (λ i. next i (bit r)) (bit r) v))
-unfolding area
-read-local (Good i) w =
-    let well = w i refl in
-    record {
-      reads = λ f g e. same-verdict i (bit f) (bit g) (λ k m. e k (area-small i well k m) m);
-      writes = λ f g e t k h m. bit-image (next i (bit f)) k h ∙ same-bits i well (bit f) (bit g) (λ j n. e j (area-small i well j n) n) k m ∙ sym (bit-image (next i (bit g)) k h);
-      keeps = λ f t k h o. bit-image (next i (bit f)) k h ∙ kept-outside i well (bit f) k o;
-    }
-read-local Bad w = record { reads = λ f g e. refl; writes = λ f g e t. clash t refl; keeps = λ f t. clash t refl }
+module _ (x : Code) (f g : ℕ) (e : Agree 64 bit (λ k. elem k (reach x)) f g) where
+  -- it crosses a drive on both or on neither
+  crosses-same : crosses x f ≡ crosses x g
+  unfolding crosses
+  crosses-same = split (share (heldArea x) lift)
+      (λ u. rw u (ap (λ (b : Bool). b && true)
+      (holds-agree drives (bit f) (bit g) (λ k m. let n = T→true (elem k drives) m in e k (are-small drives tt k n) (in-drives x k u n)) underWay tt)))
+      (λ u. rw u (and-false (holds underWay (bit f)) ∙ sym (and-false (holds underWay (bit g)))))
 
--- whether it crosses a drive, on two records that agree on its reach
-crosses-same : (x : Code) (f g : ℕ) → Agree 64 bit (λ k. elem k (reach x)) f g → crosses x f ≡ crosses x g
-unfolding crosses
-crosses-same x f g e = split (share (heldArea x) lift)
-    (λ u. rw u (ap (λ (b : Bool). b && true)
-    (holds-agree drives (bit f) (bit g) (λ k m. let n = T→true (elem k drives) m in e k (are-small drives tt k n) (in-drives x k u n)) underWay tt)))
-    (λ u. rw u (and-false (holds underWay (bit f)) ∙ sym (and-false (holds underWay (bit g)))))
+  -- it is allowed on both or on neither, where what it sees is the same
+  allowed-same : seenOf x f ≡ seenOf x g → heldAllowed x (bit f) ≡ heldAllowed x (bit g)
+  unfolding heldArea heldAllowed area
+  allowed-same = read (readCode x) (well x) (λ k h m. e k h (in-area x k m))
+    where
+      read : (v : Reading) → ((i : Instruction) → v ≡ Good i → wellFormed i ≡ true) → Agree 64 bit (λ k. elem k (onCode areaOf [] v)) f g
+          → seenAs v f ≡ seenAs v g → onCode (λ i. allowed i (bit f)) false v ≡ onCode (λ i. allowed i (bit g)) false v
+      read (Good i) w a v = same-verdict i (bit f) (bit g) (λ k m. a k (area-small i (w i refl) k m) m) v
+      read Bad w a v = refl
 
--- with the drives, where the lift is in the area
-reach-local : (x : Code) → Local 64 bit (rules .area x) (rules .allowed x) (rules .next x)
-unfolding heldArea heldAllowed heldNext
-reach-local x =
-    let L = read-local (readCode x) (well x) in
-    record {
-      reads = λ f g e. ap₂ (λ (a c : Bool). a && not c) (L .reads f g (λ k h m. e k h (in-area x k m))) (crosses-same x f g e);
-      writes = λ f g e t k h m. split (elem k (heldArea x))
-          (λ a. L .writes f g (λ j l n. e j l (in-area x j n)) (both (heldAllowed x (bit f)) (not (crosses x f)) t .0) k h a)
-          (λ a. bit-image (heldNext x (bit f)) k h ∙ held-outside x f k a ∙ e k h m ∙ sym (bit-image (heldNext x (bit g)) k h ∙ held-outside x g k a));
-      keeps = λ f t k h o. bit-image (heldNext x (bit f)) k h ∙ held-outside x f k (outside-area x k o);
-    }
+  -- and makes the same there
+  bits-same : (k : ℕ) → k < 64 → elem k (reach x) ≡ true → heldNext x (bit f) k ≡ heldNext x (bit g) k
+  unfolding heldArea heldNext area
+  bits-same k h m = split (elem k (heldArea x))
+      (read (readCode x) (well x) (λ j l n. e j l (in-area x j n)))
+      (λ o. held-outside x f k o ∙ e k h m ∙ sym (held-outside x g k o))
+    where
+      read : (v : Reading) → ((i : Instruction) → v ≡ Good i → wellFormed i ≡ true) → Agree 64 bit (λ k. elem k (onCode areaOf [] v)) f g
+          → elem k (onCode areaOf [] v) ≡ true → onCode (λ i. next i (bit f)) (bit f) v k ≡ onCode (λ i. next i (bit g)) (bit g) v k
+      read (Good i) w a n = same-bits i (w i refl) (bit f) (bit g) (λ j l. a j (area-small i (w i refl) j l) l) k n
+      read Bad w a n = clash n refl
+
+-- ---- an event
 
 turn-local : (e : Event) (f g : ℕ) → Agree 64 bit (λ k. elem k (lift ++ drives)) f g → inTurn e (bit f) ≡ inTurn e (bit g)
 turn-local e f g a = events-local .sameTurn e (bit f) (bit g) (λ k m. a k (lift-small k m) m)
@@ -137,11 +146,7 @@ reply-local (Told e) lost f g a =
     ap₂ (λ (t b : Bool). cond {A = ℕ} t (cond lost 32 (cond b 0 10)) 31) (turn-local e f g a) (event-local (Told e) .reads f g a)
 reply-local Untold lost f g a = refl
 
-local : LocalRules rules
-unfolding heldArea heldAllowed heldNext
-local = record { instruction = reach-local; event = λ e. event-local (readEvent e); reply = λ e. reply-local (readEvent e) }
-
--- ---- and keeps records sound
+-- ---- each keeps records sound
 
 pub next-sound : (x : Code) (r : ℕ) → sound r ≡ true → heldAllowed x (bit r) ≡ true → crosses x r ≡ false → sound (image (heldNext x (bit r))) ≡ true
 unfolding heldAllowed heldNext heldArea crosses
@@ -163,8 +168,62 @@ allowed-has x r t = let (a, c) = both (heldAllowed x (bit r)) (not (crosses x r)
 allowed-sound : (x : Code) (r : ℕ) → sound r ≡ true → rules .allowed x r ≡ true → sound (image (heldNext x (bit r))) ≡ true
 allowed-sound x r s t = let (a, c) = allowed-has x r t in next-sound x r s a c
 
-pub framed : Framed rules blind blind
-framed = local-framed rules local (record { instruction = allowed-sound; event = λ e. after-sound (readEvent e) })
+-- ---- what an instruction sees, nothing with another reach changes
+
+-- an area that shares nothing with the lift's
+apart : (i : Instruction) (height : ℕ) → Clear 64 (λ k. elem k (areaOf (Lift height))) (λ k. elem k (areaOf i)) → overlap i (Lift height) ≡ false
+unfolding overlap
+apart i height c = off (overlap i (Lift height)) (λ e.
+    let (k, m, n) = share-at (areaOf i) (areaOf (Lift height)) e in
+    clash m (c k (are-small (areaOf (Lift height)) tt k n) n))
+
+seen-next : (x y : Code) → Clear 64 (λ k. elem k (reach x)) (λ k. elem k (reach y)) → Quiet sound (seenOf x) (rules .allowed y) (rules .next y)
+unfolding heldArea heldAllowed heldNext
+seen-next x y c f s t = read (readCode x) (readCode y) (λ k h m. outside-area y k (c k h (in-area x k m))) (allowed-has y f t .0)
+  where
+    read : (v w : Reading) → Clear 64 (λ k. elem k (onCode areaOf [] v)) (λ k. elem k (onCode areaOf [] w)) → onCode (λ i. allowed i (bit f)) false w ≡ true
+        → seenAs v (image (onCode (λ i. next i (bit f)) (bit f) w)) ≡ seenAs v f
+    read (Good (Lift height)) (Good i) c a = image-sides i height (apart i height c) f s a
+    read (Good (Lift height)) Bad c a = clash a refl
+    read (Good (Belts row mask toward size)) w c a = refl
+    read (Good (Shuttles side mask orientation toward)) w c a = refl
+    read (Good (Tilt side row orientation)) w c a = refl
+    read (Good Rotate) w c a = refl
+    read Bad w c a = refl
+
+-- an event is in the reach of what sees anything
+seen-after : (x : Code) (e : ℕ) → Clear 64 (λ k. elem k (reach x)) (rules .lift) → Quiet sound (seenOf x) (rules .possible e) (rules .after e)
+unfolding heldArea
+seen-after x e c f s t = read (readCode x) (λ k h m. c k h (in-area x k m))
+  where
+    read : (v : Reading) → Clear 64 (λ k. elem k (onCode areaOf [] v)) (rules .lift) → seenAs v (rules .after e f) ≡ seenAs v f
+    read (Good (Lift height)) c = clash refl (c raisedCar (lit< tt) refl)
+    read (Good (Belts row mask toward size)) c = refl
+    read (Good (Shuttles side mask orientation toward)) c = refl
+    read (Good (Tilt side row orientation)) c = refl
+    read (Good Rotate) c = refl
+    read Bad c = refl
+
+-- ---- so the rules are framed
+
+code-within : (x : Code) → Within 64 bit sound (seenOf x) (rules .area x) (rules .allowed x) (rules .next x)
+code-within x = record {
+  reads = λ f g p q e v. ap₂ (λ (a c : Bool). a && not c) (allowed-same x f g e v) (crosses-same x f g e);
+  writes = λ f g p q e v t k h m. bit-image (heldNext x (bit f)) k h ∙ bits-same x f g e k h m ∙ sym (bit-image (heldNext x (bit g)) k h);
+  keeps = λ f p t k h o. bit-image (heldNext x (bit f)) k h ∙ held-outside x f k (outside-area x k o);
+  safe = allowed-sound x;
+}
+
+pub framed : Framed rules seenOf blind
+framed = record {
+  instruction = code-within;
+  event = λ e. local-within (event-local (readEvent e)) (after-sound (readEvent e));
+  view-next = seen-next;
+  view-after = seen-after;
+  glance-next = λ e x c f s t. refl;
+  glance-after = λ e x f g p q a u v t. refl;
+  reply = λ e lost f g p q a u. reply-local (readEvent e) lost f g a;
+}
 
 -- ---- and an instruction keeps the number of cars
 

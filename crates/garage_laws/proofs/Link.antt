@@ -33,7 +33,7 @@ use Rattle.garage_laws.specs.Runs.{Call, said}
 use Rattle.garage_laws.specs.Jams.{jammed, jamAt}
 use Rattle.garage_laws.specs.Demands.{Acceptable, Waiting}
 use Rattle.garage_laws.proofs.Reach.{reach, reach-small, reach-apart, reach-lift, crosses-none, clear-is}
-use Rattle.garage_laws.proofs.Instance.{rules, framed, blank, possibleAs, allowed-has}
+use Rattle.garage_laws.proofs.Instance.{rules, seenOf, framed, blank, possibleAs, allowed-has}
 use Rattle.garage.proofs.Padding.{five-at, zeros-at, kept-code}
 use Rattle.garage_laws.proofs.Fits.{Ready, fit-has, some-every, marksWith, after-result, waits-allowed}
 use Rattle.garage_laws.proofs.Apart.{awayOf, stuck-away, meets-touched, lost-lift, none-away}
@@ -188,7 +188,7 @@ sane-ready js s G = every-is (s .count) _ (λ i h. split (marked s i) (λ m. rw 
 module _ (js : List Code) (s : Station) (G : Sane js s) where
   -- what the machine takes leaves it so
   takes-good : (c : machine.Call ℕ Code ℕ) → takes rules (view s) c ≡ true → Good rules (jam rules (view s) c (jamsOf js)) (does rules (view s) c)
-  takes-good c t = subst (λ (b : Bool). Good rules (cond b (jam rules (view s) c (jamsOf js)) (jamsOf js)) (cond b (does rules (view s) c) (view s))) t (call-good rules blind blind framed (view s) G c)
+  takes-good c t = subst (λ (b : Bool). Good rules (cond b (jam rules (view s) c (jamsOf js)) (jamsOf js)) (cond b (does rules (view s) c) (view s))) t (call-good rules seenOf blind framed (view s) G c)
 
   -- a call that is not stuck keeps what is
   same-jams : (b : Bool) → cond b js js ≡ js

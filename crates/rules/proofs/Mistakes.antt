@@ -46,7 +46,7 @@ pub three-lowered : Gives 0x00003F0000000000 (Tilt 0 3 0) 0x00013B0000000000 × 
 unfolding allowed next packed
 three-lowered = ((refl, refl), refl)
 
--- cells that are only read belong to the area: those on both sides of the lift, those that it turns over, and those of a shuttle's position
+-- cells that are read belong to the area: the lift's own two, those that it turns over, and those of a shuttle's position
 pub lift-reads : T (framed (Lift 1))
 lift-reads = tt
 

@@ -6,8 +6,8 @@ use Prim.Native.Nat.{ℕ, _-_}
 use lib.Dec.{eqb, leb}
 use Rattle.bits.specs.Bits.{Bits, bit}
 use Rattle.bits.specs.Places.{elem, share, isEmpty, adjacent, join}
-use Rattle.floor.specs.Floor.{rowCells, lowered, tilted, slot, place, lift, liftCells, leftOfLift, rightOfLift, turningCells, raisedCar, heightLow, heightHigh, rotation, basement}
-use Rattle.floor.specs.Tests.{Test, fact, set, free, even, no, both, either, when, choose, allHold, heightIs, atBasement, Change, _≔_, changed}
+use Rattle.floor.specs.Floor.{lowered, tilted, slot, place, lift, liftCells, leftOfLift, rightOfLift, turningCells, raisedCar, heightLow, heightHigh, rotation, basement}
+use Rattle.floor.specs.Tests.{Test, fact, set, free, even, no, both, either, when, choose, holds, allHold, heightIs, atBasement, Change, _≔_, changed}
 use Rattle.floor.specs.Sound.{slots}
 use Rattle.answers.specs.declared.Reason.{Reason}
 use Rattle.answers.specs.declared.Reason.the-variants.{NothingNamed, Gap, NotAvailable, NotFree, OddCount, HalfMove, SameHeight, NotAtRotation, CellsNotFree}
@@ -29,7 +29,7 @@ wellFormed (Tilt side row orientation) = leb side 1 && (leb 1 row && leb row 3) 
 wellFormed (Lift height) = leb height 2
 wellFormed Rotate = true
 
--- ---- areas: they don't depend on the record
+-- ---- areas: they don't depend on the record; and what is read outside them
 
 abbrev pub areaOf : Instruction → List ℕ
 -- the cells of its belts; the lowered slots of its shuttle belts; the lift, if its belt is named
@@ -42,8 +42,8 @@ areaOf (Shuttles side mask orientation toward) =
 areaOf (Tilt side row orientation) =
     cond (eqb orientation lowered) (slots side lowered ++ slot side tilted row ∷ []) (slot side lowered row ∷ slot side tilted row ∷ [])
     ++ place side row
--- the lift and all of row 1
-areaOf (Lift height) = lift ++ rowCells 1
+-- the lift and its two cells
+areaOf (Lift height) = lift ++ liftCells
 -- the lift and its six cells
 areaOf Rotate = lift ++ turningCells
 
@@ -54,6 +54,18 @@ area i k = elem k (areaOf i)
 -- two instructions overlap if their areas share anything
 unfoldable pub overlap : Instruction → Instruction → Bool
 overlap i j = share (areaOf i) (areaOf j)
+
+-- whether each side's count of occupied cells is even: left of the lift, right of it
+abbrev pub sides : Bits → List Bool
+sides f = holds (even leftOfLift) f ∷ holds (even rightOfLift) f ∷ []
+
+-- what an instruction reads of a record besides its area: a lift run whether each side's count is even, the others nothing
+abbrev pub seen : Instruction → Bits → List Bool
+seen (Belts row mask toward size) f = []
+seen (Shuttles side mask orientation toward) f = []
+seen (Tilt side row orientation) f = []
+seen (Lift height) f = sides f
+seen Rotate f = []
 
 -- ---- when each is allowed: conditions in the paper's order, and why not
 

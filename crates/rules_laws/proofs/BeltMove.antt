@@ -1,6 +1,6 @@
 -- An allowed belt move keeps row 1 laid out as whole cars, and as many cells occupied in row 1 and in rows 2 and 3. Assumes nothing.
 use mathlib.Core.Path.{_≡_, sym, ap, _∙_, subst, fun-ext}
-use mathlib.Core.Bool.{Bool, true, false, cond, not, _&&_}
+use mathlib.Core.Bool.{Bool, true, false, cond, not, _&&_, _||_}
 use mathlib.Core.List.{List, [], _∷_, _++_, map, append-assoc}
 use Prim.Native.Nat.{ℕ, zero, suc, _+_, _-_, _%_, _≤_, _<_}
 use native.Mathlib.Nat.{add-zero, add-suc}
@@ -10,7 +10,7 @@ use lib.ListN.{length, getD, take, drop, replicate, length-map, length-append}
 use Rattle.bits.specs.Bits.{Bits, digit, count}
 use Rattle.bits.specs.Places.{from, isEmpty, adjacent}
 use Rattle.bits.specs.Search.{every}
-use Rattle.bits.proofs.Cases.{and-l, and-r}
+use Rattle.bits.proofs.Cases.{and-l, and-r, split, true→T}
 use Rattle.bits.proofs.Digits.{digit-zero}
 use Rattle.bits.proofs.Counts.{length-from, drop-from, adjacent-from}
 use Rattle.floor.specs.Floor.{raisedCar}
@@ -125,6 +125,16 @@ span-within lo hi (suc p) a t =
     let rest = span-within lo hi p (suc a) (and-r (leb lo a && ltb a hi) (within lo hi (from (suc a) (suc p))) t) in
     (leb→le lo a (and-l (leb lo a) (ltb a hi) (and-l (leb lo a && ltb a hi) (within lo hi (from (suc a) (suc p))) t)), omega (arith, rest .1))
 
+-- a list of places doesn't go across n: each is below it, or none is
+abbrev pub besides : ℕ → List ℕ → Bool
+besides n cs = within 0 n cs || within n 40 cs
+
+-- then as many are occupied below n after a shift
+span-besides : (f g : Bits) (a p n : ℕ) → Kept a (a + p) f g → T (besides n (from a (suc p))) → below g n ≡ below f n
+span-besides f g a p n k t = split (within 0 n (from a (suc p)))
+    (λ e. k .high n (span-within 0 n p a (true→T e) .1))
+    (λ e. k .low n (span-within n 40 p a (subst (λ (b : Bool). T (b || within n 40 (from a (suc p)))) e t) .0))
+
 -- a move in row 1 stays below cell 20, one in row 2 or 3 from 20 on and below 40
 abbrev inRows : Bool → List ℕ → Bool
 inRows first cs = cond first (within 0 20 cs) (within 20 40 cs)
@@ -133,15 +143,16 @@ all-inRows : T (rows (λ row mask. inRows (eqb row 1) (cells row mask)))
 unfolding rows every
 all-inRows = tt
 
--- what a belt move keeps
-pub record Carried (f g : Bits) : Type 0 where
+-- what a move of the cells cs keeps
+pub record Carried (cs : List ℕ) (f g : Bits) : Type 0 where
   pub whole : Whole 20 f → Whole 20 g
   pub same20 : below g 20 ≡ below f 20
   pub same40 : below g 40 ≡ below f 40
   pub raised : g raisedCar ≡ f raisedCar
+  pub same : (n : ℕ) → T (besides n cs) → below g n ≡ below f n
 
 -- a span of row 1, or of rows 2 and 3
-span-carried : (f g : Bits) (first : Bool) (a p : ℕ) → Kept a (a + p) f g → T (inRows first (from a (suc p))) → T (holds (cond first (even (from a (suc p))) (fact true)) f) → Carried f g
+span-carried : (f g : Bits) (first : Bool) (a p : ℕ) → Kept a (a + p) f g → T (inRows first (from a (suc p))) → T (holds (cond first (even (from a (suc p))) (fact true)) f) → Carried (from a (suc p)) f g
 span-carried f g true a p k b ev =
     let l = span-within 0 20 p a b in
     let q : a + suc p ≡ suc (a + p) = omega arith in
@@ -150,6 +161,7 @@ span-carried f g true a p k b ev =
       same20 = k .high 20 (l .1);
       same40 = k .high 40 (omega (arith, l .1));
       raised = k .out .high raisedCar (omega (arith, l .1));
+      same = λ n. span-besides f g a p n k;
     }
 span-carried f g false a p k b ev =
     let l = span-within 20 40 p a b in
@@ -158,10 +170,11 @@ span-carried f g false a p k b ev =
       same20 = k .low 20 (l .0);
       same40 = k .high 40 (l .1);
       raised = k .out .high raisedCar (omega (arith, l .1));
+      same = λ n. span-besides f g a p n k;
     }
 
 -- an allowed move is that of a span
-pub belts-carried : (row mask toward size : ℕ) (f : Bits) → T (beltsNamed row mask) → T (allHold (conditions (Belts row mask toward size)) f) → Carried f (changed (changes (Belts row mask toward size)) f)
+pub belts-carried : (row mask toward size : ℕ) (f : Bits) → T (beltsNamed row mask) → T (allHold (conditions (Belts row mask toward size)) f) → Carried (cells row mask) f (changed (changes (Belts row mask toward size)) f)
 belts-carried row mask toward size f named t =
     go (cells row mask) (c 1) (c 2) (c 4) (each-row (λ row mask. inRows (eqb row 1) (cells row mask)) all-inRows row mask named) (c 5)
   where
@@ -172,10 +185,10 @@ belts-carried row mask toward size f named t =
     moved cs = changed (shift toward (step row size) (map one cs)) f
 
     go : (cs : List ℕ) → T (not (isEmpty cs)) → T (adjacent cs) → T (holds (free (end toward (step row size) cs)) f) → T (inRows (eqb row 1) cs)
-        → T (holds (cond (eqb row 1) (even cs) (fact true)) f) → Carried f (moved cs)
+        → T (holds (cond (eqb row 1) (even cs) (fact true)) f) → Carried cs f (moved cs)
     go [] e ad = absurd e
     go (a ∷ ks) e ad =
         let p = length ks in
-        subst (λ (cs : List ℕ). T (holds (free (end toward (step row size) cs)) f) → T (inRows (eqb row 1) cs) → T (holds (cond (eqb row 1) (even cs) (fact true)) f) → Carried f (moved cs))
+        subst (λ (cs : List ℕ). T (holds (free (end toward (step row size) cs)) f) → T (inRows (eqb row 1) cs) → T (holds (cond (eqb row 1) (even cs) (fact true)) f) → Carried cs f (moved cs))
         (sym (adjacent-from a ks ad))
         (λ fr. span-carried f (moved (from a (suc p))) (eqb row 1) a p (span-moves f (higher toward) (eqb row 1 && eqb size 1) a p fr))

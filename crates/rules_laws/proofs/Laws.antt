@@ -1,9 +1,9 @@
 -- The laws of specs/Laws.antt, from the frame laws of the rules, the rules kept, and the moves. Assumes nothing.
-use mathlib.Core.Path.{_≡_, refl, sym, subst, _∙_}
+use mathlib.Core.Path.{_≡_, refl, sym, ap, ap₂, subst, _∙_}
 use mathlib.Core.Logic.{inl, inr}
 use mathlib.Core.Bool.{Bool, true, false, not, _&&_, _||_}
 use mathlib.Core.List.{List, [], _∷_, _++_}
-use Prim.Native.Nat.{ℕ, _+_, _/_, _<_}
+use Prim.Native.Nat.{ℕ, _+_, _/_, _%_, _<_}
 use native.Mathlib.Omega.{arith}
 use lib.Dec.{T, eqb}
 use lib.ListN.{getD}
@@ -13,7 +13,7 @@ use Rattle.bits.specs.Places.{from, elem, share}
 use Rattle.bits.proofs.Cases.{both, split, clash, passed as passes, and-T, T→true, true→T}
 use Rattle.bits.proofs.Digits.{bit-image}
 use Rattle.bits.proofs.Counts.{count-agree, from-elem}
-use Rattle.floor.specs.Floor.{rowCells, raisedCar, heightLow, heightHigh, lift, driveIn, driveOut, drives}
+use Rattle.floor.specs.Floor.{rowCells, raisedCar, heightLow, heightHigh, lift, leftOfLift, rightOfLift, driveIn, driveOut, drives}
 use Rattle.floor.specs.Tests.{fact, set, free, holds, allHold}
 use Rattle.floor.specs.Cars.{Car, Layout, cars}
 use Rattle.floor.specs.Sound.{Sound, sound, soundRules}
@@ -21,23 +21,25 @@ use Rattle.floor.proofs.Reading.{inside, inside-at, all-agree, nth-holds}
 use Rattle.floor.proofs.Rows.{Whole, whole-iff-paired}
 use Rattle.floor.proofs.Promises.{layout-exactly, sound-exactly}
 use Rattle.rules.specs.declared.Instruction.{Instruction}
+use Rattle.rules.specs.declared.Instruction.the-variants.{Shuttles, Lift}
 use Rattle.rules.specs.declared.Event.{Event}
 use Rattle.rules.specs.declared.Event.the-variants.{BeginIn, BeginOut, EndDone, EndNotDone}
-use Rattle.rules.specs.Rules.{wellFormed, areaOf, conditions, allowed, next}
+use Rattle.rules.specs.Rules.{wellFormed, areaOf, overlap, sides, conditions, allowed, next}
 use Rattle.rules.specs.Events.{eventConditions, possible, after}
 use Rattle.rules.proofs.Frame as frame
-use Rattle.rules_laws.specs.Laws.{SameVerdict, SameReason, SameBits, KeptOutside, EventsLocal, Clear, StaysSound, SameCars, EventSound, Counted, EventCars}
+use Rattle.rules_laws.specs.Laws.{SameVerdict, SameReason, SameBits, KeptOutside, withLift, LiftOverlaps, SidesKept, SidesNeedSound, EventsLocal, Clear, StaysSound, SameCars, EventSound, Counted, EventCars}
 use Rattle.rules_laws.proofs.Shift.{whole-same}
 use Rattle.rules_laws.proofs.RulesKept.{clearance, instruction-rules, event-rules}
 use Rattle.rules_laws.proofs.Moves.{Safe, safe, cars-same}
+use Rattle.rules_laws.proofs.Sides.{which-overlap, kept-sides}
 
 -- ---- areas
 
 pub same-verdict : SameVerdict
-same-verdict i f g e = frame.same-verdict i f g e
+same-verdict i f g e v = frame.same-verdict i f g e v
 
 pub same-reason : SameReason
-same-reason i r q e = frame.same-reason i r q e
+same-reason i r q e v = frame.same-reason i r q e v
 
 pub same-bits : SameBits
 same-bits i w f g e = frame.same-next i (true→T w) f g e
@@ -81,11 +83,34 @@ module _ (i : Instruction) (f : Bits) (s : Sound f) (ok : allowed i f ≡ true) 
   unfolding next
   kept c = T→true (allHold soundRules (next i f)) (instruction-rules i (true→T (passed .0)) f (clear c) (true→T (passed .1)) (true→T (s .rules)))
 
+  level : withLift i ≡ false → sides (next i f) ≡ sides f
+  unfolding next
+  level o = kept-sides i o f (true→T (passed .0)) (true→T (passed .1)) (true→T (s .rules)) (layout-whole f (s .layout))
+
 pub stays-sound : StaysSound
 stays-sound i f s c ok = record { layout = whole-layout (next i f) (moved i f s ok .whole); rules = kept i f s ok c }
 
 pub same-cars : SameCars
 same-cars i f s ok = moved i f s ok .same
+
+-- ---- the two sides of the lift
+
+pub lift-overlaps : LiftOverlaps
+lift-overlaps = which-overlap
+
+pub sides-kept : SidesKept
+sides-kept i height o f s ok = level i f s ok (sym (lift-overlaps i height (passed i f s ok .0)) ∙ o)
+
+-- a car stands half on the left shuttle's belt in row 1, where no shuttle is: an empty one that comes there clears that half
+pub sides-need-sound : SidesNeedSound
+unfolding overlap allowed next
+sides-need-sound = record {
+  bits = bit 0x00407E0000000006;
+  instruction = Shuttles 0 6 0 0;
+  apart = λ height. refl;
+  goes = refl;
+  changes = λ e. clash (ap (λ (l : List Bool). getD l 0 true) e) refl;
+}
 
 -- ---- events
 
@@ -144,6 +169,9 @@ module _ (g : Bits) where
   cars-image : cars (bit (image g)) ≡ cars g
   cars-image = cars-same g (bit (image g)) (count-image (rowCells 1) tt) (count-image (rowCells 2 ++ rowCells 3) tt) (in-image raisedCar tt)
 
+  sides-image : sides (bit (image g)) ≡ sides g
+  sides-image = ap₂ (λ (x y : ℕ). eqb (x % 2) 0 ∷ eqb (y % 2) 0 ∷ []) (count-image leftOfLift tt) (count-image rightOfLift tt)
+
   sound-image : Sound g → sound (image g) ≡ true
   sound-image s = sound-exactly (image g) .1 (record {
     layout = whole-layout (bit (image g)) (whole-same g (bit (image g)) 20 (λ k h. bit-image g k (omega arith)) (layout-whole g (s .layout)));
@@ -156,6 +184,11 @@ image-sound i r s c ok = sound-image (next i (bit r)) (stays-sound i (bit r) (so
 
 pub image-cars : (i : Instruction) (r : ℕ) → sound r ≡ true → allowed i (bit r) ≡ true → cars (bit (image (next i (bit r)))) ≡ cars (bit r)
 image-cars i r s ok = cars-image (next i (bit r)) ∙ same-cars i (bit r) (sound-exactly r .0 s) ok
+
+-- and, where it doesn't overlap a lift run, whether each side's count is even
+pub image-sides : (i : Instruction) (height : ℕ) → overlap i (Lift height) ≡ false
+    → (r : ℕ) → sound r ≡ true → allowed i (bit r) ≡ true → sides (bit (image (next i (bit r)))) ≡ sides (bit r)
+image-sides i height o r s ok = sides-image (next i (bit r)) ∙ sides-kept i height o (bit r) (sound-exactly r .0 s) ok
 
 -- a possible event too, with as many cars as it counts
 pub event-image-sound : (e : Event) (r : ℕ) → sound r ≡ true → possible e (bit r) ≡ true → sound (image (after e (bit r))) ≡ true

@@ -6,4 +6,5 @@ pub mod RulesKept
 pub mod Pair
 pub mod CarsKept
 pub mod Moves
+pub mod Sides
 pub mod Laws

@@ -18,10 +18,10 @@ use Rattle.floor.proofs.Reading.{nth-holds}
 use Rattle.floor.proofs.Rows.{below, Whole, count-from}
 use Rattle.rules.specs.declared.Instruction.{Instruction}
 use Rattle.rules.specs.declared.Instruction.the-variants.{Belts, Shuttles, Tilt, Lift, Rotate}
+use Rattle.rules.specs.Named.{cells}
 use Rattle.rules.specs.Rules.{beltsNamed, wellFormed, conditions, changes}
-use Rattle.rules_laws.proofs.Shift.{whole-same}
 use Rattle.rules_laws.proofs.BeltMove.{Carried, belts-carried}
-use Rattle.rules_laws.proofs.Pair.{same-digit, whole-even, pair-whole}
+use Rattle.rules_laws.proofs.Pair.{same-digit, whole-even, PairKept, pair-kept, row-kept}
 use Rattle.rules_laws.proofs.Tried.{targets, not-target}
 use Rattle.rules_laws.proofs.CarsKept.{singles, other, pairAt, known, touches, pair, in-row, left-alone, pair-before, pair-after, same-weight}
 
@@ -38,7 +38,7 @@ unfolding cars
 cars-same f g a b c = ap₂ _+_ (ap₂ (λ (x y : ℕ). x / 2 + y) a b) (ap digit c)
 
 -- the count of a row from its start
-row-count : (h : Bits) (n : ℕ) → count (from 0 n) h ≡ below h n
+pub row-count : (h : Bits) (n : ℕ) → count (from 0 n) h ≡ below h n
 row-count h n = let e : 0 + n ≡ n = omega arith in omega (arith, count-from h n 0, ap (below h) e)
 
 -- whole rows with the same weight
@@ -60,19 +60,29 @@ cars-weight f g w v e =
 
 -- ---- belts
 
+-- the row and the mask of a well-formed belt move
+pub belts-named : (row mask toward size : ℕ) → T (wellFormed (Belts row mask toward size)) → T (beltsNamed row mask)
+belts-named row mask toward size w = and-l (beltsNamed row mask) (leb toward 1) (and-l (beltsNamed row mask && leb toward 1) (leb size 1) w)
+
 -- an allowed belt move
 belts-safe : (row mask toward size : ℕ) (f : Bits) → T (wellFormed (Belts row mask toward size)) → T (allHold (conditions (Belts row mask toward size)) f) → Whole 20 f → Safe f (changed (changes (Belts row mask toward size)) f)
 belts-safe row mask toward size f w c whole =
-    let k = belts-carried row mask toward size f (and-l (beltsNamed row mask) (leb toward 1) (and-l (beltsNamed row mask && leb toward 1) (leb size 1) w)) c in
+    let k = belts-carried row mask toward size f (belts-named row mask toward size w) c in
     record { whole = k .whole whole; same = counted f (changed (changes (Belts row mask toward size)) f) k }
   where
     span : (f g : Bits) (a m : ℕ) → below g a ≡ below f a → below g (a + m) ≡ below f (a + m) → count (from a m) g ≡ count (from a m) f
     span f g a m p q = omega (arith, count-from f m a, count-from g m a)
 
-    counted : (f g : Bits) → Carried f g → cars g ≡ cars f
+    counted : (f g : Bits) → Carried (cells row mask) f g → cars g ≡ cars f
     counted f g k = cars-same f g (span f g 0 20 refl (k .same20)) (span f g 20 20 (k .same20) (k .same40)) (k .raised)
 
 -- ---- the others
+
+-- the side of a well-formed shuttle move
+pub shuttles-side : (side mask orientation toward : ℕ) → T (wellFormed (Shuttles side mask orientation toward)) → T (leb side 1)
+shuttles-side side mask orientation toward w =
+    and-l (leb side 1) (leb mask 7)
+    (and-l (leb side 1 && leb mask 7) (leb orientation 1) (and-l (leb side 1 && leb mask 7 && leb orientation 1) (leb toward 1) w))
 
 -- the lift's conditions and the rule that away from the basement its cells are free: they are free, or both sides hold an even number
 free-or-even : (b x e : Bool) → T (not b || (x || e)) → T (x || b) → T (x || e)
@@ -123,12 +133,7 @@ module _ (f : Bits) (w : Whole 20 f) where
 
   pub ready : (i : Instruction) → T (wellFormed i) → T (allHold (conditions i) f) → T (allHold soundRules f) → Ready i
   ready (Belts row mask toward size) v c r = (tt, λ p. refl)
-  ready (Shuttles side mask orientation toward) v c r = (
-    tt,
-    shuttle-even side
-        (and-l (leb side 1) (leb mask 7)
-        (and-l (leb side 1 && leb mask 7) (leb orientation 1) (and-l (leb side 1 && leb mask 7 && leb orientation 1) (leb toward 1) v))),
-  )
+  ready (Shuttles side mask orientation toward) v c r = (tt, shuttle-even side (shuttles-side side mask orientation toward v))
   ready (Tilt side row orientation) v c r = (tt, λ p. refl)
   ready (Lift height) v c r =
       let l = lift-whole height c r in
@@ -154,8 +159,15 @@ alone true true x l h = absurd (subst T (h refl) l)
 alone true false x l h = absurd l
 
 -- an allowed instruction other than belts
-other-safe : (i : Instruction) → other i ≡ true → (f : Bits) → T (wellFormed i) → T (allHold (conditions i) f) → T (allHold soundRules f) → Whole 20 f → Safe f (changed (changes i) f)
-other-safe i o f v c r w = record { whole = whole; same = cars-weight f g w whole (same-weight i v o f (known-holds .0) c r) }
+pub other-kept : (i : Instruction) → other i ≡ true
+    → (f : Bits) → T (wellFormed i) → T (allHold (conditions i) f) → T (allHold soundRules f) → Whole 20 f → PairKept 20 (pairAt i) f (changed (changes i) f)
+other-kept i o f v c r w = split (touches i)
+    (λ e.
+    let p = pair-cells i f e (pair-before i v o f (known-holds .0) c r) in
+    pair-kept 20 a f g
+    (λ k l x y. unchanged k l (λ t. ap₂ _||_ (ne-eqb a k (λ q. x (sym q))) (ne-eqb (suc a) k (λ q. y (sym q)))))
+    p (pair-cells i g e (pair-after i v o f (known-holds .0) c r)) (in-row i v o) (known-holds .1 p) w)
+    (λ e. row-kept 20 a f g (λ k l. unchanged k l (λ t. clash t e)) w)
   where
     g : Bits
     g = changed (changes i) f
@@ -169,14 +181,10 @@ other-safe i o f v c r w = record { whole = whole; same = cars-weight f g w whol
     unchanged : (k : ℕ) → k < 20 → (touches i ≡ true → eqb a k || eqb (suc a) k ≡ false) → g k ≡ f k
     unchanged k l h = not-target (changes i) f k (alone (elem k (targets (changes i))) (touches i) (eqb a k || eqb (suc a) k) (left-alone i v o k l) h)
 
-    whole : Whole 20 g
-    whole = split (touches i)
-        (λ e.
-        let p = pair-cells i f e (pair-before i v o f (known-holds .0) c r) in
-        pair-whole 20 a f g
-        (λ k l x y. unchanged k l (λ t. ap₂ _||_ (ne-eqb a k (λ q. x (sym q))) (ne-eqb (suc a) k (λ q. y (sym q)))))
-        p (pair-cells i g e (pair-after i v o f (known-holds .0) c r)) (in-row i v o) (known-holds .1 p) w)
-        (λ e. whole-same f g 20 (λ k l. unchanged k l (λ t. clash t e)) w)
+other-safe : (i : Instruction) → other i ≡ true → (f : Bits) → T (wellFormed i) → T (allHold (conditions i) f) → T (allHold soundRules f) → Whole 20 f → Safe f (changed (changes i) f)
+other-safe i o f v c r w =
+    let whole = other-kept i o f v c r w .whole in
+    record { whole = whole; same = cars-weight f (changed (changes i) f) w whole (same-weight i v o f (ready f w i v c r .0) c r) }
 
 -- every allowed instruction
 pub safe : (i : Instruction) (f : Bits) → T (wellFormed i) → T (allHold (conditions i) f) → T (allHold soundRules f) → Whole 20 f → Safe f (changed (changes i) f)

@@ -8,6 +8,7 @@ use native.Mathlib.Omega.{arith}
 use Rattle.bits.specs.Bits.{Bits, digit}
 use Rattle.bits.proofs.Digits.{digit-one, digit-lt}
 use Rattle.floor.proofs.Rows.{below, Whole}
+use Rattle.rules_laws.proofs.Shift.{below-same, whole-same}
 
 -- an even number of two cells is occupied: both or none
 pub same-digit : (a b : Bool) → (digit a + digit b) % 2 ≡ 0 → a ≡ b
@@ -23,7 +24,12 @@ whole-even n f w = go (below f n) (λ o. let q : n < n = w n (omega arith) o .0 
     go : (x : ℕ) → (x % 2 ≡ 1 → ⊥) → x % 2 ≡ 0
     go x h = omega arith
 
--- the pair is a and a + 1
+-- what is kept of n cells where none changes but the pair a and a + 1: whole cars, and whether the number below a place is even,
+-- but for the place between the two
+pub record PairKept (n a : ℕ) (f g : Bits) : Type 0 where
+  pub whole : Whole n g
+  pub parity : (k : ℕ) → k ≤ n → (k ≡ suc a → ⊥) → below g k % 2 ≡ below f k % 2
+
 module _ (n a : ℕ) (f g : Bits)
     (out : (k : ℕ) → k < n → (k ≡ a → ⊥) → (k ≡ suc a → ⊥) → g k ≡ f k)
     (pf : f a ≡ f (suc a)) (pg : g a ≡ g (suc a)) (in-row : suc a < n) (ev : below f a % 2 ≡ 0) (w : Whole n f) where
@@ -42,7 +48,7 @@ module _ (n a : ℕ) (f g : Bits)
             rw e (omega (arith, low a (omega arith), ap digit pf, ap digit pg)))
       ]
 
-  pub pair-whole : Whole n g
+  pair-whole : Whole n g
   pair-whole k h p =
       elim (decLt k a) [
         | yes r ↦ (let q = w k h (omega (arith, low k (omega arith))) in
@@ -58,3 +64,17 @@ module _ (n a : ℕ) (f g : Bits)
           ]
         ]
       ]
+
+  pair-parity : (k : ℕ) → k ≤ n → (k ≡ suc a → ⊥) → below g k % 2 ≡ below f k % 2
+  pair-parity k h ne =
+      elim (decLe k a) [
+        | yes r ↦ ap (λ (x : ℕ). x % 2) (low k r)
+        | no r ↦ omega (arith, high k (omega arith) h)
+      ]
+
+  pub pair-kept : PairKept n a f g
+  pair-kept = record { whole = pair-whole; parity = pair-parity }
+
+-- the row as it was
+pub row-kept : (n a : ℕ) (f g : Bits) → ((k : ℕ) → k < n → g k ≡ f k) → Whole n f → PairKept n a f g
+row-kept n a f g e w = record { whole = whole-same f g n e w; parity = λ k h ne. ap (λ (x : ℕ). x % 2) (below-same f g n e k h) }

@@ -11,7 +11,7 @@ use Rattle.floor.proofs.Rows.{below, Whole}
 -- ---- a row that stays as it is
 
 -- as many are occupied below each place
-below-same : (f g : Bits) (n : ℕ) → ((k : ℕ) → k < n → g k ≡ f k) → (k : ℕ) → k ≤ n → below g k ≡ below f k
+pub below-same : (f g : Bits) (n : ℕ) → ((k : ℕ) → k < n → g k ≡ f k) → (k : ℕ) → k ≤ n → below g k ≡ below f k
 below-same f g n e zero h = refl
 below-same f g n e (suc k) h = omega (arith, below-same f g n e k (omega arith), ap digit (e k (omega arith)))
 

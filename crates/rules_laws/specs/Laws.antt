@@ -2,7 +2,7 @@
 -- the number of cars, and the same of car events. A record is any bits, sound or not, unless the law says otherwise. Assumes nothing.
 use mathlib.Core.Path.{_≡_}
 use mathlib.Core.Logic.{_⊎_}
-use mathlib.Core.Bool.{true, false}
+use mathlib.Core.Bool.{Bool, true, false}
 use mathlib.Core.List.{_++_}
 use Prim.Native.Nat.{ℕ, _+_}
 use Rattle.bits.specs.Bits.{Bits, bit, digit}
@@ -12,9 +12,11 @@ use Rattle.floor.specs.Tests.{holds, underWay}
 use Rattle.floor.specs.Cars.{cars}
 use Rattle.floor.specs.Sound.{Sound}
 use Rattle.rules.specs.declared.Instruction.{Instruction}
+use Rattle.rules.specs.declared.Instruction.the-variants.{Belts, Shuttles, Tilt, Lift, Rotate}
 use Rattle.rules.specs.declared.Event.{Event}
 use Rattle.rules.specs.declared.Event.the-variants.{BeginIn, BeginOut, EndDone, EndNotDone}
-use Rattle.rules.specs.Rules.{wellFormed, areaOf, area, allowed, next}
+use Rattle.rules.specs.Named.{liftNamed}
+use Rattle.rules.specs.Rules.{wellFormed, areaOf, area, overlap, sides, seen, allowed, next}
 use Rattle.rules.specs.Events.{inTurn, possible, after}
 use Rattle.rules.specs.Verdicts.{verdictOf}
 
@@ -24,13 +26,13 @@ use Rattle.rules.specs.Verdicts.{verdictOf}
 abbrev pub Agree : Bits → Bits → Bits → Type 0
 Agree places f g = (k : ℕ) → places k ≡ true → f k ≡ g k
 
--- on two records that agree on its area, an instruction gets the same verdict
+-- on two records that agree on its area and, for a lift run, on whether each side's count is even, an instruction gets the same verdict
 abbrev pub SameVerdict : Type 0
-SameVerdict = (i : Instruction) (f g : Bits) → Agree (area i) f g → allowed i f ≡ allowed i g
+SameVerdict = (i : Instruction) (f g : Bits) → Agree (area i) f g → seen i f ≡ seen i g → allowed i f ≡ allowed i g
 
 -- and, where it isn't allowed, the same reason
 abbrev pub SameReason : Type 0
-SameReason = (i : Instruction) (r q : ℕ) → Agree (area i) (bit r) (bit q) → verdictOf i r ≡ verdictOf i q
+SameReason = (i : Instruction) (r q : ℕ) → Agree (area i) (bit r) (bit q) → seen i (bit r) ≡ seen i (bit q) → verdictOf i r ≡ verdictOf i q
 
 -- and, where it is well formed, it leaves the same bits in its area
 abbrev pub SameBits : Type 0
@@ -39,6 +41,32 @@ SameBits = (i : Instruction) → wellFormed i ≡ true → (f g : Bits) → Agre
 -- nothing outside its area changes
 abbrev pub KeptOutside : Type 0
 KeptOutside = (i : Instruction) → wellFormed i ≡ true → (f : Bits) (k : ℕ) → area i k ≡ false → next i f k ≡ f k
+
+-- belt runs that name the lift belt, lift runs and rotations
+abbrev pub withLift : Instruction → Bool
+withLift (Belts row mask toward size) = liftNamed row mask
+withLift (Shuttles side mask orientation toward) = false
+withLift (Tilt side row orientation) = false
+withLift (Lift height) = true
+withLift Rotate = true
+
+-- they and no others overlap a lift run
+abbrev pub LiftOverlaps : Type 0
+LiftOverlaps = (i : Instruction) (height : ℕ) → wellFormed i ≡ true → overlap i (Lift height) ≡ withLift i
+
+-- an instruction that doesn't overlap a lift run, allowed on a sound record, leaves each side's count even or odd, as it was
+abbrev pub SidesKept : Type 0
+SidesKept =
+    (i : Instruction) (height : ℕ) → overlap i (Lift height) ≡ false
+    → (f : Bits) → Sound f → allowed i f ≡ true → sides (next i f) ≡ sides f
+
+-- the record must be sound: there is one, and an instruction allowed on it that doesn't overlap a lift run, where a count turns
+pub record SidesNeedSound : Type 0 where
+  pub bits : Bits
+  pub instruction : Instruction
+  pub apart : (height : ℕ) → overlap instruction (Lift height) ≡ false
+  pub goes : allowed instruction bits ≡ true
+  pub changes : sides (next instruction bits) ≡ sides bits → ⊥
 
 -- the lift's bits and the drives'
 abbrev pub liftArea : Bits

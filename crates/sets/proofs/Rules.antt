@@ -1,8 +1,8 @@
 -- The rules of a garage, over any records, instructions and car events, and the laws that make a set safe in any order:
 -- each instruction and each event has an area, outside of which it writes nothing; of what is outside it reads nothing
 -- but a view, which changes in other areas leave as it is. They are asked of sound records, and of a change where its
--- test passes. In the garage as it is there is no view (`blind`), and the laws hold of all records (`Local`): on two
--- records that agree on its area, an instruction gets the same verdict. Assumes nothing.
+-- test passes. In the garage as it is a lift run has a view, whether each side's count is even; events have none
+-- (`blind`), and their laws hold of all records (`Local`). Assumes nothing.
 use Prim.Native.Nat.{ℕ, _<_}
 use mathlib.Core.Path.{_≡_}
 use mathlib.Core.Bool.{Bool, true, false}
@@ -89,15 +89,3 @@ pub record Framed {W C O P I E : Type 0} (R : Rules W C I E) (view : I → W →
 -- nothing is seen from outside an area
 abbrev pub blind : {W I : Type 0} → I → W → Unit {0}
 blind i f = tt
-
--- each instruction and each event reads and writes only its area
-pub record LocalRules {W C I E : Type 0} (R : Rules W C I E) : Type 0 where
-  pub instruction : (i : I) → Local (R .width) (R .look) (R .area i) (R .allowed i) (R .next i)
-  pub event : (e : E) → Local (R .width) (R .look) (R .lift) (R .possible e) (R .after e)
-  -- and so does what an event is answered
-  pub reply : (e : E) (lost : Bool) (f g : W) → Agree (R .width) (R .look) (R .lift) f g → R .reply e lost f ≡ R .reply e lost g
-
--- each allowed instruction and each possible event makes a sound record of a sound record
-pub record SoundRules {W C I E : Type 0} (R : Rules W C I E) : Type 0 where
-  pub instruction : (i : I) (f : W) → R .sound f ≡ true → R .allowed i f ≡ true → R .sound (R .next i f) ≡ true
-  pub event : (e : E) (f : W) → R .sound f ≡ true → R .possible e f ≡ true → R .sound (R .after e f) ≡ true

@@ -1,21 +1,16 @@
--- The theorems of this crate, as types. There is a proof of each for all rules that are framed (`Framed R view glance`,
--- in the garage as it is `Framed R blind blind`).
+-- The theorems of this crate, as types. There is a proof of each for all rules that are framed (`Framed R view glance`).
 -- What they speak of stands in the files beside it. Assumes nothing.
 use Prim.Native.Nat.{ℕ, _<_}
 use mathlib.Core.Path.{_≡_}
 use mathlib.Core.List.{List, [], _∷_, _++_}
 use mathlib.Core.Bool.{Bool, true}
-use Rattle.sets.proofs.Rules.{Rules, Framed, blind, LocalRules, SoundRules}
+use Rattle.sets.proofs.Rules.{Rules}
 use Rattle.sets.proofs.Machine.{Batch, Station, Outcome, Act, result, Call, opened, empty, idle, accepted, calls}
 use Rattle.sets.proofs.Orders.{Order, Alike}
 use Rattle.sets.proofs.GoodOrder.{Good}
 use Rattle.sets.proofs.Jams.{jams, Picks, Whichever}
 
 module _ {W C I E : Type 0} (R : Rules W C I E) where
-  -- rules that read and write only their areas, and keep records sound, are framed
-  abbrev pub LocalIsFramed : Type 0
-  LocalIsFramed = LocalRules R → SoundRules R → Framed R blind blind
-
   -- ---- a set is safe in any order
 
   -- of an accepted set: in any order of the results each success is allowed when it comes, each event is answered alike, and the record at the end and what is set apart are the same
