@@ -280,6 +280,15 @@ went-none x d (desk.event e c) o =
 went-none x d (desk.pictures p n ns) o = refl
 went-none x d desk.ask o = refl
 
+-- an event that is taken drives one, where it says that the drive under way is done
+came-one : (x : ℕ) (d : Desk) (e c : ℕ) → said d (desk.event e c) ≡ 0
+    → came x d (desk.event e c) ≡ digit (eqb e 3 && (bit (d .station .bits) driveIn && eqb (numbersIn (d .numbers) driveIn) x))
+came-one x d e c z = rw z
+
+went-one : (x : ℕ) (d : Desk) (e c : ℕ) → said d (desk.event e c) ≡ 0
+    → went x d (desk.event e c) ≡ digit (eqb e 3 && (bit (d .station .bits) driveOut && eqb (numbersIn (d .numbers) raisedCar) x))
+went-one x d e c z = rw z
+
 -- a list without images is a call that is none, and such a list
 parts : (c : DeskCall) (l : List DeskCall) → NoImages (c ∷ l) → NoImages (c ∷ []) × NoImages l
 parts (desk.request n set) l p = (tt, p)
@@ -303,7 +312,7 @@ module _ (x : ℕ) (n : x ≡ 0 → ⊥) where
   moved-same d (desk.event e c) i z =
       let (p, v) = answered d (desk.event e c) Fine .0 z in
       let (f, g) = fit-parts d (p .0) in
-      rw z (event-same e c (d .station .bits) (d .numbers) x (readEvent e) refl (fit-has (d .station) f .sound) g n
+      rw (came-one x d e c z, went-one x d e c z) (event-same e c (d .station .bits) (d .numbers) x (readEvent e) refl (fit-has (d .station) f .sound) g n
       (event-has (d .station) e (p .1) .3))
   moved-same d (desk.pictures y m ns) i z = absurd i
   moved-same d desk.ask i z = refl
