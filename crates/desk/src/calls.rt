@@ -3,7 +3,7 @@
 ghost use mathlib.Core.Path.{_≡_};
 ghost use mathlib.Core.Bool.{cond};
 ghost use lib.Dec.{eqb};
-ghost use Rattle.rules.specs.Codes.{readEvent};
+ghost use Rattle.rules.specs.Codes.{readCode, readEvent};
 ghost use Rattle.garage.specs.Held.{codeAt};
 ghost use Rattle.cards.specs.Given.{givenAs};
 ghost use Rattle.cards.specs.Held.{codeCards, cardsGiven};
@@ -54,6 +54,16 @@ fn is_taken(answer: Answer) -> bool
     answer.number() == 0
 }
 
+// What instruction i of a set says; past the eighth there is none.
+fn read_at(set: [u8; 40], i: u8) -> Reading
+    ensures { λ y. ⌜ y ≡ readCode (codeAt set i) ⌝ }
+{
+    if Station::MOST <= i {
+        return Reading::Bad;
+    }
+    rules::read_bytes(&set[5 * (i as usize)..])
+}
+
 impl Desk {
     // The station's call, and these numbers where it is taken.
     fn following(self, o: Outcome, numbers: [u32; 42]) -> DeskOutcome
@@ -79,24 +89,28 @@ impl Desk {
         self.following(o, numbers)
     }
 
-    // The numbers after a result that is taken: with a success they follow the instruction, on the record before it.
+    // The numbers after a success of instruction i of the set, on the present record.
+    fn done(self, i: u8) -> [u32; 42]
+        ensures { λ a. ⌜ a ≡ codeCards (codeAt (self .station .set) i) (self .station .bits) (self .numbers) ⌝ }
+    {
+        let station = self.station;
+        let numbers = self.numbers;
+        let set = station.set;
+        let said = read_at(set, i);
+        match said {
+            Reading::Good(x) => cards::numbers_after(x, station.bits, numbers),
+            Reading::Bad => numbers,
+        }
+    }
+
+    // The numbers after a result: with a success they follow the instruction.
     fn followed(self, report: Report) -> [u32; 42]
         ensures { λ a. ⌜ a ≡ cond (eqb (report .ending) 1) (codeCards (codeAt (self .station .set) (report .number)) (self .station .bits) (self .numbers)) (self .numbers) ⌝ }
     {
-        let numbers = self.numbers;
-        if report.ending != DONE {
-            return numbers;
+        if report.ending == DONE {
+            return self.done(report.number);
         }
-        if Station::MOST <= report.number {
-            return numbers;
-        }
-        let station = self.station;
-        let set = station.set;
-        let said = rules::read_bytes(&set[5 * (report.number as usize)..]);
-        match said {
-            Reading::Good(i) => cards::numbers_after(i, station.bits, numbers),
-            Reading::Bad => numbers,
-        }
+        self.numbers
     }
 
     // A result.
