@@ -9,7 +9,7 @@ use borrow.Author.Tests.{eq-eqb, ne-eqb}
 use Rattle.bits.proofs.Cases.{split}
 use Rattle.rules.specs.declared.Event.the-variants.{BeginIn}
 use Rattle.rules.specs.Codes.{readEvent}
-use Rattle.answers.specs.declared.Answer.the-variants.{Unfit}
+use Rattle.answers.specs.declared.Answer.the-variants.{Taken, Unfit}
 use Rattle.garage.specs.declared.Outcome.{Outcome}
 use Rattle.garage.specs.declared.Report.{Report}
 use Rattle.garage.specs.Held.{codeAt}
@@ -20,7 +20,7 @@ use Rattle.desk.specs.declared.Desk.{Desk}
 use Rattle.desk.specs.declared.DeskOutcome.{DeskOutcome}
 use Rattle.desk.specs.declared.Reply.the-variants.{Told, ZeroNumber, KnownNumber}
 use Rattle.desk.specs.Desk.{deskFit, isTaken}
-use Rattle.desk.specs.Calls.{refused, onFit, whereTaken, holding, begun, passed}
+use Rattle.desk.specs.Calls.{refused, onFit, whereTaken, holding, begun, passed, ask}
 
 module _ (d : Desk) where
   -- the numbers fit the record
@@ -31,6 +31,18 @@ module _ (d : Desk) where
   pub misfit : (p : DeskOutcome) → Fits false → refused d (Told Unfit) ≡ onFit d p
   unfolding deskFit
   misfit p e = split (fit (d .station)) (λ f. rw (f, e)) (λ f. rw f)
+
+  -- the record is asked for
+  abbrev asked : Bool → DeskOutcome
+  asked t = cond t (refused d (Told Taken)) (refused d (Told Unfit))
+
+  pub ask-unfit : deskFit d ≡ false → refused d (Told Unfit) ≡ ask d
+  unfolding ask
+  ask-unfit e = ap asked (sym e)
+
+  pub ask-fit : deskFit d ≡ true → refused d (Told Taken) ≡ ask d
+  unfolding ask
+  ask-fit e = ap asked (sym e)
 
   -- what the station says: refused, or taken
   pub says-no : (x : Outcome) (p : DeskOutcome) → isTaken (x .answer) ≡ false → refused d (Told (x .answer)) ≡ whereTaken d x p
