@@ -19,7 +19,9 @@ refused-requires-2 : tie.Need-refused-requires-2
 refused-requires-2 c κs = search needs
 
 returns-2 : tie.Need-returns-2
-returns-2 c = c .refused2 .ensures ∙ begun-known _ _ _ (c .before .before .before .before .if1 .left) (sym (c .before .before .known .ensures) ∙ c .before .if2 .taken)
+returns-2 c =
+    c .refused2 .ensures
+    ∙ begun-known _ _ _ (c .before .before .before .before .if1 .left) (sym (c .before .before .known .ensures) ∙ c .before .if2 .taken)
 
 numbers-driven-requires : tie.Need-numbers-driven-requires
 numbers-driven-requires c κs = search needs
@@ -28,7 +30,10 @@ holding-requires : tie.Need-holding-requires
 holding-requires c κs = search needs
 
 returns-3 : tie.Need-returns-3
-returns-3 c = c .holding .ensures ∙ ap (holding _) (c .before .numbers-driven .ensures) ∙ begun-new _ _ _ (c .before .before .before .before .before .if1 .left) (sym (c .before .before .before .known .ensures) ∙ c .before .before .if2 .left)
+returns-3 c =
+    c .holding .ensures
+    ∙ ap (holding _) (c .before .numbers-driven .ensures)
+    ∙ begun-new _ _ _ (c .before .before .before .before .before .if1 .left) (sym (c .before .before .before .known .ensures) ∙ c .before .before .if2 .left)
 
 pub begun-spec : {M : Type 1} → statement M
 begun-spec =

@@ -21,11 +21,16 @@ enum-told c = search needs
 
 returns : tie.Need-returns
 unfolding codeCards
-returns c = let a = c .before .before .before .before .before .before .before .before .args in c .numbers-after .ensures ∙ ap (onCode (λ (x : Instruction). cardsAfter x (a .self .station .bits) (a .self .numbers)) (a .self .numbers)) (sym (c .before .before .said .given .1) ∙ c .before .before .before .before .read-at .ensures)
+returns c =
+    let a = c .before .before .before .before .before .before .before .before .args in
+    c .numbers-after .ensures
+    ∙ ap (onCode (λ (x : Instruction). cardsAfter x (a .self .station .bits) (a .self .numbers)) (a .self .numbers)) (sym (c .before .before .said .given .1) ∙ c .before .before .before .before .read-at .ensures)
 
 returns-2 : tie.Need-returns-2
 unfolding codeCards
-returns-2 c = let a = c .before .before .before .before .before .before .args in ap (onCode (λ (x : Instruction). cardsAfter x (a .self .station .bits) (a .self .numbers)) (a .self .numbers)) (sym (c .enum-told .given .1) ∙ c .before .before .read-at .ensures)
+returns-2 c =
+    let a = c .before .before .before .before .before .before .args in
+    ap (onCode (λ (x : Instruction). cardsAfter x (a .self .station .bits) (a .self .numbers)) (a .self .numbers)) (sym (c .enum-told .given .1) ∙ c .before .before .read-at .ensures)
 
 pub done-spec : {M : Type 1} → statement M
 done-spec =

@@ -30,14 +30,21 @@ refused-requires-2 c κs = search needs
 
 returns-2 : tie.Need-returns-2
 unfolding event station.event
-returns-2 c = let a = c .before .before .before .before .before .before .before .args in c .refused2 .ensures ∙ turned-down (a .self) _ (λ (x : Outcome). occurs (a .self) x (a .card) (a .way)) (c .before .before .before .event .ensures) (passed (c .before .before .before .before .before .before .numbers-fit .ensures) (c .before .before .before .before .before .if1 .left)) (failed (c .before .before .is-taken .ensures) (c .before .if2 .taken))
+returns-2 c =
+    let a = c .before .before .before .before .before .before .before .args in
+    c .refused2 .ensures
+    ∙ turned-down (a .self) _ (λ (x : Outcome). occurs (a .self) x (a .card) (a .way)) (c .before .before .before .event .ensures) (passed (c .before .before .before .before .before .before .numbers-fit .ensures) (c .before .before .before .before .before .if1 .left)) (failed (c .before .before .is-taken .ensures) (c .before .if2 .taken))
 
 begun-requires : tie.Need-begun-requires
 begun-requires c κs = search needs
 
 returns-3 : tie.Need-returns-3
 unfolding event station.event
-returns-3 c = let a = c .before .before .before .before .before .before .before .before .args in c .begun .ensures ∙ occurs-begin _ _ _ (a .way) (c .before .if3 .taken) ∙ goes-on (a .self) _ (λ (x : Outcome). occurs (a .self) x (a .card) (a .way)) (c .before .before .before .before .event .ensures) (passed (c .before .before .before .before .before .before .before .numbers-fit .ensures) (c .before .before .before .before .before .before .if1 .left)) (passed (c .before .before .before .is-taken .ensures) (c .before .before .if2 .left))
+returns-3 c =
+    let a = c .before .before .before .before .before .before .before .before .args in
+    c .begun .ensures
+    ∙ occurs-begin _ _ _ (a .way) (c .before .if3 .taken)
+    ∙ goes-on (a .self) _ (λ (x : Outcome). occurs (a .self) x (a .card) (a .way)) (c .before .before .before .before .event .ensures) (passed (c .before .before .before .before .before .before .before .numbers-fit .ensures) (c .before .before .before .before .before .before .if1 .left)) (passed (c .before .before .before .is-taken .ensures) (c .before .before .if2 .left))
 
 passed-requires : tie.Need-passed-requires
 passed-requires c κs = search needs
@@ -47,7 +54,12 @@ holding-requires c κs = search needs
 
 returns-4 : tie.Need-returns-4
 unfolding event station.event
-returns-4 c = let a = c .before .before .before .before .before .before .before .before .before .args in c .holding .ensures ∙ ap (holding _) (c .before .passed .ensures) ∙ occurs-other (a .self) _ (a .card) (a .way) (c .before .before .if3 .left) ∙ goes-on (a .self) _ (λ (x : Outcome). occurs (a .self) x (a .card) (a .way)) (c .before .before .before .before .before .event .ensures) (passed (c .before .before .before .before .before .before .before .before .numbers-fit .ensures) (c .before .before .before .before .before .before .before .if1 .left)) (passed (c .before .before .before .before .is-taken .ensures) (c .before .before .before .if2 .left))
+returns-4 c =
+    let a = c .before .before .before .before .before .before .before .before .before .args in
+    c .holding .ensures
+    ∙ ap (holding _) (c .before .passed .ensures)
+    ∙ occurs-other (a .self) _ (a .card) (a .way) (c .before .before .if3 .left)
+    ∙ goes-on (a .self) _ (λ (x : Outcome). occurs (a .self) x (a .card) (a .way)) (c .before .before .before .before .before .event .ensures) (passed (c .before .before .before .before .before .before .before .before .numbers-fit .ensures) (c .before .before .before .before .before .before .before .if1 .left)) (passed (c .before .before .before .before .is-taken .ensures) (c .before .before .before .if2 .left))
 
 pub event-spec : {M : Type 1} → statement M
 event-spec =

@@ -9,7 +9,9 @@ done-requires : tie.Need-done-requires
 done-requires c κs = search needs
 
 returns : tie.Need-returns
-returns c = c .done .ensures ∙ followed-done (c .before .before .before .args .self) (c .before .before .before .args .report) (c .before .if1 .taken)
+returns c =
+    c .done .ensures
+    ∙ followed-done (c .before .before .before .args .self) (c .before .before .before .args .report) (c .before .if1 .taken)
 
 returns-2 : tie.Need-returns-2
 returns-2 c = followed-not (c .before .before .before .args .self) (c .before .before .before .args .report) (c .before .if1 .left)

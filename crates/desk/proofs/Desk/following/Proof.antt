@@ -13,13 +13,19 @@ holding-requires : tie.Need-holding-requires
 holding-requires c κs = search needs
 
 returns : tie.Need-returns
-returns c = let a = c .before .before .before .args in c .holding .ensures ∙ says-yes (a .self) (a .o) (holding (a .o) (a .numbers)) (sym (c .before .before .is-taken .ensures) ∙ c .before .if1 .taken)
+returns c =
+    let a = c .before .before .before .args in
+    c .holding .ensures
+    ∙ says-yes (a .self) (a .o) (holding (a .o) (a .numbers)) (sym (c .before .before .is-taken .ensures) ∙ c .before .if1 .taken)
 
 refused-requires : tie.Need-refused-requires
 refused-requires c κs = search needs
 
 returns-2 : tie.Need-returns-2
-returns-2 c = let a = c .before .before .before .args in c .refused .ensures ∙ says-no (a .self) (a .o) (holding (a .o) (a .numbers)) (sym (c .before .before .is-taken .ensures) ∙ c .before .if1 .left)
+returns-2 c =
+    let a = c .before .before .before .args in
+    c .refused .ensures
+    ∙ says-no (a .self) (a .o) (holding (a .o) (a .numbers)) (sym (c .before .before .is-taken .ensures) ∙ c .before .if1 .left)
 
 pub following-spec : {M : Type 1} → statement M
 following-spec =

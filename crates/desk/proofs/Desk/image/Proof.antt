@@ -32,14 +32,20 @@ refused-requires-2 c κs = search needs
 
 returns-2 : tie.Need-returns-2
 unfolding takeImage station.takeImage
-returns-2 c = let a = c .before .before .before .before .before .before .before .args in c .refused2 .ensures ∙ turned-down (a .self) _ (λ (x : Outcome). offered (a .self) x (cardsGiven (a .picture .bits) (a .given)) (givenAs (a .picture .bits) (a .count) (a .given))) (c .before .before .before .image .ensures) (passed (c .before .before .before .before .before .before .numbers-fit .ensures) (c .before .before .before .before .before .if1 .left)) (failed (c .before .before .is-taken .ensures) (c .before .if2 .taken))
+returns-2 c =
+    let a = c .before .before .before .before .before .before .before .args in
+    c .refused2 .ensures
+    ∙ turned-down (a .self) _ (λ (x : Outcome). offered (a .self) x (cardsGiven (a .picture .bits) (a .given)) (givenAs (a .picture .bits) (a .count) (a .given))) (c .before .before .before .image .ensures) (passed (c .before .before .before .before .before .before .numbers-fit .ensures) (c .before .before .before .before .before .if1 .left)) (failed (c .before .before .is-taken .ensures) (c .before .if2 .taken))
 
 offered-requires : tie.Need-offered-requires
 offered-requires c κs = search needs
 
 returns-3 : tie.Need-returns-3
 unfolding takeImage station.takeImage
-returns-3 c = let a = c .before .before .before .before .before .before .before .args in c .offered .ensures ∙ goes-on (a .self) _ (λ (x : Outcome). offered (a .self) x (cardsGiven (a .picture .bits) (a .given)) (givenAs (a .picture .bits) (a .count) (a .given))) (c .before .before .before .image .ensures) (passed (c .before .before .before .before .before .before .numbers-fit .ensures) (c .before .before .before .before .before .if1 .left)) (passed (c .before .before .is-taken .ensures) (c .before .if2 .left))
+returns-3 c =
+    let a = c .before .before .before .before .before .before .before .args in
+    c .offered .ensures
+    ∙ goes-on (a .self) _ (λ (x : Outcome). offered (a .self) x (cardsGiven (a .picture .bits) (a .given)) (givenAs (a .picture .bits) (a .count) (a .given))) (c .before .before .before .image .ensures) (passed (c .before .before .before .before .before .before .numbers-fit .ensures) (c .before .before .before .before .before .if1 .left)) (passed (c .before .before .is-taken .ensures) (c .before .if2 .left))
 
 pub image-spec : {M : Type 1} → statement M
 image-spec =

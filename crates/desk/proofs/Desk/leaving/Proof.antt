@@ -19,10 +19,12 @@ array-read-t9 : tie.Need-array-read-t9
 array-read-t9 c = search needs
 
 returns-2 : tie.Need-returns-2
-returns-2 c = leaving-card _ (passed (c .before .before .before .before .before .fit .ensures) (c .before .before .before .before .if1 .left)) (sym (c .before .before .bit .ensures) ∙ c .before .if2 .taken)
+returns-2 c =
+    leaving-card _ (passed (c .before .before .before .before .before .fit .ensures) (c .before .before .before .before .if1 .left)) (sym (c .before .before .bit .ensures) ∙ c .before .if2 .taken)
 
 returns-3 : tie.Need-returns-3
-returns-3 c = leaving-nobody _ (passed (c .before .before .before .before .fit .ensures) (c .before .before .before .if1 .left)) (sym (c .before .bit .ensures) ∙ c .if2 .left)
+returns-3 c =
+    leaving-nobody _ (passed (c .before .before .before .before .fit .ensures) (c .before .before .before .if1 .left)) (sym (c .before .bit .ensures) ∙ c .if2 .left)
 
 pub leaving-spec : {M : Type 1} → statement M
 leaving-spec =

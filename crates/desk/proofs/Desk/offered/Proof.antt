@@ -37,16 +37,28 @@ refused-requires-3 : tie.Need-refused-requires-3
 refused-requires-3 c κs = search needs
 
 returns : tie.Need-returns
-returns c = c .holding .ensures ∙ ap (holding _) (c .before .numbers-given .ensures) ∙ ap (offered _ _ _) (sym (c .before .before .enum-told .given .1) ∙ c .before .before .before .before .given-as .ensures)
+returns c =
+    c .holding .ensures
+    ∙ ap (holding _) (c .before .numbers-given .ensures)
+    ∙ ap (offered _ _ _) (sym (c .before .before .enum-told .given .1) ∙ c .before .before .before .before .given-as .ensures)
 
 returns-2 : tie.Need-returns-2
-returns-2 c = let a = c .before .before .before .before .args in c .refused .ensures ∙ ap (offered (a .self) (a .o) (cardsGiven (a .r) (a .given))) (sym (c .before .enum-told2 .given .1) ∙ c .before .before .before .given-as .ensures)
+returns-2 c =
+    let a = c .before .before .before .before .args in
+    c .refused .ensures
+    ∙ ap (offered (a .self) (a .o) (cardsGiven (a .r) (a .given))) (sym (c .before .enum-told2 .given .1) ∙ c .before .before .before .given-as .ensures)
 
 returns-3 : tie.Need-returns-3
-returns-3 c = let a = c .before .before .before .before .args in c .refused2 .ensures ∙ ap (offered (a .self) (a .o) (cardsGiven (a .r) (a .given))) (sym (c .before .enum-told3 .given .1) ∙ c .before .before .before .given-as .ensures)
+returns-3 c =
+    let a = c .before .before .before .before .args in
+    c .refused2 .ensures
+    ∙ ap (offered (a .self) (a .o) (cardsGiven (a .r) (a .given))) (sym (c .before .enum-told3 .given .1) ∙ c .before .before .before .given-as .ensures)
 
 returns-4 : tie.Need-returns-4
-returns-4 c = let a = c .before .before .before .before .args in c .refused3 .ensures ∙ ap (offered (a .self) (a .o) (cardsGiven (a .r) (a .given))) (sym (c .before .enum-told4 .given .1) ∙ c .before .before .before .given-as .ensures)
+returns-4 c =
+    let a = c .before .before .before .before .args in
+    c .refused3 .ensures
+    ∙ ap (offered (a .self) (a .o) (cardsGiven (a .r) (a .given))) (sym (c .before .enum-told4 .given .1) ∙ c .before .before .before .given-as .ensures)
 
 pub offered-spec : {M : Type 1} → statement M
 offered-spec =

@@ -19,10 +19,13 @@ enum-told : tie.Need-enum-told
 enum-told c = search needs
 
 returns : tie.Need-returns
-returns c = c .numbers-driven .ensures ∙ ap (λ (y : EventReading). passed y (c .before .before .before .before .before .before .args .self .numbers)) (sym (c .before .before .e .given .1) ∙ c .before .before .before .before .event-of .ensures)
+returns c =
+    c .numbers-driven .ensures
+    ∙ ap (λ (y : EventReading). passed y (c .before .before .before .before .before .before .args .self .numbers)) (sym (c .before .before .e .given .1) ∙ c .before .before .before .before .event-of .ensures)
 
 returns-2 : tie.Need-returns-2
-returns-2 c = ap (λ (y : EventReading). passed y (c .before .before .before .before .args .self .numbers)) (sym (c .enum-told .given .1) ∙ c .before .before .event-of .ensures)
+returns-2 c =
+    ap (λ (y : EventReading). passed y (c .before .before .before .before .args .self .numbers)) (sym (c .enum-told .given .1) ∙ c .before .before .event-of .ensures)
 
 pub passed-spec : {M : Type 1} → statement M
 passed-spec =

@@ -27,7 +27,10 @@ following-requires c κs = search needs
 
 returns-2 : tie.Need-returns-2
 unfolding request station.request
-returns-2 c = let a = c .before .before .before .before .before .before .args in c .following .ensures ∙ through (a .self) _ (λ (x : Outcome). holding x (a .self .numbers)) (c .before .before .request .ensures) (passed (c .before .before .before .before .before .numbers-fit .ensures) (c .before .before .before .before .if1 .left))
+returns-2 c =
+    let a = c .before .before .before .before .before .before .args in
+    c .following .ensures
+    ∙ through (a .self) _ (λ (x : Outcome). holding x (a .self .numbers)) (c .before .before .request .ensures) (passed (c .before .before .before .before .before .numbers-fit .ensures) (c .before .before .before .before .if1 .left))
 
 pub request-spec : {M : Type 1} → statement M
 request-spec =

@@ -30,7 +30,11 @@ following-requires c κs = search needs
 
 returns-2 : tie.Need-returns-2
 unfolding result station.result
-returns-2 c = let a = c .before .before .before .before .before .before .args in c .following .ensures ∙ ap (following (a .self) (c .before .before .result .result)) (c .before .followed .ensures) ∙ through (a .self) _ (λ (x : Outcome). holding x (followed (a .self) (a .report))) (c .before .before .result .ensures) (passed (c .before .before .before .before .before .numbers-fit .ensures) (c .before .before .before .before .if1 .left))
+returns-2 c =
+    let a = c .before .before .before .before .before .before .args in
+    c .following .ensures
+    ∙ ap (following (a .self) (c .before .before .result .result)) (c .before .followed .ensures)
+    ∙ through (a .self) _ (λ (x : Outcome). holding x (followed (a .self) (a .report))) (c .before .before .result .ensures) (passed (c .before .before .before .before .before .numbers-fit .ensures) (c .before .before .before .before .if1 .left))
 
 pub result-spec : {M : Type 1} → statement M
 result-spec =

@@ -20,7 +20,11 @@ placed-requires : tie.Need-placed-requires
 placed-requires c κs = search needs
 
 returns-2 : tie.Need-returns-2
-returns-2 c = let a = c .before .before .before .before .before .before .args in c .placed .ensures ∙ ap (placed (a .self .station .apart)) (c .before .where-is .ensures) ∙ where-fit (a .self) (a .card) (passed (c .before .before .before .before .before .fit .ensures) (c .before .before .before .before .if1 .left))
+returns-2 c =
+    let a = c .before .before .before .before .before .before .args in
+    c .placed .ensures
+    ∙ ap (placed (a .self .station .apart)) (c .before .where-is .ensures)
+    ∙ where-fit (a .self) (a .card) (passed (c .before .before .before .before .before .fit .ensures) (c .before .before .before .before .if1 .left))
 
 pub whereabouts-spec : {M : Type 1} → statement M
 whereabouts-spec =

@@ -24,7 +24,9 @@ read-bytes-requires : tie.Need-read-bytes-requires
 read-bytes-requires c κs = search needs
 
 returns-2 : tie.Need-returns-2
-returns-2 c = c .read-bytes .ensures ∙ read-rest _ _ (c .before .before .before .before .good .0 .1 .0 .1) (c .before .before .before .if1 .left)
+returns-2 c =
+    c .read-bytes .ensures
+    ∙ read-rest _ _ (c .before .before .before .before .good .0 .1 .0 .1) (c .before .before .before .if1 .left)
 
 pub read-at-spec : {M : Type 1} → statement M
 read-at-spec =
