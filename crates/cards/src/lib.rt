@@ -9,14 +9,12 @@ ghost use Rattle.bits.specs.Search.{some, least};
 ghost use Rattle.rules.specs.declared.Event.{Event};
 ghost use Rattle.cards.specs.Following.{numberAt};
 ghost use Rattle.cards.specs.Given.{bears, carsIn, wanted, givenAs};
-ghost use Rattle.cards.specs.Held.{placeOf, numbersIn, cardsAfter, codeCards, cardsDriven, cardsGiven, cardsFit, isKnown, whereIs};
+ghost use Rattle.cards.specs.Held.{placeOf, numbersIn, cardsAfter, cardsDriven, cardsGiven, cardsFit, isKnown, whereIs};
 ghost use Rattle.cards.specs.Private.{givenAt, standRight, repeats};
 use floor::Total;
 use floor::masks::RAISED;
-use rules::Code;
 use rules::Event;
 use rules::Instruction;
-use rules::Reading;
 
 mod sources;
 
@@ -90,17 +88,6 @@ pub fn numbers_after(i: Instruction, r: u64, n: [u32; 42]) -> [u32; 42]
         j += 1;
     }
     new
-}
-
-// The same of five bytes; bad ones change nothing.
-pub fn code_numbers_after(x: Code, r: u64, n: [u32; 42]) -> [u32; 42]
-    ensures { λ a. ⌜ a ≡ codeCards x r n ⌝ }
-{
-    let said = rules::read(x);
-    match said {
-        Reading::Good(i) => numbers_after(i, r, n),
-        Reading::Bad => n,
-    }
 }
 
 // The numbers with c waiting.

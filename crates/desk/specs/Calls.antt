@@ -24,7 +24,7 @@ use Rattle.desk.specs.declared.Reply.{Reply}
 use Rattle.desk.specs.declared.Reply.the-variants.{Told, ZeroNumber, KnownNumber, WrongCount}
 use Rattle.desk.specs.Desk.{deskFit, isTaken}
 
--- the desk as it was, and why
+-- the desk as it was, and what is answered
 abbrev pub refused : Desk → Reply → DeskOutcome
 refused d a = record { desk = d; reply = a }
 

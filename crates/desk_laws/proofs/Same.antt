@@ -329,4 +329,4 @@ module _ (x : ℕ) (n : x ≡ 0 → ⊥) where
       omega (arith, step-same d c p, calls-same l q (left d c))
 
 pub same-numbers : SameNumbers
-same-numbers d b before l i x n = calls-same x n l i (calls d before)
+same-numbers d l i x n = calls-same x n l i d

@@ -2,13 +2,13 @@
 -- is proved in proofs/. Assumes nothing.
 use mathlib.Core.Path.{_≡_}
 use mathlib.Core.Logic.{_↔_, _⊎_}
-use mathlib.Core.Bool.{Bool, true, false, cond, _||_}
-use mathlib.Core.List.{List, [], _∷_}
+use mathlib.Core.Bool.{Bool, true, cond, _||_}
+use mathlib.Core.List.{List}
 use Prim.Native.Nat.{ℕ, suc, _+_, _≤_, _<_}
 use lib.ListN.{length, take, getD}
-use Rattle.bits.specs.Bits.{Bits, bit}
+use Rattle.bits.specs.Bits.{bit}
 use Rattle.floor.specs.Floor.{raisedCar, driveOut}
-use Rattle.floor.specs.Cars.{Car, pair, single, raised, Layout, cars}
+use Rattle.floor.specs.Cars.{Car, pair, single, raised, Layout}
 use Rattle.floor.specs.Sound.{Sound}
 use Rattle.garage.specs.declared.Picture.{Picture}
 use Rattle.garage.specs.Station.{present}
@@ -118,12 +118,11 @@ WhicheverSame =
     (d : Desk) → DeskBegins d → (l : List DeskCall) (p : List ℕ) → Picks (length (stuckAt d l)) p
     → (c : ℕ) → (c ≡ 0 → ⊥) → Has (numbersIn (finishedCards d l p)) c ↔ Has (numbersIn (calls d l .numbers)) c
 
--- none is lost and none is made: over any calls but an image, a car has a number if one had it before, plus those driven in with it, less
+-- none is lost and none is made: from any desk, over any calls but an image, a car has a number if one had it before, plus those driven in with it, less
 -- those driven out
 abbrev pub SameNumbers : Type 0
 SameNumbers =
-    (d : Desk) → DeskBegins d → (before l : List DeskCall) → NoImages l → (c : ℕ) → (c ≡ 0 → ⊥)
-    → let s = calls d before in carded c (calls s l) + drivenOut c s l ≡ carded c s + drivenIn c s l
+    (d : Desk) (l : List DeskCall) → NoImages l → (c : ℕ) → (c ≡ 0 → ⊥) → carded c (calls d l) + drivenOut c d l ≡ carded c d + drivenIn c d l
 
 -- of an accepted set: whichever instructions fail, succeed or stick, two orders of their results with the same car events and numbers come
 -- to the same desk

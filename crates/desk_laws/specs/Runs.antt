@@ -9,13 +9,12 @@ use Rattle.bits.specs.Bits.{bit, digit, image}
 use Rattle.bits.specs.Search.{some}
 use Rattle.floor.specs.Floor.{driveIn, driveOut, raisedCar}
 use Rattle.rules.specs.declared.Code.{Code}
-use Rattle.garage.specs.declared.Station.{Station}
 use Rattle.garage.specs.declared.Report.{Report}
 use Rattle.garage.specs.declared.Picture.{Picture}
 use Rattle.garage.specs.Held.{heldNext}
 use Rattle.garage_laws.specs.Runs as run
 use Rattle.garage_laws.specs.Runs.{Call}
-use Rattle.garage_laws.specs.Jams.{stuck, jamAt, applied, Picks}
+use Rattle.garage_laws.specs.Jams.{stuck, jamAt, applied}
 use Rattle.cards.specs.Held.{numbersIn, codeCards}
 use Rattle.desk.specs.declared.Desk.{Desk}
 use Rattle.desk.specs.declared.DeskOutcome.{DeskOutcome}
