@@ -63,7 +63,7 @@ same-length-6 : tie.Need-same-length-6
 same-length-6 c = search needs
 
 returns-4 : tie.Need-returns-4
-returns-4 c = replied _ _ _ (c .before .before .before .before .before .before .before .before .before .before .before .before .before .before .before .before .before .before .before .if1 .left) (c .before .before .before .before .before .before .before .before .before .before .before .before .before .before .before .before .before .load .ensures) (c .before .before .before .before .before .before .before .before .before .before .before .before .before .before .before .before .respond .ensures) (c .before .before .before .before .before .before .before .before .before .before .before .before .before .before .write-plain .ensures) (c .before .before .before .before .before .before .before .before .before .before .before .number .ensures) (c .before .before .before .before .before .before .before .before .before .before .if2 .left) (c .before .before .before .before .before .before .before .before .before .returned-of .ensures) (c .before .before .before .before .before .before .before .before .if3 .left) (c .before .before .before .before .before .station-bytes .ensures) (omega arith) (c .before .before .copy .ensures .1)
+returns-4 c = replied _ _ _ (c .before .before .before .before .before .before .before .before .before .before .before .before .before .before .before .before .before .before .if1 .left) (c .before .before .before .before .before .before .before .before .before .before .before .before .before .before .before .before .load .ensures) (c .before .before .before .before .before .before .before .before .before .before .before .before .before .before .before .respond .ensures) (c .before .before .before .before .before .before .before .before .before .before .before .before .before .write-plain .ensures) (c .before .before .before .before .before .before .before .before .before .before .number .ensures) (c .before .before .before .before .before .before .before .before .before .if2 .left) (c .before .before .before .before .before .before .before .before .returned-of .ensures) (c .before .before .before .before .before .before .before .if3 .left) (c .before .before .before .before .before .station-bytes .ensures) (omega arith) (c .before .before .copy .ensures .1)
 
 pub station-message-spec : {M : Type 1} → statement M
 station-message-spec =
