@@ -1,8 +1,8 @@
 use mathlib.Core.Path.{_∙_}
-use Rattle.report_c.proofs.Fours.{four-read}
+use Rattle.fours.proofs.Fours.{four-read}
 use borrow.Author.Needs.{needs}
-use Rattle.report_c.proofs.four_at.Statement.{statement}
-use Rattle.report_c.proofs.four_at.Tie as tie
+use Rattle.fours.proofs.got.Statement.{statement}
+use Rattle.fours.proofs.got.Tie as tie
 
 shared-slice-read-joined : tie.Need-shared-slice-read-joined
 shared-slice-read-joined c = search needs
@@ -29,10 +29,10 @@ joined-requires : tie.Need-joined-requires
 joined-requires c κs = search needs
 
 returns : tie.Need-returns
-returns c = c .joined .ensures ∙ four-read (c .before .before .before .before .before .before .args .room .now) (c .before .before .before .before .before .before .args .at)
+returns c = c .joined .ensures ∙ four-read (c .before .before .before .before .before .before .args .run .now) (c .before .before .before .before .before .before .args .at)
 
-pub four-at-spec : {M : Type 1} → statement M
-four-at-spec =
+pub got-spec : {M : Type 1} → statement M
+got-spec =
     tie.close
     (tie.spec
     shared-slice-read-joined
