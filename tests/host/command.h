@@ -16,6 +16,7 @@ struct command {
     uint8_t first, second; /* its byte arguments: a count, an event, or a number and an outcome */
     uint16_t issue;        /* the set that a result is of */
     uint64_t image, apart; /* a record, and what it sets apart */
+    uint32_t card;         /* a card's number */
     struct lent room, in, out; /* the station; a run of bytes to read; a run to write */
 };
 
