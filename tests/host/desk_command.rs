@@ -57,8 +57,8 @@ fn of_desk<const N: usize>(room: &[u8], output: &mut [u8], asked: impl FnOnce(&D
 fn image(room: &mut [u8], (record, apart): (u64, u64), count: u8, cards: &[u8]) -> Answer {
     let asked_for = if count <= CARDS_MOST { usize::from(count) } else { 0 };
     on_desk(room, cards.len() >= CARD * asked_for, |desk| {
-        let cards: Vec<u32> = cards.chunks_exact(CARD).take(asked_for).filter_map(|four| Some(u32::from_le_bytes(*four.first_chunk()?))).collect();
-        desk.image(record, apart, count, &cards)
+        let cards = cards.chunks_exact(CARD).take(asked_for).filter_map(|four| Some(u32::from_le_bytes(*four.first_chunk()?)));
+        desk.image(record, apart, count, &cards.collect::<Vec<u32>>())
     })
 }
 

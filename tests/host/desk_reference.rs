@@ -195,7 +195,8 @@ impl Desk {
     pub fn from_bytes(bytes: &[u8; Self::SIZE]) -> Option<Self> {
         let station = Station::from_bytes(bytes.first_chunk()?);
         if !station.fit() { return None; }
-        let mut numbers: Vec<u32> = bytes[Station::SIZE..].chunks_exact(4).map(|four| four.iter().rev().fold(0, |all, &byte| all << 8 | u32::from(byte))).collect();
+        let number = |four: &[u8]| four.iter().rev().fold(0, |all, &byte| all << 8 | u32::from(byte));
+        let mut numbers: Vec<u32> = bytes[Station::SIZE..].chunks_exact(4).map(number).collect();
         let mut taken = |place: usize| std::mem::take(&mut numbers[place]);
         let cars = layout(station.record).into_iter().map(|stand| Car { card: taken(stand.place(AT_LIFT as u32).into()), stand }).collect();
         let coming = bit(station.record, DRIVE_IN).then(|| taken(AT_DRIVE));
