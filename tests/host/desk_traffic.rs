@@ -145,6 +145,7 @@ pub fn any_call(numbers: &mut Numbers, desk: &Desk) -> Given {
             given.input[at] = numbers.byte();
         }
         (EVENT, 0) => given.first = numbers.byte(),
+        (RESULT, 0) => given.second = numbers.byte(),
         (ASK | LEAVING, 0) => given.output.truncate(numbers.below(given.output.len() as u64) as usize),
         (ASK | LEAVING, 1) => given.output.push(numbers.byte()),
         (IMAGE, 0) => (given.image, given.apart) = near_image(numbers, &desk.station),
