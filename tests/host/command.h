@@ -26,7 +26,7 @@ enum { START, REQUEST, EVENT, RESULT, IMAGE, ASK, MESSAGE, SOUND, CARS, ALLOWED,
 #define LENT(run) (run).bytes, (run).size
 
 /* Makes the call and gives what it returned; the number must be an entry's. */
-static uint32_t call_entry(const struct command *c) {
+static inline uint32_t call_entry(const struct command *c) {
     switch (c->entry) {
     case START: return station_start(LENT(c->room));
     case REQUEST: return station_request(LENT(c->room), c->first, LENT(c->in));

@@ -8,7 +8,7 @@
 enum { DESK_START, DESK_REQUEST, DESK_EVENT, DESK_RESULT, DESK_IMAGE, DESK_ASK, DESK_WHERE, DESK_LEAVING, DESK_ENTRIES };
 
 /* Makes the call and gives what it returned; the number must be an entry's. */
-static uint32_t call_desk(const struct command *c) {
+static inline uint32_t call_desk(const struct command *c) {
     switch (c->entry) {
     case DESK_START: return desk_start(LENT(c->room));
     case DESK_REQUEST: return desk_request(LENT(c->room), c->first, LENT(c->in));
