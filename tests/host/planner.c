@@ -5,6 +5,12 @@
  * the first of them gives up: while one is in the lift the planner may run a belt, but not the lift. A slow motor board says its result
  * once more when the next set has begun, which must be late. Every answer is checked: the first refusal that it doesn't count on ends
  * the run with a message. */
+#include "station.h"
+
+#include <inttypes.h>
+#include <stdio.h>
+#include <stdlib.h>
+
 #include "planner.h"
 
 /* What a motor board reports done: an instruction, by its set and its place there. */
