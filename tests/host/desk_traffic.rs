@@ -88,7 +88,7 @@ fn sound_image(numbers: &mut Numbers, record: u64) -> u64 {
     let (cells, full) = ((1 << 40) - 1, 0xF_FFFF | 0xFF << 21 | 0xFF << 31);
     let record = match numbers.below(8) {
         0 | 1 => record | full,
-        2 => record & !cells & !(1 << LIFT_CAR),
+        2 | 3 => record & !cells & !(1 << LIFT_CAR),
         _ => record,
     };
     let near = (0..20).map(|_| near_record(numbers, record)).find(|&image| sound(image));
@@ -104,11 +104,13 @@ fn image(numbers: &mut Numbers, desk: &Desk, (image, apart): (u64, u64)) -> Give
 /// One call, made for the desk as it is; the desk's own room is not in it yet.
 pub fn some_call(numbers: &mut Numbers, desk: &Desk) -> Given {
     let pick = numbers.below(32);
-    if pick == 0 {
+    if pick > 29 {
         let record = sound_image(numbers, desk.station.record);
-        return image(numbers, desk, (record, 0));
+        let apart = if numbers.one_in(6) { 1 << numbers.below(64) } else { 0 };
+        return image(numbers, desk, (record, apart));
     }
     if pick == 1 { return Given { entry: WHERE, card: some_card(numbers, desk), ..Given::default() }; }
+    if pick == 3 { return Given { entry: EVENT, first: 1 + numbers.below(4) as u8, card: some_card(numbers, desk), ..Given::default() }; }
     if pick == 2 { return Given { entry: LEAVING, output: any_bytes(numbers, 4), ..Given::default() }; }
     let message = framed_message(numbers, &desk.station);
     match read_call(&message) {
