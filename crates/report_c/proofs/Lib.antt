@@ -1,4 +1,3 @@
-pub mod Fours
 pub mod Rooms
 pub mod Forms
 pub mod Keeping

@@ -1,12 +1,12 @@
 -- What each entry answers and leaves, case by case. Assumes nothing.
 use mathlib.Core.Path.{_≡_, refl, sym, ap, _∙_}
 use mathlib.Core.Bool.{Bool, true, false, not}
-use mathlib.Core.List.{List, _++_, append-nil}
+use mathlib.Core.List.{List, _++_}
 use Prim.Native.Nat.{ℕ, _+_, _*_, _-_, _≤_, _<_}
 use native.Mathlib.Omega.{arith}
 use borrow.Author.Tests.{lt-ltb, le-ltb, eq-eqb, ne-eqb}
-use lib.ListN.{length, getD, take, drop, replicate, length-append, length-drop, take-append-drop}
-use lib.Seq.{take-at, take-length, length-take-le, getD-take, drop-append-le, take-append-le}
+use lib.ListN.{length, take, drop, replicate, length-append}
+use lib.Seq.{take-at, take-length, length-take-le}
 use Rattle.bits.proofs.Cases.{passed, failed}
 use Rattle.answers.specs.declared.Answer.the-variants.{Taken, BadField, NoRoom}
 use Rattle.answers.specs.Answers.{nowhere}
@@ -16,10 +16,9 @@ use Rattle.weeks.specs.Weeks.{happened}
 use Rattle.garage.specs.declared.Station.{Station}
 use Rattle.lines.specs.declared.Text.{Text}
 use Rattle.lines.specs.Lines.{reportOf, textOf}
-use Rattle.station_c.proofs.Rooms.{within}
-use Rattle.station_c.specs.Entries.{stationOf, returned, Leaves, writes}
+use Rattle.station_c.specs.Entries.{stationOf, lentStation, returned, Leaves, writes}
 use Rattle.report_c.specs.Entries.{totalsBytes, totalsIn, starting, fullNumber, tallied, counting, known, texting, lining}
-use Rattle.report_c.proofs.Fours.{bytesTo, bytes-length}
+use Rattle.fours.proofs.Fours.{bytesTo, bytes-length}
 
 pub totals-size : (t : Totals) → length (totalsBytes t) ≡ 208
 unfolding totalsBytes bytesTo
@@ -45,35 +44,10 @@ module _ (room : List ℕ) {r : ℕ} where
 
 -- ---- a message
 
--- the first 60 bytes of a room hold the station that it holds
-pub station-first : (room : List ℕ) → 60 ≤ length room → stationOf (take 60 room) ≡ stationOf room
-unfolding stationOf
-station-first room h =
-    rw (
-      within 8 0 60 room (omega arith),
-      at 8 (omega arith),
-      at 9 (omega arith),
-      within 2 50 60 room (omega arith),
-      within 8 52 60 room (omega arith),
-      set,
-    )
-  where
-    at : (i : ℕ) → i < 60 → getD (take 60 room) i 0 ≡ getD room i 0
-    at i l = getD-take 60 room i 0 l
-
-    set : take 40 (drop 10 (take 60 room)) ≡ take 40 (drop 10 room)
-    set =
-        let l : length (take 60 room) ≡ 60 = length-take-le 60 room h in
-        let k : 40 ≤ length (drop 10 (take 60 room)) = rw length-drop (omega arith) in
-        sym (ap (λ (m : List ℕ). take 40 (drop 10 m)) (sym (take-append-drop 60 room))
-        ∙ ap (take 40) (drop-append-le 10 (take 60 room) (drop 60 room) (omega arith))
-        ∙ take-append-le 40 (drop 10 (take 60 room)) (drop 60 room) k)
-
--- they were copied to an array
-pub station-copied : (room b : List ℕ) {s : Station} → 60 ≤ length room
-    → b ≡ take (length (take 60 room)) (take 60 room) ++ drop (length (take 60 room)) (replicate 60 0) → s ≡ stationOf b → s ≡ stationOf room
-station-copied room b h e f =
-    f ∙ ap stationOf (e ∙ rw (take-length, length-take-le 60 room h) (append-nil (take 60 room))) ∙ station-first room h
+-- a room that is long enough holds the station that it lends
+lent-is : (station : List ℕ) {s : Station} → 60 ≤ length station → s ≡ lentStation station → s ≡ stationOf station
+unfolding lentStation
+lent-is station l e = e ∙ rw (le-ltb _ _ l)
 
 module _ (room station message : List ℕ) {r : ℕ} where
   pub count-short : length room < 208 → r ≡ returned NoRoom → Leaves (counting room station message) r room
@@ -84,16 +58,16 @@ module _ (room station message : List ℕ) {r : ℕ} where
   unfolding counting
   station-short h l e = rw (le-ltb _ _ h, lt-ltb _ _ l) (e, refl)
 
-  module _ (h : 208 ≤ length room) (l : 60 ≤ length station) {s : Station} {t : Totals} (e : s ≡ stationOf station) (f : t ≡ totalsIn room)
+  module _ (h : 208 ≤ length room) (l : 60 ≤ length station) {s : Station} {t : Totals} (e : s ≡ lentStation station) (f : t ≡ totalsIn room)
       {full : ℕ} {after : List ℕ} (c : Holds (countedIn (totalsOf (t .counts)) (happened s message)) full after) where
     pub count-full : (full ≡ nothing → ⊥) → r ≡ fullNumber + 256 * full → Leaves (counting room station message) r room
     unfolding counting tallied
-    count-full z g = rw (le-ltb _ _ h, le-ltb _ _ l, ← e, ← f, ← c .full, ne-eqb _ _ z) (g, refl)
+    count-full z g = rw (le-ltb _ _ h, le-ltb _ _ l, ← lent-is station l e, ← f, ← c .full, ne-eqb _ _ z) (g, refl)
 
     pub count-written : {last : List ℕ} → full ≡ nothing → r ≡ returned Taken → last ≡ totalsBytes (totalsOf after) ++ drop 208 room
         → Leaves (counting room station message) r last
     unfolding counting tallied
-    count-written z g w = rw (le-ltb _ _ h, le-ltb _ _ l, ← e, ← f, ← c .full, eq-eqb _ _ z) (written _ room g (w ∙ rw (c .counts)))
+    count-written z g w = rw (le-ltb _ _ h, le-ltb _ _ l, ← lent-is station l e, ← f, ← c .full, eq-eqb _ _ z) (written _ room g (w ∙ rw (c .counts)))
 
 -- ---- the text
 

@@ -1,13 +1,12 @@
 -- The report's totals as bytes, and what the entries that keep them for a host in C answer and leave. Assumes nothing.
 use mathlib.Core.Bool.{Bool, cond, not, _||_}
-use mathlib.Core.List.{List, _++_, map}
+use mathlib.Core.List.{List, _++_}
 use Prim.Native.Nat.{ℕ, _+_, _*_}
 use lib.Dec.{eqb, ltb}
-use lib.ListN.{length, getD, drop}
-use Rattle.bits.specs.Places.{from, join}
+use lib.ListN.{length, drop}
 use Rattle.answers.specs.declared.Answer.the-variants.{Taken, BadField}
 use Rattle.answers.specs.Answers.{nowhere}
-use Rattle.wire.specs.Kinds.{littleEndian, fromLittleEndian}
+use Rattle.fours.specs.Fours.{foursIn, foursBytes}
 use Rattle.totals.specs.declared.Totals.{Totals}
 use Rattle.totals.specs.declared.Tally.{Tally}
 use Rattle.totals.specs.Totals.{size, totalsOf, nothing, countedIn, blank}
@@ -23,11 +22,11 @@ totalsSize = 208
 
 -- four for each, the lowest first, in the report's order
 unfoldable pub totalsBytes : Totals → List ℕ
-totalsBytes t = join (map (λ p. littleEndian 4 (getD (t .counts) p 0)) (from 0 size))
+totalsBytes t = foursBytes size (t .counts)
 
 -- the totals that the first 208 bytes hold
 unfoldable pub totalsIn : List ℕ → Totals
-totalsIn m = totalsOf (map (λ p. fromLittleEndian 4 (4 * p) m) (from 0 size))
+totalsIn m = totalsOf (foursIn size m)
 
 -- ---- what an entry answers, and what it leaves in the room that it may write
 

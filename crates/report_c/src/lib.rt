@@ -1,16 +1,14 @@
 // The entries for a host in C that keeps the report's totals beside its station: the totals are lent as 208 bytes, an answer is its number
 // plus 256 times a place, and a refused call writes nothing. What each answers and leaves stands in specs/Entries.antt.
 ghost use mathlib.Core.Path.{_≡_};
-ghost use mathlib.Core.List.{[], _∷_, _++_};
-ghost use Prim.Native.Nat.{_+_, _≤_};
+ghost use mathlib.Core.List.{_++_};
+ghost use Prim.Native.Nat.{_≤_};
 ghost use lib.ListN.{length, take, drop};
-ghost use Rattle.wire.specs.Kinds.{littleEndian, fromLittleEndian};
 ghost use Rattle.totals.specs.Totals.{totalsOf};
-ghost use Rattle.station_c.specs.Entries.{stationSize, stationOf, Leaves};
+ghost use Rattle.station_c.specs.Entries.{Leaves};
 ghost use Rattle.report_c.specs.Entries.{totalsSize, totalsBytes, totalsIn, starting, counting, known, texting, lining};
 use answers::Answer;
 use answers::NOWHERE;
-use garage::Station;
 use station_c::say;
 use totals::NOTHING;
 use totals::Totals;
@@ -29,21 +27,6 @@ const FULL: u32 = 40;
 
 // ---- totals in bytes
 
-// The number that four bytes say, the lowest first.
-fn joined(a: u8, b: u8, c: u8, d: u8) -> u32
-    ensures { λ r. ⌜ r ≡ fromLittleEndian 4 0 (a ∷ b ∷ c ∷ d ∷ []) ⌝ }
-{
-    a as u32 + 256 * (b as u32 + 256 * (c as u32 + 256 * (d as u32)))
-}
-
-// The number that stands in a room from a place on.
-fn four_at(room: &[u8], at: usize) -> u32
-    requires { ⌜ at + 4 ≤ length (now room) ⌝ }
-    ensures { λ r. ⌜ r ≡ fromLittleEndian 4 at (now (room .entry)) ⌝ }
-{
-    joined(room[at], room[at + 1], room[at + 2], room[at + 3])
-}
-
 // The totals that the first 208 bytes hold.
 fn load(room: &[u8]) -> Totals
     requires { ⌜ totalsSize ≤ length (now room) ⌝ }
@@ -52,24 +35,10 @@ fn load(room: &[u8]) -> Totals
     let mut counts = [0u32; SIZE];
     let mut place: usize = 0;
     while place < SIZE {
-        counts[place] = four_at(room, 4 * place);
+        counts[place] = fours::four_at(room, 4 * place);
         place += 1;
     }
     Totals { counts }
-}
-
-// The four bytes that say a number, written from a place on.
-fn put_four(room: &mut [u8], at: usize, n: u32)
-    requires { ⌜ at + 4 ≤ length (now room) ⌝ }
-    ensures { λ _. ⌜ now (room .exit) ≡ take at (now (room .entry)) ++ littleEndian 4 n ++ drop (at + 4) (now (room .entry)) ⌝ }
-{
-    let b = n / 256;
-    let c = b / 256;
-    let d = c / 256;
-    room[at] = (n % 256) as u8;
-    room[at + 1] = (b % 256) as u8;
-    room[at + 2] = (c % 256) as u8;
-    room[at + 3] = (d % 256) as u8;
 }
 
 // The bytes of totals, written to the room's first 208.
@@ -79,7 +48,7 @@ fn keep(counts: &[u32; SIZE], room: &mut [u8])
 {
     let mut place: usize = 0;
     while place < SIZE {
-        put_four(room, 4 * place, counts[place]);
+        fours::put_four(room, 4 * place, counts[place]);
         place += 1;
     }
 }
@@ -99,16 +68,6 @@ pub extern "C" fn report_start(totals: &mut [u8]) -> u32
     say(Answer::Taken)
 }
 
-// The station that the first 60 bytes of a room hold.
-fn held(room: &[u8]) -> Station
-    requires { ⌜ stationSize ≤ length (now room) ⌝ }
-    ensures { λ s. ⌜ s ≡ stationOf (now (room .entry)) ⌝ }
-{
-    let mut b = [0u8; STATION];
-    bytes::copy(&room[..STATION], &mut b);
-    station_c::station_of(b)
-}
-
 // Counts the first message of a run, as it is before the lent station is given it; where a total is full, its place is told.
 #[no_mangle]
 pub extern "C" fn report_message(totals: &mut [u8], station: &[u8], message: &[u8]) -> u32
@@ -120,7 +79,7 @@ pub extern "C" fn report_message(totals: &mut [u8], station: &[u8], message: &[u
     if station.len() < STATION {
         return say(Answer::NoRoom);
     }
-    let s = held(station);
+    let s = station_c::station_of(station);
     let t = load(totals);
     let mut counts = t.counts;
     let full = weeks::count_message(&mut counts, s, message);

@@ -17,6 +17,7 @@ use Rattle.answers.specs.Answers.{numberOf, placeOf, issueOf, nowhere}
 use Rattle.garage.specs.declared.Station.{Station}
 use Rattle.garage.specs.declared.Outcome.{Outcome}
 use Rattle.garage.specs.Held.{crosses}
+use Rattle.garage.specs.Station.{closed}
 use Rattle.garage.specs.Calls.{refused, request, ask}
 use Rattle.wire.specs.declared.What.{What}
 use Rattle.wire.specs.declared.What.the-variants.{Request, Event, Result, Image, Ask, Held}
@@ -46,6 +47,10 @@ stationOf m =
       next = fromLittleEndian 2 50 m;
       apart = fromLittleEndian 8 52 m;
     }
+
+-- the station that a room holds; in one that is too short none stands, and one of zeros, which is not fit, is taken for it
+unfoldable pub lentStation : List ℕ → Station
+lentStation m = cond (ltb (length m) stationSize) (closed 0 0 0) (stationOf m)
 
 -- ---- what an entry does
 

@@ -10,7 +10,7 @@ ghost use Rattle.garage.specs.Held.{crosses};
 ghost use Rattle.garage.specs.Station.{startOf};
 ghost use Rattle.garage.specs.Calls.{taken, event, result, takeImage};
 ghost use Rattle.station_c.specs.Private.{bytesAsked};
-ghost use Rattle.station_c.specs.Entries.{stationSize, stationBytes, stationOf, imageBytes, returned, Leaves, writes, entry, requestOf, asking, returnedOf, Exchanges, exchange, moved, answerTo, judgement, recordIn, nexting, carsOr255};
+ghost use Rattle.station_c.specs.Entries.{stationSize, stationBytes, stationOf, lentStation, imageBytes, returned, Leaves, writes, entry, requestOf, asking, returnedOf, Exchanges, exchange, moved, answerTo, judgement, recordIn, nexting, carsOr255};
 use answers::Answer;
 use answers::NOWHERE;
 use floor::Total;
@@ -57,11 +57,21 @@ fn load(room: &[u8]) -> Station
     }
 }
 
-// The station that 60 bytes hold, for a crate that is lent one too.
-pub fn station_of(room: [u8; STATION]) -> Station
-    ensures { λ s. ⌜ s ≡ stationOf room ⌝ }
+// The station that a room's first 60 bytes hold, for a crate that is lent one too; one of zeros, which is not fit, where it has fewer.
+pub fn station_of(room: &[u8]) -> Station
+    ensures { λ s. ⌜ s ≡ lentStation (now (room .entry)) ⌝ }
 {
-    load(&room)
+    if room.len() < STATION {
+        return Station {
+            bits: 0,
+            count: 0,
+            answered: 0,
+            set: [0; 40],
+            next: 0,
+            apart: 0,
+        };
+    }
+    load(room)
 }
 
 // A station as 60 bytes, by its fields.
@@ -81,8 +91,16 @@ fn stored(bits: u64, count: u8, answered: u8, set: [u8; 40], next: u16, apart: u
     b
 }
 
+// A station as 60 bytes.
+pub fn station_bytes(s: Station) -> [u8; STATION]
+    ensures { λ b. ⌜ b ≡ stationBytes s ⌝ }
+{
+    let set = s.set;
+    stored(s.bits, s.count, s.answered, set, s.next, s.apart)
+}
+
 // A record and what is set apart, as an image's sixteen bytes.
-fn image_in(bits: u64, apart: u64) -> [u8; IMAGE]
+pub fn image_in(bits: u64, apart: u64) -> [u8; IMAGE]
     ensures { λ b. ⌜ b ≡ imageBytes bits apart ⌝ }
 {
     let b = wire::image_bytes(bits);
@@ -133,8 +151,7 @@ fn keep(o: Outcome, room: &mut [u8]) -> u32
     ensures { λ r. ⌜ Leaves (writes (o .answer) (stationBytes (o .station)) (now (room .entry))) r (now (room .exit)) ⌝ }
 {
     let s = o.station;
-    let set = s.set;
-    let b = stored(s.bits, s.count, s.answered, set, s.next, s.apart);
+    let b = station_bytes(s);
     let a = o.answer;
     answer(a, &b, room)
 }
@@ -293,8 +310,7 @@ pub extern "C" fn station_message(room: &mut [u8], message: &[u8], reply: &mut [
         return r;
     }
     let s = o.station;
-    let set = s.set;
-    let b = stored(s.bits, s.count, s.answered, set, s.next, s.apart);
+    let b = station_bytes(s);
     bytes::copy(&b, room);
     r
 }

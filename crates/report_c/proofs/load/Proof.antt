@@ -1,18 +1,21 @@
 use Prim.Native.Nat.{_-_}
 use native.Mathlib.Omega.{arith}
-use Rattle.report_c.proofs.Fours.{Reading, reading-starts, reading-turns, reading-ends}
+use mathlib.Core.Path.{ap, _∙_}
+use Rattle.totals.specs.Totals.{totalsOf}
+use Rattle.report_c.specs.Entries.{totalsIn}
+use Rattle.fours.proofs.Fours.{four-there, Reading, reading-starts, reading-turns, reading-ends}
 use borrow.Author.Needs.{needs}
 use Rattle.report_c.proofs.load.Statement.{statement}
 use Rattle.report_c.proofs.load.Tie as tie
 
 abbrev Inv-loop : tie.InvT-loop
-Inv-loop room counts₀ place₀ counts place = Reading room counts place
+Inv-loop room counts₀ place₀ counts place = Reading 52 room counts place
 
 abbrev μ-loop : tie.MeasureT-loop
 μ-loop room counts₀ place₀ counts place = 52 - place
 
 loop-holds : tie.Need-loop-holds Inv-loop μ-loop
-loop-holds c = reading-starts (c .before .args .room .now)
+loop-holds c = reading-starts 52 (c .before .args .room .now)
 
 mul-four-at : tie.Need-mul-four-at Inv-loop μ-loop
 mul-four-at c = search needs
@@ -33,10 +36,11 @@ loop-less : tie.Need-loop-less Inv-loop μ-loop
 loop-less c = search needs
 
 loop-again : tie.Need-loop-again Inv-loop μ-loop
-loop-again c = reading-turns (c .before .before .before .before .args .room .now) (c .before .before .loop .counts) (c .before .before .loop .place) (c .four-at .result) (omega arith) (c .four-at .ensures) (c .before .before .loop .inv)
+loop-again c = reading-turns 52 (c .before .before .before .before .args .room .now) (c .before .before .loop .counts) (c .before .before .loop .place) (c .four-at .result) (omega arith) (c .four-at .ensures ∙ four-there _ _ (omega (arith, c .before .before .before .before .pre))) (c .before .before .loop .inv)
 
 returns : tie.Need-returns Inv-loop μ-loop
-returns c = reading-ends (c .before .before .before .args .room .now) (c .before .loop .counts) (c .before .loop .place) (omega arith) (c .before .loop .inv)
+unfolding totalsIn
+returns c = ap totalsOf (reading-ends 52 (c .before .before .before .args .room .now) (c .before .loop .counts) (c .before .loop .place) (omega arith) (c .before .loop .inv))
 
 pub load-spec : {M : Type 1} → statement M
 load-spec =

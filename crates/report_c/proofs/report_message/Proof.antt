@@ -16,8 +16,8 @@ say-requires-2 c κs = search needs
 returns-2 : tie.Need-returns-2
 returns-2 c = station-short _ _ _ (c .before .before .if1 .left) (c .before .if2 .taken) (c .say2 .ensures)
 
-held-requires : tie.Need-held-requires
-held-requires c κs = search needs
+station-of-requires : tie.Need-station-of-requires
+station-of-requires c κs = search needs
 
 load-requires : tie.Need-load-requires
 load-requires c κs = search needs
@@ -38,7 +38,7 @@ same-length : tie.Need-same-length
 same-length c = search needs
 
 returns-3 : tie.Need-returns-3
-returns-3 c = count-full _ _ _ (c .before .before .before .before .before .before .before .before .if1 .left) (c .before .before .before .before .before .before .before .if2 .left) (c .before .before .before .before .before .before .held .ensures) (c .before .before .before .before .load .ensures) (c .before .count-message .ensures) (c .if3 .taken) refl
+returns-3 c = count-full _ _ _ (c .before .before .before .before .before .before .before .before .if1 .left) (c .before .before .before .before .before .before .before .if2 .left) (c .before .before .before .before .before .before .station-of .ensures) (c .before .before .before .before .load .ensures) (c .before .count-message .ensures) (c .if3 .taken) refl
 
 keep-requires : tie.Need-keep-requires
 keep-requires c κs = search needs
@@ -50,7 +50,7 @@ same-length-2 : tie.Need-same-length-2
 same-length-2 c = search needs
 
 returns-4 : tie.Need-returns-4
-returns-4 c = count-written _ _ _ (c .before .before .before .before .before .before .before .before .before .before .before .before .before .before .if1 .left) (c .before .before .before .before .before .before .before .before .before .before .before .before .before .if2 .left) (c .before .before .before .before .before .before .before .before .before .before .before .before .held .ensures) (c .before .before .before .before .before .before .before .before .before .before .load .ensures) (c .before .before .before .before .before .before .before .count-message .ensures) (c .before .before .before .before .before .before .if3 .left) (c .say3 .ensures) (c .before .before .before .keep .ensures)
+returns-4 c = count-written _ _ _ (c .before .before .before .before .before .before .before .before .before .before .before .before .before .before .if1 .left) (c .before .before .before .before .before .before .before .before .before .before .before .before .before .if2 .left) (c .before .before .before .before .before .before .before .before .before .before .before .before .station-of .ensures) (c .before .before .before .before .before .before .before .before .before .before .load .ensures) (c .before .before .before .before .before .before .before .count-message .ensures) (c .before .before .before .before .before .before .if3 .left) (c .say3 .ensures) (c .before .before .before .keep .ensures)
 
 pub report-message-spec : {M : Type 1} → statement M
 report-message-spec =
@@ -60,7 +60,7 @@ report-message-spec =
     returns
     say-requires-2
     returns-2
-    held-requires
+    station-of-requires
     load-requires
     count-message-requires
     cast-result

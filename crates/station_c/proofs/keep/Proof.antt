@@ -4,8 +4,8 @@ use borrow.Author.Needs.{needs}
 use Rattle.station_c.proofs.keep.Statement.{statement}
 use Rattle.station_c.proofs.keep.Tie as tie
 
-stored-requires : tie.Need-stored-requires
-stored-requires c κs = search needs
+station-bytes-requires : tie.Need-station-bytes-requires
+station-bytes-requires c κs = search needs
 
 slice-aggregate-answer : tie.Need-slice-aggregate-answer
 slice-aggregate-answer c = search needs
@@ -17,10 +17,10 @@ same-length : tie.Need-same-length
 same-length c = search needs
 
 returns : tie.Need-returns
-returns c = let e = c .before .before .before .before .before .stored .ensures in
+returns c = let e = c .before .before .before .before .before .station-bytes .ensures in
     let a = c .before .before .answer .ensures in
     (a .0 ∙ rw e, a .1 ∙ rw e)
 
 pub keep-spec : {M : Type 1} → statement M
 keep-spec =
-    tie.close (tie.spec stored-requires slice-aggregate-answer answer-requires same-length returns)
+    tie.close (tie.spec station-bytes-requires slice-aggregate-answer answer-requires same-length returns)

@@ -47,8 +47,8 @@ same-length-4 c = search needs
 returns-3 : tie.Need-returns-3
 returns-3 c = told-why _ _ _ (c .before .before .before .before .before .before .before .before .before .before .before .if1 .left) (c .before .before .before .before .before .before .before .before .before .load .ensures) (c .before .before .before .before .before .before .before .before .respond .ensures) (c .before .before .before .before .before .before .write-plain .ensures) (c .before .before .before .number .ensures) (c .before .before .if2 .left) (c .before .returned-of .ensures) (c .if3 .taken)
 
-stored-requires : tie.Need-stored-requires
-stored-requires c κs = search needs
+station-bytes-requires : tie.Need-station-bytes-requires
+station-bytes-requires c κs = search needs
 
 slice-aggregate-copy : tie.Need-slice-aggregate-copy
 slice-aggregate-copy c = search needs
@@ -63,7 +63,7 @@ same-length-6 : tie.Need-same-length-6
 same-length-6 c = search needs
 
 returns-4 : tie.Need-returns-4
-returns-4 c = replied _ _ _ (c .before .before .before .before .before .before .before .before .before .before .before .before .before .before .before .before .before .before .before .if1 .left) (c .before .before .before .before .before .before .before .before .before .before .before .before .before .before .before .before .before .load .ensures) (c .before .before .before .before .before .before .before .before .before .before .before .before .before .before .before .before .respond .ensures) (c .before .before .before .before .before .before .before .before .before .before .before .before .before .before .write-plain .ensures) (c .before .before .before .before .before .before .before .before .before .before .before .number .ensures) (c .before .before .before .before .before .before .before .before .before .before .if2 .left) (c .before .before .before .before .before .before .before .before .before .returned-of .ensures) (c .before .before .before .before .before .before .before .before .if3 .left) (c .before .before .before .before .before .stored .ensures) (omega arith) (c .before .before .copy .ensures .1)
+returns-4 c = replied _ _ _ (c .before .before .before .before .before .before .before .before .before .before .before .before .before .before .before .before .before .before .if1 .left) (c .before .before .before .before .before .before .before .before .before .before .before .before .before .before .before .before .load .ensures) (c .before .before .before .before .before .before .before .before .before .before .before .before .before .before .before .respond .ensures) (c .before .before .before .before .before .before .before .before .before .before .before .before .before .write-plain .ensures) (c .before .before .before .before .before .before .before .before .before .before .number .ensures) (c .before .before .before .before .before .before .before .before .before .if2 .left) (c .before .before .before .before .before .before .before .before .returned-of .ensures) (c .before .before .before .before .before .before .before .if3 .left) (c .before .before .before .before .before .station-bytes .ensures) (omega arith) (c .before .before .copy .ensures .1)
 
 pub station-message-spec : {M : Type 1} → statement M
 station-message-spec =
@@ -83,7 +83,7 @@ station-message-spec =
     same-length-3
     same-length-4
     returns-3
-    stored-requires
+    station-bytes-requires
     slice-aggregate-copy
     copy-requires
     same-length-5

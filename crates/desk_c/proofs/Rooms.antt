@@ -1,0 +1,182 @@
+-- What is lent, a desk laid out in bytes, and what an entry leaves, case by case: one pair of laws serves every call. Assumes nothing.
+use mathlib.Core.Path.{_≡_, refl, sym, ap, ap₂, _∙_}
+use mathlib.Core.List.{List, [], _++_, append-nil}
+use Prim.Native.Nat.{ℕ, _*_, _-_, _%_, _^_, _≤_, _<_}
+use native.Mathlib.Nat.{mul-le-mul-right}
+use native.Mathlib.Omega.{arith}
+use borrow.Author.Tests.{lt-ltb, le-ltb, ltb-false, eq-eqb, ne-eqb}
+use lib.Dec.{ltb}
+use lib.ListN.{length, take, drop, replicate}
+use lib.Seq.{take-length}
+use Rattle.bits.proofs.Cases.{split}
+use Rattle.answers.specs.declared.Answer.the-variants.{Taken, TooFewBytes, NoRoom, Unfit}
+use Rattle.answers.proofs.Promises.{number-byte}
+use Rattle.garage.specs.declared.Station.{Station}
+use Rattle.wire.specs.Kinds.{littleEndian, setOf}
+use Rattle.wire.proofs.Parts.{zeros-past, from-on}
+use Rattle.fours.specs.Fours.{foursIn, foursBytes, fourPut}
+use Rattle.fours.proofs.Fours.{four-laid}
+use Rattle.station_c.specs.Entries.{stationBytes, stationOf, lentStation, imageBytes, returned, Leaves, writes}
+use Rattle.desk.specs.declared.Desk.{Desk}
+use Rattle.desk.specs.declared.DeskOutcome.{DeskOutcome}
+use Rattle.desk.specs.declared.Reply.{Reply}
+use Rattle.desk.specs.declared.Reply.the-variants.{Told, ZeroNumber, KnownNumber, WrongCount}
+use Rattle.desk.specs.declared.Whereabouts.{Whereabouts}
+use Rattle.desk.specs.declared.Leaving.{Leaving}
+use Rattle.desk.specs.Desk.{replyNumber}
+use Rattle.desk.specs.Calls.{refused, request, takeImage, ask}
+use Rattle.desk.specs.Questions.{whereabouts, leaving}
+use Rattle.desk_c.specs.Entries.{deskBytes, deskOf, replied, shows, entry, lentBytes, requestOf, imageOf, asking, whereSaid, finding, leavingEntry, parting}
+
+-- ---- what is lent
+
+module _ (atMost each n : ℕ) where
+  pub none-lent : atMost < n → 0 ≡ lentBytes atMost each n
+  none-lent h = rw (lt-ltb _ _ h)
+
+  pub each-lent : n ≤ atMost → each * n ≡ lentBytes atMost each n
+  each-lent h = rw (le-ltb _ _ h)
+
+-- a few bytes for each of a byte's number of things are no number that a word can't hold
+pub lent-small : (each n : ℕ) → each ≤ 8 → n < 256 → each * n < 2 ^ 64
+lent-small each n h l = let m = mul-le-mul-right n h in omega arith
+
+-- never more than 31 numbers
+pub few-lent : (n : ℕ) {size : ℕ} → size ≡ lentBytes 31 4 n → size ≤ 124
+few-lent n {size} e = split (ltb 31 n)
+    (λ t. let z : size ≡ 0 = e ∙ rw t in omega arith)
+    (λ t. let h = ltb-false 31 n t in let z : size ≡ 4 * n = e ∙ rw t in omega arith)
+
+-- an array of zeros into whose first places a run was copied
+pub zero-filled : (s last : List ℕ) → last ≡ take (length s) s ++ drop (length s) (replicate 124 0) → last ≡ s ++ replicate (124 - length s) 0
+zero-filled s last e = e ∙ rw (take-length s, zeros-past (length s) 124)
+
+-- a set that is too short, or long enough
+module _ (n : ℕ) (set : List ℕ) (d : Desk) {size : ℕ} {o : DeskOutcome} (e : size ≡ lentBytes 8 5 n) where
+  pub few-instructions : length set < size → o ≡ refused d (Told TooFewBytes) → o ≡ requestOf n set d
+  unfolding requestOf
+  few-instructions h f = f ∙ rw (← e, lt-ltb _ _ h)
+
+  pub all-instructions : {five : List ℕ} → size ≤ length set → five ≡ setOf (take size set) → o ≡ request d n five → o ≡ requestOf n set d
+  unfolding requestOf
+  all-instructions h g f = f ∙ rw (← e, le-ltb _ _ h, g)
+
+-- so of an image's numbers
+module _ (r apart n : ℕ) (run : List ℕ) (d : Desk) {size : ℕ} {o : DeskOutcome} (e : size ≡ lentBytes 31 4 n) where
+  pub few-numbers : length run < size → o ≡ refused d (Told TooFewBytes) → o ≡ imageOf r apart n run d
+  unfolding imageOf
+  few-numbers h f = f ∙ rw (← e, lt-ltb _ _ h)
+
+  pub all-numbers : {b numbers : List ℕ} → size ≤ length run → b ≡ take size run ++ replicate (124 - length (take size run)) 0
+      → numbers ≡ foursIn 31 b → o ≡ takeImage d (record { bits = r; apart = apart }) n numbers → o ≡ imageOf r apart n run d
+  unfolding imageOf
+  all-numbers h g k f = f ∙ rw (← e, le-ltb _ _ h, k, g)
+
+-- ---- a desk in bytes
+
+-- a room's station, and the numbers behind it
+pub desk-loaded : (m : List ℕ) {s : Station} {numbers : List ℕ} → 228 ≤ length m → s ≡ lentStation m
+    → numbers ≡ foursIn 42 (take (length m - 60) (drop 60 m)) → _≡_ {A = Desk} (record { station = s; numbers = numbers }) (deskOf m)
+unfolding deskOf lentStation
+desk-loaded m h e f =
+    ap₂ (λ (s : Station) (a : List ℕ). record { station = s; numbers = a }) (e ∙ rw (le-ltb (length m) 60 (omega arith)))
+    (f ∙ ap (foursIn 42) (from-on m 60))
+
+-- places of zeros, into which the numbers and the station's bytes were put
+pub desk-laid : (d : Desk) (s head last : List ℕ) → length s ≡ 60 → s ≡ stationBytes (d .station)
+    → head ≡ take (length s) s ++ drop (length s) (replicate 60 0) → last ≡ foursBytes 42 (d .numbers) ++ drop 168 (replicate 168 0)
+    → head ++ (last ++ []) ≡ deskBytes d
+unfolding deskBytes
+desk-laid d s head last l e h f =
+    let all : take (length s) s ++ drop (length s) (replicate 60 0) ≡ s ++ [] =
+    ap₂ (λ (a b : List ℕ). a ++ b) (take-length s) (ap (λ (k : ℕ). drop k (replicate 60 0)) l) in
+    ap₂ (λ (a b : List ℕ). a ++ b) (h ∙ all ∙ append-nil s ∙ e) (append-nil last ∙ f ∙ append-nil (foursBytes 42 (d .numbers)))
+
+-- ---- what a call leaves
+
+-- the number of a reply is a byte, and what is said ends with it
+pub reply-byte : (a : Reply) → replyNumber a < 256
+reply-byte (Told a) = number-byte a
+reply-byte ZeroNumber = omega arith
+reply-byte KnownNumber = omega arith
+reply-byte WrongCount = omega arith
+
+pub reply-number : (a : Reply) → replied a % 256 ≡ replyNumber a
+reply-number a = let h = reply-byte a in omega arith
+
+module _ (a : Reply) (bytes room : List ℕ) {r : ℕ} (f : r ≡ replied a) where
+  number-said : r % 256 ≡ replyNumber a
+  number-said = ap (λ (n : ℕ). n % 256) f ∙ reply-number a
+
+  -- refused, nothing is written
+  pub not-taken : (r % 256 ≡ 0 → ⊥) → Leaves (shows a bytes room) r room
+  unfolding shows
+  not-taken h = (f, rw (ne-eqb (replyNumber a) 0 (λ z. h (number-said ∙ z))))
+
+  -- taken, the bytes are
+  pub all-taken : {last : List ℕ} → r % 256 ≡ 0 → last ≡ take (length bytes) bytes ++ drop (length bytes) room → Leaves (shows a bytes room) r last
+  unfolding shows
+  all-taken h l = (f, l ∙ rw (eq-eqb (replyNumber a) 0 (sym number-said ∙ h), take-length bytes))
+
+-- a call whose room is too short
+pub short : (call : Desk → DeskOutcome) (room : List ℕ) {r : ℕ} → length room < 228 → r ≡ returned NoRoom → Leaves (entry call room) r room
+unfolding entry
+short call room h e = rw (lt-ltb _ _ h) (e, refl)
+
+-- any other leaves what its outcome says
+pub entered : (call : Desk → DeskOutcome) (room : List ℕ) {d : Desk} {o : DeskOutcome} {r : ℕ} {last : List ℕ} → 228 ≤ length room
+    → d ≡ deskOf room → o ≡ call d → Leaves (shows (o .reply) (deskBytes (o .desk)) room) r last → Leaves (entry call room) r last
+unfolding entry
+entered call room h e f w = rw (le-ltb _ _ h, ← e, ← f) w
+
+-- ---- questions
+
+-- the record is asked for
+module _ (room image : List ℕ) {r : ℕ} where
+  pub ask-short : length room < 228 → r ≡ returned NoRoom → Leaves (asking room image) r image
+  unfolding asking
+  ask-short h e = rw (lt-ltb _ _ h) (e, refl)
+
+  pub image-short : 228 ≤ length room → length image < 16 → r ≡ returned NoRoom → Leaves (asking room image) r image
+  unfolding asking
+  image-short h l e = rw (le-ltb _ _ h, lt-ltb _ _ l) (e, refl)
+
+  pub asked : {d : Desk} {o : DeskOutcome} {b last : List ℕ} → 228 ≤ length room → 16 ≤ length image → d ≡ deskOf room → o ≡ ask d
+      → b ≡ imageBytes (d .station .bits) (d .station .apart) → Leaves (shows (o .reply) b image) r last → Leaves (asking room image) r last
+  unfolding asking
+  asked h l e f g w = rw (le-ltb _ _ h, le-ltb _ _ l, ← e, ← f, ← g) w
+
+-- where a card's car is
+module _ (room : List ℕ) (c : ℕ) {r : ℕ} where
+  pub where-short : length room < 228 → r ≡ returned NoRoom → r ≡ finding room c
+  unfolding finding
+  where-short h e = e ∙ rw (lt-ltb _ _ h)
+
+  pub where-said : {d : Desk} {w : Whereabouts} → 228 ≤ length room → d ≡ deskOf room → w ≡ whereabouts d c → r ≡ whereSaid w → r ≡ finding room c
+  unfolding finding
+  where-said h e f g = g ∙ rw (le-ltb _ _ h, ← e, ← f)
+
+-- a card's number that is put
+pub card-put : (c : ℕ) (out : List ℕ) {r : ℕ} {last : List ℕ} → 4 ≤ length out → r ≡ returned Taken → last ≡ fourPut 0 c out
+    → Leaves (writes Taken (littleEndian 4 c) out) r last
+unfolding writes
+card-put c out h e f = (e, f ∙ four-laid 0 c out h)
+
+-- which card is leaving
+module _ (room out : List ℕ) {r : ℕ} where
+  pub leaving-short : length room < 228 → r ≡ returned NoRoom → Leaves (parting room out) r out
+  unfolding parting
+  leaving-short h e = rw (lt-ltb _ _ h) (e, refl)
+
+  pub out-short : 228 ≤ length room → length out < 4 → r ≡ returned NoRoom → Leaves (parting room out) r out
+  unfolding parting
+  out-short h l e = rw (le-ltb _ _ h, lt-ltb _ _ l) (e, refl)
+
+  module _ (h : 228 ≤ length room) (l : 4 ≤ length out) {d : Desk} (e : d ≡ deskOf room) {x : Leaving} (f : x ≡ leaving d) where
+    pub parted : (y : Leaving) {last : List ℕ} → x ≡ y → Leaves (leavingEntry y out) r last → Leaves (parting room out) r last
+    unfolding parting
+    parted y g w = rw (le-ltb _ _ h, le-ltb _ _ l, ← e, sym f ∙ g) w
+
+    pub unfit-parted : x ≡ Leaving.Unfit → r ≡ returned Unfit → Leaves (parting room out) r out
+    unfolding writes
+    unfit-parted g k = parted Leaving.Unfit g (k, refl)

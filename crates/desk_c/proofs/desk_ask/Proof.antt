@@ -1,0 +1,54 @@
+-- `desk_c::desk_ask` meets its contract: either room too short, or the image. Assumes nothing.
+use Rattle.desk_c.proofs.Rooms.{ask-short, image-short, asked}
+use borrow.Author.Needs.{needs}
+use Rattle.desk_c.proofs.desk_ask.Statement.{statement}
+use Rattle.desk_c.proofs.desk_ask.Tie as tie
+
+say-requires : tie.Need-say-requires
+say-requires c κs = search needs
+
+returns : tie.Need-returns
+returns c = ask-short _ _ (c .before .if1 .taken) (c .say .ensures)
+
+say-requires-2 : tie.Need-say-requires-2
+say-requires-2 c κs = search needs
+
+returns-2 : tie.Need-returns-2
+returns-2 c = image-short _ _ (c .before .before .if1 .left) (c .before .if2 .taken) (c .say2 .ensures)
+
+load-requires : tie.Need-load-requires
+load-requires c κs = search needs
+
+image-in-requires : tie.Need-image-in-requires
+image-in-requires c κs = search needs
+
+ask-requires : tie.Need-ask-requires
+ask-requires c κs = search needs
+
+slice-aggregate-answer : tie.Need-slice-aggregate-answer
+slice-aggregate-answer c = search needs
+
+answer-requires : tie.Need-answer-requires
+answer-requires c κs = search needs
+
+same-length : tie.Need-same-length
+same-length c = search needs
+
+returns-3 : tie.Need-returns-3
+returns-3 c = asked _ _ (c .before .before .before .before .before .before .before .before .before .before .if1 .left) (c .before .before .before .before .before .before .before .before .before .if2 .left) (c .before .before .before .before .before .before .before .before .load .ensures) (c .before .before .before .before .before .ask .ensures) (c .before .before .before .before .before .before .image-in .ensures) (c .before .before .answer .ensures)
+
+pub desk-ask-spec : {M : Type 1} → statement M
+desk-ask-spec =
+    tie.close
+    (tie.spec
+    say-requires
+    returns
+    say-requires-2
+    returns-2
+    load-requires
+    image-in-requires
+    ask-requires
+    slice-aggregate-answer
+    answer-requires
+    same-length
+    returns-3)

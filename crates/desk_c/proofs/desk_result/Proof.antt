@@ -1,0 +1,38 @@
+-- `desk_c::desk_result` meets its contract: as every call. Assumes nothing.
+use Rattle.desk_c.proofs.Rooms.{short, entered}
+use borrow.Author.Needs.{needs}
+use Rattle.desk_c.proofs.desk_result.Statement.{statement}
+use Rattle.desk_c.proofs.desk_result.Tie as tie
+
+say-requires : tie.Need-say-requires
+say-requires c κs = search needs
+
+returns : tie.Need-returns
+returns c = short _ _ (c .before .if1 .taken) (c .say .ensures)
+
+load-requires : tie.Need-load-requires
+load-requires c κs = search needs
+
+result-requires : tie.Need-result-requires
+result-requires c κs = search needs
+
+keep-requires : tie.Need-keep-requires
+keep-requires c κs = search needs
+
+same-length : tie.Need-same-length
+same-length c = search needs
+
+returns-2 : tie.Need-returns-2
+returns-2 c = entered _ _ (c .before .before .before .before .before .before .before .if1 .left) (c .before .before .before .before .before .load .ensures) (c .before .before .before .before .result .ensures) (c .before .before .keep .ensures)
+
+pub desk-result-spec : {M : Type 1} → statement M
+desk-result-spec =
+    tie.close
+    (tie.spec
+    say-requires
+    returns
+    load-requires
+    result-requires
+    keep-requires
+    same-length
+    returns-2)

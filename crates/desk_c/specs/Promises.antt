@@ -1,0 +1,71 @@
+-- What is promised of lent desks, and of what the entries return. Proved in proofs/Promises.antt. Assumes nothing.
+use mathlib.Core.Path.{_≡_}
+use mathlib.Core.Logic.{_⊎_}
+use mathlib.Core.List.{List, _++_}
+use Prim.Native.Nat.{ℕ, _/_, _%_, _^_, _≤_, _<_}
+use lib.ListN.{length, getD, take}
+use Rattle.answers.specs.Answers.{OfTable}
+use Rattle.wire_laws.specs.Statements.{Bytes}
+use Rattle.station_c.specs.Promises as station
+use Rattle.desk.specs.declared.Desk.{Desk}
+use Rattle.desk.specs.declared.DeskOutcome.{DeskOutcome}
+use Rattle.desk.specs.declared.Reply.{Reply}
+use Rattle.desk.specs.declared.Whereabouts.{Whereabouts}
+use Rattle.desk.specs.declared.Whereabouts.the-variants.{At, LastKnown, NotHere}
+use Rattle.desk.specs.Desk.{replyNumber, replyPlace, replyIssue}
+use Rattle.desk_c.specs.Entries.{deskNumbers, deskSize, deskBytes, deskOf, replied, entry, asking, whereSaid, finding, parting}
+
+-- a desk as code holds it: its station is, and it has 42 numbers of 32 bits
+pub record Typed (d : Desk) : Type 0 where
+  pub station : station.Typed (d .station)
+  pub places : length (d .numbers) ≡ deskNumbers
+  pub small : (p : ℕ) → getD (d .numbers) p 0 < 2 ^ 32
+
+-- it takes 228 bytes
+abbrev pub DeskFits : Type 0
+DeskFits = (d : Desk) → Typed d → length (deskBytes d) ≡ deskSize
+
+-- a desk that was written reads back, whatever stands past it
+abbrev pub DeskReadsBack : Type 0
+DeskReadsBack = (d : Desk) (past : List ℕ) → Typed d → deskOf (deskBytes d ++ past) ≡ d
+
+-- and the bytes of a room are those of the desk that they hold
+abbrev pub DeskOneForm : Type 0
+DeskOneForm = (room : List ℕ) → Bytes room → deskSize ≤ length room → deskBytes (deskOf room) ≡ take deskSize room
+
+-- a reply's number reads back from what an entry says; where its place is a byte, so do the place and the issue
+abbrev pub RepliedReadsBack : Type 0
+RepliedReadsBack =
+    (a : Reply)
+    → (replied a % 256 ≡ replyNumber a)
+    × (replyPlace a < 256 → (replied a / 256 % 256 ≡ replyPlace a) × (replied a / 65536 ≡ replyIssue a))
+
+-- a place that can be told: below 255
+abbrev pub Within255 : Whereabouts → Type 0
+Within255 (At k) = k < 255
+Within255 (LastKnown k) = k < 255
+Within255 NotHere = Unit {0}
+Within255 Whereabouts.Unfit = Unit {0}
+
+-- where a card's car is reads back: a place below 255 is told apart from none, and for sure from the last known
+abbrev pub WhereReadsBack : Type 0
+WhereReadsBack = (w x : Whereabouts) → Within255 w → Within255 x → whereSaid w ≡ whereSaid x → w ≡ x
+
+-- an entry that refuses leaves the room as it was
+abbrev pub RefusedUntouched : Type 0
+RefusedUntouched =
+    ((call : Desk → DeskOutcome) (room : List ℕ) → (entry call room .says % 256 ≡ 0 → ⊥) → entry call room .leaves ≡ room)
+    × ((room image : List ℕ) → (asking room image .says % 256 ≡ 0 → ⊥) → asking room image .leaves ≡ image)
+    × ((room out : List ℕ) → (parting room out .says % 256 ≡ 0 → ⊥) → parting room out .leaves ≡ out)
+
+-- a number of the station's table, or one of the desk's own
+abbrev pub OfDesk : ℕ → Type 0
+OfDesk n = OfTable n ⊎ ((37 ≤ n) × (n ≤ 39))
+
+-- the numbers that each returns
+abbrev pub NumbersReturned : Type 0
+NumbersReturned =
+    ((call : Desk → DeskOutcome) (room : List ℕ) → OfDesk (entry call room .says % 256))
+    × ((room image : List ℕ) → OfDesk (asking room image .says % 256))
+    × ((room : List ℕ) (c : ℕ) → let n = finding room c % 256 in (n ≡ 0) ⊎ (n ≡ 16) ⊎ (n ≡ 17))
+    × ((room out : List ℕ) → let n = parting room out .says % 256 in (n ≡ 0) ⊎ (n ≡ 16) ⊎ (n ≡ 17))

@@ -1,0 +1,16 @@
+-- What is promised of numbers in bytes. Proved in proofs/Forms.antt. Assumes nothing.
+use mathlib.Core.Path.{_≡_}
+use mathlib.Core.List.{List, _++_}
+use Prim.Native.Nat.{ℕ, _*_, _^_, _≤_, _<_}
+use lib.ListN.{length, getD, take}
+use Rattle.wire_laws.specs.Statements.{Bytes}
+use Rattle.fours.specs.Fours.{foursIn, foursBytes}
+
+-- n numbers of 32 bits that were written read back, whatever stands past them
+abbrev pub FoursReadBack : Type 0
+FoursReadBack =
+    (n : ℕ) (c past : List ℕ) → length c ≡ n → ((p : ℕ) → getD c p 0 < 2 ^ 32) → foursIn n (foursBytes n c ++ past) ≡ c
+
+-- the bytes that say n numbers are no others
+abbrev pub FoursOneForm : Type 0
+FoursOneForm = (n : ℕ) (m : List ℕ) → Bytes m → 4 * n ≤ length m → foursBytes n (foursIn n m) ≡ take (4 * n) m
