@@ -1,10 +1,9 @@
-//! The desk's entries for C against the reference: `desk CALLS COMMANDS STACK PROGRAM..`. A host's long run on one desk, from its start
-//! on: requests, results, drives with cards, images with numbers; after each call the desk's bytes must be the reference's, and where each
-//! car is and which card is leaving is asked. The reference looks itself at what is promised: its numbered cars are those of the record,
-//! whichever of the stuck instructions finished, and a car that is told for sure stands there in each case. Then commands through the
-//! program (entries.c) on desks as they come and on handed-in ones of every sort that desk_handed.rs tells apart, in rooms long and short,
-//! with no more than so many bytes of stack. Every number that each entry can give must have come, and no other, and all else that
-//! desk_met.rs lists.
+//! The desk's entries for C against the reference: `desk CALLS COMMANDS STACK PROGRAM..`. Commands through the program (entries.c) on desks
+//! as they come and on handed-in ones of every sort that desk_handed.rs tells apart, in rooms long and short, with no more than so many
+//! bytes of stack. Then a host's long run on one desk, from its start on: requests, results, drives with cards, images with numbers; after
+//! each call the desk's bytes must be the reference's, and where each car is and which card is leaving is asked. The reference looks itself
+//! at what is promised: its numbered cars are those of the record, whichever of the stuck instructions finished, and a car that is told for
+//! sure stands there in each case. Every number that each entry can give must have come, and no other, and all else that desk_met.rs lists.
 
 mod command;
 mod desk_command;
@@ -217,11 +216,11 @@ fn main() {
     let [_, calls, count, limit, program @ ..] = &words[..] else { panic!("usage: desk CALLS COMMANDS STACK PROGRAM..") };
     let number = |word: &String| word.parse().expect("a number");
     let mut seen = vec![BTreeSet::new(); ENTRIES.len()];
+    commands(number(count), number(limit) as u32, program, &mut seen);
     let (met, questions, choices) = long_run(38, number(calls), &mut seen);
     if !every_one(&met) { exit(1); }
     println!("desk: {calls} calls, {questions} questions of where a car is and which is leaving, {choices} choices of what finished");
     println!("desk: {} ways to meet a card's number, all that there are", met.len());
-    commands(number(count), number(limit) as u32, program, &mut seen);
     for ((entry, numbers), seen) in ENTRIES.iter().zip(&seen) {
         if !seen.iter().eq(*numbers) {
             eprintln!("desk: {entry} gave {seen:?}, expected {numbers:?}");
