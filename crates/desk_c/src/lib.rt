@@ -256,7 +256,13 @@ fn pictured(d: Desk, picture: Picture, count: u8, run: &[u8]) -> DeskOutcome
 
 // An image with `count` numbers, four bytes each, which becomes the record with nothing set apart.
 #[no_mangle]
-pub extern "C" fn desk_image(room: &mut [u8], image: u64, apart: u64, count: u8, cards: &[u8]) -> u32
+pub extern "C" fn desk_image(
+    room: &mut [u8],
+    image: u64,
+    apart: u64,
+    count: u8,
+    cards: &[u8],
+) -> u32
     ensures { λ r. ⌜ Leaves (entry (imageOf image apart count (now (cards .entry))) (now (room .entry))) r (now (room .exit)) ⌝ }
 {
     if room.len() < DESK {
