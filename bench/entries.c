@@ -1,15 +1,8 @@
 /* Time and stack of each entry of station.h, of a request of eight instructions, of calls on a station where eight are outstanding, and of
- * the next record by each kind of instruction: a line for each with nanoseconds a call and bytes of stack (stack.h). With a name, only those calls are made, and nothing is printed, so that their
- * instructions can be counted; with any other word none are. */
+ * the next record by each kind of instruction, as calls.h measures them. */
 #define _POSIX_C_SOURCE 200809L
-#include "stack.h"
+#include "calls.h"
 #include "station.h"
-
-#include <stdio.h>
-#include <string.h>
-#include <time.h>
-
-enum { CALLS = 200000 };
 
 static uint8_t start[STATION_SIZE], outstanding[STATION_SIZE], with_eight[STATION_SIZE], room[STATION_SIZE];
 static uint8_t image[STATION_SHOWN_SIZE], answer[STATION_REPLY_MOST];
@@ -27,7 +20,6 @@ static const uint8_t eight[STATION_MOST * STATION_CODE_SIZE] = {
 };
 static const uint8_t request[10] = {8, 0, STATION_KIND_REQUEST, 0, 1, GARAGE_BELTS, 1, 2, GARAGE_LOWER, GARAGE_FULL};
 
-#define CALL(name) static void call_##name(__attribute__((unused)) void *none)
 CALL(start) { station_start(room, STATION_SIZE); }
 CALL(request) { memcpy(room, start, STATION_SIZE); station_request(room, STATION_SIZE, 1, left_belt, sizeof left_belt); }
 CALL(eight) { memcpy(room, start, STATION_SIZE); station_request(room, STATION_SIZE, STATION_MOST, eight, sizeof eight); }
@@ -48,25 +40,13 @@ NEXT(shuttle)
 NEXT(tilt)
 NEXT(lift)
 
-static const struct {
-    const char *name;
-    void (*call)(void *);
-} entries[] = {
+static const struct entry entries[] = {
     {"station_start", call_start},     {"station_request", call_request}, {"station_event", call_event}, {"station_result", call_result},
     {"station_image", call_image},     {"station_ask", call_ask},         {"station_message", call_message}, {"garage_sound", call_sound},
     {"garage_cars", call_cars},        {"garage_allowed", call_allowed},  {"request_of_eight", call_eight},
     {"result_of_eight", call_result_of_eight}, {"event_beside_eight", call_event_beside_eight}, {"ask_beside_eight", call_ask_beside_eight},
     {"next_by_belt", call_next_left_belt}, {"next_by_shuttle", call_next_shuttle}, {"next_by_tilt", call_next_tilt}, {"next_by_lift", call_next_lift},
 };
-
-static double nanoseconds_of(void (*call)(void *)) {
-    struct timespec begun, ended;
-    clock_gettime(CLOCK_MONOTONIC, &begun);
-    for (int at = 0; at < CALLS; at++)
-        call(NULL);
-    clock_gettime(CLOCK_MONOTONIC, &ended);
-    return ((double)(ended.tv_sec - begun.tv_sec) * 1e9 + (double)(ended.tv_nsec - begun.tv_nsec)) / CALLS;
-}
 
 int main(int words, char **word) {
     station_start(start, sizeof start);
@@ -75,13 +55,6 @@ int main(int words, char **word) {
     issue = STATION_SET(station_request(outstanding, sizeof outstanding, 1, left_belt, sizeof left_belt));
     if (station_request(with_eight, sizeof with_eight, STATION_MOST, eight, sizeof eight) != (STATION_NOWHERE << 8 | (uint32_t)issue << 16))
         return 1;
-    for (size_t at = 0; at < sizeof entries / sizeof *entries; at++) {
-        if (words > 1) {
-            if (strcmp(word[1], entries[at].name) == 0)
-                nanoseconds_of(entries[at].call);
-            continue;
-        }
-        printf("%-18s %8.1f ns, at most %5zu bytes of stack\n", entries[at].name, nanoseconds_of(entries[at].call), stack_of(entries[at].call, NULL));
-    }
+    measure(entries, sizeof entries / sizeof *entries, words > 1 ? word[1] : NULL);
     return 0;
 }

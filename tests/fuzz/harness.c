@@ -2,32 +2,18 @@
  * bytes picks a call on one kept station and totals beside it, or damage to them, and the next ones are what the call is given. What the call returns and what it
  * leaves of every byte that it was lent must be what the reference says. `seeds` has programs, and how they are written. */
 #define _GNU_SOURCE /* memfd_create */
-#include "command.h"
-#include "guards.h"
-#include "input.h"
+#include "compare.h"
 #include "report.h"
 
-#include <stdbool.h>
-#include <stdio.h>
-#include <stdlib.h>
-#include <string.h>
-
 /* The reference's side, reference_c.rs. */
-uint32_t reference_call(const struct command *command);
 bool reference_gives(uint8_t entry, uint8_t number);
 uint16_t reference_reason(const struct command *command, uint32_t answer);
 bool reference_refuses(uint8_t opcode, uint8_t number);
-uint8_t reference_handed(const struct command *command);
 bool reference_shows(uint8_t handed, uint8_t number);
 uint8_t reference_sorts(void);
 
 int LLVMFuzzerInitialize(int *count, char ***words);
 int LLVMFuzzerTestOneInput(const uint8_t *data, size_t size);
-
-/* How many bytes of what is lent lie beyond the guard: with any, the first call must crash, which the script tries. */
-#ifndef ASTRAY
-#define ASTRAY 0
-#endif
 
 /* Where the record has the lift's car, height and drives, and the shuttles' slots. */
 enum { LIFT_AT = 52, SLOTS_AT = 40 };
@@ -36,10 +22,7 @@ enum { LIFT_AT = 52, SLOTS_AT = 40 };
  * write; the totals that are only read in the run to read. */
 enum { REPORT_START = ENTRIES, REPORT_MESSAGE, REPORT_LINES, ALL_ENTRIES };
 
-enum { NUMBERS = REPORT_FULL + 1, OPCODES = GARAGE_ROTATE + 1, SORTS = 32, RUNS = 3 };
-
-static struct page pages[RUNS];
-static size_t page_size;
+enum { NUMBERS = REPORT_FULL + 1, OPCODES = GARAGE_ROTATE + 1, SORTS = 32 };
 
 /* ---- what was reached */
 
@@ -105,41 +88,7 @@ static void summary(void) {
     fprintf(stderr, "calls compared: %llu, %s\n", (unsigned long long)calls, all ? "every number and reason came" : "some are amiss");
 }
 
-/* ---- a call compared */
-
-/* The call that is being made: what it was lent as it was before; in the command, as it must be after; and the answer. */
-static uint8_t before[RUNS][RUN_MOST];
-static struct command *under_way;
-static uint32_t expected;
-
-static struct lent *run_of(struct command *command, int run) {
-    return run == 0 ? &command->room : run == 1 ? &command->in : &command->out;
-}
-
-static void show(const char *name, const uint8_t *bytes, size_t size) {
-    fprintf(stderr, "  %-8s", name);
-    for (size_t at = 0; at < size; at++)
-        fprintf(stderr, " %02x", bytes[at]);
-    fputc('\n', stderr);
-}
-
-static void show_call(void) {
-    static const char *const names[RUNS] = {"room", "in", "out"};
-    fprintf(stderr, "found in a call of entry %d with %d, %d, %d, %#llx, %#llx; expected %#x and to leave\n", under_way->entry, under_way->first,
-            under_way->second, under_way->issue, (unsigned long long)under_way->image, (unsigned long long)under_way->apart, expected);
-    for (int run = 0; run < RUNS; run++) {
-        struct lent *after = run_of(under_way, run);
-        show(names[run], before[run], after->size);
-        show("  as", after->bytes, after->size);
-    }
-}
-
-/* The sanitizer's report of a fault has the call too. */
-void __asan_on_error(void);
-void __asan_on_error(void) {
-    if (under_way != NULL)
-        show_call();
-}
+/* ---- what compare.h asks for */
 
 /* Makes the call. */
 static uint32_t call_any(const struct command *c) {
@@ -160,45 +109,6 @@ static bool may_write(uint8_t entry, int run, uint32_t answer) {
     case 2: return number == STATION_TAKEN || (entry == MESSAGE && number != STATION_NO_ROOM);
     default: return false;
     }
-}
-
-/* Where a run of some bytes is lent: against the guard behind it or, `low`, against the one before it; a run of no bytes, `low`, at NULL. */
-static uint8_t *place_of(uint8_t *page, size_t size, bool low) {
-    if (!low)
-        return page + (page_size - size) + ASTRAY;
-    return size == 0 ? NULL : page - ASTRAY;
-}
-
-/* Makes the call by the reference, in place, and by the entry on what it is lent; bit k of `places` says which way run k stands. */
-static void compare(struct command *command, unsigned places) {
-    struct command lent = *command;
-    const uint8_t *left[RUNS];
-    uint8_t sort = reference_handed(command);
-    for (int run = 0; run < RUNS; run++)
-        memcpy(before[run], run_of(command, run)->bytes, run_of(command, run)->size);
-    expected = reference_call(command);
-    for (int run = 0; run < RUNS; run++) {
-        struct lent *to = run_of(&lent, run);
-        bool low = places >> run & 1;
-        size_t at = low ? 0 : page_size - to->size;
-        memcpy(pages[run].writable + at, before[run], to->size);
-        to->bytes = place_of(may_write(command->entry, run, expected) ? pages[run].writable : pages[run].readable, to->size, low);
-        left[run] = pages[run].readable + at;
-    }
-    under_way = command;
-    uint32_t answer = call_any(&lent);
-    bool same = answer == expected;
-    for (int run = 0; run < RUNS; run++)
-        same &= memcmp(left[run], run_of(command, run)->bytes, run_of(command, run)->size) == 0;
-    if (!same) {
-        show_call();
-        fprintf(stderr, "returned %#x and left\n", answer);
-        for (int run = 0; run < RUNS; run++)
-            show("", left[run], run_of(command, run)->size);
-        abort();
-    }
-    under_way = NULL;
-    tell(command, sort, answer);
 }
 
 /* ---- the steps of a program */
@@ -358,9 +268,7 @@ static void tell_station(void) {
 
 int LLVMFuzzerInitialize(int *count, char ***words) {
     (void)count, (void)words;
-    page_size = (size_t)sysconf(_SC_PAGESIZE);
-    for (int run = 0; run < RUNS; run++)
-        open_page(&pages[run], page_size);
+    open_pages();
     atexit(summary);
     return 0;
 }

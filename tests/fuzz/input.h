@@ -43,7 +43,7 @@ static size_t take_size(void) {
 }
 
 /* The same round another size: up to 32 bytes less or more, or any. */
-static size_t take_size_near(size_t size) {
+static inline size_t take_size_near(size_t size) {
     uint8_t byte = take();
     size_t least = size < 32 ? 0 : size - 32;
     return byte < 0xC0 ? least + byte % 65 : (byte % 64u << 8 | take()) % RUN_MOST;
@@ -131,7 +131,7 @@ static uint16_t take_issue(unsigned pick) {
 }
 
 /* A message of a kind that is read, or any bytes; gives its size. */
-static size_t take_message(uint8_t *message) {
+static inline size_t take_message(uint8_t *message) {
     uint8_t pick = take(), kind = pick % 8, *body = message + 4;
     size_t size = 0;
     switch (kind) {

@@ -4,6 +4,7 @@
 mod command;
 #[path = "../host/handed.rs"]
 mod handed;
+mod lent;
 #[path = "../host/places.rs"]
 mod places;
 #[path = "../host/reference.rs"]
@@ -13,53 +14,13 @@ mod traffic;
 #[path = "../host/week.rs"]
 mod week;
 
+use lent::Command;
 use reference::{Station, REASONS};
-use std::slice::{from_raw_parts, from_raw_parts_mut};
 
 /// The report's entries, as harness.c numbers them.
 const REPORT_START: u8 = command::ENTRIES.len() as u8;
 const REPORT_MESSAGE: u8 = REPORT_START + 1;
 const REPORT_LINES: u8 = REPORT_START + 2;
-
-/// As `struct lent` of command.h.
-#[repr(C)]
-pub struct Lent {
-    bytes: *mut u8,
-    size: usize,
-}
-
-/// As `struct command` of command.h.
-#[repr(C)]
-pub struct Command {
-    entry: u8,
-    first: u8,
-    second: u8,
-    issue: u16,
-    image: u64,
-    apart: u64,
-    room: Lent,
-    input: Lent,
-    output: Lent,
-}
-
-impl Command {
-    /// # Safety
-    /// Each run is valid for its size, and overlaps no other.
-    unsafe fn lent(&self) -> command::Command<'_> {
-        let &Command { entry, first, second, issue, image, apart, ref room, ref input, ref output } = self;
-        command::Command {
-            entry,
-            first,
-            second,
-            issue,
-            image,
-            apart,
-            room: from_raw_parts_mut(room.bytes, room.size),
-            input: from_raw_parts(input.bytes, input.size),
-            output: from_raw_parts_mut(output.bytes, output.size),
-        }
-    }
-}
 
 /// What the call must return; its rooms are left as it must leave them.
 ///

@@ -16,6 +16,7 @@ struct command {
     uint8_t first, second; /* its byte arguments: a count, an event, or a number and an outcome */
     uint16_t issue;        /* the set that a result is of */
     uint64_t image, apart; /* a record, and what it sets apart */
+    uint32_t card;         /* a card's number */
     struct lent room, in, out; /* the station; a run of bytes to read; a run to write */
 };
 
@@ -25,7 +26,7 @@ enum { START, REQUEST, EVENT, RESULT, IMAGE, ASK, MESSAGE, SOUND, CARS, ALLOWED,
 #define LENT(run) (run).bytes, (run).size
 
 /* Makes the call and gives what it returned; the number must be an entry's. */
-static uint32_t call_entry(const struct command *c) {
+static inline uint32_t call_entry(const struct command *c) {
     switch (c->entry) {
     case START: return station_start(LENT(c->room));
     case REQUEST: return station_request(LENT(c->room), c->first, LENT(c->in));

@@ -32,6 +32,8 @@ pub struct Command<'a> {
     pub image: u64,
     /// What an image sets apart.
     pub apart: u64,
+    /// A card's number.
+    pub card: u32,
     pub room: &'a mut [u8],
     pub input: &'a [u8],
     pub output: &'a mut [u8],
@@ -39,16 +41,16 @@ pub struct Command<'a> {
 
 /// The bytes of a record, of a record with what is set apart, and of an instruction.
 const RECORD: usize = 8;
-const SHOWN: usize = 16;
-const CODE: usize = 5;
+pub const SHOWN: usize = 16;
+pub const CODE: usize = 5;
 
 /// An answer as a number: from the lowest, a byte for its number, one for its place, and two for its issue.
-fn said(Answer { number, place, issue }: Answer) -> u32 {
+pub fn said(Answer { number, place, issue }: Answer) -> u32 {
     let [low, high] = issue.to_le_bytes();
     u32::from_le_bytes([number, place, low, high])
 }
 
-fn put(room: &mut [u8], bytes: &[u8]) { room[..bytes.len()].copy_from_slice(bytes) }
+pub fn put(room: &mut [u8], bytes: &[u8]) { room[..bytes.len()].copy_from_slice(bytes) }
 
 /// The station that the first bytes of a room are; of a room that is too short any, since its call is refused.
 fn station_in(room: &[u8]) -> Station { room.first_chunk().map_or(Station::start(), Station::from_bytes) }
@@ -73,7 +75,7 @@ fn ask(room: &[u8], shown: &mut [u8]) -> Answer {
     lent(room.len() >= Station::SIZE && shown.len() >= SHOWN, true, || {
         let mut station = station_in(room);
         let answer = station.ask();
-        if answer.number == 0 { put(shown, &[station.record.to_le_bytes(), station.apart_number().to_le_bytes()].concat()); }
+        if answer.number == 0 { put(shown, &station.shown()); }
         answer
     })
 }
@@ -134,7 +136,7 @@ pub fn reason_told(command: &Command, answer: u32) -> Option<(u8, u8)> {
 
 /// What the call returns; its rooms are left as it must leave them.
 pub fn call(command: &mut Command) -> u32 {
-    let &mut Command { entry, first, second, issue, image, apart, ref mut room, input, ref mut output } = command;
+    let &mut Command { entry, first, second, issue, image, apart, ref mut room, input, ref mut output, .. } = command;
     said(match entry {
         0 => on_station(room, true, |station| { *station = Station::start(); answer(0) }),
         1 => request(room, first, input),

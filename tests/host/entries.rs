@@ -8,76 +8,36 @@ mod command;
 mod handed;
 mod reference;
 mod traffic;
+mod trials;
 
-use command::{Command, ENTRIES};
+use command::ENTRIES;
 use handed::{handed, Handed};
 use reference::{Station, REASONS};
 use std::collections::{BTreeMap, BTreeSet};
-use std::io::{BufReader, Read, Write};
-use std::process::{exit, Stdio};
+use std::process::exit;
 use traffic::{any_bytes, Numbers};
+use trials::{room_for, Given, Trial};
 
 /// Bytes that are no station.
 const UNFIT: u8 = 16;
 
-/// What a command is made of.
-#[derive(Default)]
-struct Given {
-    entry: u8,
-    first: u8,
-    second: u8,
-    issue: u16,
-    image: u64,
-    apart: u64,
-    room: Vec<u8>,
-    input: Vec<u8>,
-    output: Vec<u8>,
-}
-
-/// A command in bytes, what it must return and leave, the reason that this gives for an opcode, and what its station has.
-struct Trial {
-    entry: u8,
-    sent: Vec<u8>,
-    answer: u32,
-    left: Vec<u8>,
+/// What a run wants to know of a command: the reason that its answer gives for an opcode, and what its station has.
+struct Told {
     reason: Option<(u8, u8)>,
     handed: Option<Handed>,
 }
 
-impl Given {
-    fn trial(mut self) -> Trial {
-        let mut sent = vec![self.entry, self.first, self.second];
-        sent.extend(self.issue.to_le_bytes());
-        sent.extend(self.image.to_le_bytes());
-        sent.extend(self.apart.to_le_bytes());
-        for run in [&self.room, &self.input, &self.output] {
-            sent.push(run.len() as u8);
-            sent.extend(run);
-        }
-        let handed = self.room.first_chunk().and_then(|room| handed(&Station::from_bytes(room)));
-        let Given { entry, first, second, issue, image, apart, .. } = self;
-        let (room, input, output) = (&mut self.room[..], &self.input[..], &mut self.output[..]);
-        let mut command = Command { entry, first, second, issue, image, apart, room, input, output };
-        let answer = command::call(&mut command);
-        let reason = command::reason_told(&command, answer);
-        Trial { entry, sent, answer, left: [self.room, self.output].concat(), reason, handed }
-    }
-}
-
-/// A room for a station: mostly longer than it needs, now and then too short.
-fn station_room(numbers: &mut Numbers, station: &Station) -> Vec<u8> {
-    let mut room = station.to_bytes().to_vec();
-    if numbers.one_in(25) {
-        room.truncate(numbers.below(Station::SIZE as u64) as usize);
-    } else {
-        let more = numbers.below(4) as usize;
-        room.extend(any_bytes(numbers, more));
-    }
-    room
+/// The trial of a command, by the reference.
+fn trial(given: Given) -> Trial<Told> {
+    let handed = given.room.first_chunk().and_then(|room| handed(&Station::from_bytes(room)));
+    given.trial(0, |command| {
+        let answer = command::call(command);
+        (answer, Told { reason: command::reason_told(command, answer), handed })
+    })
 }
 
 fn station_call(numbers: &mut Numbers, station: &Station) -> Given {
-    let room = station_room(numbers, station);
+    let room = room_for(numbers, &station.to_bytes());
     match numbers.below(8) {
         0 => Given { entry: 0, room, ..Given::default() },
         1 | 2 => {
@@ -108,7 +68,7 @@ fn station_call(numbers: &mut Numbers, station: &Station) -> Given {
 }
 
 fn message_call(numbers: &mut Numbers, station: &Station) -> Given {
-    let room = station_room(numbers, station);
+    let room = room_for(numbers, &station.to_bytes());
     let message = traffic::any_message(numbers, station);
     let size = if numbers.one_in(10) { numbers.below(22) } else { 20 + numbers.below(4) } as usize;
     Given { entry: 6, room, input: message, output: any_bytes(numbers, size), ..Given::default() }
@@ -128,7 +88,7 @@ fn record_call(numbers: &mut Numbers, record: u64) -> Given {
     }
 }
 
-fn trials(count: usize) -> Vec<Trial> {
+fn trials(count: usize) -> Vec<Trial<Told>> {
     let mut numbers = Numbers(20_26);
     let mut station = Station::start();
     (0..count)
@@ -140,57 +100,28 @@ fn trials(count: usize) -> Vec<Trial> {
                 1 | 2 => traffic::damaged_station(&mut numbers, &station),
                 _ => station,
             };
-            match numbers.below(4) {
+            trial(match numbers.below(4) {
                 0 => record_call(&mut numbers, lent.record),
                 1 => message_call(&mut numbers, &lent),
                 _ => station_call(&mut numbers, &lent),
-            }
-            .trial()
+            })
         })
         .collect()
 }
 
 fn main() {
     let words: Vec<String> = std::env::args().collect();
-    let [_, count, limit, program, rest @ ..] = &words[..] else { panic!("usage: entries COMMANDS STACK PROGRAM..") };
+    let [_, count, limit, program @ ..] = &words[..] else { panic!("usage: entries COMMANDS STACK PROGRAM..") };
     let (trials, limit) = (trials(count.parse().expect("a number")), limit.parse().expect("a number"));
-    let sent: Vec<u8> = trials.iter().flat_map(|trial| trial.sent.iter().copied()).collect();
-    // the C library's calls are looked up before the first command: the stack which that takes is not the entries'
-    let mut command = std::process::Command::new(program);
-    command.args(rest).env("LD_BIND_NOW", "1").stdin(Stdio::piped()).stdout(Stdio::piped());
-    let mut child = command.spawn().expect("the program starts");
-    let mut pipe = child.stdin.take().expect("a pipe");
-    let sender = std::thread::spawn(move || pipe.write_all(&sent).expect("the program reads"));
-    let mut answers = BufReader::new(child.stdout.take().expect("a pipe"));
     let mut seen = vec![BTreeSet::new(); ENTRIES.len()];
     let mut reasons = vec![BTreeSet::new(); ENTRIES.len()];
     let mut met = vec![BTreeMap::new(); ENTRIES.len()];
-    let mut stacks = [0; ENTRIES.len()];
-    for (at, trial) in trials.iter().enumerate() {
-        let (mut answer, mut stack, mut left) = ([0; 4], [0; 4], vec![0; trial.left.len()]);
-        answers.read_exact(&mut answer).expect("an answer");
-        answers.read_exact(&mut stack).expect("its stack");
-        answers.read_exact(&mut left).expect("the rooms");
-        let (answer, stack) = (u32::from_le_bytes(answer), u32::from_le_bytes(stack));
+    trials::run(&ENTRIES, &trials, limit, program, |trial, number| {
         let entry = usize::from(trial.entry);
-        if answer != trial.answer || left != trial.left {
-            eprintln!("command {at}, {}: {:02X?}\nreturned {answer:#x}, expected {:#x}\nleft     {left:02X?}\nexpected {:02X?}", ENTRIES[entry].0, trial.sent, trial.answer, trial.left);
-            exit(1);
-        }
-        seen[entry].insert(answer as u8);
-        reasons[entry].extend(trial.reason);
-        if let Some(handed) = trial.handed.filter(|handed| handed.shown_by(answer as u8)) { *met[entry].entry(handed).or_insert(0) += 1; }
-        stacks[entry] = stack.max(stacks[entry]);
-    }
-    sender.join().expect("the sender ends");
-    assert!(child.wait().expect("the program ends").success());
-    let stacks: Vec<(&str, u32)> = ENTRIES.iter().map(|entry| entry.0).zip(stacks).collect();
-    for (entry, stack) in &stacks {
-        if *stack > limit {
-            eprintln!("{entry} took {stack} bytes of stack, which is above {limit}");
-            exit(1);
-        }
-    }
+        seen[entry].insert(number);
+        reasons[entry].extend(trial.of_it.reason);
+        if let Some(handed) = trial.of_it.handed.filter(|handed| handed.shown_by(number)) { *met[entry].entry(handed).or_insert(0) += 1; }
+    });
     for ((entry, numbers), seen) in ENTRIES.iter().zip(&seen) {
         if !numbers.is_empty() && !seen.iter().eq(*numbers) {
             eprintln!("{entry} gave {seen:?}, expected {numbers:?}");
@@ -209,6 +140,5 @@ fn main() {
         }
         println!("entries: {entry} was called on handed-in stations of {} sorts, on each {} times or more", met.len(), met.values().min().unwrap_or(&0));
     }
-    println!("entries: at most {limit} bytes of stack, of {stacks:?}");
     println!("entries: {} commands, each answer and room as the reference's; every number that each entry can give came", trials.len());
 }

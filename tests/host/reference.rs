@@ -16,7 +16,8 @@ mod messages;
 #[path = "parts.rs"]
 mod parts;
 
-use floor::{LEFT_BELT, LIFT_CELLS, OTHER_ROWS, RIGHT_BELT, ROW_1};
+pub use floor::{LIFT_CELLS, OTHER_ROWS, ROW_1};
+use floor::{LEFT_BELT, RIGHT_BELT};
 pub use instructions::{Instruction, REASONS, REASON_NUMBERS};
 use instructions::{areas, named, overlap, read_set};
 pub use messages::{answer_message, read_call, read_message, serve, shown_message, stream, write_message, Message, Refused};
@@ -39,18 +40,18 @@ pub const START: u64 = 0b100_100_011_011 << 40;
 
 // ---- The floor and its record ------------------------------------------------------------------
 
-const LOWERED: u8 = 0; // orientations
+pub const LOWERED: u8 = 0; // orientations
 const TILTED: u8 = 1;
 const STREET: u8 = 0; // heights
 const ROTATION: u8 = 1;
-const BASEMENT: u8 = 2;
-const HIGHER: u8 = 1; // d
-const FULL: u8 = 1; // size
-const LIFT_CAR: u32 = 52;
-const DRIVE_IN: u32 = 55; // under way
-const DRIVE_OUT: u32 = 56;
+pub const BASEMENT: u8 = 2;
+pub const HIGHER: u8 = 1; // d
+pub const FULL: u8 = 1; // size
+pub const LIFT_CAR: u32 = 52;
+pub const DRIVE_IN: u32 = 55; // under way
+pub const DRIVE_OUT: u32 = 56;
 
-fn bit(image: u64, at: u32) -> bool { image >> at & 1 == 1 }
+pub fn bit(image: u64, at: u32) -> bool { image >> at & 1 == 1 }
 fn with(image: u64, at: u32, value: bool) -> u64 { image & !(1 << at) | u64::from(value) << at }
 fn with_all(image: u64, cells: Range<u32>, value: bool) -> u64 { cells.fold(image, |now, cell| with(now, cell, value)) }
 fn occupied(image: u64, cells: Range<u32>) -> u32 { cells.map(|cell| u32::from(bit(image, cell))).sum() }
@@ -61,7 +62,7 @@ fn height(image: u64) -> u8 { (image >> 53 & 3) as u8 }
 pub fn drive_under_way(image: u64) -> bool { bit(image, DRIVE_IN) || bit(image, DRIVE_OUT) }
 
 /// The cells of a belt, counted from the left: five belts in row 1, three in rows 2 and 3.
-fn belt_cells(row: u8, belt: u32) -> Range<u32> {
+pub fn belt_cells(row: u8, belt: u32) -> Range<u32> {
     let [second, third] = OTHER_ROWS;
     let other = if row == 2 { second } else { third };
     match (row, belt) {
@@ -87,7 +88,7 @@ fn shuttle_side(row: u8, belt: u32) -> Option<u8> {
 }
 
 /// The cells of a shuttle's position.
-fn position(side: u8, row: u8) -> Range<u32> {
+pub fn position(side: u8, row: u8) -> Range<u32> {
     belt_cells(row, match (side, row) { (0, _) => 0, (_, 1) => 4, _ => 2 })
 }
 
@@ -333,6 +334,9 @@ impl Station {
         }
         answer(0)
     }
+
+    /// What an ask shows: the record, then what is set apart.
+    pub fn shown(&self) -> [u8; 16] { (u128::from(self.apart_number()) << 64 | u128::from(self.record)).to_le_bytes() }
 
     /// Record, count, marks, set, next issue, what is set apart; each number with its lowest byte first.
     pub fn to_bytes(&self) -> [u8; Self::SIZE] {

@@ -1,0 +1,141 @@
+/* desk.h: the street desk's entries, for a program in C or C++ that knows cars by their cards.
+ *
+ * A desk is a station (station.h) whose cars have card numbers of 32 bits, none of them 0. A drive-in brings its card's number when it
+ * begins; from then on the number follows the car: with each instruction that is reported done it goes where the car goes, and with
+ * nothing else. A drive-in that ends without its car drops its number; a car that has driven out takes its own along, and that number may
+ * come again. The desk answers where the car with a number is, and which card is leaving. The entries below are proved to answer what the
+ * definitions in crates/desk_c/specs/Entries.antt say, on every input; nothing proves this header or its caller right, so what a caller
+ * must see to is what station.h says of its own entries: pointers valid for the lengths that follow them, bytes lent for writing that
+ * overlap nothing else that is lent to the call, one thread at a time on one desk. Any numbers and any bytes may be passed. No entry
+ * allocates, prints, waits, or keeps anything between calls; none takes more stack than DESK_STACK_MOST.
+ *
+ * A desk is all that a host needs: each of its calls but desk_where and desk_leaving is the station's call of that name, made on the
+ * station inside the desk, and is told what the station says. Where the station refuses, that is the answer. Where it would take a begin of
+ * a drive-in or an image, the desk may still refuse it for its numbers, and then the station inside is as it was too. So no call is made
+ * on that station beside the desk; but whoever does so with station.h's entries on the first STATION_SIZE bytes has a desk whose numbers
+ * need not fit its record any more, and which is then refused with STATION_UNFIT. Questions on a record (garage_sound, garage_cars,
+ * garage_allowed, garage_next) may be asked as ever.
+ *
+ * A desk is lent as DESK_SIZE bytes, `room`: the STATION_SIZE bytes of its station as station.h has them, then DESK_PLACES card numbers of
+ * four bytes each, the lowest byte first, 0 where none is:
+ *   0 to 39   that of the car in this cell. In row 1, where a car has two half cells, its number stands at the lower of them
+ *   40        that of the car on the raised lift
+ *   41        that of a car whose drive-in is under way: it is not in the garage yet
+ * DESK_CARD reads one. A longer room is fine, and what stands past those bytes keeps its value.
+ *
+ * What may stand in a desk's room: any bytes.
+ *   - Bytes that are no desk are refused with STATION_UNFIT, by every call but desk_start, before any other number but STATION_NO_ROOM and
+ *     STATION_TOO_FEW_BYTES. They are a desk if they are a station, and its numbers fit its record: one that isn't 0 for each car at its
+ *     place and, while a drive-in is under way (bit 55), at 41; 0 at every other place; and no number at two places.
+ *   - Bytes that desk_start wrote, and after it these entries alone, are a desk with all that is promised: at every moment the numbered
+ *     cars are exactly the cars of the record, each number once; and whichever of the instructions that got stuck since the last image did
+ *     in fact finish, the numbers that go along with those are exactly the numbers of the cars that are there then. They may be copied,
+ *     kept, and put back as they are.
+ *   - Other bytes that happen to be a desk are answered as that desk, as with a station.
+ *
+ * Answers are those of station.h: STATION_NUMBER, STATION_PLACE and STATION_SET take them apart. Numbers are those of station.h, and three
+ * more, with STATION_NOWHERE and 0 beside them. A call that isn't taken writes nothing.
+ *
+ * Where a car is (desk_where). Its place is the cell of its number: 0 to 39 as in the record, in row 1 the lower of its two, or
+ * DESK_RAISED. After a jam (STATION_STUCK) it is not known what is in the parts set apart. A car of which a cell is set apart, in row 1
+ * either of the two, or, on the raised lift, the lift, is told with DESK_LAST_KNOWN: at its last known place. It stands there if what got
+ * stuck did nothing, or where that was to bring it, or between the two; somebody has to look. In all cases its number is still in the
+ * garage. A car that is told without it stands where it is told, whichever of the stuck instructions did finish. An image that is taken
+ * clears all of this (desk_image).
+ */
+#ifndef DESK_H
+#define DESK_H
+
+#include "station.h"
+
+#ifdef __cplusplus
+extern "C" {
+#endif
+
+/* The desk's own numbers; all others are those of station.h. */
+enum {
+    DESK_ZERO_NUMBER = 37,  /* a card number is 0 */
+    DESK_KNOWN_NUMBER = 38, /* a car in the garage has that number already; in an image: it is given twice */
+    DESK_WRONG_COUNT = 39   /* an image comes with more or fewer numbers than it has cars */
+};
+
+/* Sizes in bytes, and how many numbers there are. */
+enum {
+    DESK_SIZE = 228,     /* a desk */
+    DESK_CARD_SIZE = 4,  /* a card number, the lowest byte first */
+    DESK_PLACES = 42,    /* card numbers of a desk */
+    DESK_CARDS_MOST = 31 /* the most numbers that an image can come with; more are refused and not looked at */
+};
+
+/* The places that are no cells: in a desk's room, and as an answer. */
+enum {
+    DESK_AT_LIFT = 40,  /* where the room has the number of the car on the raised lift */
+    DESK_AT_DRIVE = 41, /* where it has that of a drive-in under way */
+    DESK_RAISED = 52,   /* told of the car on the raised lift, which is its bit in the record */
+    DESK_NOT_HERE = 255 /* told where no car in the garage has the number */
+};
+
+/* Of an answer of desk_where: whether the place is only the last known one. */
+#define DESK_LAST_KNOWN(answer) ((int)((answer) >> 16 & 1u))
+
+/* The card number at a place of a desk's room, 0 to DESK_PLACES less one. */
+#define DESK_BYTE(room, place, i) ((uint32_t)(room)[STATION_SIZE + DESK_CARD_SIZE * (place) + (i)] << (8 * (i)))
+#define DESK_CARD(room, place) \
+    (DESK_BYTE(room, place, 0) | DESK_BYTE(room, place, 1) | DESK_BYTE(room, place, 2) | DESK_BYTE(room, place, 3))
+
+/* The bytes of stack that a call may take on x86-64, below the frame that makes it. No theorem says so: it is measured on many calls, none
+ * with more than 1776, and added up over the archive's instructions for every path, which comes to 2464 for desk_result and less for the
+ * others; the C library's memcpy and the like are left out. */
+enum { DESK_STACK_MOST = 3072 };
+
+/* ---- calls on a lent desk
+ *
+ * Each is refused with 17 where `room` has fewer than DESK_SIZE bytes, and (but for desk_start) with 16 where its bytes are no desk. Taken,
+ * it writes the next desk to `room`. */
+
+/* Writes the start desk, whatever was there: the start station, and no number. */
+uint32_t desk_start(uint8_t *room, size_t room_length);
+
+/* Requests a set, as station_request: 17; 1 if count is at most eight and `set` is shorter than 5 * count; 16; then 6, 5, 7, 4, 31, 32, 8,
+ * 20 to 28. No number moves. */
+uint32_t desk_request(uint8_t *room, size_t room_length, uint8_t count, const uint8_t *set, size_t set_length);
+
+/* A drive begins or ends, as station_event; a begin of a drive-in brings the number `card`. 17, 16, then the station's 4, 6, 31, 32, 10
+ * and, of a begin of a drive-in (STATION_BEGIN_IN), 37 where `card` is 0, 38 where a car in the garage has it. With any other event `card`
+ * is not looked at. An end that is done gives the number to the car on the raised lift, or takes that car's number away; of a drive-in that
+ * is not done the number is dropped. */
+uint32_t desk_event(uint8_t *room, size_t room_length, uint8_t way, uint32_t card);
+
+/* The result of an instruction, as station_result: 17, 16, then 4, 11, 29, 30, 12, 13. With STATION_DONE each number goes where the
+ * instruction takes its car; with STATION_FAILED and STATION_STUCK none moves. */
+uint32_t desk_result(uint8_t *room, size_t room_length, uint16_t issue, uint8_t number, uint8_t ending);
+
+/* Takes an image as the record, as station_image, with the numbers of its cars: the first 4 * count bytes of `cards`, four for each number,
+ * the lowest first, and none past them. They come in the order of the cells, row 1, row 2, row 3, in each from the lowest, a car of row 1
+ * once; then that of the car on the raised lift, if there is one; then that of a drive-in under way, if the image says so. From now on
+ * these are the numbers, whatever was before, and no place is only the last known one. 17; 1 if count is at most DESK_CARDS_MOST and
+ * `cards` is shorter than that; 16; the station's 6, 15; 39 where count is not the number of the image's cars, and one more with a drive-in
+ * under way; 37 where one of them is 0; 38 where one is given twice. With count above DESK_CARDS_MOST no byte of `cards` is looked at. */
+uint32_t desk_image(uint8_t *room, size_t room_length, uint64_t image, uint64_t apart, uint8_t count, const uint8_t *cards,
+                    size_t cards_length);
+
+/* ---- questions on a lent desk, which stays as it is */
+
+/* Writes the record's eight bytes to `image`, and behind them the eight of what is set apart, as station_ask: STATION_SHOWN_SIZE bytes. 17
+ * where either room is too short, 16. */
+uint32_t desk_ask(const uint8_t *room, size_t room_length, uint8_t *image, size_t image_length);
+
+/* Where the car with the number `card` is. 17, 16; else 0, and STATION_PLACE of the answer is the cell of its number, DESK_RAISED, or
+ * DESK_NOT_HERE; DESK_LAST_KNOWN of it says whether that place is only the last known one. No car has the number 0, and one whose drive-in
+ * is under way is not here yet. */
+uint32_t desk_where(const uint8_t *room, size_t room_length, uint32_t card);
+
+/* Which card is leaving: writes DESK_CARD_SIZE bytes to `card`, the lowest first: the number of the car on the raised lift while a
+ * drive-out is under way, else 0. 17 where either room is too short, 16. */
+uint32_t desk_leaving(const uint8_t *room, size_t room_length, uint8_t *card, size_t card_length);
+
+#ifdef __cplusplus
+}
+#endif
+
+#endif

@@ -1,0 +1,173 @@
+/* What the planners in C share: instructions and their words, records as drawings, the check of an answer. */
+#ifndef PLANNER_H
+#define PLANNER_H
+
+#include "desk.h"
+
+#include <inttypes.h>
+#include <stdio.h>
+#include <stdlib.h>
+
+/* One instruction, as the five bytes that a request carries. */
+typedef struct {
+    uint8_t five[STATION_CODE_SIZE];
+} Instruction;
+
+/* ---- instructions */
+
+static inline Instruction code(int op, int a, int b, int c, int d) {
+    Instruction i = {{(uint8_t)op, (uint8_t)a, (uint8_t)b, (uint8_t)c, (uint8_t)d}};
+    return i;
+}
+
+static inline Instruction belts(int row, int mask, int toward, int size) { return code(GARAGE_BELTS, row, mask, toward, size); }
+static inline Instruction shuttles(int side, int rows, int toward) { return code(GARAGE_SHUTTLES, side, rows, GARAGE_LOWERED, toward); }
+static inline Instruction lift(int height) { return code(GARAGE_LIFT, height, 0, 0, 0); }
+
+/* ---- in words */
+
+static const char *const numbers[] = {
+    [STATION_TAKEN] = "taken",
+    [STATION_TOO_FEW_BYTES] = "fewer bytes than the message says",
+    [STATION_BAD_LENGTH] = "length below 2, above 43, or not the kind's",
+    [STATION_UNKNOWN_KIND] = "unknown kind",
+    [STATION_BAD_FIELD] = "a field out of range",
+    [STATION_TOO_MANY] = "more than eight instructions",
+    [STATION_SET_OUTSTANDING] = "a set is outstanding",
+    [STATION_EMPTY_SET] = "empty set",
+    [STATION_OVERLAP] = "overlap",
+    [STATION_EVENT_IMPOSSIBLE] = "event impossible",
+    [STATION_NO_SET] = "no set is outstanding",
+    [STATION_NOT_IN_SET] = "not in the set",
+    [STATION_ALREADY_ANSWERED] = "already answered",
+    [STATION_UNSOUND] = "image not sound",
+    [STATION_UNFIT] = "station unfit",
+    [STATION_NO_ROOM] = "room too small",
+    [STATION_NOTHING_NAMED] = "nothing named",
+    [STATION_GAP] = "a gap between those named",
+    [STATION_NOT_AVAILABLE] = "not available",
+    [STATION_NOT_FREE] = "no free place to move to",
+    [STATION_ODD_COUNT] = "odd count: a car would be torn",
+    [STATION_HALF_MOVE] = "half move in row 2 or 3",
+    [STATION_SAME_HEIGHT] = "already at that height",
+    [STATION_NOT_AT_ROTATION] = "not at rotation height",
+    [STATION_CELLS_NOT_FREE] = "cells not free for the tilt or the rotation",
+    [STATION_LATE] = "late: of a set before the present one",
+    [STATION_NOT_ISSUED] = "of a set that was not issued",
+    [STATION_OUT_OF_TURN] = "out of turn",
+    [STATION_SET_APART] = "a part is set apart",
+    [DESK_ZERO_NUMBER] = "number zero",
+    [DESK_KNOWN_NUMBER] = "number already in the garage, or given twice",
+    [DESK_WRONG_COUNT] = "not that many numbers",
+};
+
+static inline const char *words(unsigned number) {
+    const char *found = number < sizeof numbers / sizeof *numbers ? numbers[number] : NULL;
+    return found != NULL ? found : "?";
+}
+
+static const char *const belts_of_row_1[] = {"left shuttle's", "left", "lift's", "right", "right shuttle's"};
+static const char *const belts_of_others[] = {"left shuttle's", "middle", "right shuttle's"};
+static const char *const heights[] = {"street", "rotation", "basement"};
+static const char *const sides[] = {"left", "right"};
+static const char *const ways[] = {"lower", "higher"};
+
+/* The parts that a mask names, with commas between them. */
+static inline void say_named(unsigned mask, const char *const *names, unsigned count) {
+    const char *between = "";
+    for (unsigned k = 0; k < count; k++) {
+        if (mask >> k & 1u) {
+            printf("%s%s", between, names[k]);
+            between = ", ";
+        }
+    }
+}
+
+static inline void say_rows(unsigned mask) {
+    static const char *const rows[] = {"1", "2", "3"};
+    say_named(mask, rows, 3);
+}
+
+static inline void say_instruction(const Instruction *i) {
+    const uint8_t *f = i->five;
+    switch (f[0]) {
+    case GARAGE_BELTS:
+        printf("row %u: belts (", f[1]);
+        if (f[1] == 1) {
+            say_named(f[2], belts_of_row_1, 5);
+        } else {
+            say_named(f[2], belts_of_others, 3);
+        }
+        printf(") %s by a %s\n", ways[f[3]], f[1] == 1 && f[4] == GARAGE_HALF ? "half cell" : "cell");
+        break;
+    case GARAGE_SHUTTLES:
+        printf("%s lowered shuttles of rows ", sides[f[1]]);
+        say_rows(f[2]);
+        printf(": one row %s\n", ways[f[4]]);
+        break;
+    case GARAGE_LIFT:
+        printf("lift to %s height\n", heights[f[1]]);
+        break;
+    default:
+        printf("instruction %u\n", f[0]);
+    }
+}
+
+/* ---- records */
+
+static inline uint64_t number_of(const uint8_t *eight) {
+    uint64_t image = 0;
+    for (int k = STATION_IMAGE_SIZE - 1; k >= 0; k--) image = image << 8 | eight[k];
+    return image;
+}
+
+static inline int bit(uint64_t image, unsigned k) { return (int)(image >> k & 1u); }
+
+/* What the station holds: the record, and what is set apart. */
+typedef struct {
+    uint64_t image, apart;
+} Held;
+
+/* A row as twenty signs: the cells of rows 2 and 3 are as wide as two of row 1. One that is set apart has a sign of its own, by the record,
+ * since what stands there is not known. */
+static inline void show_row(Held held, unsigned row) {
+    printf("  row %u ", row);
+    for (unsigned k = 0; k < 20; k++) {
+        unsigned cell = row == 1 ? k : 10 * row + k / 2;
+        putchar(bit(held.image, cell) ? (bit(held.apart, cell) ? '?' : '#') : (bit(held.apart, cell) ? ':' : '.'));
+    }
+    putchar('\n');
+}
+
+static inline void show_slots(uint64_t apart) {
+    for (unsigned k = 0; k < 12; k++) {
+        if (bit(apart, 40 + k)) printf("  apart %s %s slot of row %u\n", sides[k / 3 % 2], k < 6 ? "lowered" : "tilted", k % 3 + 1);
+    }
+}
+
+static inline void show(Held held) {
+    uint64_t image = held.image;
+    for (unsigned row = 1; row <= 3; row++) show_row(held, row);
+    printf("  lift  %s%s", heights[image >> 53 & 3u], bit(image, 52) ? ", with a car" : "");
+    printf("%s%s", bit(image, 55) ? ", a drive in under way" : "", bit(image, 56) ? ", a drive out under way" : "");
+    printf("%s\n", bit(held.apart, 52) ? ", set apart" : "");
+    show_slots(held.apart);
+    printf("  cars  %" PRIu32 "\n", garage_cars(image));
+}
+
+/* ---- answers */
+
+static inline void must(const char *call, uint32_t answer) {
+    unsigned number = STATION_NUMBER(answer);
+    if (number == STATION_TAKEN) return;
+    printf("stopped: %s is refused with %u (%s)", call, number, words(number));
+    if (STATION_PLACE(answer) != STATION_NOWHERE) printf(" at instruction %u", STATION_PLACE(answer));
+    putchar('\n');
+    exit(1);
+}
+
+static unsigned steps;
+
+static inline void headline(const char *what) { printf("step %u: %s\n", ++steps, what); }
+
+#endif
