@@ -145,8 +145,9 @@ const FILLED: u64 = 27;
 fn places_open(e: Event, r: u64) -> bool
     ensures { λ b. ⌜ b ≡ placesOpen e (bit r) ⌝ }
 {
+    let room = floor::cars_in(r) < FILLED;
     match e {
-        Event::BeginIn => floor::cars_in(r) < FILLED,
+        Event::BeginIn => room,
         Event::BeginOut => true,
         Event::EndDone => true,
         Event::EndNotDone => true,

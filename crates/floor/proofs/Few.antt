@@ -67,8 +67,18 @@ module _ (f : Bits) (r : T (allHold soundRules f)) where
         let a = street-free s 11 tt in
         let b = street-free s 12 tt in
         let z = eqb-true (count (raisedCar ∷ []) f) 0 o in
-        omega (arith, z, ap digit a, ap digit b, even-below 11 (omega arith) a, even-below 12 (omega arith) b, even-all,
-        count-le leftOfLift f, count-le rightOfLift f, count-le (rowCells 2 ++ rowCells 3) f)
+        omega (
+          arith,
+          z,
+          ap digit a,
+          ap digit b,
+          even-below 11 (omega arith) a,
+          even-below 12 (omega arith) b,
+          even-all,
+          count-le leftOfLift f,
+          count-le rightOfLift f,
+          count-le (rowCells 2 ++ rowCells 3) f,
+        )
 
 pub few-cars : FewCars
 unfolding total sound

@@ -272,8 +272,14 @@ cars-after : (x f g : ℕ) → sound f ≡ true → sound g ≡ true → Agree 6
 cars-after x f g p q a c t =
     let y = can x f t in
     let z = sym (event-local (readEvent x) .reads f g a) ∙ y in
-    omega (arith, c, event-counted x f (readEvent x) refl p y, event-counted x g (readEvent x) refl q z,
-    ap (λ (b : Bool). digit (eqb x 3 && b)) (a driveOut (lit< tt) refl), ap (λ (b : Bool). digit (eqb x 3 && b)) (a driveIn (lit< tt) refl))
+    omega (
+      arith,
+      c,
+      event-counted x f (readEvent x) refl p y,
+      event-counted x g (readEvent x) refl q z,
+      ap (λ (b : Bool). digit (eqb x 3 && b)) (a driveOut (lit< tt) refl),
+      ap (λ (b : Bool). digit (eqb x 3 && b)) (a driveIn (lit< tt) refl),
+    )
 
 pub framed : Framed rules seenOf carsIn
 framed = record {

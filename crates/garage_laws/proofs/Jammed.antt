@@ -72,7 +72,7 @@ module _ (s : Station) (f : fit s ≡ true) (l : List Call) (p : List ℕ) (h : 
   finished-sound : sound (finished s l p) ≡ true
   finished-sound = ap sound (sym finished-is) ∙ whichever .sound
 
-  finished-cars : cars (bit (finished s l p)) ≡ carsOf (calls s l)
+  pub finished-cars : cars (bit (finished s l p)) ≡ carsOf (calls s l)
   finished-cars = ap (λ (r : ℕ). cars (bit r)) (sym finished-is)
       ∙ whichever .cars (λ r. cars (bit r)) (λ x r z a. next-cars x r z (allowed-has x r a .0))
 
@@ -90,7 +90,7 @@ none-stuck (c ∷ l) s f =
     let none : jammed s c [] ≡ [] = rw e in
     rw (left-is, none) (none-stuck l s f)
 
-none-chosen : (n : ℕ) (p : List ℕ) → n ≡ 0 → Picks n p → p ≡ []
+pub none-chosen : (n : ℕ) (p : List ℕ) → n ≡ 0 → Picks n p → p ≡ []
 none-chosen n [] e h = refl
 none-chosen n (i ∷ p) e h = absurd (let l = h .0 in omega arith)
 

@@ -7,11 +7,11 @@ use borrow.Author.Needs.{needs}
 use Rattle.engine.proofs.places_open.Statement.{statement}
 use Rattle.engine.proofs.places_open.Tie as tie
 
-enum-told : tie.Need-enum-told
-enum-told c = search needs
-
 cars-in-requires : tie.Need-cars-in-requires
 cars-in-requires c κs = search needs
+
+enum-told : tie.Need-enum-told
+enum-told c = search needs
 
 enum-told-2 : tie.Need-enum-told-2
 enum-told-2 c = search needs
@@ -24,7 +24,7 @@ enum-told-4 c = search needs
 
 returns : tie.Need-returns
 unfolding placesOpen
-returns c = rw (c .before .enum-told .given .1) (ap (λ (n : ℕ). ltb n 27) (c .cars-in .ensures))
+returns c = rw (c .enum-told .given .1) (ap (λ (n : ℕ). ltb n filled) (c .before .before .cars-in .ensures))
 
 returns-2 : tie.Need-returns-2
 unfolding placesOpen
@@ -42,8 +42,8 @@ pub places-open-spec : {M : Type 1} → statement M
 places-open-spec =
     tie.close
     (tie.spec
-    enum-told
     cars-in-requires
+    enum-told
     enum-told-2
     enum-told-3
     enum-told-4
