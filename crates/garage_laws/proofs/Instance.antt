@@ -255,7 +255,7 @@ code-within x = record {
 }
 
 -- what the rules take is possible
-can : (e r : ℕ) → rules .possible e r ≡ true → possibleAs (readEvent e) r ≡ true
+pub can : (e r : ℕ) → rules .possible e r ≡ true → possibleAs (readEvent e) r ≡ true
 can e r t = both (possibleAs (readEvent e) r) (openAs (readEvent e) r) t .0
 
 event-within : (e : ℕ) → Within 64 bit sound (carsIn e) (rules .lift) (rules .possible e) (rules .after e)
