@@ -170,7 +170,7 @@ open-step s t c tells h = h
 
 pub stays-open : StaysOpen
 stays-open s l i p h start end u v o =
-    let a : Open s = omega (arith, layout-cars (bit (s .bits)) start u, o) in
+    let a : Open s = omega (arith, layout-cars (bit (s .bits)) start u, digit-lt (bit (s .bits) driveIn), o) in
     let b = along Open open-step l i s a in
     omega (arith, layout-cars _ end v, same, b)
   where
