@@ -141,7 +141,7 @@ pub fn possible(e: Event, r: u64) -> bool
 // With so many cars no drive-in begins.
 const FILLED: u64 = 27;
 
-// A drive-in can begin while there are fewer cars; no other event fills a place that is kept open.
+// A drive-in can begin while there are fewer; no other event is asked how many there are.
 fn places_open(e: Event, r: u64) -> bool
     ensures { λ b. ⌜ b ≡ placesOpen e (bit r) ⌝ }
 {

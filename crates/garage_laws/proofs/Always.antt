@@ -9,18 +9,14 @@ use lib.Dec.{eqb}
 use borrow.Author.Tests.{ne-eqb, eqb-true, eqb-false}
 use Rattle.bits.specs.Bits.{bit, image, digit}
 use Rattle.bits.specs.Search.{some, every}
-use Rattle.bits.proofs.Cases.{split, clash}
+use Rattle.bits.proofs.Cases.{split}
 use Rattle.bits.proofs.Digits.{packed-lt}
-use Rattle.floor.specs.Floor.{driveIn, driveOut}
 use Rattle.floor.specs.Cars.{cars}
 use Rattle.floor.specs.Sound.{sound}
-use Rattle.rules.specs.declared.Event.the-variants.{BeginIn, BeginOut, EndDone, EndNotDone}
 use Rattle.rules.specs.declared.EventReading.{EventReading}
 use Rattle.rules.specs.declared.EventReading.the-variants.{Good as Told, Bad as Untold}
 use Rattle.rules.specs.declared.Code.{Code}
 use Rattle.rules.specs.Codes.{readEvent}
-use Rattle.rules.proofs.CodeLaws.{event-one-form}
-use Rattle.rules_laws.proofs.Laws.{event-image-cars}
 use Rattle.garage.specs.declared.Station.{Station}
 use Rattle.garage.specs.Held.{codeAt, heldNext, liftIn, crossesDrive}
 use Rattle.garage.specs.Station.{fit, seeing, apartWith}

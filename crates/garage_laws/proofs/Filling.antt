@@ -33,7 +33,7 @@ use Rattle.garage.specs.Held.{codeAt, heldAllowed, heldNext, liftIn}
 use Rattle.garage.specs.Station.{fit, apartWith}
 use Rattle.garage_laws.specs.Runs as run
 use Rattle.garage_laws.specs.Runs.{Call, said, left, calls, NoImages, drove}
-use Rattle.garage_laws.specs.Jams.{stuck, finished, Chosen}
+use Rattle.garage_laws.specs.Jams.{stuck, finished}
 use Rattle.garage_laws.specs.Filling.{RoomLeft, KeptExactly, EndsUntested, NeverThirty, StaysOpen}
 use Rattle.garage_laws.proofs.Reach.{drive-outside, held-outside}
 use Rattle.garage_laws.proofs.Instance.{possibleAs, openAs, afterAs, next-cars}
@@ -170,7 +170,7 @@ open-step s t c tells h = h
 
 pub stays-open : StaysOpen
 stays-open s l i p h start end u v o =
-    let a : Open s = omega (arith, layout-cars (bit (s .bits)) start u, o) in
+    let a : Open s = omega (arith, layout-cars (bit (s .bits)) start u, digit-lt (bit (s .bits) driveIn), o) in
     let b = along Open open-step l i s a in
     omega (arith, layout-cars _ end v, same, b)
   where

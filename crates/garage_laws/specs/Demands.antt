@@ -184,7 +184,7 @@ EventTaken = (s : Station) (e : ℕ) → said s (run.event e) ≡ 0 → (1 ≤ e
 
 -- an event is answered 31 exactly if no outstanding set has the lift in an area and it is a second begin or an end with no begin, 32
 -- exactly if it comes in turn there and a part of the lift is set apart, 10 exactly if none is and its own conditions fail, and 33 exactly
--- if all that holds and it would fill a place that is kept open
+-- if none is, they hold, and it would fill a place that is kept open
 abbrev pub EventRefused : Type 0
 EventRefused =
     (s : Station) (e : Event)

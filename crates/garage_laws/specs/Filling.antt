@@ -21,8 +21,7 @@ use Rattle.garage_laws.specs.Jams.{finished, Chosen}
 abbrev pub RoomLeft : Type 0
 RoomLeft = (s : Station) → said s (run.event 1) ≡ 0 → (found : List Car) → Layout (bit (s .bits)) found → length found < 27
 
--- its begin is answered 33 exactly if it could be taken but for that, and there are 27 cars or more; whether a drive is under way plays no
--- part in their number
+-- its begin is answered 33 exactly if it could be taken but for that, and there are 27 cars or more
 abbrev pub KeptExactly : Type 0
 KeptExactly =
     (s : Station) (found : List Car) → Layout (bit (s .bits)) found

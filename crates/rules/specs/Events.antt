@@ -47,7 +47,7 @@ possible e f = allHold (eventConditions e) f
 abbrev pub filled : ℕ
 filled = 27
 
--- a drive-in begins only while the record has fewer cars; a drive that is under way has no car yet, and what else happens fills no place
+-- a drive-in begins only while the record has fewer; a car that is being driven in is not one of them yet, and no other event is asked
 unfoldable pub placesOpen : Event → Bits → Bool
 placesOpen BeginIn f = ltb (cars f) filled
 placesOpen BeginOut f = true
