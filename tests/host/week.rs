@@ -26,7 +26,7 @@ impl Display for Total {
 }
 
 /// The numbers that an answer can have.
-fn in_force() -> impl Iterator<Item = u8> { (0..=8).chain(10..=13).chain(15..=17).chain(20..=32) }
+fn in_force() -> impl Iterator<Item = u8> { (0..=8).chain(10..=13).chain(15..=17).chain(20..=33) }
 
 /// The totals that a report has a line for, in its order.
 pub fn totals() -> impl Iterator<Item = Total> {
