@@ -49,7 +49,8 @@
  * that a drive-in is under way, bit 56 a drive-out. A begin while any drive is under way, an end while none is, and a set with the lift
  * in the area of any of its instructions while one is, are refused with STATION_OUT_OF_TURN. The lift is in the area of GARAGE_LIFT, of
  * GARAGE_ROTATE, and of GARAGE_BELTS in row 1 with the lift's belt. Everything else goes on meanwhile. An end that is done moves the car
- * on or off the raised lift (bit 52); one that isn't leaves it where it was. An image in the middle of a drive replaces it.
+ * on or off the raised lift (bit 52); one that isn't leaves it where it was. An image in the middle of a drive replaces it. Places are kept
+ * open: a drive-in begins only while the record has fewer than 27 cars, else it is refused with STATION_KEPT_OPEN; an image may have more.
  *
  * The row beside the lift. GARAGE_LIFT has the lift and its two cells, 11 and 12, in its area, and no other place of row 1. So every
  * GARAGE_SHUTTLES, every GARAGE_TILT, and every GARAGE_BELTS that doesn't name the lift's belt, may stand in one set with it. Leaving the
