@@ -8,6 +8,10 @@ use crate::reference::{
 };
 use std::collections::BTreeSet;
 
+// Cells of a record: those of row 1, and those of rows 2 and 3.
+const ROW_1: u64 = 0xF_FFFF;
+const OTHER_ROWS: u64 = ROW_1 << 20;
+
 /// A seeded generator of numbers (splitmix64).
 pub struct Numbers(pub u64);
 
@@ -106,19 +110,30 @@ pub fn result(issue: u16, number: u8, outcome: u8) -> Vec<u8> {
     message(3, &[low, high, number, outcome])
 }
 
-/// A request with one instruction at any place among others that are allowed and overlap neither it nor what is taken.
-fn request_among(numbers: &mut Numbers, record: u64, five: [u8; 5], taken: Parts, wanted: usize) -> Vec<u8> {
-    let area = Instruction::read(five).map_or(Parts::NONE, |one| one.area());
-    let mut bytes = allowed_set(numbers, record, taken.and(area), wanted - 1);
-    let at = 5 * numbers.below(bytes.len() as u64 / 5 + 1) as usize;
-    bytes.splice(at..at, five);
+/// A request with some instructions at any places among others that are allowed and overlap neither these nor what is taken.
+fn request_among(numbers: &mut Numbers, record: u64, fives: &[[u8; 5]], taken: Parts, wanted: usize) -> Vec<u8> {
+    let areas = fives.iter().filter_map(|&five| Instruction::read(five)).fold(taken, |areas, one| areas.and(one.area()));
+    let mut bytes = allowed_set(numbers, record, areas, wanted - fives.len());
+    for &five in fives {
+        let at = 5 * numbers.below(bytes.len() as u64 / 5 + 1) as usize;
+        bytes.splice(at..at, five);
+    }
     request(&bytes)
+}
+
+/// A shuttle move that carries a car to row 1 or from it, or a tilt there, that is allowed and doesn't touch what is taken; found in some tries.
+fn beside_the_lift(numbers: &mut Numbers, record: u64, taken: Parts) -> Option<[u8; 5]> {
+    let found = |five: &[u8; 5]| Instruction::read(*five).is_some_and(|one| {
+        let there = match five[0] { 2 => one.next(record) ^ record, 3 => one.area().number(), _ => 0 } & ROW_1 != 0;
+        there && one.allowed(record) && !taken.meet(&one.area())
+    });
+    (0..100).map(|_| good_five(numbers)).find(found)
 }
 
 /// A request that is refused for one of its instructions.
 pub fn refused_request(numbers: &mut Numbers, record: u64, wanted: usize) -> Option<Vec<u8>> {
     let five = refused_five(numbers, record)?;
-    Some(request_among(numbers, record, five, Parts::NONE, wanted))
+    Some(request_among(numbers, record, &[five], Parts::NONE, wanted))
 }
 
 /// Whether a car stands on the lift in the basement, whole or half.
@@ -132,8 +147,9 @@ fn some_request(numbers: &mut Numbers, station: &Station) -> Vec<u8> {
     let refused = if numbers.one_in(24) { refused_request(numbers, record, wanted) } else { None };
     if let Some(request) = refused { return request; }
     if on_the_lift(record) && numbers.one_in(2) {
-        let up = [4, numbers.below(2) as u8, 0, 0, 0];
-        return request_among(numbers, record, up, apart, (wanted + 2).min(8));
+        let mut fives = vec![[4, numbers.below(2) as u8, 0, 0, 0]];
+        fives.extend(beside_the_lift(numbers, record, apart));
+        return request_among(numbers, record, &fives, apart, (wanted + 2).min(8));
     }
     let mut bytes = allowed_set(numbers, record, apart, wanted);
     if numbers.one_in(8) {
@@ -195,13 +211,9 @@ fn some_event(numbers: &mut Numbers, record: u64) -> Vec<u8> {
     message(2, &[event])
 }
 
-/// The cells of rows 2 and 3.
-const OTHER_ROWS: u64 = 0xF_FFFF << 20;
-
 /// A sound record with nearly as many cars as there can be: at any height, with a drive under way or not, one shuttle tilted or none on
 /// either side, and a few places free.
 pub fn crowded_record(numbers: &mut Numbers) -> u64 {
-    const ROW_1: u64 = 0xF_FFFF;
     const AWAY_FROM_THE_LIFT: u64 = 0xF_C3FF;
     let lift = match numbers.below(8) {
         0 => 0,
@@ -221,7 +233,7 @@ pub fn crowded_record(numbers: &mut Numbers) -> u64 {
 /// with few; or any number.
 pub fn near_record(numbers: &mut Numbers, record: u64) -> u64 {
     match numbers.below(8) {
-        0 => match numbers.below(4) { 0 | 1 => crowded_record(numbers), 2 => record & !OTHER_ROWS, _ => numbers.next() },
+        0 => match numbers.below(5) { 0 | 1 => crowded_record(numbers), 2 | 3 => record & !OTHER_ROWS, _ => numbers.next() },
         1 => record,
         2 => record ^ 3 << numbers.below(19),
         3 => record ^ 1 << (20 + numbers.below(20)),
