@@ -2,7 +2,7 @@
 //! was called on all there is. Each has one such thing, and all else about it is as it must be.
 #![allow(dead_code)] // each driver uses its own part of this module
 
-use crate::desk_reference::{layout, Desk, Stand, PLACES};
+use crate::desk_reference::{layout, Car, Desk, Stand, PLACES};
 use crate::reference::{bit, sound, Parts, Station, DRIVE_IN, LIFT_CAR, LIFT_CELLS};
 use crate::traffic::Numbers;
 
@@ -124,17 +124,24 @@ pub fn made(numbers: &mut Numbers, desk: &Desk) -> Option<[u8; Desk::SIZE]> {
     (0..10).find_map(|_| changed(numbers, desk, wanted))
 }
 
-/// A desk with a drive-in under way, on which nothing is outstanding; what stood on the lift is gone.
-fn with_drive(numbers: &mut Numbers, desk: &Desk) -> Desk {
-    let street = desk.station.record & !(0b11111 << LIFT_CAR) & !(0b11 << LIFT_CELLS.start);
-    let station = Station { record: street | 1 << DRIVE_IN, ..Station::start() };
-    let cars = desk.cars.iter().filter(|car| car.stand != Stand::Raised && car.stand != Stand::Over(LIFT_CELLS)).cloned().collect();
-    Desk { station, cars, coming: Some(numbers.next() as u32) }
+/// A desk with the lift at street and nothing outstanding: with a car on it, or with a drive-in under way; what stood on it before is gone.
+fn at_street(numbers: &mut Numbers, desk: &Desk, drive: bool) -> Desk {
+    let empty = desk.station.record & !(0b11111 << LIFT_CAR) & !(0b11 << LIFT_CELLS.start);
+    let station = Station { record: empty | 1 << if drive { DRIVE_IN } else { LIFT_CAR }, ..Station::start() };
+    let beside = |car: &&Car| car.stand != Stand::Raised && car.stand != Stand::Over(LIFT_CELLS);
+    let mut cars: Vec<Car> = desk.cars.iter().filter(beside).cloned().collect();
+    let card = numbers.next() as u32;
+    if !drive { cars.push(Car { card, stand: Stand::Raised }); }
+    Desk { station, cars, coming: drive.then_some(card) }
 }
 
 /// One try.
 fn changed(numbers: &mut Numbers, desk: &Desk, wanted: Handed) -> Option<[u8; Desk::SIZE]> {
-    let desk = if let Without(Drive) | Twice(_, Drive) = wanted { with_drive(numbers, desk) } else { desk.clone() };
+    let desk = match wanted {
+        Without(Drive) | Twice(_, Drive) => at_street(numbers, desk, true),
+        Without(Lift) | Twice(_, Lift) => at_street(numbers, desk, false),
+        _ => desk.clone(),
+    };
     let (mut bytes, record) = (desk.to_bytes(), desk.station.record);
     let bearing = bearing(record);
     let of = |wanted: Place| -> Vec<usize> { bearing.iter().copied().filter(|&place| kind(place) == wanted).collect() };

@@ -11,7 +11,7 @@ use Rattle.bits.proofs.Cases.{both, one-of}
 use Rattle.answers.specs.declared.Reason.{Reason}
 use Rattle.answers.specs.declared.Reason.the-variants.{NothingNamed, Gap, NotAvailable, NotFree, OddCount, HalfMove, SameHeight, NotAtRotation, CellsNotFree}
 use Rattle.answers.specs.declared.Answer.{Answer}
-use Rattle.answers.specs.declared.Answer.the-variants.{Taken, Opened, TooFewBytes, BadLength, UnknownKind, BadField, TooMany, SetOutstanding, EmptySet, Overlap, NotAllowed, EventImpossible, NoSet, NotInSet, AlreadyAnswered, Unsound, Unfit, NoRoom, Late, NotIssued, OutOfTurn, SetApart}
+use Rattle.answers.specs.declared.Answer.the-variants.{Taken, Opened, TooFewBytes, BadLength, UnknownKind, BadField, TooMany, SetOutstanding, EmptySet, Overlap, NotAllowed, EventImpossible, NoSet, NotInSet, AlreadyAnswered, Unsound, Unfit, NoRoom, Late, NotIssued, OutOfTurn, SetApart, KeptOpen}
 use Rattle.answers.specs.Answers.{reasonNumber, numberOf, OfTable, inTable}
 use Rattle.answers.specs.Promises.{TableExactly}
 
@@ -93,28 +93,29 @@ answer-in Late = refl
 answer-in NotIssued = refl
 answer-in OutOfTurn = refl
 answer-in (SetApart p) = refl
+answer-in KeptOpen = refl
 
 -- where the numbers of the table lie
 abbrev Ranges : ℕ → Type 0
-Ranges n = (n ≤ 8) ⊎ (((10 ≤ n) × (n ≤ 13)) ⊎ (((15 ≤ n) × (n ≤ 17)) ⊎ ((20 ≤ n) × (n ≤ 32))))
+Ranges n = (n ≤ 8) ⊎ (((10 ≤ n) × (n ≤ 13)) ⊎ (((15 ≤ n) × (n ≤ 17)) ⊎ ((20 ≤ n) × (n ≤ 33))))
 
 ranges : (n : ℕ) → inTable n ≡ true → Ranges n
-ranges n e = first (one-of (leb n 8) (leb 10 n && leb n 13 || (leb 15 n && leb n 17 || leb 20 n && leb n 32)) e)
+ranges n e = first (one-of (leb n 8) (leb 10 n && leb n 13 || (leb 15 n && leb n 17 || leb 20 n && leb n 33)) e)
   where
     inside : (low high : ℕ) → leb low n && leb n high ≡ true → (low ≤ n) × (n ≤ high)
     inside low high e = let (p, q) = both (leb low n) (leb n high) e in (leb-true low n p, leb-true n high q)
 
-    third : (leb 15 n && leb n 17 ≡ true) ⊎ (leb 20 n && leb n 32 ≡ true) → Ranges n
+    third : (leb 15 n && leb n 17 ≡ true) ⊎ (leb 20 n && leb n 33 ≡ true) → Ranges n
     third (inl e) = inr (inr (inl (inside 15 17 e)))
-    third (inr e) = inr (inr (inr (inside 20 32 e)))
+    third (inr e) = inr (inr (inr (inside 20 33 e)))
 
-    second : (leb 10 n && leb n 13 ≡ true) ⊎ (leb 15 n && leb n 17 || leb 20 n && leb n 32 ≡ true) → Ranges n
+    second : (leb 10 n && leb n 13 ≡ true) ⊎ (leb 15 n && leb n 17 || leb 20 n && leb n 33 ≡ true) → Ranges n
     second (inl e) = inr (inl (inside 10 13 e))
-    second (inr e) = third (one-of (leb 15 n && leb n 17) (leb 20 n && leb n 32) e)
+    second (inr e) = third (one-of (leb 15 n && leb n 17) (leb 20 n && leb n 33) e)
 
-    first : (leb n 8 ≡ true) ⊎ (leb 10 n && leb n 13 || (leb 15 n && leb n 17 || leb 20 n && leb n 32) ≡ true) → Ranges n
+    first : (leb n 8 ≡ true) ⊎ (leb 10 n && leb n 13 || (leb 15 n && leb n 17 || leb 20 n && leb n 33) ≡ true) → Ranges n
     first (inl e) = inl (leb-true n 8 e)
-    first (inr e) = second (one-of (leb 10 n && leb n 13) (leb 15 n && leb n 17 || leb 20 n && leb n 32) e)
+    first (inr e) = second (one-of (leb 10 n && leb n 13) (leb 15 n && leb n 17 || leb 20 n && leb n 33) e)
 
 -- a number of the table is a byte
 pub number-byte : (a : Answer) → numberOf a < 256
@@ -145,7 +146,7 @@ found n (inr (inr (inl h))) = from Unsound n (from Unfit n (from NoRoom n (λ l.
 found n (inr (inr (inr h))) =
     why NothingNamed (why Gap (why NotAvailable (why NotFree (why OddCount (why HalfMove
     (why SameHeight (why NotAtRotation (why CellsNotFree (from Late n (from NotIssued n (from OutOfTurn n (from (SetApart 0) n
-    (λ l. absurd (omega (arith, h .1))))))))))))))) (h .0)
+    (from KeptOpen n (λ l. absurd (omega (arith, h .1)))))))))))))))) (h .0)
   where
     why : (w : Reason) → (reasonNumber w < n → OfTable n) → reasonNumber w ≤ n → OfTable n
     why w = from (NotAllowed w 0) n

@@ -1,5 +1,5 @@
--- The table of numbers of document 01, with document 02's reasons, late results, drives and jams: the number and the place of each
--- answer, and the issue that it carries. Assumes nothing.
+-- The table of numbers of document 01, with document 02's reasons, late results, drives, jams and places kept open: the number and
+-- the place of each answer, and the issue that it carries. Assumes nothing.
 use mathlib.Core.Path.{_≡_}
 use mathlib.Core.Bool.{Bool, _&&_, _||_}
 use Prim.Native.Nat.{ℕ}
@@ -7,7 +7,7 @@ use lib.Dec.{leb}
 use Rattle.answers.specs.declared.Reason.{Reason}
 use Rattle.answers.specs.declared.Reason.the-variants.{NothingNamed, Gap, NotAvailable, NotFree, OddCount, HalfMove, SameHeight, NotAtRotation, CellsNotFree}
 use Rattle.answers.specs.declared.Answer.{Answer}
-use Rattle.answers.specs.declared.Answer.the-variants.{Taken, Opened, TooFewBytes, BadLength, UnknownKind, BadField, TooMany, SetOutstanding, EmptySet, Overlap, NotAllowed, EventImpossible, NoSet, NotInSet, AlreadyAnswered, Unsound, Unfit, NoRoom, Late, NotIssued, OutOfTurn, SetApart}
+use Rattle.answers.specs.declared.Answer.the-variants.{Taken, Opened, TooFewBytes, BadLength, UnknownKind, BadField, TooMany, SetOutstanding, EmptySet, Overlap, NotAllowed, EventImpossible, NoSet, NotInSet, AlreadyAnswered, Unsound, Unfit, NoRoom, Late, NotIssued, OutOfTurn, SetApart, KeptOpen}
 
 -- the number of a reason
 abbrev pub reasonNumber : Reason → ℕ
@@ -45,14 +45,15 @@ numberOf Late = 29
 numberOf NotIssued = 30
 numberOf OutOfTurn = 31
 numberOf (SetApart p) = 32
+numberOf KeptOpen = 33
 
 -- a number of the table: some answer has it
 abbrev pub OfTable : ℕ → Type 0
 OfTable n = (a : Answer) × (n ≡ numberOf a)
 
--- the same as a test: 0 to 8, 10 to 13, 15 to 17, 20 to 32
+-- the same as a test: 0 to 8, 10 to 13, 15 to 17, 20 to 33
 abbrev pub inTable : ℕ → Bool
-inTable n = leb n 8 || (leb 10 n && leb n 13 || (leb 15 n && leb n 17 || leb 20 n && leb n 32))
+inTable n = leb n 8 || (leb 10 n && leb n 13 || (leb 15 n && leb n 17 || leb 20 n && leb n 33))
 
 -- the place where an answer names no instruction
 abbrev pub nowhere : ℕ
@@ -83,6 +84,7 @@ placeOf Late = nowhere
 placeOf NotIssued = nowhere
 placeOf OutOfTurn = nowhere
 placeOf (SetApart p) = p
+placeOf KeptOpen = nowhere
 
 -- the issue that an answer carries: the number of the set that it opens, zero unless a request was taken
 abbrev pub issueOf : Answer → ℕ
@@ -108,3 +110,4 @@ issueOf Late = 0
 issueOf NotIssued = 0
 issueOf OutOfTurn = 0
 issueOf (SetApart p) = 0
+issueOf KeptOpen = 0

@@ -69,6 +69,8 @@ pub enum Answer {
     OutOfTurn,
     // 32: touches a part that is set apart: an instruction of a request, or an event, which has the place 255
     SetApart(u8),
+    // 33: a drive-in begins while the record has 27 cars or more: the places that are left are kept open
+    KeptOpen,
 }
 
 // The place that an answer gives where it names no instruction.
@@ -78,7 +80,7 @@ pub const NOWHERE: u8 = 255;
 pub fn in_table(n: u8) -> bool
     ensures { λ b. ⌜ b ≡ inTable n ⌝ }
 {
-    (n <= 8) | ((10 <= n) & (n <= 13) | ((15 <= n) & (n <= 17) | (20 <= n) & (n <= 32)))
+    (n <= 8) | ((10 <= n) & (n <= 13) | ((15 <= n) & (n <= 17) | (20 <= n) & (n <= 33)))
 }
 
 impl Reason {
@@ -128,6 +130,7 @@ impl Answer {
             Answer::NotIssued => 30,
             Answer::OutOfTurn => 31,
             Answer::SetApart(_) => 32,
+            Answer::KeptOpen => 33,
         }
     }
 
@@ -158,6 +161,7 @@ impl Answer {
             Answer::NotIssued => NOWHERE,
             Answer::OutOfTurn => NOWHERE,
             Answer::SetApart(p) => p,
+            Answer::KeptOpen => NOWHERE,
         }
     }
 

@@ -14,8 +14,7 @@ use Rattle.answers.proofs.Promises.{number-byte}
 use Rattle.garage.specs.declared.Station.{Station}
 use Rattle.wire.specs.Kinds.{littleEndian, setOf}
 use Rattle.wire.proofs.Parts.{zeros-past, from-on}
-use Rattle.fours.specs.Fours.{foursIn, foursBytes, fourPut}
-use Rattle.fours.proofs.Fours.{four-laid}
+use Rattle.fours.specs.Fours.{foursIn, foursBytes}
 use Rattle.station_c.specs.Entries.{stationBytes, stationOf, lentStation, imageBytes, returned, Leaves, writes}
 use Rattle.desk.specs.declared.Desk.{Desk}
 use Rattle.desk.specs.declared.DeskOutcome.{DeskOutcome}
@@ -157,10 +156,10 @@ module _ (room : List ℕ) (c : ℕ) {r : ℕ} where
   where-said h e f g = g ∙ rw (le-ltb _ _ h, ← e, ← f)
 
 -- a card's number that is put
-pub card-put : (c : ℕ) (out : List ℕ) {r : ℕ} {last : List ℕ} → 4 ≤ length out → r ≡ returned Taken → last ≡ fourPut 0 c out
+pub card-put : (c : ℕ) (out : List ℕ) {b : List ℕ} {r : ℕ} {last : List ℕ} → b ≡ littleEndian 4 c → Leaves (shows (Told Taken) b out) r last
     → Leaves (writes Taken (littleEndian 4 c) out) r last
-unfolding writes
-card-put c out h e f = (e, f ∙ four-laid 0 c out h)
+unfolding writes shows
+card-put c out e w = (w .0, w .1 ∙ ap (λ (l : List ℕ). l ++ drop (length l) out) e)
 
 -- which card is leaving
 module _ (room out : List ℕ) {r : ℕ} where

@@ -75,7 +75,8 @@ fn put_numbers(numbers: &[u32; NUMBERS], run: &mut [u8])
 {
     let mut place: usize = 0;
     while place < NUMBERS {
-        fours::put_four(run, 4 * place, numbers[place]);
+        let four = fours::four_bytes(numbers[place]);
+        bytes::copy(&four, &mut run[4 * place..4 * place + 4]);
         place += 1;
     }
 }
@@ -323,8 +324,8 @@ fn put_card(card: u32, out: &mut [u8]) -> u32
     requires { ⌜ 4 ≤ length (now out) ⌝ }
     ensures { λ r. ⌜ Leaves (writes Answer.Taken (littleEndian 4 card) (now (out .entry))) r (now (out .exit)) ⌝ }
 {
-    fours::put_four(out, 0, card);
-    say(Answer::Taken)
+    let four = fours::four_bytes(card);
+    answer(Reply::Told(Answer::Taken), &four, out)
 }
 
 // Which card is leaving: its number's four bytes, those of 0 where none is, to a room of their own.

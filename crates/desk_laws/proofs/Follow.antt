@@ -198,8 +198,9 @@ module _ (d : Desk) (f : deskFit d ≡ true) (e c : ℕ) where
     λ t.
         let (b, p) = both _ _ (sym (drivable s fits e) ∙ t) in
         let (a, q) = both _ _ p in
-        rw (event-is s e (fits, not-true _ b, not-true _ a, q)),
-    λ z. let w = event-has s e z in drivable s fits e ∙ rw (w .1, w .2, w .3),
+        let (y, o) = both _ _ q in
+        rw (event-is s e (fits, not-true _ b, not-true _ a, y, o)),
+    λ z. let w = event-has s e z in drivable s fits e ∙ rw (w .1, w .2, w .3, w .4),
   )
 
   event-view : deskView (left d (desk.event e c)) ≡ machine.step numbered (deskView d) (event (e, c))

@@ -18,11 +18,11 @@ use Rattle.rules.specs.declared.Event.the-variants.{BeginIn}
 use Rattle.rules.specs.Codes.{readEvent}
 use Rattle.rules.proofs.CodeLaws.{event-one-form}
 use Rattle.rules_laws.specs.Laws.{liftArea}
-use Rattle.sets.proofs.Rules.{Rules, Agree, Within, Framed, blind}
+use Rattle.sets.proofs.Rules.{Rules, Agree, Within, Framed}
 use Rattle.garage.specs.Held.{heldArea}
 use Rattle.garage.proofs.Areas.{held-small}
 use Rattle.garage_laws.proofs.Reach.{in-area, outside-area}
-use Rattle.garage_laws.proofs.Instance.{rules, seenOf, framed, blank, allowed-has}
+use Rattle.garage_laws.proofs.Instance.{rules, seenOf, carsIn, framed, can, blank, allowed-has}
 use Rattle.cards.specs.Held.{numbersIn, codeCards, cardsFit, isKnown}
 use Rattle.cards_laws.proofs.Tested.{isNew, new-same}
 use Rattle.desk_laws.proofs.Fits.{code-fits}
@@ -124,9 +124,9 @@ new-after d x f g p q a v t u =
     let (s, c) = parts f p in
     let (r, b) = parts g q in
     let (ok, new) = possible-has x f t in
-    let (can, fresh) = possible-has x g u in
+    let (too, fresh) = possible-has x g u in
     driven-new (f .0) (g .0) (f .1) (g .1) s r c b (λ k m. ap (λ y. y .0) (a k (lift-small k m) m)) (lift-numbers f g a)
-    (readEvent (x .0)) (brought (x .0) (x .1)) ok can (brings-new (x .0) (x .1) (f .1) new) (brings-new (x .0) (x .1) (g .1) fresh) d v
+    (readEvent (x .0)) (brought (x .0) (x .1)) (can (x .0) (f .0) ok) (can (x .0) (g .0) too) (brings-new (x .0) (x .1) (f .1) new) (brings-new (x .0) (x .1) (g .1) fresh) d v
 
 module _ {O P : Type 0} (view : Code → ℕ → O) (glance : ℕ → ℕ → P) (F : Framed rules view glance) where
   instruction-within : (x : Code) → Within 64 looks (numbered .sound) (views view x) (rules .area x) (numbered .allowed x) (numbered .next x)
@@ -168,7 +168,7 @@ module _ {O P : Type 0} (view : Code → ℕ → O) (glance : ℕ → ℕ → P)
         let (s, c) = parts f p in
         let (ok, new) = possible-has e f t in
         and-intro (F .event (e .0) .safe (f .0) s ok)
-        (driven-fit (readEvent (e .0)) (brought (e .0) (e .1)) (f .0) (f .1) s c ok (brings-new (e .0) (e .1) (f .1) new));
+        (driven-fit (readEvent (e .0)) (brought (e .0) (e .1)) (f .0) (f .1) s c (can (e .0) (f .0) ok) (brings-new (e .0) (e .1) (f .1) new));
   }
 
   numbered-framed : Framed numbered (views view) (glances glance)
@@ -189,5 +189,5 @@ module _ {O P : Type 0} (view : Code → ℕ → O) (glance : ℕ → ℕ → P)
   }
 
 -- the station's rules as they are
-pub frame : Framed numbered (views seenOf) (glances blind)
-frame = numbered-framed seenOf blind framed
+pub frame : Framed numbered (views seenOf) (glances carsIn)
+frame = numbered-framed seenOf carsIn framed

@@ -16,7 +16,7 @@ use Rattle.rules.specs.declared.Moved.{Moved}
 use Rattle.rules.specs.declared.Driven.{Driven}
 use Rattle.rules.specs.declared.Verdict.{Verdict}
 use Rattle.rules.specs.Rules.{wellFormed, clauses, allowed, next}
-use Rattle.rules.specs.Events.{inTurn, possible, after}
+use Rattle.rules.specs.Events.{inTurn, possible, placesOpen, after}
 use Rattle.rules.specs.Verdicts.{judged, verdictOf, movedBy, movedOf, drivenOf}
 use Rattle.rules.proofs.Answering as answering
 use Rattle.rules.proofs.Answering.{is-verdict, not-moved, has-moved, is-allowed}
@@ -71,6 +71,11 @@ module _ (e : Event) (r : ℕ) where
   unfolding drivenOf
   event-refused t p = rw (t, p)
 
-  pub event-taken : inTurn e (bit r) ≡ true → possible e (bit r) ≡ true → (x : ℕ) → x ≡ image (after e (bit r)) → Driven.Record x ≡ drivenOf e r
+  pub event-kept-open : inTurn e (bit r) ≡ true → possible e (bit r) ≡ true → placesOpen e (bit r) ≡ false → Driven.KeptOpen ≡ drivenOf e r
   unfolding drivenOf
-  event-taken t p x h = rw (t, p) (ap Driven.Record h)
+  event-kept-open t p o = rw (t, p, o)
+
+  pub event-taken : inTurn e (bit r) ≡ true → possible e (bit r) ≡ true → placesOpen e (bit r) ≡ true
+      → (x : ℕ) → x ≡ image (after e (bit r)) → Driven.Record x ≡ drivenOf e r
+  unfolding drivenOf
+  event-taken t p o x h = rw (t, p, o) (ap Driven.Record h)

@@ -3,7 +3,7 @@ ghost use mathlib.Core.Path.{_≡_};
 ghost use Rattle.bits.specs.Bits.{bit, image};
 ghost use Rattle.rules.specs.declared.Instruction.{Instruction};
 ghost use Rattle.rules.specs.declared.Event.the-variants.{EndDone};
-ghost use Rattle.rules.specs.Events.{inTurn, possible, after};
+ghost use Rattle.rules.specs.Events.{inTurn, possible, placesOpen, after};
 ghost use Rattle.rules.specs.Verdicts.{verdictOf, movedOf, drivenOf, codeVerdict, codeMoved};
 ghost use Rattle.engine.specs.Private.{told};
 use rules::Code;
@@ -138,6 +138,22 @@ pub fn possible(e: Event, r: u64) -> bool
     }
 }
 
+// With so many cars no drive-in begins.
+const FILLED: u64 = 27;
+
+// A drive-in can begin while there are fewer; no other event is asked how many there are.
+fn places_open(e: Event, r: u64) -> bool
+    ensures { λ b. ⌜ b ≡ placesOpen e (bit r) ⌝ }
+{
+    let room = floor::cars_in(r) < FILLED;
+    match e {
+        Event::BeginIn => room,
+        Event::BeginOut => true,
+        Event::EndDone => true,
+        Event::EndNotDone => true,
+    }
+}
+
 // A drive that is done: the car that was driven in is on the raised lift, one that was driven out is not.
 fn arrived(r: u64) -> u64
     ensures { λ x. ⌜ x ≡ image (after EndDone (bit r)) ⌝ }
@@ -160,7 +176,7 @@ fn after(e: Event, r: u64) -> u64
     }
 }
 
-// The record after a car event, where it comes in turn and is possible.
+// The record after a car event, where it comes in turn, is possible and fills none of the places that are kept open.
 pub fn driven(e: Event, r: u64) -> Driven
     ensures { λ d. ⌜ d ≡ drivenOf e r ⌝ }
 {
@@ -169,6 +185,9 @@ pub fn driven(e: Event, r: u64) -> Driven
     }
     if !possible(e, r) {
         return Driven::Impossible;
+    }
+    if !places_open(e, r) {
+        return Driven::KeptOpen;
     }
     Driven::Record(after(e, r))
 }

@@ -120,6 +120,10 @@ p2Begun = taken beginIn ∷ cars 0 ∷ holds 0x00891B0000000000 ∷ []
 abbrev pub p4 : List Step
 p4 = p2 ++ makes 0 (Lift basement) 0x00491B0000001800
 
+-- the most cars with the lift empty at street
+abbrev pub filled28 : ℕ
+filled28 = 0x00003FFFFFFFC3FF
+
 -- both row-3 shuttles lowered in one set, the second with this result
 abbrev pub p10 : ℕ → Call → ℕ → List Step
 p10 k second r = taken (asking (lowers left ∷ lowers right ∷ [])) ∷ taken (done k 0) ∷ taken second ∷ holds r ∷ []
@@ -164,6 +168,11 @@ table =
     ∷ taken (sees 0x00481F0000001800) ∷ apart 0 ∷ makes 2 (Belts 1 6 0 1) 0x00481F0000000600)
     -- the lift is stuck at rotation: no drive begins
     ∷ (taken (asking (Lift rotation ∷ [])) ∷ taken (stuck 0 0) ∷ refused endDone 31 ∷ refused beginIn 32 ∷ taken (sees S) ∷ taken beginIn ∷ [])
+    -- places are kept open: with 28 cars or 27 no drive-in begins, with 26 one does, and then the lift is occupied; an image with more is
+    -- taken, and with it the end of the drive-in under way, which makes 29
+    ∷ (taken (sees filled28) ∷ cars 28 ∷ refused beginIn 33 ∷ taken (sees 0x00003F7FFFFFC3FF) ∷ cars 27 ∷ refused beginIn 33
+    ∷ taken (sees 0x00003F3FFFFFC3FF) ∷ cars 26 ∷ taken beginIn ∷ cars 26 ∷ taken endDone ∷ cars 27 ∷ refused beginIn 10
+    ∷ taken (sees 0x00803FFFFFFFC3FF) ∷ cars 28 ∷ refused beginIn 31 ∷ taken endDone ∷ cars 29 ∷ [])
     ∷ []
 
 -- ---- the claim

@@ -1,5 +1,5 @@
 -- The promises of specs/Promises.antt kept: each is a law of another file. Assumes nothing.
-use Rattle.floor.specs.Promises.{LayoutExactly, LayoutCars, FewCars, ThirtyCars, SoundExactly, OnBelts, BeltsExactly}
+use Rattle.floor.specs.Promises.{LayoutExactly, LayoutCars, FewCars, ThirtyCars, AtMost28, TwentyEight, SoundExactly, OnBelts, BeltsExactly}
 use Rattle.floor.proofs.Layouts.{layout-iff-paired, sound-iff}
 use Rattle.floor.proofs.Tally as tally
 use Rattle.floor.proofs.Few as few
@@ -17,6 +17,12 @@ few-cars = few.few-cars
 
 pub thirty-cars : ThirtyCars
 thirty-cars = few.thirty-cars
+
+pub at-most-28 : AtMost28
+at-most-28 = few.at-most-28
+
+pub twenty-eight : TwentyEight
+twenty-eight = few.twenty-eight
 
 pub sound-exactly : SoundExactly
 sound-exactly = sound-iff

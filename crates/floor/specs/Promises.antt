@@ -3,7 +3,7 @@
 use mathlib.Core.Path.{_≡_}
 use mathlib.Core.Logic.{_↔_}
 use mathlib.Core.Bool.{true, false}
-use mathlib.Core.List.{List, []}
+use mathlib.Core.List.{List, [], _∷_}
 use Prim.Native.Nat.{ℕ, _≤_, _<_}
 use lib.Dec.{T}
 use lib.ListN.{length, getD}
@@ -11,7 +11,8 @@ use Rattle.bits.specs.Bits.{Bits, bit}
 use Rattle.bits.specs.Places.{elem}
 use Rattle.floor.specs.declared.Belt.the-variants.{On}
 use Rattle.floor.specs.declared.Total.the-variants.{Cars}
-use Rattle.floor.specs.Floor.{beltCells, beltOf}
+use Rattle.floor.specs.Floor.{beltCells, beltOf, raisedCar, street}
+use Rattle.floor.specs.Tests.{Test, free, both, holds, heightIs}
 use Rattle.floor.specs.Cars.{Car, covered, Layout, cars}
 use Rattle.floor.specs.Sound.{Sound, paired, sound, total}
 use Rattle.floor.specs.Belts.{There}
@@ -31,6 +32,18 @@ FewCars = (r n : ℕ) → total r ≡ Cars n → n ≤ 30
 -- and one has them all: every cell occupied, every shuttle lowered, the lift in the basement
 abbrev pub ThirtyCars : Type 0
 ThirtyCars = total 0x00403FFFFFFFFFFF ≡ Cars 30
+
+-- the lift is at street and empty
+abbrev pub emptyAtStreet : Test
+emptyAtStreet = both (heightIs street) (free (raisedCar ∷ []))
+
+-- a sound record of which this holds has at most 28
+abbrev pub AtMost28 : Type 0
+AtMost28 = (r n : ℕ) → total r ≡ Cars n → holds emptyAtStreet (bit r) ≡ true → n ≤ 28
+
+-- and one has as many: in row 1 five cars left of the lift and three right of it, every other cell occupied, every shuttle lowered
+abbrev pub TwentyEight : Type 0
+TwentyEight = (total 0x00003FFFFFFFC3FF ≡ Cars 28) × (holds emptyAtStreet (bit 0x00003FFFFFFFC3FF) ≡ true)
 
 -- the test of an image passes exactly if it is a sound record
 abbrev pub SoundExactly : Type 0

@@ -1,4 +1,4 @@
--- Numbers in bytes, four each: one read and written, and the loops that read and write n of them, turn by turn. Assumes nothing.
+-- Numbers in bytes, four each: one read, and the loops that read and write n of them, turn by turn. Assumes nothing.
 use mathlib.Core.Path.{_≡_, refl, sym, ap, ap₂, _∙_}
 use mathlib.Core.List.{List, [], _∷_, _++_, map, append-assoc, append-nil}
 use mathlib.Core.Bool.{Bool, true, false}
@@ -7,13 +7,13 @@ use native.Mathlib.Omega.{arith}
 use native.Mathlib.Numerals.{add-one}
 use lib.ListN as list
 use lib.Dec.{leb}
-use lib.ListN.{length, getD, take, drop, replicate, length-append, length-replicate, drop-of-length-le}
+use lib.ListN.{length, getD, take, drop, replicate, length-append, length-drop, length-replicate, drop-of-length-le}
 use borrow.Author.Tests.{le-leb, lt-leb, leb-true, leb-false}
-use lib.Seq.{sets-eq, paste, paste-suc, take-at, take-all, drop-append-add, drop-drop}
+use lib.Seq.{paste, paste-suc, take-at, take-all, length-take-le, drop-append-add, drop-drop}
 use Rattle.bits.specs.Places.{from, join}
 use Rattle.wire.specs.Kinds.{littleEndian, fromLittleEndian}
 use Rattle.bits.proofs.Cases.{split}
-use Rattle.fours.specs.Fours.{there, fourAt, fourPut, foursIn, foursBytes}
+use Rattle.fours.specs.Fours.{there, fourAt, foursIn, foursBytes}
 
 -- ---- a value for each place
 
@@ -45,14 +45,6 @@ four-read m at =
     let e3 : at + 3 ≡ suc (suc (suc at)) = omega arith in
     rw (e1, e2, e3)
 
-pub four-put : (d : List ℕ) (at a b c e : ℕ) → at + 4 ≤ length d
-    → list.set (list.set (list.set (list.set d at a) (at + 1) b) (at + 2) c) (at + 3) e ≡ take at d ++ (a ∷ b ∷ c ∷ e ∷ []) ++ drop (at + 4) d
-four-put d at a b c e h =
-    let e1 : at + 1 ≡ suc at = omega arith in
-    let e2 : at + 2 ≡ suc (suc at) = omega arith in
-    let e3 : at + 3 ≡ suc (suc (suc at)) = omega arith in
-    rw (e1, e2, e3) (sets-eq (a ∷ b ∷ c ∷ e ∷ []) d at h)
-
 -- whether a run of so many has them
 pub too-short : (size at : ℕ) → size < 4 → false ≡ there size at
 too-short size at h = sym (lt-leb (at + 4) size (omega arith))
@@ -62,14 +54,10 @@ there-is size at h = split (leb at (size - 4))
     (λ t. let l = leb-true at (size - 4) t in t ∙ sym (le-leb (at + 4) size (omega arith)))
     (λ t. let l = leb-false at (size - 4) t in t ∙ sym (lt-leb (at + 4) size (omega arith)))
 
--- what stands there is read, and what is put stands there
+-- what stands there is read
 pub four-there : (at : ℕ) (m : List ℕ) → at + 4 ≤ length m → fourAt at m ≡ fromLittleEndian 4 at m
 unfolding fourAt
 four-there at m h = rw (le-leb (at + 4) (length m) h)
-
-pub four-laid : (at n : ℕ) (m : List ℕ) → at + 4 ≤ length m → fourPut at n m ≡ take at m ++ littleEndian 4 n ++ drop (at + 4) m
-unfolding fourPut
-four-laid at n m h = rw (le-leb (at + 4) (length m) h)
 
 -- ---- the loop that reads
 
@@ -163,6 +151,20 @@ writing-turns n d c r s i l same w e = record {
 
     four-on : 4 * i + 4 ≡ 4 * (i + 1)
     four-on = omega arith
+
+-- a number's bytes that were copied to their place
+pub four-laid : (r b last : List ℕ) (a n : ℕ) → a + 4 ≤ length r → b ≡ littleEndian 4 n
+    → last ≡ take (length b) b ++ drop (length b) (take (a + 4 - a) (drop a r))
+    → take a r ++ (last ++ drop (a + 4 - a) (drop a r)) ≡ take a r ++ littleEndian 4 n ++ drop (a + 4) r
+four-laid r b last a n h e f =
+    let four = littleEndian 4 n in
+    let k : a + 4 - a ≡ 4 = omega arith in
+    let size : length (take 4 (drop a r)) ≡ 4 = length-take-le 4 (drop a r) (rw length-drop (omega arith)) in
+    let whole : last ≡ four =
+    f ∙ ap₂ (λ (l : List ℕ) (j : ℕ). take (length l) l ++ drop (length l) (take j (drop a r))) e k
+    ∙ ap (λ (l : List ℕ). four ++ l) (drop-of-length-le (take 4 (drop a r)) {i = 4} (omega arith)) ∙ append-nil four in
+    ap₂ (λ (l : List ℕ) (j : ℕ). take a r ++ (l ++ drop j (drop a r))) whole k
+    ∙ ap (λ (l : List ℕ). take a r ++ (four ++ l)) (drop-drop 4 a r) ∙ sym (append-assoc (take a r) four (drop (a + 4) r))
 
 pub writing-ends : (n : ℕ) (d c r : List ℕ) (i : ℕ) → n ≤ i → Writing n d c r i → r ≡ foursBytes n c ++ drop (4 * n) d
 unfolding bytesTo

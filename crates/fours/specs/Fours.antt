@@ -1,9 +1,9 @@
 -- Numbers of 32 bits in a run of bytes, four bytes each, the lowest first. Assumes nothing.
 use mathlib.Core.Bool.{Bool, cond}
-use mathlib.Core.List.{List, _++_, map}
+use mathlib.Core.List.{List, map}
 use Prim.Native.Nat.{ℕ, _+_, _*_}
 use lib.Dec.{leb}
-use lib.ListN.{length, getD, take, drop}
+use lib.ListN.{length, getD}
 use Rattle.bits.specs.Places.{from, join}
 use Rattle.wire.specs.Kinds.{littleEndian, fromLittleEndian}
 
@@ -14,10 +14,6 @@ there size at = leb (at + 4) size
 -- the number that they say; 0 where they aren't there
 unfoldable pub fourAt : ℕ → List ℕ → ℕ
 fourAt at m = cond (there (length m) at) (fromLittleEndian 4 at m) 0
-
--- the run with a number written there; as it was where it has no room
-unfoldable pub fourPut : ℕ → ℕ → List ℕ → List ℕ
-fourPut at n m = cond (there (length m) at) (take at m ++ littleEndian 4 n ++ drop (at + 4) m) m
 
 -- n numbers that a run begins with, and n numbers as bytes
 abbrev pub foursIn : ℕ → List ℕ → List ℕ

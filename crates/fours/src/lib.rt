@@ -1,10 +1,10 @@
-// Numbers of 32 bits in a run of bytes: one read from a place on, one written there.
+// Numbers of 32 bits in a run of bytes: one read from a place on, and the bytes of one.
 ghost use mathlib.Core.Path.{_≡_};
-ghost use mathlib.Core.List.{[], _∷_, _++_};
+ghost use mathlib.Core.List.{[], _∷_};
 ghost use Prim.Native.Nat.{_+_, _≤_};
-ghost use lib.ListN.{length, take, drop};
+ghost use lib.ListN.{length};
 ghost use Rattle.wire.specs.Kinds.{littleEndian, fromLittleEndian};
-ghost use Rattle.fours.specs.Fours.{there, fourAt, fourPut};
+ghost use Rattle.fours.specs.Fours.{there, fourAt};
 
 // Four bytes stand in a run of so many from a place on.
 fn there(size: usize, at: usize) -> bool
@@ -40,25 +40,17 @@ pub fn four_at(run: &[u8], at: usize) -> u32
     got(run, at)
 }
 
-fn put(run: &mut [u8], at: usize, n: u32)
-    requires { ⌜ at + 4 ≤ length (now run) ⌝ }
-    ensures { λ _. ⌜ now (run .exit) ≡ take at (now (run .entry)) ++ littleEndian 4 n ++ drop (at + 4) (now (run .entry)) ⌝ }
+// The four bytes that say a number, the lowest first.
+pub fn four_bytes(n: u32) -> [u8; 4]
+    ensures { λ b. ⌜ b ≡ littleEndian 4 n ⌝ }
 {
     let b = n / 256;
     let c = b / 256;
     let d = c / 256;
-    run[at] = (n % 256) as u8;
-    run[at + 1] = (b % 256) as u8;
-    run[at + 2] = (c % 256) as u8;
-    run[at + 3] = (d % 256) as u8;
-}
-
-// Writes a number to a run from a place on, and nothing where the run has no room for it.
-pub fn put_four(run: &mut [u8], at: usize, n: u32)
-    ensures { λ _. ⌜ now (run .exit) ≡ fourPut at n (now (run .entry)) ⌝ }
-{
-    if !there(run.len(), at) {
-        return;
-    }
-    put(run, at, n);
+    [
+        (n % 256) as u8,
+        (b % 256) as u8,
+        (c % 256) as u8,
+        (d % 256) as u8,
+    ]
 }

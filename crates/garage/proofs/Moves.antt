@@ -20,12 +20,12 @@ use Rattle.rules.specs.declared.Driven.{Driven}
 use Rattle.rules.specs.declared.Reading.{Reading}
 use Rattle.rules.specs.declared.Reading.the-variants.{Good, Bad}
 use Rattle.rules.specs.Rules.{areaOf, area, allowed, next}
-use Rattle.rules.specs.Events.{inTurn, possible}
+use Rattle.rules.specs.Events.{inTurn, possible, placesOpen}
 use Rattle.rules.specs.Codes.{readCode, readEvent}
 use Rattle.rules.specs.Verdicts.{onCode, maskOf, codeMask, verdictOf, codeVerdict, isAllowed, movedBy, movedOf, codeMoved, drivenOf}
 use Rattle.rules.proofs.CodeLaws.{one-form}
 use Rattle.rules.proofs.Reasons.{allows-is}
-use Rattle.answers.specs.declared.Answer.the-variants.{BadField, EventImpossible, OutOfTurn, SetApart}
+use Rattle.answers.specs.declared.Answer.the-variants.{BadField, EventImpossible, OutOfTurn, SetApart, KeptOpen}
 use Rattle.answers.specs.Answers.{nowhere}
 use Rattle.garage.specs.declared.Station.{Station}
 use Rattle.garage.specs.declared.Outcome.{Outcome}
@@ -116,19 +116,23 @@ pub unless-apart : (s : Station) (o : Outcome) {x t : Turn} → x ≡ cond (lift
     → t ≡ turnOf o → x ≡ turnOf (unlessApart s o)
 unless-apart s o e d = e ∙ rw d (split (liftApart (s .apart)) (λ t. rw t) (λ t. rw t))
 
--- one answer where a car event is possible, others where it doesn't come in turn and where it isn't possible
-abbrev pub onDriven : {A : Type 0} → (ℕ → A) → A → A → Driven → A
-onDriven made untimely unmade (Driven.Record r) = made r
-onDriven made untimely unmade Driven.OutOfTurn = untimely
-onDriven made untimely unmade Driven.Impossible = unmade
+-- one answer where a car event takes place, others where it doesn't come in turn, isn't possible, and where places are kept open
+abbrev pub onDriven : {A : Type 0} → (ℕ → A) → A → A → A → Driven → A
+onDriven made untimely unmade closed (Driven.Record r) = made r
+onDriven made untimely unmade closed Driven.OutOfTurn = untimely
+onDriven made untimely unmade closed Driven.Impossible = unmade
+onDriven made untimely unmade closed Driven.KeptOpen = closed
 
 -- a car event
 pub moved-event : (s : Station) (e : Event) {d : Driven} → d ≡ drivenOf e (s .bits)
-    → onDriven (λ r. unlessApart s (taken (holding s r))) (refused s OutOfTurn) (unlessApart s (refused s EventImpossible)) d ≡ occurred s e
+    → onDriven (λ r. unlessApart s (taken (holding s r))) (refused s OutOfTurn) (unlessApart s (refused s EventImpossible)) (unlessApart s (refused s KeptOpen)) d
+    ≡ occurred s e
 unfolding drivenOf occurred
 moved-event s e d =
     rw d (split (inTurn e (bit (s .bits)))
-    (λ t. rw t (split (possible e (bit (s .bits))) (λ u. rw u) (λ u. rw u)))
+    (λ t. rw t (split (possible e (bit (s .bits)))
+    (λ u. rw u (split (placesOpen e (bit (s .bits))) (λ v. rw v) (λ v. rw v)))
+    (λ u. rw u)))
     (λ t. rw t))
 
 -- ---- an image

@@ -14,7 +14,7 @@ use Rattle.bits.proofs.Cases.{split}
 use Rattle.floor.specs.Sound.{sound}
 use Rattle.rules.specs.declared.Event.{Event}
 use Rattle.rules.specs.declared.Event.the-variants.{BeginIn, BeginOut, EndDone, EndNotDone}
-use Rattle.rules.specs.Events.{inTurn, possible}
+use Rattle.rules.specs.Events.{inTurn, possible, placesOpen}
 use Rattle.rules.specs.Codes.{most}
 use Rattle.answers.specs.declared.Answer.{Answer}
 use Rattle.garage.specs.declared.Station.{Station}
@@ -82,7 +82,9 @@ module _ (s : Station) (fresh : List ℕ) where
   unfolding occurred
   kept-occurred e =
       either (inTurn e (bit (s .bits)))
-      (λ t. unless (liftApart (s .apart)) _ (λ l. either (possible e (bit (s .bits))) (λ a. kept-noting _ _) (λ a. kept-refused _)))
+      (λ t. unless (liftApart (s .apart)) _ (λ l. either (possible e (bit (s .bits)))
+      (λ a. either (placesOpen e (bit (s .bits))) (λ b. kept-noting _ _) (λ b. kept-refused _))
+      (λ a. kept-refused _)))
       (λ t. kept-refused _)
 
   kept-driven : (e : Event) → Kept (driven s e)

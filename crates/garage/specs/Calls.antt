@@ -9,10 +9,10 @@ use Rattle.bits.specs.Search.{least}
 use Rattle.floor.specs.Sound.{sound}
 use Rattle.rules.specs.declared.Event.{Event}
 use Rattle.rules.specs.declared.Event.the-variants.{BeginIn, BeginOut, EndDone, EndNotDone}
-use Rattle.rules.specs.Events.{inTurn, possible, after}
+use Rattle.rules.specs.Events.{inTurn, possible, placesOpen, after}
 use Rattle.rules.specs.Codes.{most}
 use Rattle.answers.specs.declared.Answer.{Answer}
-use Rattle.answers.specs.declared.Answer.the-variants.{Taken, Opened, BadField, TooMany, SetOutstanding, EmptySet, Overlap, EventImpossible, NoSet, NotInSet, AlreadyAnswered, Unsound, Unfit, Late, NotIssued, OutOfTurn, SetApart}
+use Rattle.answers.specs.declared.Answer.the-variants.{Taken, Opened, BadField, TooMany, SetOutstanding, EmptySet, Overlap, EventImpossible, NoSet, NotInSet, AlreadyAnswered, Unsound, Unfit, Late, NotIssued, OutOfTurn, SetApart, KeptOpen}
 use Rattle.answers.specs.Answers.{nowhere}
 use Rattle.garage.specs.declared.Station.{Station}
 use Rattle.garage.specs.declared.Outcome.{Outcome}
@@ -68,13 +68,15 @@ requested s n set =
 unfoldable pub request : Station → ℕ → List ℕ → Outcome
 request s n set = onFit s (requested s n set)
 
--- the end of a car event: it comes in turn, no part of the lift is set apart, and it is possible on the present record, which becomes the
--- one after it
+-- the end of a car event: it comes in turn, no part of the lift is set apart, it is possible on the present record and leaves the places
+-- open that are kept so; the record becomes the one after it
 unfoldable pub occurred : Station → Event → Outcome
 occurred s e =
     cond (inTurn e (bit (s .bits)))
     (cond (liftApart (s .apart)) (refused s (SetApart nowhere))
-    (cond (possible e (bit (s .bits))) (taken (holding s (image (after e (bit (s .bits)))))) (refused s EventImpossible)))
+    (cond (possible e (bit (s .bits)))
+    (cond (placesOpen e (bit (s .bits))) (taken (holding s (image (after e (bit (s .bits)))))) (refused s KeptOpen))
+    (refused s EventImpossible)))
     (refused s OutOfTurn)
 
 -- a car event that is known: no set is outstanding with the lift in any of its areas

@@ -29,7 +29,8 @@ impl Station {
         t
     }
 
-    // The end of a car event: the record after it, if it comes in turn, no part of the lift is set apart and it is possible.
+    // The end of a car event: the record after it, if it comes in turn, no part of the lift is set apart, it is possible and fills none of
+    // the places that are kept open.
     fn occurred(self, e: Event) -> Turn
         ensures { λ t. ⌜ t ≡ turnOf (occurred self e) ⌝ }
     {
@@ -37,6 +38,7 @@ impl Station {
             Driven::Record(r) => self.unless_apart(self.holding(r, self.apart)),
             Driven::OutOfTurn => self.unmoved(Answer::OutOfTurn),
             Driven::Impossible => self.unless_apart(self.unmoved(Answer::EventImpossible)),
+            Driven::KeptOpen => self.unless_apart(self.unmoved(Answer::KeptOpen)),
         }
     }
 

@@ -9,18 +9,14 @@ use lib.Dec.{eqb}
 use borrow.Author.Tests.{ne-eqb, eqb-true, eqb-false}
 use Rattle.bits.specs.Bits.{bit, image, digit}
 use Rattle.bits.specs.Search.{some, every}
-use Rattle.bits.proofs.Cases.{split, clash}
+use Rattle.bits.proofs.Cases.{split}
 use Rattle.bits.proofs.Digits.{packed-lt}
-use Rattle.floor.specs.Floor.{driveIn, driveOut}
 use Rattle.floor.specs.Cars.{cars}
 use Rattle.floor.specs.Sound.{sound}
-use Rattle.rules.specs.declared.Event.the-variants.{BeginIn, BeginOut, EndDone, EndNotDone}
 use Rattle.rules.specs.declared.EventReading.{EventReading}
 use Rattle.rules.specs.declared.EventReading.the-variants.{Good as Told, Bad as Untold}
 use Rattle.rules.specs.declared.Code.{Code}
 use Rattle.rules.specs.Codes.{readEvent}
-use Rattle.rules.proofs.CodeLaws.{event-one-form}
-use Rattle.rules_laws.proofs.Laws.{event-image-cars}
 use Rattle.garage.specs.declared.Station.{Station}
 use Rattle.garage.specs.Held.{codeAt, heldNext, liftIn, crossesDrive}
 use Rattle.garage.specs.Station.{fit, seeing, apartWith}
@@ -28,7 +24,7 @@ use Rattle.garage_laws.specs.Runs as run
 use Rattle.garage_laws.specs.Runs.{Call, said, left, calls, Begins, atStart, byImage, NoImages, driveAt, drove, driven}
 use Rattle.garage_laws.specs.Demands.{FitStays, NeverUnfit, StillAllowed}
 use Rattle.garage_laws.proofs.Reach.{under-way-kept, crosses-none, clear-is}
-use Rattle.garage_laws.proofs.Instance.{possibleAs, afterAs, next-sound, after-sound, next-cars}
+use Rattle.garage_laws.proofs.Instance.{afterAs, next-sound, after-sound, next-cars, event-counted}
 use Rattle.garage_laws.proofs.Fits.{Ready, fit-has, fit-start, fit-holding, fit-opened, fit-answering, with-small, waits-allowed}
 use Rattle.garage_laws.proofs.Calls.{following, answering-bits, event-is, image-has, image-is}
 use Rattle.garage_laws.proofs.EachCall.{untouched, unfit-is, fit-says}
@@ -146,14 +142,6 @@ drove-none way s run.ask r = refl
 -- an event that is taken drives one, where it says that the drive under way is done
 drove-one : (way : ℕ) (s : Station) (e : ℕ) → said s (run.event e) ≡ 0 → drove way s (run.event e) ≡ digit (eqb e 3 && bit (s .bits) (driveAt way))
 drove-one way s e z = rw z
-
-event-counted : (e r : ℕ) (v : EventReading) → readEvent e ≡ v → sound r ≡ true → possibleAs v r ≡ true
-    → cars (bit (afterAs v r)) + digit (eqb e 3 && bit r driveOut) ≡ cars (bit r) + digit (eqb e 3 && bit r driveIn)
-event-counted e r (Told BeginIn) p s t = rw (event-one-form e BeginIn p) (ap (λ (n : ℕ). n + 0) (event-image-cars BeginIn r s t))
-event-counted e r (Told BeginOut) p s t = rw (event-one-form e BeginOut p) (ap (λ (n : ℕ). n + 0) (event-image-cars BeginOut r s t))
-event-counted e r (Told EndDone) p s t = rw (event-one-form e EndDone p) (event-image-cars EndDone r s t)
-event-counted e r (Told EndNotDone) p s t = rw (event-one-form e EndNotDone p) (ap (λ (n : ℕ). n + 0) (event-image-cars EndNotDone r s t))
-event-counted e r Untold p s t = clash t refl
 
 counted-step : (s t : Station) (c : Call) → Step s c t → carsOf t + drove 2 s c ≡ carsOf s + drove 1 s c
 counted-step s t c (refuses n) = rw (drove-none 2 s c n, drove-none 1 s c n)

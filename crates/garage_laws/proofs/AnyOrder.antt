@@ -9,7 +9,6 @@ use native.Mathlib.Omega.{arith}
 use Rattle.bits.specs.Bits.{bit}
 use Rattle.bits.proofs.Digits.{bit-ext}
 use Rattle.rules.specs.declared.Code.{Code}
-use Rattle.sets.proofs.Rules.{blind}
 use Rattle.sets.proofs.Machine as machine
 use Rattle.sets.proofs.Machine.{Act}
 use Rattle.sets.proofs.Orders as machine-orders
@@ -20,7 +19,7 @@ use Rattle.garage_laws.specs.Runs as run
 use Rattle.garage_laws.specs.Runs.{Call, left, calls}
 use Rattle.garage_laws.specs.Orders.{Order, Alike}
 use Rattle.garage_laws.specs.Demands.{AnyOrder}
-use Rattle.garage_laws.proofs.Instance.{rules, seenOf, framed}
+use Rattle.garage_laws.proofs.Instance.{rules, seenOf, carsIn, framed}
 use Rattle.garage_laws.proofs.Apart.{awayOf, away-same}
 use Rattle.garage_laws.proofs.Fits.{fit-has, fit-opened, after-result}
 use Rattle.garage_laws.proofs.Calls.{request-has, request-is}
@@ -100,7 +99,7 @@ any-order s R n set e chosen events l m P Q =
     let O = order-heard k (subst (Order k n chosen events) p P) in
     let U = order-heard k (subst (Order k n chosen events) q Q) in
     let small : Small s = reached Small small-step (λ t b. begins-has t b .2) s R in
-    let T = machine-order.any-order rules seenOf blind framed (kept s n set A) (s .bits) (awayOf (s .apart)) (fit-has s (A .fits) .sound) (request-accepted s n set A) (choice k chosen) events a b O U in
+    let T = machine-order.any-order rules seenOf carsIn framed (kept s n set A) (s .bits) (awayOf (s .apart)) (fit-has s (A .fits) .sound) (request-accepted s n set A) (choice k chosen) events a b O U in
     let W : machine-orders.Alike rules (view (opened s n set)) a b = rw (request-view s n set A) T in
     let there : left s (run.request n set) ≡ opened s n set = ap (λ o. o .station) (request-is s n set A) in
     subst₃ Alike (sym there) (sym p) (sym q)

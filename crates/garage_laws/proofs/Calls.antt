@@ -18,10 +18,10 @@ use Rattle.floor.specs.Sound.{sound}
 use Rattle.rules.specs.declared.Event.{Event}
 use Rattle.rules.specs.declared.EventReading.{EventReading}
 use Rattle.rules.specs.declared.EventReading.the-variants.{Good as Told, Bad as Untold}
-use Rattle.rules.specs.Events.{turn, beginConditions, inTurn, possible, after}
+use Rattle.rules.specs.Events.{turn, beginConditions, inTurn, possible, placesOpen, after}
 use Rattle.rules.specs.Codes.{readEvent, most}
 use Rattle.answers.specs.declared.Answer.{Answer}
-use Rattle.answers.specs.declared.Answer.the-variants.{BadField, TooMany, SetOutstanding, EmptySet, Overlap, EventImpossible, NoSet, NotInSet, AlreadyAnswered, Unsound, Unfit, Late, NotIssued, OutOfTurn, SetApart}
+use Rattle.answers.specs.declared.Answer.the-variants.{BadField, TooMany, SetOutstanding, EmptySet, Overlap, EventImpossible, NoSet, NotInSet, AlreadyAnswered, Unsound, Unfit, Late, NotIssued, OutOfTurn, SetApart, KeptOpen}
 use Rattle.answers.specs.Answers.{numberOf, nowhere}
 use Rattle.garage.specs.declared.Station.{Station}
 use Rattle.garage.specs.declared.Outcome.{Outcome}
@@ -34,7 +34,7 @@ use Rattle.garage.proofs.Marks.{in-set}
 use Rattle.garage_laws.specs.Runs as run
 use Rattle.garage_laws.specs.Runs.{call, said}
 use Rattle.garage_laws.specs.Demands.{Acceptable, Orderly, Waiting}
-use Rattle.garage_laws.proofs.Instance.{onEvent, possibleAs, afterAs, heldAs, replyAs}
+use Rattle.garage_laws.proofs.Instance.{onEvent, possibleAs, openAs, afterAs, heldAs, replyAs}
 use Rattle.garage_laws.proofs.Reach.{clear-has, clear-is}
 use Rattle.garage_laws.proofs.Reasons.{why-number, least-fault}
 use Rattle.garage_laws.proofs.Fits.{fit-has, after-result, waits-allowed}
@@ -305,7 +305,9 @@ module _ (s : Station) where
 
   -- what a car event must have
   abbrev pub Drivable : EventReading → Type 0
-  Drivable v = (fit s ≡ true) × (liftIn (s .set) (s .count) ≡ false) × (liftApart (s .apart) ≡ false) × (possibleAs v (s .bits) ≡ true)
+  Drivable v =
+      (fit s ≡ true) × (liftIn (s .set) (s .count) ≡ false) × (liftApart (s .apart) ≡ false) × (possibleAs v (s .bits) ≡ true)
+      × (openAs v (s .bits) ≡ true)
 
   driven-has : (v : EventReading) → Zero (drivenAs v) → Drivable v
   unfolding station.driven station.occurred
@@ -314,13 +316,14 @@ module _ (s : Station) where
       let (b, z₂) = passed (liftIn (s .set) (s .count)) s SetOutstanding _ (λ z. omega arith) z₁ in
       let (t, z₃) = met (inTurn e (bit (s .bits))) s OutOfTurn _ (λ z. omega arith) z₂ in
       let (l, z₄) = passed (liftApart (s .apart)) s (SetApart nowhere) _ (λ z. omega arith) z₃ in
-      let (c, z₅) = met (possible e (bit (s .bits))) s EventImpossible (taken (holding s (image (after e (bit (s .bits)))))) (λ z. omega arith) z₄ in
-      (a, b, l, c)
+      let (c, z₅) = met (possible e (bit (s .bits))) s EventImpossible _ (λ z. omega arith) z₄ in
+      let (o, z₆) = met (placesOpen e (bit (s .bits))) s KeptOpen (taken (holding s (image (after e (bit (s .bits)))))) (λ z. omega arith) z₅ in
+      (a, b, l, c, o)
   driven-has Untold z = let (a, z₁) = met (fit s) s Unfit (refused s (BadField nowhere)) (λ z. omega arith) z in absurd (omega arith)
 
   driven-is : (v : EventReading) → Drivable v → drivenAs v ≡ taken (holding s (afterAs v (s .bits)))
   unfolding station.driven station.occurred
-  driven-is (Told e) d = rw (d .0, d .1, possible-turn e (bit (s .bits)) (d .3), d .2, d .3)
+  driven-is (Told e) d = rw (d .0, d .1, possible-turn e (bit (s .bits)) (d .3), d .2, d .3, d .4)
   driven-is Untold d = clash (d .3) refl
 
   driven-number : (v : EventReading) → fit s ≡ true → numberOf (drivenAs v .answer) ≡ cond (liftIn (s .set) (s .count)) (heldAs v) (replyAs v (liftApart (s .apart)) (s .bits))
@@ -328,7 +331,8 @@ module _ (s : Station) where
   driven-number (Told e) f =
       rw f (split (liftIn (s .set) (s .count)) (λ t. rw t)
       (λ t. rw t (split (inTurn e (bit (s .bits)))
-      (λ v. rw v (split (liftApart (s .apart)) (λ l. rw l) (λ l. rw l (split (possible e (bit (s .bits))) (λ u. rw u) (λ u. rw u)))))
+      (λ v. rw v (split (liftApart (s .apart)) (λ l. rw l) (λ l. rw l (split (possible e (bit (s .bits)))
+      (λ u. rw u (split (placesOpen e (bit (s .bits))) (λ o. rw o) (λ o. rw o))) (λ u. rw u)))))
       (λ v. rw v))))
   driven-number Untold f = rw f (split (liftIn (s .set) (s .count)) (λ t. rw t) (λ t. rw t))
 

@@ -21,7 +21,7 @@ use Rattle.rules.specs.declared.Event.{Event}
 use Rattle.rules.specs.declared.Event.the-variants.{BeginIn, BeginOut, EndDone, EndNotDone}
 use Rattle.rules.specs.declared.EventReading.{EventReading}
 use Rattle.rules.specs.declared.EventReading.the-variants.{Good as Told, Bad as Untold}
-use Rattle.rules.specs.Events.{inTurn, possible, after}
+use Rattle.rules.specs.Events.{inTurn, possible, placesOpen, after}
 use Rattle.rules.specs.Codes.{readEvent, eventCode, most}
 use Rattle.rules.proofs.CodeLaws.{event-reads-back, event-one-form}
 use Rattle.answers.specs.declared.Answer.the-variants.{OutOfTurn}
@@ -66,31 +66,42 @@ event-record s e =
 fit-from : (s : Station) (c : Call) (k : ℕ) → said s c ≡ k → (k ≡ 16 → ⊥) → fit s ≡ true
 fit-from s c k e other = split (fit s) (λ f. f) (λ f. absurd (other (sym e ∙ ap number (unfit-is s f c))))
 
--- what a fit station answers: by whether its set has the lift in an area, the event comes in turn, a part of the lift is set apart, and it
--- is possible
-abbrev reply : Bool → Bool → Bool → Bool → ℕ
-reply b t l p = cond b 6 (cond t (cond l 32 (cond p 0 10)) 31)
+-- what a fit station answers: by whether its set has the lift in an area, the event comes in turn, a part of the lift is set apart, it is
+-- possible, and leaves the places open that are kept so
+abbrev reply : Bool → Bool → Bool → Bool → Bool → ℕ
+reply b t l p o = cond b 6 (cond t (cond l 32 (cond p (cond o 0 33) 10)) 31)
 
-turn-by : (b t l p : Bool) → reply b t l p ≡ 31 → (b ≡ false) × (t ≡ false)
-turn-by true t l p e = absurd (omega arith)
-turn-by false true true p e = absurd (omega arith)
-turn-by false true false true e = absurd (omega arith)
-turn-by false true false false e = absurd (omega arith)
-turn-by false false l p e = (refl, refl)
+turn-by : (b t l p o : Bool) → reply b t l p o ≡ 31 → (b ≡ false) × (t ≡ false)
+turn-by true t l p o e = absurd (omega arith)
+turn-by false true true p o e = absurd (omega arith)
+turn-by false true false true true e = absurd (omega arith)
+turn-by false true false true false e = absurd (omega arith)
+turn-by false true false false o e = absurd (omega arith)
+turn-by false false l p o e = (refl, refl)
 
-apart-by : (b t l p : Bool) → reply b t l p ≡ 32 → (b ≡ false) × (t ≡ true) × (l ≡ true)
-apart-by true t l p e = absurd (omega arith)
-apart-by false true true p e = (refl, refl, refl)
-apart-by false true false true e = absurd (omega arith)
-apart-by false true false false e = absurd (omega arith)
-apart-by false false l p e = absurd (omega arith)
+apart-by : (b t l p o : Bool) → reply b t l p o ≡ 32 → (b ≡ false) × (t ≡ true) × (l ≡ true)
+apart-by true t l p o e = absurd (omega arith)
+apart-by false true true p o e = (refl, refl, refl)
+apart-by false true false true true e = absurd (omega arith)
+apart-by false true false true false e = absurd (omega arith)
+apart-by false true false false o e = absurd (omega arith)
+apart-by false false l p o e = absurd (omega arith)
 
-own-by : (b t l p : Bool) → reply b t l p ≡ 10 → (b ≡ false) × (t ≡ true) × (l ≡ false) × (p ≡ false)
-own-by true t l p e = absurd (omega arith)
-own-by false true true p e = absurd (omega arith)
-own-by false true false true e = absurd (omega arith)
-own-by false true false false e = (refl, refl, refl, refl)
-own-by false false l p e = absurd (omega arith)
+own-by : (b t l p o : Bool) → reply b t l p o ≡ 10 → (b ≡ false) × (t ≡ true) × (l ≡ false) × (p ≡ false)
+own-by true t l p o e = absurd (omega arith)
+own-by false true true p o e = absurd (omega arith)
+own-by false true false true true e = absurd (omega arith)
+own-by false true false true false e = absurd (omega arith)
+own-by false true false false o e = (refl, refl, refl, refl)
+own-by false false l p o e = absurd (omega arith)
+
+open-by : (b t l p o : Bool) → reply b t l p o ≡ 33 → (b ≡ false) × (l ≡ false) × (p ≡ true) × (o ≡ false)
+open-by true t l p o e = absurd (omega arith)
+open-by false true true p o e = absurd (omega arith)
+open-by false true false true true e = absurd (omega arith)
+open-by false true false true false e = (refl, refl, refl, refl)
+open-by false true false false o e = absurd (omega arith)
+open-by false false l p o e = absurd (omega arith)
 
 module _ (s : Station) (e : Event) where
   abbrev blocked : Bool
@@ -105,26 +116,33 @@ module _ (s : Station) (e : Event) where
   abbrev can : Bool
   can = possible e (bit (s .bits))
 
-  event-told : fit s ≡ true → said s (run.event (eventCode e)) ≡ reply blocked due lost can
+  abbrev room : Bool
+  room = placesOpen e (bit (s .bits))
+
+  event-told : fit s ≡ true → said s (run.event (eventCode e)) ≡ reply blocked due lost can room
   event-told f = event-number s (eventCode e) f ∙ ap (λ (v : EventReading). cond blocked (heldAs v) (replyAs v lost (s .bits))) (event-reads-back e)
 
   -- an answer with this number is a fit station's
-  told-so : (k : ℕ) → said s (run.event (eventCode e)) ≡ k → (k ≡ 16 → ⊥) → (fit s ≡ true) × (reply blocked due lost can ≡ k)
+  told-so : (k : ℕ) → said s (run.event (eventCode e)) ≡ k → (k ≡ 16 → ⊥) → (fit s ≡ true) × (reply blocked due lost can room ≡ k)
   told-so k z other = let f = fit-from s (run.event (eventCode e)) k z other in (f, sym (event-told f) ∙ z)
 
 pub event-refused : EventRefused
 event-refused s e = (
   (
-    λ z. let (f, q) = told-so s e 31 z (λ k. omega arith) in let (b, t) = turn-by (blocked s e) (due s e) (lost s e) (can s e) q in (f, b, t),
+    λ z. let (f, q) = told-so s e 31 z (λ k. omega arith) in let (b, t) = turn-by (blocked s e) (due s e) (lost s e) (can s e) (room s e) q in (f, b, t),
     λ h. event-told s e (h .0) ∙ rw (h .1, h .2),
   ),
   (
-    λ z. let (f, q) = told-so s e 32 z (λ k. omega arith) in let (b, t, l) = apart-by (blocked s e) (due s e) (lost s e) (can s e) q in (f, b, t, l),
+    λ z. let (f, q) = told-so s e 32 z (λ k. omega arith) in let (b, t, l) = apart-by (blocked s e) (due s e) (lost s e) (can s e) (room s e) q in (f, b, t, l),
     λ h. event-told s e (h .0) ∙ rw (h .1, h .2, h .3),
   ),
   (
-    λ z. let (f, q) = told-so s e 10 z (λ k. omega arith) in let (b, t, l, p) = own-by (blocked s e) (due s e) (lost s e) (can s e) q in (f, b, t, l, p),
+    λ z. let (f, q) = told-so s e 10 z (λ k. omega arith) in let (b, t, l, p) = own-by (blocked s e) (due s e) (lost s e) (can s e) (room s e) q in (f, b, t, l, p),
     λ h. event-told s e (h .0) ∙ rw (h .1, h .2, h .3, h .4),
+  ),
+  (
+    λ z. let (f, q) = told-so s e 33 z (λ k. omega arith) in let (b, l, p, o) = open-by (blocked s e) (due s e) (lost s e) (can s e) (room s e) q in (f, b, l, p, o),
+    λ h. event-told s e (h .0) ∙ rw (h .1, possible-turn e (bit (s .bits)) (h .3), h .2, h .3, h .4),
   ),
 )
 
@@ -252,11 +270,11 @@ module _ (s : Station) (f : fit s ≡ true) (u : holds underWay (bit (s .bits)) 
   lift-free = rw u at (fit-has s f .clear)
 
   pub done-taken : said s (run.event 3) ≡ 0
-  unfolding inTurn possible
+  unfolding inTurn possible placesOpen
   done-taken = event-told s EndDone f ∙ rw (lift-free, u, free)
 
   pub not-done-taken : said s (run.event 4) ≡ 0
-  unfolding inTurn possible
+  unfolding inTurn possible placesOpen
   not-done-taken = event-told s EndNotDone f ∙ rw (lift-free, u, free)
 
 pub end-taken : EndTaken

@@ -11,10 +11,10 @@ use Rattle.bits.proofs.Cases.{clash}
 use Rattle.floor.specs.Sound.{sound}
 use Rattle.rules.specs.declared.EventReading.{EventReading}
 use Rattle.rules.specs.declared.EventReading.the-variants.{Good as Told, Bad as Untold}
-use Rattle.rules.specs.Events.{inTurn, possible}
+use Rattle.rules.specs.Events.{inTurn, possible, placesOpen}
 use Rattle.rules.specs.Codes.{readEvent, most}
 use Rattle.answers.specs.declared.Answer.{Answer}
-use Rattle.answers.specs.declared.Answer.the-variants.{BadField, TooMany, SetOutstanding, EmptySet, Overlap, EventImpossible, NoSet, NotInSet, AlreadyAnswered, Unsound, Unfit, Late, NotIssued, OutOfTurn, SetApart}
+use Rattle.answers.specs.declared.Answer.the-variants.{BadField, TooMany, SetOutstanding, EmptySet, Overlap, EventImpossible, NoSet, NotInSet, AlreadyAnswered, Unsound, Unfit, Late, NotIssued, OutOfTurn, SetApart, KeptOpen}
 use Rattle.answers.specs.Answers.{numberOf, nowhere}
 use Rattle.garage.specs.declared.Station.{Station}
 use Rattle.garage.specs.declared.Outcome.{Outcome}
@@ -72,7 +72,9 @@ module _ (P : Outcome → Type 0) (s : Station) (unfit : fit s ≡ false → P (
       fitting (λ f. unless (liftIn (s .set) (s .count)) SetOutstanding (omega arith)
       (λ a. either P (inTurn e (bit (s .bits)))
       (λ t. unless (liftApart (s .apart)) (SetApart nowhere) (omega arith)
-      (λ l. either P (possible e (bit (s .bits))) (λ b. done _) (λ b. no EventImpossible (omega arith))))
+      (λ l. either P (possible e (bit (s .bits)))
+      (λ b. either P (placesOpen e (bit (s .bits))) (λ o. done _) (λ o. no KeptOpen (omega arith)))
+      (λ b. no EventImpossible (omega arith))))
       (λ t. no OutOfTurn (omega arith))))
   driving Untold = fitting (λ f. no (BadField nowhere) (omega arith))
 

@@ -21,7 +21,7 @@ use Rattle.garage_laws.specs.Runs as run
 use Rattle.garage_laws.specs.Runs.{call, said, left, calls}
 use Rattle.garage_laws.specs.Orders.{Fair, replies}
 use Rattle.garage_laws.specs.Demands.{Waiting}
-use Rattle.garage_laws.proofs.Instance.{rules, possibleAs, allowed-has}
+use Rattle.garage_laws.proofs.Instance.{rules, possibleAs, openAs, allowed-has}
 use Rattle.garage_laws.proofs.Calls.{success-is, failure-is, stuck-is, event-has, event-is, event-number}
 use Rattle.garage_laws.proofs.EachCall.{untouched}
 use Rattle.garage_laws.proofs.Steps.{steps}
@@ -47,20 +47,21 @@ told-moves stuck e = absurd (omega arith)
 -- ---- an event
 
 module _ (s : Station) (f : fit s ≡ true) (e : ℕ) where
-  -- the set has the lift in its areas; no part of it is set apart and the event is possible
+  -- the set has the lift in its areas; no part of it is set apart, the event is possible and leaves the places open that are kept so
   abbrev blocked : Bool
   blocked = liftIn (s .set) (s .count)
 
   abbrev can : Bool
-  can = not (liftApart (s .apart)) && possibleAs (readEvent e) (s .bits)
+  can = not (liftApart (s .apart)) && (possibleAs (readEvent e) (s .bits) && openAs (readEvent e) (s .bits))
 
   event-view : view (left s (run.event e)) ≡ machine.step rules (view s) (event e)
   event-view = split (not blocked && can)
       (λ t. let (b, p) = both (not blocked) can t in
-      let (a, c) = both (not (liftApart (s .apart))) (possibleAs (readEvent e) (s .bits)) p in
-      let q = event-is s e (f, not-true blocked b, not-true _ a, c) in
+      let (a, h) = both (not (liftApart (s .apart))) _ p in
+      let (c, o) = both (possibleAs (readEvent e) (s .bits)) (openAs (readEvent e) (s .bits)) h in
+      let q = event-is s e (f, not-true blocked b, not-true _ a, c, o) in
       rw (drivable s f e, t) (ap (λ o. view (o .station)) q))
-      (λ t. rw (drivable s f e, t) (ap view (untouched s (run.event e) (λ z. let d = event-has s e z in clash refl (rw (d .1, d .2, d .3) at t)))))
+      (λ t. rw (drivable s f e, t) (ap view (untouched s (run.event e) (λ z. let d = event-has s e z in clash refl (rw (d .1, d .2, d .3, d .4) at t)))))
 
   event-answer : said s (run.event e) ≡ machine.says rules (view s) e
   event-answer = rw (blocked-lift s f, lost-lift (s .apart)) (event-number s e f)

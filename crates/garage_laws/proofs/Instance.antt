@@ -1,20 +1,21 @@
 -- The garage's rules as rules of the crate `sets`: records are numbers, instructions five bytes, car events their numbers.
 -- An instruction that moves the lift under a driver is not allowed, so that with the lift its reach has the drives too. Each instruction and
--- each event writes only its reach and keeps records sound; an event reads only its reach, an instruction besides what it sees: a lift run
--- whether each side's count is even. No instruction with another reach changes that, so the rules are framed. Assumes nothing.
+-- each event writes only its reach and keeps records sound, and reads besides only what it sees: a lift run whether each side's count is
+-- even, an event the number of cars. No instruction with another reach changes either, so the rules are framed. Assumes nothing.
 use mathlib.Core.Path.{_≡_, refl, ap, ap₂, _∙_, sym}
 use mathlib.Core.Logic.{inl, inr}
 use mathlib.Core.Bool.{Bool, true, false, cond, not, _&&_, and-false}
 use mathlib.Core.List.{List, [], _++_}
-use Prim.Native.Nat.{ℕ, _<_}
-use lib.Dec.{lit<}
-use Rattle.bits.specs.Bits.{bit, image}
+use Prim.Native.Nat.{ℕ, _+_, _<_}
+use native.Mathlib.Omega.{arith}
+use lib.Dec.{eqb, ltb, lit<}
+use Rattle.bits.specs.Bits.{Bits, bit, image, digit}
 use Rattle.bits.specs.Places.{elem, share}
 use Rattle.bits.proofs.Cases.{split, clash, off, both, T→true}
 use Rattle.bits.proofs.Digits.{bit-image}
 use Rattle.bits.proofs.Sharing.{Small, are-small, share-at}
 use borrow.Author.Tests.{not-true}
-use Rattle.floor.specs.Floor.{lift, raisedCar, drives}
+use Rattle.floor.specs.Floor.{lift, raisedCar, driveIn, driveOut, drives}
 use Rattle.floor.specs.Tests.{holds, underWay}
 use Rattle.floor.specs.Cars.{cars}
 use Rattle.floor.specs.Sound.{sound}
@@ -24,18 +25,18 @@ use Rattle.rules.specs.declared.Instruction.the-variants.{Belts, Shuttles, Tilt
 use Rattle.rules.specs.declared.Reading.{Reading}
 use Rattle.rules.specs.declared.Reading.the-variants.{Good, Bad}
 use Rattle.rules.specs.declared.Event.{Event}
+use Rattle.rules.specs.declared.Event.the-variants.{BeginIn, BeginOut, EndDone, EndNotDone}
 use Rattle.rules.specs.declared.EventReading.{EventReading}
 use Rattle.rules.specs.declared.EventReading.the-variants.{Good as Told, Bad as Untold}
 use Rattle.rules.specs.Rules.{wellFormed, areaOf, area, overlap, seen, allowed, next}
 use Rattle.floor.proofs.Reading.{holds-agree}
-use Rattle.rules.specs.Events.{inTurn, possible, after}
+use Rattle.rules.specs.Events.{inTurn, possible, filled, placesOpen, after}
 use Rattle.rules.specs.Codes.{readCode, readEvent}
 use Rattle.rules.specs.Verdicts.{onCode}
 use Rattle.rules.proofs.Frame.{area-small}
-use Rattle.rules.proofs.CodeLaws.{one-form}
-use Rattle.rules_laws.proofs.Laws.{same-verdict, same-bits, events-local, image-sound, image-cars, image-sides, event-image-sound}
-use Rattle.sets.proofs.Rules.{Rules, Clear, Agree, Local, Within, Quiet, Framed, blind}
-use Rattle.sets.proofs.Frames.{local-within}
+use Rattle.rules.proofs.CodeLaws.{one-form, event-one-form}
+use Rattle.rules_laws.proofs.Laws.{same-verdict, same-bits, events-local, image-sound, image-cars, image-sides, event-image-sound, event-image-cars}
+use Rattle.sets.proofs.Rules.{Rules, Clear, Agree, Local, Within, Quiet, Framed}
 use Rattle.garage.specs.Held.{heldArea, heldAllowed, heldNext, crosses}
 use Rattle.garage_laws.proofs.Reach.{reach, in-area, in-drives, outside-area, held-outside}
 
@@ -44,9 +45,12 @@ abbrev pub onEvent : {A : Type 0} → (Event → A) → A → EventReading → A
 onEvent f none (Told e) = f e
 onEvent f none Untold = none
 
--- whether such an event is possible, and the record after it
+-- whether such an event is possible, whether it leaves the places open that are kept so, and the record after it
 abbrev pub possibleAs : EventReading → ℕ → Bool
 possibleAs v r = onEvent (λ e. possible e (bit r)) false v
+
+abbrev pub openAs : EventReading → ℕ → Bool
+openAs v r = onEvent (λ e. placesOpen e (bit r)) false v
 
 abbrev pub afterAs : EventReading → ℕ → ℕ
 afterAs v r = onEvent (λ e. image (after e (bit r))) r v
@@ -56,7 +60,7 @@ abbrev pub heldAs : EventReading → ℕ
 heldAs v = onEvent (λ e. 6) 4 v
 
 abbrev pub replyAs : EventReading → Bool → ℕ → ℕ
-replyAs v lost r = onEvent (λ e. cond (inTurn e (bit r)) (cond lost 32 (cond (possible e (bit r)) 0 10)) 31) 4 v
+replyAs v lost r = onEvent (λ e. cond (inTurn e (bit r)) (cond lost 32 (cond (possible e (bit r)) (cond (placesOpen e (bit r)) 0 33) 10)) 31) 4 v
 
 -- what five bytes see of a record outside their area
 abbrev pub seenAs : Reading → ℕ → List Bool
@@ -64,6 +68,10 @@ seenAs v r = onCode (λ i. seen i (bit r)) [] v
 
 abbrev pub seenOf : Code → ℕ → List Bool
 seenOf x r = seenAs (readCode x) r
+
+-- and what an event sees besides the lift and the drives: the number of cars
+abbrev pub carsIn : ℕ → ℕ → ℕ
+carsIn e r = cars (bit r)
 
 -- five zeros
 abbrev pub blank : Code
@@ -80,7 +88,7 @@ rules = record {
   allowed = λ x r. heldAllowed x (bit r) && not (crosses x r);
   next = λ x r. image (heldNext x (bit r));
   lift = λ k. elem k (lift ++ drives);
-  possible = λ e r. possibleAs (readEvent e) r;
+  possible = λ e r. possibleAs (readEvent e) r && openAs (readEvent e) r;
   after = λ e r. afterAs (readEvent e) r;
   held = λ e. heldAs (readEvent e);
   reply = λ e lost r. replyAs (readEvent e) lost r;
@@ -141,10 +149,24 @@ event-local (Told e) = record {
 }
 event-local Untold = record { reads = λ f g e. refl; writes = λ f g e t. clash t refl; keeps = λ f t. clash t refl }
 
-reply-local : (v : EventReading) (lost : Bool) (f g : ℕ) → Agree 64 bit (λ k. elem k (lift ++ drives)) f g → replyAs v lost f ≡ replyAs v lost g
-reply-local (Told e) lost f g a =
-    ap₂ (λ (t b : Bool). cond {A = ℕ} t (cond lost 32 (cond b 0 10)) 31) (turn-local e f g a) (event-local (Told e) .reads f g a)
-reply-local Untold lost f g a = refl
+-- with as many cars, a place that is kept open would be filled on both or on neither
+places-same : (e : Event) (f g : Bits) → cars f ≡ cars g → placesOpen e f ≡ placesOpen e g
+unfolding placesOpen
+places-same BeginIn f g c = ap (λ (n : ℕ). ltb n filled) c
+places-same BeginOut f g c = refl
+places-same EndDone f g c = refl
+places-same EndNotDone f g c = refl
+
+open-same : (v : EventReading) (f g : ℕ) → cars (bit f) ≡ cars (bit g) → openAs v f ≡ openAs v g
+open-same (Told e) f g c = places-same e (bit f) (bit g) c
+open-same Untold f g c = refl
+
+reply-local : (v : EventReading) (lost : Bool) (f g : ℕ) → Agree 64 bit (λ k. elem k (lift ++ drives)) f g → cars (bit f) ≡ cars (bit g)
+    → replyAs v lost f ≡ replyAs v lost g
+reply-local (Told e) lost f g a c =
+    ap₂ (λ (t n : Bool). cond {A = ℕ} t (cond lost 32 (cond n (cond (placesOpen e (bit f)) 0 33) 10)) 31) (turn-local e f g a) (event-local (Told e) .reads f g a)
+    ∙ ap (λ (o : Bool). cond {A = ℕ} (inTurn e (bit g)) (cond lost 32 (cond (possible e (bit g)) (cond o 0 33) 10)) 31) (open-same (Told e) f g c)
+reply-local Untold lost f g a c = refl
 
 -- ---- each keeps records sound
 
@@ -204,6 +226,24 @@ seen-after x e c f s t = read (readCode x) (λ k h m. c k h (in-area x k m))
     read (Good Rotate) c = refl
     read Bad c = refl
 
+-- ---- an instruction keeps the number of cars, and an event changes it by those driven in and out
+
+pub next-cars : (x : Code) (r : ℕ) → sound r ≡ true → heldAllowed x (bit r) ≡ true → cars (bit (image (heldNext x (bit r)))) ≡ cars (bit r)
+unfolding heldAllowed heldNext
+next-cars x r s = go (readCode x)
+  where
+    go : (v : Reading) → onCode (λ i. allowed i (bit r)) false v ≡ true → cars (bit (image (onCode (λ i. next i (bit r)) (bit r) v))) ≡ cars (bit r)
+    go (Good i) t = image-cars i r s t
+    go Bad t = clash t refl
+
+pub event-counted : (e r : ℕ) (v : EventReading) → readEvent e ≡ v → sound r ≡ true → possibleAs v r ≡ true
+    → cars (bit (afterAs v r)) + digit (eqb e 3 && bit r driveOut) ≡ cars (bit r) + digit (eqb e 3 && bit r driveIn)
+event-counted e r (Told BeginIn) p s t = rw (event-one-form e BeginIn p) (ap (λ (n : ℕ). n + 0) (event-image-cars BeginIn r s t))
+event-counted e r (Told BeginOut) p s t = rw (event-one-form e BeginOut p) (ap (λ (n : ℕ). n + 0) (event-image-cars BeginOut r s t))
+event-counted e r (Told EndDone) p s t = rw (event-one-form e EndDone p) (event-image-cars EndDone r s t)
+event-counted e r (Told EndNotDone) p s t = rw (event-one-form e EndNotDone p) (ap (λ (n : ℕ). n + 0) (event-image-cars EndNotDone r s t))
+event-counted e r Untold p s t = clash t refl
+
 -- ---- so the rules are framed
 
 code-within : (x : Code) → Within 64 bit sound (seenOf x) (rules .area x) (rules .allowed x) (rules .next x)
@@ -214,23 +254,40 @@ code-within x = record {
   safe = allowed-sound x;
 }
 
-pub framed : Framed rules seenOf blind
-framed = record {
-  instruction = code-within;
-  event = λ e. local-within (event-local (readEvent e)) (after-sound (readEvent e));
-  view-next = seen-next;
-  view-after = seen-after;
-  glance-next = λ e x c f s t. refl;
-  glance-after = λ e x f g p q a u v t. refl;
-  reply = λ e lost f g p q a u. reply-local (readEvent e) lost f g a;
+-- what the rules take is possible
+pub can : (e r : ℕ) → rules .possible e r ≡ true → possibleAs (readEvent e) r ≡ true
+can e r t = both (possibleAs (readEvent e) r) (openAs (readEvent e) r) t .0
+
+event-within : (e : ℕ) → Within 64 bit sound (carsIn e) (rules .lift) (rules .possible e) (rules .after e)
+event-within e = record {
+  reads = λ f g p q a c. ap₂ _&&_ (event-local (readEvent e) .reads f g a) (open-same (readEvent e) f g c);
+  writes = λ f g p q a c t. event-local (readEvent e) .writes f g a (can e f t);
+  keeps = λ f p t. event-local (readEvent e) .keeps f (can e f t);
+  safe = λ f p t. after-sound (readEvent e) f p (can e f t);
 }
 
--- ---- and an instruction keeps the number of cars
+-- where the lift and the drives are the same, an event changes the number of cars alike
+cars-after : (x f g : ℕ) → sound f ≡ true → sound g ≡ true → Agree 64 bit (rules .lift) f g → cars (bit f) ≡ cars (bit g) → rules .possible x f ≡ true
+    → cars (bit (rules .after x f)) ≡ cars (bit (rules .after x g))
+cars-after x f g p q a c t =
+    let y = can x f t in
+    let z = sym (event-local (readEvent x) .reads f g a) ∙ y in
+    omega (
+      arith,
+      c,
+      event-counted x f (readEvent x) refl p y,
+      event-counted x g (readEvent x) refl q z,
+      ap (λ (b : Bool). digit (eqb x 3 && b)) (a driveOut (lit< tt) refl),
+      ap (λ (b : Bool). digit (eqb x 3 && b)) (a driveIn (lit< tt) refl),
+    )
 
-pub next-cars : (x : Code) (r : ℕ) → sound r ≡ true → heldAllowed x (bit r) ≡ true → cars (bit (image (heldNext x (bit r)))) ≡ cars (bit r)
-unfolding heldAllowed heldNext
-next-cars x r s = go (readCode x)
-  where
-    go : (v : Reading) → onCode (λ i. allowed i (bit r)) false v ≡ true → cars (bit (image (onCode (λ i. next i (bit r)) (bit r) v))) ≡ cars (bit r)
-    go (Good i) t = image-cars i r s t
-    go Bad t = clash t refl
+pub framed : Framed rules seenOf carsIn
+framed = record {
+  instruction = code-within;
+  event = event-within;
+  view-next = seen-next;
+  view-after = seen-after;
+  glance-next = λ e x c f s t. next-cars x f s (allowed-has x f t .0);
+  glance-after = λ e x f g p q a u v t. cars-after x f g p q a u t;
+  reply = λ e lost f g p q a c. reply-local (readEvent e) lost f g a c;
+}

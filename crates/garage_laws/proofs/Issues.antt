@@ -10,7 +10,7 @@ use borrow.Author.Tests.{eqb-true, eqb-false, eq-eqb, ne-eqb, ltb-false, le-ltb}
 use Rattle.bits.specs.Bits.{digit}
 use Rattle.bits.proofs.Cases.{split}
 use Rattle.answers.specs.declared.Answer.{Answer}
-use Rattle.answers.specs.declared.Answer.the-variants.{Taken, Opened, TooFewBytes, BadLength, UnknownKind, BadField, TooMany, SetOutstanding, EmptySet, Overlap, NotAllowed, EventImpossible, NoSet, NotInSet, AlreadyAnswered, Unsound, Unfit, NoRoom, Late, NotIssued, OutOfTurn, SetApart}
+use Rattle.answers.specs.declared.Answer.the-variants.{Taken, Opened, TooFewBytes, BadLength, UnknownKind, BadField, TooMany, SetOutstanding, EmptySet, Overlap, NotAllowed, EventImpossible, NoSet, NotInSet, AlreadyAnswered, Unsound, Unfit, NoRoom, Late, NotIssued, OutOfTurn, SetApart, KeptOpen}
 use Rattle.answers.specs.Answers.{numberOf, issueOf}
 use Rattle.garage.specs.declared.Station.{Station}
 use Rattle.garage.specs.declared.Outcome.{Outcome}
@@ -51,6 +51,7 @@ refusal-none Late h = refl
 refusal-none NotIssued h = refl
 refusal-none OutOfTurn h = refl
 refusal-none (SetApart p) h = refl
+refusal-none KeptOpen h = refl
 
 module _ (s : Station) where
   -- a call that opens no set carries none and keeps the next

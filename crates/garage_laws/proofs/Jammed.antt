@@ -15,7 +15,6 @@ use Rattle.floor.specs.Cars.{cars}
 use Rattle.floor.specs.Sound.{sound}
 use Rattle.floor.proofs.Promises.{layout-cars, sound-exactly}
 use Rattle.rules.specs.declared.Code.{Code}
-use Rattle.sets.proofs.Rules.{blind}
 use Rattle.sets.proofs.Jams as machine-jams
 use Rattle.sets.proofs.Jams.{Whichever}
 use Rattle.sets.proofs.Stuck.{good-whichever}
@@ -26,7 +25,7 @@ use Rattle.garage_laws.specs.Runs as run
 use Rattle.garage_laws.specs.Runs.{Call, said, left, calls}
 use Rattle.garage_laws.specs.Jams.{jammed, jams, stuck, jamAt, has, Picks, applied, finished, Chosen}
 use Rattle.garage_laws.specs.Demands.{AlwaysLaidOut, CarsCounted, FinishedAnyOrder, WaitsAnyway}
-use Rattle.garage_laws.proofs.Instance.{rules, seenOf, framed, next-cars, allowed-has}
+use Rattle.garage_laws.proofs.Instance.{rules, seenOf, carsIn, framed, next-cars, allowed-has}
 use Rattle.garage_laws.proofs.Calls.{image-has, image-is}
 use Rattle.garage_laws.proofs.EachCall.{unfit-is, untouched}
 use Rattle.garage_laws.proofs.Steps.{steps}
@@ -65,7 +64,7 @@ applied-same js (i ∷ p) r = applied-same js p (image (heldNext (jamAt js i) (b
 
 module _ (s : Station) (f : fit s ≡ true) (l : List Call) (p : List ℕ) (h : Chosen s l p) where
   whichever : Whichever rules (jamsOf (stuck s l)) (view (calls s l)) p
-  whichever = good-whichever rules seenOf blind framed _ _ (sane-calls l [] s (fit-sane s f)) p (picks-same _ p h)
+  whichever = good-whichever rules seenOf carsIn framed _ _ (sane-calls l [] s (fit-sane s f)) p (picks-same _ p h)
 
   finished-is : machine-jams.applied rules (jamsOf (stuck s l)) p (calls s l .bits) ≡ finished s l p
   finished-is = applied-same (stuck s l) p (calls s l .bits)
@@ -73,7 +72,7 @@ module _ (s : Station) (f : fit s ≡ true) (l : List Call) (p : List ℕ) (h : 
   finished-sound : sound (finished s l p) ≡ true
   finished-sound = ap sound (sym finished-is) ∙ whichever .sound
 
-  finished-cars : cars (bit (finished s l p)) ≡ carsOf (calls s l)
+  pub finished-cars : cars (bit (finished s l p)) ≡ carsOf (calls s l)
   finished-cars = ap (λ (r : ℕ). cars (bit r)) (sym finished-is)
       ∙ whichever .cars (λ r. cars (bit r)) (λ x r z a. next-cars x r z (allowed-has x r a .0))
 
@@ -91,7 +90,7 @@ none-stuck (c ∷ l) s f =
     let none : jammed s c [] ≡ [] = rw e in
     rw (left-is, none) (none-stuck l s f)
 
-none-chosen : (n : ℕ) (p : List ℕ) → n ≡ 0 → Picks n p → p ≡ []
+pub none-chosen : (n : ℕ) (p : List ℕ) → n ≡ 0 → Picks n p → p ≡ []
 none-chosen n [] e h = refl
 none-chosen n (i ∷ p) e h = absurd (let l = h .0 in omega arith)
 

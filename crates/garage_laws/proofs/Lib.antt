@@ -15,6 +15,7 @@ pub mod Always
 pub mod Jammed
 pub mod Spared
 pub mod Drivers
+pub mod Filling
 pub mod Lists
 pub mod Follow
 pub mod AnyOrder

@@ -19,7 +19,6 @@ use Rattle.rules.specs.Codes.{readEvent}
 use Rattle.bits.proofs.Sharing.{share-some}
 use Rattle.sets.proofs.Machine as machine
 use Rattle.sets.proofs.Machine.{Batch, Outcome, failed, finished, stuck, moves, sticks, result, event, request, act, image, mark, outstanding, blocks, blocked, accepted, released, empty, idle, takes, does}
-use Rattle.sets.proofs.Rules.{blind}
 use Rattle.sets.proofs.GoodOrder.{Good}
 use Rattle.sets.proofs.Jams.{before, more, jam}
 use Rattle.sets.proofs.Facts.{apart-is, is-accepted}
@@ -33,7 +32,7 @@ use Rattle.garage_laws.specs.Runs.{Call, said}
 use Rattle.garage_laws.specs.Jams.{jammed, jamAt}
 use Rattle.garage_laws.specs.Demands.{Acceptable, Waiting}
 use Rattle.garage_laws.proofs.Reach.{reach, reach-small, reach-apart, reach-lift, crosses-none, clear-is}
-use Rattle.garage_laws.proofs.Instance.{rules, seenOf, framed, blank, possibleAs, allowed-has}
+use Rattle.garage_laws.proofs.Instance.{rules, seenOf, carsIn, framed, blank, possibleAs, openAs, allowed-has}
 use Rattle.garage.proofs.Padding.{five-at, zeros-at, kept-code}
 use Rattle.garage_laws.proofs.Fits.{Ready, fit-has, some-every, marksWith, after-result, waits-allowed}
 use Rattle.garage_laws.proofs.Apart.{awayOf, stuck-away, meets-touched, lost-lift, none-away}
@@ -136,7 +135,7 @@ blocked-lift s f = split (eqb (s .count) 0)
     (λ t. let o : outstanding (view s) ≡ true = rw t at (fit-has s f .owed) in rw o (blocks-lift (s .count) (s .set)))
 
 -- a fit station takes what the machine takes
-pub drivable : (s : Station) → fit s ≡ true → (e : ℕ) → machine.taken rules (view s) (event e) ≡ not (liftIn (s .set) (s .count)) && (not (liftApart (s .apart)) && possibleAs (readEvent e) (s .bits))
+pub drivable : (s : Station) → fit s ≡ true → (e : ℕ) → machine.taken rules (view s) (event e) ≡ not (liftIn (s .set) (s .count)) && (not (liftApart (s .apart)) && (possibleAs (readEvent e) (s .bits) && openAs (readEvent e) (s .bits)))
 drivable s f e = rw (blocked-lift s f, lost-lift (s .apart))
 
 -- ---- in good order
@@ -188,7 +187,7 @@ sane-ready js s G = every-is (s .count) _ (λ i h. split (marked s i) (λ m. rw 
 module _ (js : List Code) (s : Station) (G : Sane js s) where
   -- what the machine takes leaves it so
   takes-good : (c : machine.Call ℕ Code ℕ) → takes rules (view s) c ≡ true → Good rules (jam rules (view s) c (jamsOf js)) (does rules (view s) c)
-  takes-good c t = subst (λ (b : Bool). Good rules (cond b (jam rules (view s) c (jamsOf js)) (jamsOf js)) (cond b (does rules (view s) c) (view s))) t (call-good rules seenOf blind framed (view s) G c)
+  takes-good c t = subst (λ (b : Bool). Good rules (cond b (jam rules (view s) c (jamsOf js)) (jamsOf js)) (cond b (does rules (view s) c) (view s))) t (call-good rules seenOf carsIn framed (view s) G c)
 
   -- a call that is not stuck keeps what is
   same-jams : (b : Bool) → cond b js js ≡ js
@@ -210,7 +209,7 @@ module _ (js : List Code) (s : Station) (G : Sane js s) where
       let z : said s (run.result k i 2) ≡ 0 = rw (stuck-is s k i p w) in
       rw (z, ← more-jams (codeAt (s .set) i) js) (result-good i stuck w)
   good-step t c (drives {e} d) =
-      rw (same-jams (eqb (said s (run.event e)) 0)) (takes-good (act (event e)) (drivable s (d .0) e ∙ rw (d .1, d .2, d .3)))
+      rw (same-jams (eqb (said s (run.event e)) 0)) (takes-good (act (event e)) (drivable s (d .0) e ∙ rw (d .1, d .2, d .3, d .4)))
   good-step t c tells = rw (same-jams (eqb (said s run.ask) 0)) G
 
   -- an image that is taken leaves none stuck

@@ -12,11 +12,11 @@ use Rattle.bits.specs.Search.{least, IsLeast}
 use Rattle.floor.specs.Sound.{sound}
 use Rattle.rules.specs.declared.EventReading.{EventReading}
 use Rattle.rules.specs.declared.EventReading.the-variants.{Good as Told, Bad as Untold}
-use Rattle.rules.specs.Events.{inTurn, possible}
+use Rattle.rules.specs.Events.{inTurn, possible, placesOpen}
 use Rattle.rules.specs.Codes.{readEvent, most}
 use Rattle.answers.specs.declared.Reason.{Reason}
 use Rattle.answers.specs.declared.Answer.{Answer}
-use Rattle.answers.specs.declared.Answer.the-variants.{Taken, Opened, TooFewBytes, BadLength, UnknownKind, BadField, TooMany, SetOutstanding, EmptySet, Overlap, NotAllowed, EventImpossible, NoSet, NotInSet, AlreadyAnswered, Unsound, Unfit, NoRoom, Late, NotIssued, OutOfTurn, SetApart}
+use Rattle.answers.specs.declared.Answer.the-variants.{Taken, Opened, TooFewBytes, BadLength, UnknownKind, BadField, TooMany, SetOutstanding, EmptySet, Overlap, NotAllowed, EventImpossible, NoSet, NotInSet, AlreadyAnswered, Unsound, Unfit, NoRoom, Late, NotIssued, OutOfTurn, SetApart, KeptOpen}
 use Rattle.answers.specs.Answers.{reasonNumber, numberOf, placeOf, nowhere}
 use Rattle.answers.proofs.Promises.{reason-from, reason-to}
 use Rattle.garage.specs.declared.Station.{Station}
@@ -139,6 +139,7 @@ answer-nowhere Late other = refl
 answer-nowhere NotIssued other = refl
 answer-nowhere OutOfTurn other = refl
 answer-nowhere (SetApart p) other = absurd (other (inr (inl refl)))
+answer-nowhere KeptOpen other = refl
 
 record Flat (o : Outcome) : Type 0 where
   flat : place o ≡ nowhere
@@ -173,7 +174,10 @@ module _ (s : Station) where
 
   driven-flat : (v : EventReading) → Flat (drivenAs s v)
   unfolding station.driven station.occurred
-  driven-flat (Told e) = fork (fit s) (fork (liftIn (s .set) (s .count)) (flatly refl) (fork (inTurn e (bit (s .bits))) (fork (liftApart (s .apart)) (flatly refl) (fork (possible e (bit (s .bits))) (flatly refl) (flatly refl))) (flatly refl))) (flatly refl)
+  driven-flat (Told e) =
+      fork (fit s) (fork (liftIn (s .set) (s .count)) (flatly refl)
+      (fork (inTurn e (bit (s .bits))) (fork (liftApart (s .apart)) (flatly refl)
+      (fork (possible e (bit (s .bits))) (fork (placesOpen e (bit (s .bits))) (flatly refl) (flatly refl)) (flatly refl))) (flatly refl))) (flatly refl)
   driven-flat Untold = fork (fit s) (flatly refl) (flatly refl)
 
   image-flat : (p : Picture) → Flat (station.takeImage s p)

@@ -16,7 +16,7 @@ use Rattle.floor.specs.Sound.{Sound}
 use Rattle.rules.specs.declared.Instruction.{Instruction}
 use Rattle.rules.specs.declared.Reading.the-variants.{Good}
 use Rattle.rules.specs.declared.Event.{Event}
-use Rattle.rules.specs.Events.{inTurn, possible, after}
+use Rattle.rules.specs.Events.{inTurn, possible, placesOpen, after}
 use Rattle.rules.specs.Rules.{clauses}
 use Rattle.rules.specs.Codes.{readCode, eventCode, most}
 use Rattle.rules.specs.Promises.{FirstFails}
@@ -152,13 +152,14 @@ ImageKeepsCount = (s : Station) (r apart : ℕ) → left s (run.image r apart) .
 abbrev pub BehindCounts : Type 0
 BehindCounts = (s : Station) (l : List Call) → behind (calls s l) (present s) ≡ setsOpened s l % 65536
 
--- a car event is taken exactly if no outstanding set has the lift in an area, no part of the lift is set apart and the event is possible,
--- its turn included; only the record changes
+-- a car event is taken exactly if no outstanding set has the lift in an area, no part of the lift is set apart, the event is possible, its
+-- turn included, and it leaves the places open that are kept so; only the record changes
 abbrev pub EventRecord : Type 0
 EventRecord =
     (s : Station) (e : Event)
     → ((said s (run.event (eventCode e)) ≡ 0)
-    ↔ ((fit s ≡ true) × (liftIn (s .set) (s .count) ≡ false) × (liftApart (s .apart) ≡ false) × (possible e (bit (s .bits)) ≡ true)))
+    ↔ ((fit s ≡ true) × (liftIn (s .set) (s .count) ≡ false) × (liftApart (s .apart) ≡ false) × (possible e (bit (s .bits)) ≡ true)
+    × (placesOpen e (bit (s .bits)) ≡ true)))
     × (said s (run.event (eventCode e)) ≡ 0 → left s (run.event (eventCode e)) ≡ holding s (image (after e (bit (s .bits)))))
 
 -- an image is taken exactly if no set is outstanding, it is sound and says that nothing is set apart; it becomes the record, and then
@@ -182,7 +183,8 @@ abbrev pub EventTaken : Type 0
 EventTaken = (s : Station) (e : ℕ) → said s (run.event e) ≡ 0 → (1 ≤ e) × (e ≤ 4)
 
 -- an event is answered 31 exactly if no outstanding set has the lift in an area and it is a second begin or an end with no begin, 32
--- exactly if it comes in turn there and a part of the lift is set apart, and 10 exactly if none is and its own conditions fail
+-- exactly if it comes in turn there and a part of the lift is set apart, 10 exactly if none is and its own conditions fail, and 33 exactly
+-- if none is, they hold, and it would fill a place that is kept open
 abbrev pub EventRefused : Type 0
 EventRefused =
     (s : Station) (e : Event)
@@ -192,6 +194,9 @@ EventRefused =
     × ((said s (run.event (eventCode e)) ≡ 10)
     ↔ ((fit s ≡ true) × (liftIn (s .set) (s .count) ≡ false) × (inTurn e (bit (s .bits)) ≡ true) × (liftApart (s .apart) ≡ false)
     × (possible e (bit (s .bits)) ≡ false)))
+    × ((said s (run.event (eventCode e)) ≡ 33)
+    ↔ ((fit s ≡ true) × (liftIn (s .set) (s .count) ≡ false) × (liftApart (s .apart) ≡ false) × (possible e (bit (s .bits)) ≡ true)
+    × (placesOpen e (bit (s .bits)) ≡ false)))
 
 -- what a request must have for the lift to be looked for: all that is asked of an acceptable one before
 pub record Readable (s : Station) (n : ℕ) (set : List ℕ) : Type 0 where

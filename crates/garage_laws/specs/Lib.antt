@@ -2,3 +2,4 @@ pub mod Runs
 pub mod Orders
 pub mod Jams
 pub mod Demands
+pub mod Filling

@@ -48,7 +48,8 @@ fn keep(counts: &[u32; SIZE], room: &mut [u8])
 {
     let mut place: usize = 0;
     while place < SIZE {
-        fours::put_four(room, 4 * place, counts[place]);
+        let four = fours::four_bytes(counts[place]);
+        bytes::copy(&four, &mut room[4 * place..4 * place + 4]);
         place += 1;
     }
 }

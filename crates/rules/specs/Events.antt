@@ -1,9 +1,12 @@
--- The car events of document 02, which split those of document 01 into a begin and an end: when each comes in turn, when it is possible, and
--- the record after it. Assumes nothing.
+-- The car events of document 02, which split those of document 01 into a begin and an end: when each comes in turn, when it is possible,
+-- whether the garage keeps places open with it, and the record after it. Assumes nothing.
 use mathlib.Core.Bool.{Bool, true, false}
 use mathlib.Core.List.{List, [], _∷_}
+use Prim.Native.Nat.{ℕ}
+use lib.Dec.{ltb}
 use Rattle.bits.specs.Bits.{Bits}
 use Rattle.floor.specs.Floor.{raisedCar, street, driveIn, driveOut}
+use Rattle.floor.specs.Cars.{cars}
 use Rattle.floor.specs.Tests.{Test, fact, set, free, no, holds, allHold, heightIs, underWay, Change, _≔_, changed}
 use Rattle.rules.specs.declared.Event.{Event}
 use Rattle.rules.specs.declared.Event.the-variants.{BeginIn, BeginOut, EndDone, EndNotDone}
@@ -39,6 +42,17 @@ inTurn e f = holds (turn e) f
 
 unfoldable pub possible : Event → Bits → Bool
 possible e f = allHold (eventConditions e) f
+
+-- with so many cars the garage is filled as far as it may be: the places that are left are kept open
+abbrev pub filled : ℕ
+filled = 27
+
+-- a drive-in begins only while the record has fewer; a car that is being driven in is not one of them yet, and no other event is asked
+unfoldable pub placesOpen : Event → Bits → Bool
+placesOpen BeginIn f = ltb (cars f) filled
+placesOpen BeginOut f = true
+placesOpen EndDone f = true
+placesOpen EndNotDone f = true
 
 unfoldable pub after : Event → Bits → Bits
 after e f = changed (eventChanges e) f

@@ -17,7 +17,7 @@ use Rattle.rules.specs.declared.Driven.{Driven}
 use Rattle.rules.specs.declared.Area.{Area}
 use Rattle.rules.specs.declared.Sharing.{Sharing}
 use Rattle.rules.specs.Rules.{wellFormed, area, overlap, Clause, _else_, clauses, next}
-use Rattle.rules.specs.Events.{inTurn, possible, after}
+use Rattle.rules.specs.Events.{inTurn, possible, placesOpen, after}
 use Rattle.rules.specs.Codes.{readCode}
 
 -- what a record says of conditions: all hold, or the reason of the first that fails
@@ -59,10 +59,14 @@ maskOf i = cond (wellFormed i) (Area.Mask (image (area i))) Area.IllFormed
 unfoldable pub sharingOf : Instruction → Instruction → Sharing
 sharingOf i j = cond (wellFormed i && wellFormed j) (cond (overlap i j) Sharing.Overlap Sharing.Apart) Sharing.IllFormed
 
--- the image after a car event, where it comes in turn and is possible
+-- the image after a car event, where it comes in turn, is possible and leaves the places open that are kept so
 unfoldable pub drivenOf : Event → ℕ → Driven
 drivenOf e r =
-    cond (inTurn e (bit r)) (cond (possible e (bit r)) (Driven.Record (image (after e (bit r)))) Driven.Impossible) Driven.OutOfTurn
+    cond (inTurn e (bit r))
+    (cond (possible e (bit r))
+    (cond (placesOpen e (bit r)) (Driven.Record (image (after e (bit r)))) Driven.KeptOpen)
+    Driven.Impossible)
+    Driven.OutOfTurn
 
 -- ---- the same of five bytes: bad ones say nothing that is well formed
 

@@ -75,11 +75,12 @@ pub enum Moved {
     IllFormed,
 }
 
-// The record after a car event, where it comes in turn and is possible.
+// The record after a car event, where it comes in turn, is possible and fills none of the places that are kept open.
 pub enum Driven {
     Record(u64),
     OutOfTurn,
     Impossible,
+    KeptOpen,
 }
 
 // An instruction's area, as a mask of the record's bits.

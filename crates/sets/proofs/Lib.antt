@@ -7,7 +7,6 @@ pub mod GoodOrder
 pub mod Jams
 pub mod Statements
 pub mod Marks
-pub mod Frames
 pub mod Facts
 pub mod Invariant
 pub mod SetApart

@@ -1,8 +1,8 @@
 -- The rules of a garage, over any records, instructions and car events, and the laws that make a set safe in any order:
 -- each instruction and each event has an area, outside of which it writes nothing; of what is outside it reads nothing
 -- but a view, which changes in other areas leave as it is. They are asked of sound records, and of a change where its
--- test passes. In the garage as it is a lift run has a view, whether each side's count is even; events have none
--- (`blind`), and their laws hold of all records (`Local`). Assumes nothing.
+-- test passes. In the garage as it is a lift run has a view, whether each side's count is even, and an event a glance,
+-- the number of cars; what it reads and writes of the lift it does so on all records (`Local`). Assumes nothing.
 use Prim.Native.Nat.{ℕ, _<_}
 use mathlib.Core.Path.{_≡_}
 use mathlib.Core.Bool.{Bool, true, false}
@@ -85,7 +85,3 @@ pub record Framed {W C O P I E : Type 0} (R : Rules W C I E) (view : I → W →
   -- what an event is answered reads the lift and the glance
   pub reply : (e : E) (lost : Bool) (f g : W) → R .sound f ≡ true → R .sound g ≡ true → Agree (R .width) (R .look) (R .lift) f g
       → glance e f ≡ glance e g → R .reply e lost f ≡ R .reply e lost g
-
--- nothing is seen from outside an area
-abbrev pub blind : {W I : Type 0} → I → W → Unit {0}
-blind i f = tt

@@ -4,17 +4,20 @@ use borrow.Author.Needs.{needs}
 use Rattle.desk_c.proofs.put_card.Statement.{statement}
 use Rattle.desk_c.proofs.put_card.Tie as tie
 
-put-four-requires : tie.Need-put-four-requires
-put-four-requires c κs = search needs
+four-bytes-requires : tie.Need-four-bytes-requires
+four-bytes-requires c κs = search needs
 
-say-requires : tie.Need-say-requires
-say-requires c κs = search needs
+slice-aggregate-answer : tie.Need-slice-aggregate-answer
+slice-aggregate-answer c = search needs
+
+answer-requires : tie.Need-answer-requires
+answer-requires c κs = search needs
 
 same-length : tie.Need-same-length
 same-length c = search needs
 
 returns : tie.Need-returns
-returns c = card-put _ _ (c .before .before .before .before .before .before .pre) (c .say .ensures) (c .before .before .before .put-four .ensures)
+returns c = card-put _ _ (c .before .before .before .before .before .four-bytes .ensures) (c .before .before .answer .ensures)
 
 pub put-card-spec : {M : Type 1} → statement M
-put-card-spec = tie.close (tie.spec put-four-requires say-requires same-length returns)
+put-card-spec = tie.close (tie.spec four-bytes-requires slice-aggregate-answer answer-requires same-length returns)

@@ -1,5 +1,5 @@
--- `engine::driven` meets its contract: out of turn, not possible, or the record after it. Assumes nothing.
-use Rattle.engine.proofs.Answers.{event-untimely, event-refused, event-taken}
+-- `engine::driven` meets its contract: out of turn, not possible, places kept open, or the record after it. Assumes nothing.
+use Rattle.engine.proofs.Answers.{event-untimely, event-refused, event-kept-open, event-taken}
 use Rattle.bits.proofs.Cases.{failed, passed}
 use borrow.Author.Needs.{needs}
 use Rattle.engine.proofs.driven.Statement.{statement}
@@ -17,13 +17,19 @@ possible-requires c κs = search needs
 returns-2 : tie.Need-returns-2
 returns-2 c = event-refused _ _ (passed (c .before .before .before .in-turn .ensures) (c .before .before .if1 .left)) (failed (c .before .possible .ensures) (c .if2 .taken))
 
+places-open-requires : tie.Need-places-open-requires
+places-open-requires c κs = search needs
+
+returns-3 : tie.Need-returns-3
+returns-3 c = event-kept-open _ _ (passed (c .before .before .before .before .before .in-turn .ensures) (c .before .before .before .before .if1 .left)) (passed (c .before .before .before .possible .ensures) (c .before .before .if2 .left)) (failed (c .before .places-open .ensures) (c .if3 .taken))
+
 after-requires : tie.Need-after-requires
 after-requires c κs = search needs
 
-returns-3 : tie.Need-returns-3
-returns-3 c = event-taken _ _ (passed (c .before .before .before .before .in-turn .ensures) (c .before .before .before .if1 .left)) (passed (c .before .before .possible .ensures) (c .before .if2 .left)) _ (c .after .ensures)
+returns-4 : tie.Need-returns-4
+returns-4 c = event-taken _ _ (passed (c .before .before .before .before .before .before .in-turn .ensures) (c .before .before .before .before .before .if1 .left)) (passed (c .before .before .before .before .possible .ensures) (c .before .before .before .if2 .left)) (passed (c .before .before .places-open .ensures) (c .before .if3 .left)) _ (c .after .ensures)
 
 pub driven-spec : {M : Type 1} → statement M
 driven-spec =
     tie.close
-    (tie.spec in-turn-requires returns possible-requires returns-2 after-requires returns-3)
+    (tie.spec in-turn-requires returns possible-requires returns-2 places-open-requires returns-3 after-requires returns-4)

@@ -1,6 +1,5 @@
-use Prim.Native.Nat.{_-_}
+use Prim.Native.Nat.{_*_, _-_}
 use native.Mathlib.Omega.{arith}
-use mathlib.Core.Path.{_∙_}
 use Rattle.report_c.specs.Entries.{totalsBytes}
 use Rattle.fours.proofs.Fours.{four-laid, Writing, writing-starts, writing-turns, writing-ends}
 use borrow.Author.Needs.{needs}
@@ -16,17 +15,38 @@ abbrev μ-loop : tie.MeasureT-loop
 loop-holds : tie.Need-loop-holds Inv-loop μ-loop
 loop-holds c = writing-starts 52 (c .before .args .room .now) (c .before .args .counts .now)
 
-mul-put-four : tie.Need-mul-put-four Inv-loop μ-loop
-mul-put-four c = search needs
+mul-four-bytes : tie.Need-mul-four-bytes Inv-loop μ-loop
+mul-four-bytes c = search needs
 
-mul-put-four-2 : tie.Need-mul-put-four-2 Inv-loop μ-loop
-mul-put-four-2 c = search needs
+element-copy-out-four-bytes : tie.Need-element-copy-out-four-bytes Inv-loop μ-loop
+element-copy-out-four-bytes c = search needs
 
-element-copy-out-put-four : tie.Need-element-copy-out-put-four Inv-loop μ-loop
-element-copy-out-put-four c = search needs
+four-bytes-requires : tie.Need-four-bytes-requires Inv-loop μ-loop
+four-bytes-requires c κs = search needs
 
-put-four-requires : tie.Need-put-four-requires Inv-loop μ-loop
-put-four-requires c κs = search needs
+slice-aggregate-copy : tie.Need-slice-aggregate-copy Inv-loop μ-loop
+slice-aggregate-copy c = search needs
+
+mul-copy : tie.Need-mul-copy Inv-loop μ-loop
+mul-copy c = search needs
+
+mul-copy-2 : tie.Need-mul-copy-2 Inv-loop μ-loop
+mul-copy-2 c = search needs
+
+add-copy : tie.Need-add-copy Inv-loop μ-loop
+add-copy c = search needs
+
+sub-copy : tie.Need-sub-copy Inv-loop μ-loop
+sub-copy c = search needs
+
+part-copy-start : tie.Need-part-copy-start Inv-loop μ-loop
+part-copy-start c = search needs
+
+part-copy-end : tie.Need-part-copy-end Inv-loop μ-loop
+part-copy-end c = omega (arith, c .before .before .before .before .loop .inv .same, c .before .before .before .before .before .before .pre)
+
+copy-requires : tie.Need-copy-requires Inv-loop μ-loop
+copy-requires c κs = search needs
 
 add-place : tie.Need-add-place Inv-loop μ-loop
 add-place c = search needs
@@ -35,7 +55,7 @@ loop-less : tie.Need-loop-less Inv-loop μ-loop
 loop-less c = search needs
 
 loop-again : tie.Need-loop-again Inv-loop μ-loop
-loop-again c = writing-turns 52 (c .before .before .before .before .before .before .before .before .args .room .now) (c .before .before .before .before .before .before .before .before .args .counts .now) (c .before .before .before .before .before .before .loop .room) _ (c .before .before .before .before .before .before .loop .place) (omega arith) (omega arith) (c .before .before .before .before .before .before .loop .inv) (c .before .before .put-four .ensures ∙ four-laid _ _ _ (omega (arith, c .before .before .before .before .before .before .loop .inv .same, c .before .before .before .before .before .before .before .before .pre)))
+loop-again c = writing-turns 52 (c .before .before .before .before .before .before .before .before .before .before .args .room .now) (c .before .before .before .before .before .before .before .before .before .before .args .counts .now) (c .before .before .before .before .before .before .before .before .loop .room) _ (c .before .before .before .before .before .before .before .before .loop .place) (omega arith) (omega (arith, c .before .before .before .before .before .before .before .before .loop .inv .same, c .before .before .before .before .before .before .before .before .before .before .pre)) (c .before .before .before .before .before .before .before .before .loop .inv) (four-laid (c .before .before .before .before .before .before .before .before .loop .room) (c .before .before .before .before .before .four-bytes .result) (c .before .before .copy .last .1 .0) (4 * c .before .before .before .before .before .before .before .before .loop .place) _ (omega (arith, c .before .before .before .before .before .before .before .before .loop .inv .same, c .before .before .before .before .before .before .before .before .before .before .pre)) (c .before .before .before .before .before .four-bytes .ensures) (c .before .before .copy .ensures .1))
 
 same-length : tie.Need-same-length Inv-loop μ-loop
 same-length c = omega (arith, c .before .loop .inv .same)
@@ -51,10 +71,17 @@ keep-spec =
     Inv-loop
     μ-loop
     loop-holds
-    mul-put-four
-    mul-put-four-2
-    element-copy-out-put-four
-    put-four-requires
+    mul-four-bytes
+    element-copy-out-four-bytes
+    four-bytes-requires
+    slice-aggregate-copy
+    mul-copy
+    mul-copy-2
+    add-copy
+    sub-copy
+    part-copy-start
+    part-copy-end
+    copy-requires
     add-place
     loop-less
     loop-again

@@ -69,6 +69,9 @@ enum-told-18 c = search needs
 enum-known-self-4 : tie.Need-enum-known-self-4
 enum-known-self-4 c = search needs
 
+enum-told-19 : tie.Need-enum-told-19
+enum-told-19 c = search needs
+
 returns : tie.Need-returns
 returns c = rw (c .enum-told .given .1)
 
@@ -135,6 +138,9 @@ returns-21 c = rw (c .enum-told18 .given .1)
 returns-22 : tie.Need-returns-22
 returns-22 c = rw (c .before .self4 .given .1)
 
+returns-23 : tie.Need-returns-23
+returns-23 c = rw (c .enum-told19 .given .1)
+
 pub place-spec : {M : Type 1} → statement M
 place-spec =
     tie.close
@@ -161,6 +167,7 @@ place-spec =
     enum-told-17
     enum-told-18
     enum-known-self-4
+    enum-told-19
     returns
     returns-2
     returns-3
@@ -182,4 +189,5 @@ place-spec =
     returns-19
     returns-20
     returns-21
-    returns-22)
+    returns-22
+    returns-23)

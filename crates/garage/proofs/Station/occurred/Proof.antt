@@ -33,6 +33,15 @@ unmoved-requires-2 c κs = search needs
 unless-apart-requires-2 : tie.Need-unless-apart-requires-2
 unless-apart-requires-2 c κs = search needs
 
+enum-told-3 : tie.Need-enum-told-3
+enum-told-3 c = search needs
+
+unmoved-requires-3 : tie.Need-unmoved-requires-3
+unmoved-requires-3 c κs = search needs
+
+unless-apart-requires-3 : tie.Need-unless-apart-requires-3
+unless-apart-requires-3 c κs = search needs
+
 returns : tie.Need-returns
 returns c = unless-apart (c .before .before .before .before .before .before .args .self) _ (c .unless-apart .ensures) (c .before .holding .ensures) ∙ ap turnOf (moved-event _ _ (sym (c .before .before .before .r .given .1) ∙ c .before .before .before .before .before .driven .ensures))
 
@@ -41,6 +50,9 @@ returns-2 c = c .unmoved .ensures ∙ ap turnOf (moved-event _ _ (sym (c .before
 
 returns-3 : tie.Need-returns-3
 returns-3 c = unless-apart (c .before .before .before .before .before .args .self) _ (c .unless-apart2 .ensures) (c .before .unmoved2 .ensures) ∙ ap turnOf (moved-event _ _ (sym (c .before .before .enum-told2 .given .1) ∙ c .before .before .before .before .driven .ensures))
+
+returns-4 : tie.Need-returns-4
+returns-4 c = unless-apart (c .before .before .before .before .before .args .self) _ (c .unless-apart3 .ensures) (c .before .unmoved3 .ensures) ∙ ap turnOf (moved-event _ _ (sym (c .before .before .enum-told3 .given .1) ∙ c .before .before .before .before .driven .ensures))
 
 pub occurred-spec : {M : Type 1} → statement M
 occurred-spec =
@@ -55,6 +67,10 @@ occurred-spec =
     enum-told-2
     unmoved-requires-2
     unless-apart-requires-2
+    enum-told-3
+    unmoved-requires-3
+    unless-apart-requires-3
     returns
     returns-2
-    returns-3)
+    returns-3
+    returns-4)
