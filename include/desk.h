@@ -100,8 +100,8 @@ uint32_t desk_start(uint8_t *room, size_t room_length);
  * 20 to 28. No number moves. */
 uint32_t desk_request(uint8_t *room, size_t room_length, uint8_t count, const uint8_t *set, size_t set_length);
 
-/* A drive begins or ends, as station_event; a begin of a drive-in brings the number `card`. 17, 16, then the station's 4, 6, 31, 32, 10
- * and, of a begin of a drive-in (STATION_BEGIN_IN), 37 where `card` is 0, 38 where a car in the garage has it. With any other event `card`
+/* A drive begins or ends, as station_event; a begin of a drive-in brings the number `card`. 17, 16, then the station's 4, 6, 31, 32, 10,
+ * 33 and, of a begin of a drive-in (STATION_BEGIN_IN), 37 where `card` is 0, 38 where a car in the garage has it. With any other event `card`
  * is not looked at. An end that is done gives the number to the car on the raised lift, or takes that car's number away; of a drive-in that
  * is not done the number is dropped. */
 uint32_t desk_event(uint8_t *room, size_t room_length, uint8_t way, uint32_t card);

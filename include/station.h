@@ -49,7 +49,8 @@
  * that a drive-in is under way, bit 56 a drive-out. A begin while any drive is under way, an end while none is, and a set with the lift
  * in the area of any of its instructions while one is, are refused with STATION_OUT_OF_TURN. The lift is in the area of GARAGE_LIFT, of
  * GARAGE_ROTATE, and of GARAGE_BELTS in row 1 with the lift's belt. Everything else goes on meanwhile. An end that is done moves the car
- * on or off the raised lift (bit 52); one that isn't leaves it where it was. An image in the middle of a drive replaces it.
+ * on or off the raised lift (bit 52); one that isn't leaves it where it was. An image in the middle of a drive replaces it. Places are kept
+ * open: a drive-in begins only while the record has fewer than 27 cars, else it is refused with STATION_KEPT_OPEN; an image may have more.
  *
  * The row beside the lift. GARAGE_LIFT has the lift and its two cells, 11 and 12, in its area, and no other place of row 1. So every
  * GARAGE_SHUTTLES, every GARAGE_TILT, and every GARAGE_BELTS that doesn't name the lift's belt, may stand in one set with it. Leaving the
@@ -117,7 +118,8 @@ enum {
     STATION_LATE = 29,              /* a result of a set 1 to 32767 before the outstanding one */
     STATION_NOT_ISSUED = 30,        /* a result of a set that is neither that nor the outstanding one */
     STATION_OUT_OF_TURN = 31,       /* a drive is under way, for a begin or a set with the lift in an area; none is, for an end */
-    STATION_SET_APART = 32          /* an instruction touches a part that is set apart; for an event, the lift is */
+    STATION_SET_APART = 32,         /* an instruction touches a part that is set apart; for an event, the lift is */
+    STATION_KEPT_OPEN = 33          /* a drive-in would begin with 27 cars or more: the places that are left are kept open */
 };
 
 /* The place where an answer names no instruction. */
@@ -193,7 +195,8 @@ uint32_t station_start(uint8_t *room, size_t room_length);
 uint32_t station_request(uint8_t *room, size_t room_length, uint8_t count, const uint8_t *set, size_t set_length);
 
 /* A drive begins (STATION_BEGIN_IN, STATION_BEGIN_OUT) or ends (STATION_END_DONE, STATION_END_NOT_DONE). A begin leaves cars as they are;
- * with an end the drive is no longer under way. 17, 16, then 4, 6, 31, 32 and, of a begin, 10. */
+ * with an end the drive is no longer under way. 17, 16, then 4, 6, 31, 32, of a begin 10, and of a begin of a drive-in, last, 33: it begins
+ * only while the record has fewer than 27 cars. An end is not asked for their number. */
 uint32_t station_event(uint8_t *room, size_t room_length, uint8_t way);
 
 /* The result of instruction `number`, counted from 0, of the set that was given `issue`: with STATION_DONE as its `ending` it is applied to
@@ -223,7 +226,8 @@ uint32_t station_message(uint8_t *room, size_t room_length, const uint8_t *messa
 /* Whether an image is a possible garage. */
 bool garage_sound(uint64_t image);
 
-/* The number of cars of a sound record, at most 30; 255 if the image isn't sound. */
+/* The number of cars of a sound record, at most 30, and at most 28 where the lift is empty at street height; 255 if the image isn't sound. A
+ * drive-in begins with 26 or fewer (STATION_KEPT_OPEN). */
 uint32_t garage_cars(uint64_t image);
 
 /* What a request of the one instruction that the first five bytes of `five` say would be told on the record: 1 where there are fewer

@@ -1,6 +1,7 @@
-//! The numbers that the paper of the first garage gives of its state space, counted again: the sound records of the whole floor, by
-//! the proved `garage_sound`; and the sound records, states and steps of the paper's reduced floor, by the reference's rules on it. The
-//! paper has no drives, which begin and end here: records with one under way are counted beside those without.
+//! The numbers that the paper of the first garage gives of its state space and of its cars, counted again: the sound records of the whole
+//! floor and the most cars at each height, by the proved `garage_cars`; and the sound records, states and steps of the paper's reduced
+//! floor, by the reference's rules on it. The paper has no drives, which begin and end here: records with one under way are counted beside
+//! those without.
 use std::collections::HashSet;
 use std::hash::{BuildHasherDefault, Hasher};
 use std::ops::Range;
@@ -11,31 +12,88 @@ mod raw;
 #[allow(dead_code)]
 mod reduced;
 mod reference;
-use reference::{drive_under_way, sound, Instruction, Station, BEGIN_IN, BEGIN_OUT, END_DONE, END_NOT_DONE, START};
+use reference::{bit, cars, drive_under_way, sound, Instruction, Station, BEGIN_IN, BEGIN_OUT, DRIVE_IN, END_DONE, END_NOT_DONE, START};
 
-/// Whether the station's own code says that an image of the whole floor is sound.
-fn garage_is_sound(image: u64) -> bool { unsafe { raw::garage_sound(image) } }
+/// The cars of an image of the whole floor by the station's own code; none where it isn't sound.
+fn garage_cars(image: u64) -> Option<u32> { Some(unsafe { raw::garage_cars(image) }).filter(|&cars| cars != 255) }
 
-/// How many ways to fill some cells make a sound record of one whose cells are free.
-fn fillings(is_sound: fn(u64) -> bool, record: u64, cells: &Range<u32>) -> u64 {
-    (0..1u64 << cells.len()).filter(|filled| is_sound(record | filled << cells.start)).count() as u64
+/// How many records, by their cars: none has more.
+const MOST: usize = 30;
+type ByCars = [u64; MOST + 1];
+
+/// How many ways to fill some cells make a sound record of one whose cells are free, by the cars that this adds.
+fn fillings(cars: fn(u64) -> Option<u32>, record: u64, cells: &Range<u32>) -> ByCars {
+    let (mut ways, without) = ([0; MOST + 1], cars(record).unwrap_or(0));
+    let found = (0..1u64 << cells.len()).filter_map(|filled| cars(record | filled << cells.start));
+    found.for_each(|with| ways[(with - without) as usize] += 1);
+    ways
+}
+
+/// The ways to do both.
+fn both(one: ByCars, other: ByCars) -> ByCars {
+    let mut ways = [0; MOST + 1];
+    for (cars, found) in one.iter().enumerate().filter(|(_, found)| **found > 0) {
+        for (more, beside) in other.iter().enumerate().filter(|(_, beside)| **beside > 0) { ways[cars + more] += found * beside; }
+    }
+    ways
 }
 
 /// What is counted of records: of those with no drive under way, then of those with one.
 type Counts<T = u64> = [T; 2];
 
-/// The sound records of a floor. Each rule of soundness speaks of cells of one row alone, so the rows are counted apart, for every
-/// setting of shuttles, lift and drives; and row 1 once for those that agree on its two lowered shuttles, the lift and the drives.
-fn sound_records(is_sound: fn(u64) -> bool, row_1: Range<u32>, others: [Range<u32>; 2]) -> Counts {
-    let (mut first_row, mut totals) = ([None; 128], [0; 2]);
+/// The sound records of a floor by bits 52 to 56, which are the lift's and the drives', and by their cars. Each rule of soundness speaks of
+/// cells of one row alone, and so do cars, so the rows are counted apart, for every setting of shuttles, lift and drives; and row 1 once
+/// for those that agree on its two lowered shuttles, the lift and the drives.
+fn sound_records(cars: fn(u64) -> Option<u32>, row_1: Range<u32>, others: [Range<u32>; 2]) -> [ByCars; 32] {
+    let (mut first_row, mut records) = ([None; 128], [[0; MOST + 1]; 32]);
     for bits in 0..1u64 << 17 {
         let record = bits << 40;
-        if !is_sound(record) { continue; }
+        let Some(raised) = cars(record) else { continue };
         let with_row_1 = (bits >> 12) << 2 | (bits >> 3 & 1) << 1 | bits & 1;
-        let ways = *first_row[with_row_1 as usize].get_or_insert_with(|| fillings(is_sound, record, &row_1));
-        totals[usize::from(drive_under_way(record))] += ways * others.iter().map(|row| fillings(is_sound, record, row)).product::<u64>();
+        let ways = *first_row[with_row_1 as usize].get_or_insert_with(|| fillings(cars, record, &row_1));
+        let ways = others.iter().fold(ways, |ways, row| both(ways, fillings(cars, record, row)));
+        let of_the_lift = &mut records[(bits >> 12) as usize];
+        ways.iter().enumerate().filter(|(_, found)| **found > 0).for_each(|(cars, found)| of_the_lift[cars + raised as usize] += found);
     }
+    records
+}
+
+/// All of them, without a drive under way and with one.
+fn in_all(records: &[ByCars; 32]) -> Counts {
+    let mut totals = [0; 2];
+    for (lift, by_cars) in (0u64..).zip(records) { totals[usize::from(drive_under_way(lift << 52))] += by_cars.iter().sum::<u64>(); }
     totals
+}
+
+/// The most cars of any of some records, and how many of them have so many.
+fn most_cars(by_cars: &ByCars) -> (usize, u64) {
+    by_cars.iter().copied().enumerate().rfind(|(_, found)| *found > 0).unwrap_or((0, 0))
+}
+
+/// The lift's settings with no drive under way: its name, its bits, the most cars, how many records have them, and one of them.
+const LIFTS: [(&str, usize, usize, u64, u64); 5] = [
+    ("at street, empty", 0b000, 28, 24, 0x0000_3FFF_FFFF_C3FF),
+    ("at street, with a car", 0b001, 29, 24, 0x0010_3FFF_FFFF_C3FF),
+    ("at rotation, empty", 0b010, 28, 24, 0x0020_3FFF_FFFF_C3FF),
+    ("at rotation, with a car", 0b011, 29, 24, 0x0030_3FFF_FFFF_C3FF),
+    ("in the basement", 0b100, 30, 1, 0x0040_3FFF_FFFF_FFFF),
+];
+
+/// The most cars of the whole floor at each height; and how many records have no more than the drives of the station alone can bring
+/// about, a car on its way in counted.
+fn whole_floor(records: &[ByCars; 32]) {
+    for (name, lift, most, found, one) in LIFTS {
+        println!("counts: with the lift {name}: at most {} cars, which {} have", most_cars(&records[lift]).0, most_cars(&records[lift]).1);
+        assert_eq!((most_cars(&records[lift]), garage_cars(one)), ((most, found), Some(most as u32)), "{name}");
+        assert_eq!(one >> 52, lift as u64);
+    }
+    let (mut within, mut beyond) = (0, 0);
+    for (lift, by_cars) in (0u64..).zip(records) {
+        let coming = usize::from(bit(lift << 52, DRIVE_IN));
+        for (cars, found) in by_cars.iter().enumerate() { *if cars + coming <= 27 { &mut within } else { &mut beyond } += found; }
+    }
+    println!("counts: {within} sound records with at most 27 cars in or on their way in, {beyond} with more");
+    assert_eq!((within, beyond), (807_425_532_386, 7_710));
 }
 
 /// Spreads a record's bits over the table.
@@ -86,11 +144,14 @@ fn reduced_floor() -> (Records, Counts<Steps>) {
 
 fn main() {
     // as docs/NUMBERS.md has them
-    let [alone, driven] = sound_records(garage_is_sound, floor::ROW_1, floor::OTHER_ROWS);
+    let records = sound_records(garage_cars, floor::ROW_1, floor::OTHER_ROWS);
+    let [alone, driven] = in_all(&records);
     println!("counts: {alone} sound records of the whole floor with no drive under way, {driven} with one, {} in all", alone + driven);
     assert_eq!((alone, alone + driven), (639_594_659_840, 807_425_540_096));
 
-    let sound_ones = sound_records(sound, reduced::ROW_1, reduced::OTHER_ROWS);
+    whole_floor(&records);
+
+    let sound_ones = in_all(&sound_records(cars, reduced::ROW_1, reduced::OTHER_ROWS));
     let (reached, steps) = reduced_floor();
     let driven = reached.iter().filter(|record| drive_under_way(**record)).count();
     let states = [reached.len() - driven, driven];

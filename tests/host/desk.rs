@@ -3,7 +3,8 @@
 //! bytes of stack. Then a host's long run on one desk, from its start on: requests, results, drives with cards, images with numbers; after
 //! each call the desk's bytes must be the reference's, and where each car is and which card is leaving is asked. The reference looks itself
 //! at what is promised: its numbered cars are those of the record, whichever of the stuck instructions finished, and a car that is told for
-//! sure stands there in each case. Every number that each entry can give must have come, and no other, and all else that desk_met.rs lists.
+//! sure stands there in each case. Every number that each entry can give must have come, and no other, and all else that desk_met.rs and
+//! filling.rs list.
 
 mod command;
 mod desk_command;
@@ -12,6 +13,7 @@ mod desk_met;
 mod desk_raw;
 mod desk_reference;
 mod desk_traffic;
+mod filling;
 mod reference;
 mod traffic;
 mod trials;
@@ -21,7 +23,7 @@ use desk_command::{call, ASK, ENTRIES, IMAGE, LEAVING, RESULT, START, WHERE};
 use desk_handed::{handed, made, Handed};
 use desk_met::{every_one, Met};
 use desk_reference::Desk;
-use reference::{Instruction, STUCK};
+use reference::{Call, Instruction, STUCK};
 use std::collections::{BTreeMap, BTreeSet};
 use std::process::exit;
 use traffic::{damaged_station, Numbers};
@@ -139,10 +141,20 @@ impl Watched {
     }
 }
 
+/// What a call met of places that are kept open: what the desk refuses by its own numbers is none of it.
+fn filled(before: &Desk, given: &Given, number: u8) -> Option<filling::Met> {
+    let call = match given.entry {
+        desk_command::EVENT => Call::Event(given.first),
+        IMAGE => Call::Image { image: given.image, apart: given.apart },
+        _ => return None,
+    };
+    filling::met(&before.station, call, number).filter(|_| !matches!(number, 37 | 38))
+}
+
 /// A host: one desk from its start on, every call compared. Gives what was met, how many questions were asked, how many choices looked at.
-fn long_run(seed: u64, calls: usize, seen: &mut [BTreeSet<u8>]) -> (BTreeSet<Met>, usize, usize) {
+fn long_run(seed: u64, calls: usize, seen: &mut [BTreeSet<u8>]) -> (BTreeSet<Met>, BTreeSet<filling::Met>, usize, usize) {
     let mut numbers = Numbers(seed);
-    let (mut met, mut questions, mut choices) = (BTreeSet::new(), 0, 0);
+    let (mut met, mut full, mut questions, mut choices) = (BTreeSet::new(), BTreeSet::new(), 0, 0);
     let mut watched = Watched { desk: Desk::start(), stuck: Vec::new(), seen: BTreeSet::new() };
     let (answer, mut bytes, _) = compared(0, &Given { entry: START, ..Given::default() }, &[0xEE; Desk::SIZE]);
     assert_eq!((answer, bytes), (0xFF00, Desk::start().to_bytes()));
@@ -154,6 +166,7 @@ fn long_run(seed: u64, calls: usize, seen: &mut [BTreeSet<u8>]) -> (BTreeSet<Met
         assert_eq!((answer as u8, left), (number, watched.desk.to_bytes()), "call {at}: the desk that the reference keeps is another");
         assert!(number == 0 || watched.desk == before, "call {at}: a call that isn't taken changes something");
         met.extend(desk_met::met(&before, card, &given, number));
+        full.extend(filled(&before, &given, number));
         seen[usize::from(given.entry)].insert(number);
         bytes = left;
         if watched.desk != before {
@@ -161,7 +174,7 @@ fn long_run(seed: u64, calls: usize, seen: &mut [BTreeSet<u8>]) -> (BTreeSet<Met
             questions += watched.ask(at, &mut numbers, &bytes, &mut met);
         }
     }
-    (met, questions, choices)
+    (met, full, questions, choices)
 }
 
 /// Commands on desks as they come, on damaged ones and on handed-in ones.
@@ -217,10 +230,10 @@ fn main() {
     let number = |word: &String| word.parse().expect("a number");
     let mut seen = vec![BTreeSet::new(); ENTRIES.len()];
     commands(number(count), number(limit) as u32, program, &mut seen);
-    let (met, questions, choices) = long_run(38, number(calls), &mut seen);
-    if !every_one(&met) { exit(1); }
+    let (met, full, questions, choices) = long_run(38, number(calls), &mut seen);
+    if !every_one(&met) || !filling::every_filling("desk", &full) { exit(1); }
     println!("desk: {calls} calls, {questions} questions of where a car is and which is leaving, {choices} choices of what finished");
-    println!("desk: {} ways to meet a card's number, all that there are", met.len());
+    println!("desk: {} ways to meet a card's number, and {} to meet places that are kept open, all that there are", met.len(), full.len());
     for ((entry, numbers), seen) in ENTRIES.iter().zip(&seen) {
         if !seen.iter().eq(*numbers) {
             eprintln!("desk: {entry} gave {seen:?}, expected {numbers:?}");

@@ -126,7 +126,7 @@ fn all() -> BTreeSet<Met> {
     // what the station says comes first; a number whose drive-in is under way meets no other begin but as out of turn
     for (card, told) in [(Zero, 37), (Known, 38), (Gone, 0), (New, 0)] {
         all.insert(Met::Begin { card, alone: 0, number: told });
-        all.extend([6, 10, 31, 32].map(|alone| Met::Begin { card, alone, number: alone }));
+        all.extend([6, 10, 31, 32, 33].map(|alone| Met::Begin { card, alone, number: alone }));
     }
     all.insert(Met::Begin { card: Coming, alone: 31, number: 31 });
     for card in [Zero, Known, Gone, New] {

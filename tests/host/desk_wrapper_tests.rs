@@ -86,6 +86,25 @@ fn numbers_that_cannot_come_in() {
     assert_eq!((d.whereabouts(u32::MAX), d.whereabouts(0)), (Ok(At(Raised)), Ok(NotHere)));
 }
 
+/// 33 is the station's, so it comes before 37 and 38; with 26 cars these are told.
+#[test]
+fn places_are_kept_open_whatever_the_number() {
+    let filled = 0x0000_3FFF_FFFF_C3FF;
+    let cards: Vec<u32> = (7001..=7028).collect();
+    let mut d = with_cars(filled, &cards);
+    let before = d.clone();
+    assert_eq!([0, 7001, 8000].map(|card| d.event(1, card)), [refusal(KeptOpen); 3]);
+    assert_eq!(d, before);
+    let open = filled & !(1 << 38 | 1 << 39);
+    let mut d = with_cars(open, &cards[..26]);
+    assert_eq!([0, 7001, 8000].map(|card| d.event(1, card)), [own(Said::ZeroNumber), own(Said::KnownNumber), TAKEN]);
+    assert_eq!((d.event(3, 0), d.whereabouts(8000)), (TAKEN, Ok(At(Raised))));
+    // a number that is on its way in comes with its car, however many there are
+    let mut d = Desk::start();
+    let coming: Vec<u32> = (7001..=7029).collect();
+    assert_eq!((d.image(filled | 1 << 55, 0, &coming), d.event(3, 0), d.whereabouts(7029)), (TAKEN, TAKEN, Ok(At(Raised))));
+}
+
 /// An image's numbers: in the order of the cells, the raised lift last, then a drive-in; 39 before 37 before 38, the station's before all.
 #[test]
 fn numbers_with_an_image() {

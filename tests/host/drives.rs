@@ -1,7 +1,6 @@
 //! What calls meet of drives, so that a long run can say that it met all there is: events at every moment, sets of every kind while a
 //! drive is under way, images in its middle and with it, results beside it.
-use crate::pipes::messages_in;
-use crate::reference::{drive_under_way, read_call, sound, Call, Instruction, Station, DONE, END_DONE, FAILED, REASON_NUMBERS, STUCK};
+use crate::reference::{drive_under_way, sound, Call, Instruction, Station, BEGIN_IN, BEGIN_OUT, DONE, END_DONE, FAILED, REASON_NUMBERS, STUCK};
 use std::collections::BTreeSet;
 
 /// Which drive is under way by an image; both is what no sound one says.
@@ -48,7 +47,7 @@ fn outstanding(station: &Station) -> Outstanding {
 }
 
 /// What a call met on a station that answered it with a number.
-fn met(station: &Station, call: Call, number: u8) -> Option<Met> {
+pub fn met(station: &Station, call: Call, number: u8) -> Option<Met> {
     let drive = drive_of(station.record);
     match call {
         Call::Event(event) => Some(Met::Event { event, drive, outstanding: outstanding(station), number }),
@@ -74,13 +73,6 @@ fn met(station: &Station, call: Call, number: u8) -> Option<Met> {
     }
 }
 
-/// What whole messages meet, from the start on.
-pub fn met_in(input: &[u8]) -> BTreeSet<Met> {
-    let mut station = Station::start();
-    let calls = messages_in(input).filter_map(|message| Some(read_call(message).ok()?.0));
-    calls.filter_map(|call| { let before = station; met(&before, call, station.take(call).number) }).collect()
-}
-
 /// All that there is to meet, by the rules.
 fn all() -> BTreeSet<Met> {
     let mut all = BTreeSet::new();
@@ -88,7 +80,7 @@ fn all() -> BTreeSet<Met> {
         let begins = event < END_DONE;
         all.insert(Met::Event { event, drive: No, outstanding: WithLift, number: 6 });
         for outstanding in [Nothing, Others] {
-            let idle: &[u8] = if begins { &[0, 10, 32] } else { &[31] };
+            let idle: &[u8] = match event { BEGIN_IN => &[0, 10, 32, 33], BEGIN_OUT => &[0, 10, 32], _ => &[31] };
             all.extend(idle.iter().map(|&number| Met::Event { event, drive: No, outstanding, number }));
             all.extend([In, Out].map(|drive| Met::Event { event, drive, outstanding, number: if begins { 31 } else { 0 } }));
         }

@@ -2,9 +2,10 @@
 //! stations as they come by calls and on damaged ones, in rooms long and short: what an entry returns and what it leaves in every room
 //! must be what the reference says, and no call may take more than so many bytes of stack. Each entry must have given every number that
 //! it can give, and no other; those that say why an instruction isn't allowed, every reason of each opcode on sound records. Each call
-//! must have been made on handed-in stations of every sort that handed.rs tells apart.
+//! must have been made on handed-in stations of every sort that handed.rs tells apart, and calls must have met all that filling.rs lists.
 
 mod command;
+mod filling;
 mod handed;
 mod reference;
 mod traffic;
@@ -12,7 +13,7 @@ mod trials;
 
 use command::ENTRIES;
 use handed::{handed, Handed};
-use reference::{Station, REASONS};
+use reference::{read_call, Call, Station, REASONS};
 use std::collections::{BTreeMap, BTreeSet};
 use std::process::exit;
 use traffic::{any_bytes, Numbers};
@@ -21,18 +22,34 @@ use trials::{room_for, Given, Trial};
 /// Bytes that are no station.
 const UNFIT: u8 = 16;
 
-/// What a run wants to know of a command: the reason that its answer gives for an opcode, and what its station has.
+/// What a run wants to know of a command: the reason that its answer gives for an opcode, what its station has, and what it met of places
+/// kept open.
 struct Told {
     reason: Option<(u8, u8)>,
     handed: Option<Handed>,
+    filled: Option<filling::Met>,
+}
+
+/// What a command met of places that are kept open, where its station is fit.
+fn filled(given: &Given) -> Option<filling::Met> {
+    let call = match given.entry {
+        2 => Call::Event(given.first),
+        4 => Call::Image { image: given.image, apart: given.apart },
+        6 => read_call(&given.input).ok()?.0,
+        _ => return None,
+    };
+    let before = Station::from_bytes(given.room.first_chunk()?);
+    let number = { before }.take(call).number;
+    if number == UNFIT { None } else { filling::met(&before, call, number) }
 }
 
 /// The trial of a command, by the reference.
 fn trial(given: Given) -> Trial<Told> {
     let handed = given.room.first_chunk().and_then(|room| handed(&Station::from_bytes(room)));
+    let filled = filled(&given);
     given.trial(0, |command| {
         let answer = command::call(command);
-        (answer, Told { reason: command::reason_told(command, answer), handed })
+        (answer, Told { reason: command::reason_told(command, answer), handed, filled })
     })
 }
 
@@ -116,10 +133,12 @@ fn main() {
     let mut seen = vec![BTreeSet::new(); ENTRIES.len()];
     let mut reasons = vec![BTreeSet::new(); ENTRIES.len()];
     let mut met = vec![BTreeMap::new(); ENTRIES.len()];
+    let mut filled = BTreeSet::new();
     trials::run(&ENTRIES, &trials, limit, program, |trial, number| {
         let entry = usize::from(trial.entry);
         seen[entry].insert(number);
         reasons[entry].extend(trial.of_it.reason);
+        filled.extend(trial.of_it.filled);
         if let Some(handed) = trial.of_it.handed.filter(|handed| handed.shown_by(number)) { *met[entry].entry(handed).or_insert(0) += 1; }
     });
     for ((entry, numbers), seen) in ENTRIES.iter().zip(&seen) {
@@ -140,5 +159,7 @@ fn main() {
         }
         println!("entries: {entry} was called on handed-in stations of {} sorts, on each {} times or more", met.len(), met.values().min().unwrap_or(&0));
     }
+    if !filling::every_filling("entries", &filled) { exit(1); }
+    println!("entries: {} ways to meet places that are kept open, or more cars than leave them so, all that there are", filled.len());
     println!("entries: {} commands, each answer and room as the reference's; every number that each entry can give came", trials.len());
 }

@@ -3,7 +3,7 @@
 //! these are done must have a layout with the same number of cars, whatever order they are done in, each allowed at its turn, and must
 //! allow what still waits for its result.
 use crate::pipes::messages_in;
-use crate::reference::{cars, read_call, sound, Call, Instruction, Parts, Station, BEGIN_OUT, DONE, FAILED, REASON_NUMBERS, STUCK};
+use crate::reference::{cars, read_call, sound, Call, Instruction, Parts, Station, BEGIN_IN, BEGIN_OUT, DONE, FAILED, REASON_NUMBERS, STUCK};
 use std::collections::BTreeSet;
 
 /// A call's share of jams, and its answer; a reason why an instruction isn't allowed stands as the first of them.
@@ -117,7 +117,7 @@ fn all() -> BTreeSet<Met> {
         let begins = event <= BEGIN_OUT;
         // no drive is under way while the lift is set apart; the set in which it got stuck may still be outstanding
         let stuck: &[u8] = if begins { &[6, 32] } else { &[6, 31] };
-        let beside: &[u8] = if begins { &[0, 6, 10, 31] } else { &[0, 6, 31] };
+        let beside: &[u8] = match event { BEGIN_IN => &[0, 6, 10, 31, 33], BEGIN_OUT => &[0, 6, 10, 31], _ => &[0, 6, 31] };
         all.extend(stuck.iter().map(|&number| Met::Event { event, lift: true, number }));
         all.extend(beside.iter().map(|&number| Met::Event { event, lift: false, number }));
     }

@@ -65,7 +65,7 @@ fn two_numbers(body: &[u8]) -> (u64, u64) {
 /// The same for every kind. An answer has a number of the table, an instruction's place or none, and any issue.
 fn message_body(kind: u16, body: &[u8]) -> Result<Message<'_>, Answer> {
     match (kind, body) {
-        (128, &[number @ (0..=8 | 10..=13 | 15..=17 | 20..=32), place @ (0..=7 | NO_PLACE), low, high]) => {
+        (128, &[number @ (0..=8 | 10..=13 | 15..=17 | 20..=33), place @ (0..=7 | NO_PLACE), low, high]) => {
             Ok(Message::Answer(Answer { number, place, issue: u16::from_le_bytes([low, high]) }))
         }
         (128, [_, _, _, _]) => Err(answer(4)),

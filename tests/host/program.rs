@@ -2,11 +2,12 @@
 //! pieces of many sizes, and many short ones, damaged and cut: what the program writes must be what the reference answers, and that
 //! what the papers say of their examples.
 //! Every number that can come through the program must have come, and no other: 16 (the program's station is always fit) and 17 (its
-//! room is always enough) can't. So must every reason that each opcode can be refused for, and all that calls can meet of drives, of jams
-//! and of lift runs beside others in row 1. In the long inputs, after each message, every choice is looked at of which stuck instructions
+//! room is always enough) can't. So must every reason that each opcode can be refused for, and all that calls can meet of drives, of places
+//! kept open, of jams and of lift runs beside others in row 1. In the long inputs, after each message, every choice is looked at of which stuck instructions
 //! finished (jams.rs), and with each set that has a lift run beside others, of which of them are done (lifts.rs).
 
 mod drives;
+mod filling;
 mod jams;
 mod lifts;
 mod pipes;
@@ -15,8 +16,8 @@ mod traffic;
 
 use pipes::{answer_in, answers, messages_in};
 use reference::{
-    answer, answer_at, cars, read_message, sound, write_message, Answer, Instruction, Message, Station, BEGIN_IN, BEGIN_OUT, DONE, END_DONE,
-    END_NOT_DONE, FAILED, REASON_NUMBERS, START, STUCK,
+    answer, answer_at, cars, read_call, read_message, sound, write_message, Answer, Call, Instruction, Message, Station, BEGIN_IN, BEGIN_OUT,
+    DONE, END_DONE, END_NOT_DONE, FAILED, REASON_NUMBERS, START, STUCK,
 };
 use std::collections::BTreeSet;
 use std::process::exit;
@@ -45,7 +46,7 @@ fn examples() {
     assert_eq!(Station::start().request(2, &[half, gap].concat()), answer_at(25, 0));
     assert_eq!(Station::start().request(3, &[[1, 1, 2, 0, 1], gap, half].concat()), answer_at(21, 1));
     for number in 0..=255 {
-        let known = !matches!(number, 9 | 14 | 18 | 19 | 33..);
+        let known = !matches!(number, 9 | 14 | 18 | 19 | 34..);
         assert_eq!(read_message(&[6, 0, 128, 0, number, 255, 1, 2]).err().map(|refused| refused.answer), (!known).then_some(answer(4)));
     }
 }
@@ -232,12 +233,47 @@ fn beside_the_lift() {
     }
 }
 
+/// The same of places that are kept open.
+fn places_kept_open() {
+    // the most cars with the lift empty at street; one and two fewer
+    const FILLED: u64 = 0x0000_3FFF_FFFF_C3FF;
+    let with = |record| Station { record, ..Station::start() };
+    let [most, one_less, two_less] = [FILLED, FILLED & !(1 << 30), FILLED & !(1 << 30 | 1 << 39)];
+    assert_eq!([most, one_less, two_less].map(cars), [Some(28), Some(27), Some(26)]);
+    assert_eq!([most, one_less].map(|record| with(record).event(BEGIN_IN)), [answer(33); 2]);
+    // from 26 a car comes in, which makes 27; the next one waits, also when the lift has taken it down and come up empty
+    let mut station = with(two_less);
+    assert_eq!([BEGIN_IN, END_DONE, BEGIN_IN].map(|event| station.event(event)), [answer(0), answer(0), answer(10)]);
+    assert_eq!((cars(station.record), station.event(BEGIN_OUT), station.event(END_DONE), station.record), (Some(27), answer(0), answer(0), two_less));
+    // out of turn, set apart and impossible are told before it, and a bad field and a set with the lift before these
+    let mut down = with(most);
+    assert_eq!((down.request(1, &[4, 1, 0, 0, 0]).number, down.event(BEGIN_IN), down.event(0)), (0, answer(6), answer(4)));
+    assert_eq!((down.result(0, 0, DONE), down.event(BEGIN_IN)), (answer(0), answer(10)));
+    assert_eq!((down.request(1, &[4, 0, 0, 0, 0]).number, down.result(1, 0, STUCK), down.event(BEGIN_IN)), (0, answer(0), answer(32)));
+    assert_eq!((with(most | 1 << 55).event(BEGIN_IN), with(most | 1 << 52).event(BEGIN_IN)), (answer(31), answer(10)));
+    // an image may have more, with a drive-in under way too, whose end is taken
+    let mut station = Station::start();
+    assert_eq!((station.image(most | 1 << 55, 0), station.event(END_NOT_DONE), station.event(BEGIN_IN)), (answer(0), answer(0), answer(33)));
+    assert_eq!((station.image(most | 1 << 55, 0), station.event(END_DONE), cars(station.record)), (answer(0), answer(0), Some(29)));
+    assert_eq!((station.event(BEGIN_OUT), station.event(END_DONE), cars(station.record)), (answer(0), answer(0), Some(28)));
+    assert_eq!((station.image(0x0040_3FFF_FFFF_FFFF, 0), cars(station.record), station.event(BEGIN_IN)), (answer(0), Some(30), answer(10)));
+}
+
 /// What the instructions were refused for that the record didn't allow, each with its opcode: each message has one answer.
 fn reasons_in<'a>(input: &'a [u8], output: &'a [u8]) -> impl Iterator<Item = (u8, u8)> + 'a {
     messages_in(input).zip(messages_in(output)).filter_map(|(message, answer)| {
         let told = answer_in(answer).filter(|told| REASON_NUMBERS.contains(&told.number))?;
         Some((message[5 + 5 * usize::from(told.place)], told.number))
     })
+}
+
+/// Tells of each whole message, from the start on: the station before it, the call and the number that it is answered with.
+fn each_call(input: &[u8], mut tell: impl FnMut(&Station, Call, u8)) {
+    let mut station = Station::start();
+    for call in messages_in(input).filter_map(|message| Some(read_call(message).ok()?.0)) {
+        let before = station;
+        tell(&before, call, station.take(call).number);
+    }
 }
 
 fn main() {
@@ -251,11 +287,15 @@ fn main() {
     handed_in();
     jamming();
     beside_the_lift();
-    let (mut seen, mut reasons, mut met) = (BTreeSet::new(), BTreeSet::new(), BTreeSet::new());
+    places_kept_open();
+    let (mut seen, mut reasons, mut met, mut filled) = (BTreeSet::new(), BTreeSet::new(), BTreeSet::new(), BTreeSet::new());
     let (mut jams_met, mut choices, mut most) = (BTreeSet::new(), 0, 0);
     let (mut lifts_met, mut lift_choices) = (BTreeSet::new(), 0);
     let long = (0..2).map(|seed| (seed, traffic::input(seed, messages))).inspect(|(_, input)| {
-        met.extend(drives::met_in(input));
+        each_call(input, |before, call, number| {
+            met.extend(drives::met(before, call, number));
+            filled.extend(filling::met(before, call, number));
+        });
         let (jams, looked_at, at_once) = jams::met_in(input);
         jams_met.extend(jams);
         (choices, most) = (choices + looked_at, most.max(at_once));
@@ -277,16 +317,17 @@ fn main() {
         reasons.extend(reasons_in(&input, &got));
         compared += 1;
     }
-    let wanted: BTreeSet<u8> = (0..=8).chain(10..=13).chain([15]).chain(20..=32).collect();
+    let wanted: BTreeSet<u8> = (0..=8).chain(10..=13).chain([15]).chain(20..=33).collect();
     if seen != wanted {
         eprintln!("the numbers that came are {seen:?}, expected {wanted:?}");
         exit(1);
     }
     if !traffic::every_reason("program", &reasons) || !drives::every_drive("program", &met) || !jams::every_jam("program", &jams_met) { exit(1); }
-    if !lifts::every_lift("program", &lifts_met) { exit(1); }
+    if !lifts::every_lift("program", &lifts_met) || !filling::every_filling("program", &filled) { exit(1); }
     println!("program: {compared} inputs, {} messages in the long ones, each answer as the reference's; numbers {seen:?}", 2 * messages);
     println!("program: {} pairs of opcode and reason, all that can come", reasons.len());
     println!("program: {} ways to meet a drive and {} to meet a jam, all that there are", met.len(), jams_met.len());
+    println!("program: {} ways to meet places that are kept open, or more cars than leave them so, all that there are", filled.len());
     println!("program: {} ways for a lift run to meet others of row 1, all that there are; {lift_choices} choices of which of a set are done", lifts_met.len());
     println!("program: {choices} choices of which stuck instructions finished, of up to {most} at once, each with a layout of the same cars");
 }

@@ -50,6 +50,8 @@ pub const FULL: u8 = 1; // size
 pub const LIFT_CAR: u32 = 52;
 pub const DRIVE_IN: u32 = 55; // under way
 pub const DRIVE_OUT: u32 = 56;
+/// With so many cars no drive-in begins: what places are left are kept open, to move cars by.
+const FILLED: u32 = 27;
 
 pub fn bit(image: u64, at: u32) -> bool { image >> at & 1 == 1 }
 fn with(image: u64, at: u32, value: bool) -> u64 { image & !(1 << at) | u64::from(value) << at }
@@ -216,6 +218,9 @@ impl Station {
     /// Whether the outstanding set has the lift in an area, answered or not.
     fn holds_lift(&self) -> bool { self.held().any(|instruction| instruction.takes_lift()) }
 
+    /// Whether the garage is as full as it may get; a car that is still coming is none of it yet.
+    fn filled(&self) -> bool { cars(self.record).is_some_and(|cars| cars >= FILLED) }
+
     /// Whether some parts share any with what is set apart.
     pub fn is_apart(&self, parts: &Parts) -> bool { self.apart.is_ok_and(|apart| apart.meet(parts)) }
 
@@ -294,7 +299,8 @@ impl Station {
     /// A drive begins at street, into an empty lift or out of an occupied one, and with its end the car did
     /// come or go, or did not. No event is taken while an outstanding set has the lift in one of its areas,
     /// answered or not; nor a begin while a drive is under way, nor an end while none is; nor any while the
-    /// lift is set apart.
+    /// lift is set apart. And of what could begin else, a drive-in does not while there are too many cars already;
+    /// its end asks for no number of them.
     fn take_event(&mut self, event: u8) -> Answer {
         if !matches!(event, BEGIN_IN | BEGIN_OUT | END_DONE | END_NOT_DONE) { return answer(4); }
         if self.holds_lift() { return answer(6); }
@@ -304,6 +310,7 @@ impl Station {
         if begins {
             let comes = event == BEGIN_IN;
             if height(self.record) != STREET || bit(self.record, LIFT_CAR) == comes { return answer(10); }
+            if comes && self.filled() { return answer(33); }
             self.record = with(self.record, if comes { DRIVE_IN } else { DRIVE_OUT }, true);
         } else {
             if event == END_DONE { self.record = with(self.record, LIFT_CAR, bit(self.record, DRIVE_IN)); }

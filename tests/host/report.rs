@@ -21,7 +21,7 @@ fn examples() {
         assert_eq!(Week::of(&messages.concat()).report(), report_with(nonzero), "{name}");
     }
     let names: Vec<String> = totals().map(|total| total.to_string()).collect();
-    assert_eq!((names.len(), names[0].as_str(), names[46].as_str()), (47, "kind-1", "most-cars"));
+    assert_eq!((names.len(), names[0].as_str(), names[47].as_str()), (48, "kind-1", "most-cars"));
     assert!(totals().is_sorted());
 }
 

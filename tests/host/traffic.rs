@@ -3,9 +3,14 @@
 #![allow(dead_code)] // each driver uses its own part of this module
 
 use crate::reference::{
-    drive_under_way, Instruction, Parts, Station, BEGIN_IN, BEGIN_OUT, DONE, END_DONE, END_NOT_DONE, FAILED, REASONS, STUCK,
+    cars, drive_under_way, Instruction, Parts, Station, BEGIN_IN, BEGIN_OUT, DONE, END_DONE, END_NOT_DONE, FAILED, REASONS, START,
+    STUCK,
 };
 use std::collections::BTreeSet;
+
+// Cells of a record: those of row 1, and those of rows 2 and 3.
+const ROW_1: u64 = 0xF_FFFF;
+const OTHER_ROWS: u64 = ROW_1 << 20;
 
 /// A seeded generator of numbers (splitmix64).
 pub struct Numbers(pub u64);
@@ -105,19 +110,30 @@ pub fn result(issue: u16, number: u8, outcome: u8) -> Vec<u8> {
     message(3, &[low, high, number, outcome])
 }
 
-/// A request with one instruction at any place among others that are allowed and overlap neither it nor what is taken.
-fn request_among(numbers: &mut Numbers, record: u64, five: [u8; 5], taken: Parts, wanted: usize) -> Vec<u8> {
-    let area = Instruction::read(five).map_or(Parts::NONE, |one| one.area());
-    let mut bytes = allowed_set(numbers, record, taken.and(area), wanted - 1);
-    let at = 5 * numbers.below(bytes.len() as u64 / 5 + 1) as usize;
-    bytes.splice(at..at, five);
+/// A request with some instructions at any places among others that are allowed and overlap neither these nor what is taken.
+fn request_among(numbers: &mut Numbers, record: u64, fives: &[[u8; 5]], taken: Parts, wanted: usize) -> Vec<u8> {
+    let areas = fives.iter().filter_map(|&five| Instruction::read(five)).fold(taken, |areas, one| areas.and(one.area()));
+    let mut bytes = allowed_set(numbers, record, areas, wanted - fives.len());
+    for &five in fives {
+        let at = 5 * numbers.below(bytes.len() as u64 / 5 + 1) as usize;
+        bytes.splice(at..at, five);
+    }
     request(&bytes)
+}
+
+/// A shuttle move that carries a car to row 1 or from it, or a tilt there, that is allowed and doesn't touch what is taken; found in some tries.
+fn beside_the_lift(numbers: &mut Numbers, record: u64, taken: Parts) -> Option<[u8; 5]> {
+    let found = |five: &[u8; 5]| Instruction::read(*five).is_some_and(|one| {
+        let there = match five[0] { 2 => one.next(record) ^ record, 3 => one.area().number(), _ => 0 } & ROW_1 != 0;
+        there && one.allowed(record) && !taken.meet(&one.area())
+    });
+    (0..100).map(|_| good_five(numbers)).find(found)
 }
 
 /// A request that is refused for one of its instructions.
 pub fn refused_request(numbers: &mut Numbers, record: u64, wanted: usize) -> Option<Vec<u8>> {
     let five = refused_five(numbers, record)?;
-    Some(request_among(numbers, record, five, Parts::NONE, wanted))
+    Some(request_among(numbers, record, &[five], Parts::NONE, wanted))
 }
 
 /// Whether a car stands on the lift in the basement, whole or half.
@@ -131,8 +147,9 @@ fn some_request(numbers: &mut Numbers, station: &Station) -> Vec<u8> {
     let refused = if numbers.one_in(24) { refused_request(numbers, record, wanted) } else { None };
     if let Some(request) = refused { return request; }
     if on_the_lift(record) && numbers.one_in(2) {
-        let up = [4, numbers.below(2) as u8, 0, 0, 0];
-        return request_among(numbers, record, up, apart, (wanted + 2).min(8));
+        let mut fives = vec![[4, numbers.below(2) as u8, 0, 0, 0]];
+        fives.extend(beside_the_lift(numbers, record, apart));
+        return request_among(numbers, record, &fives, apart, (wanted + 2).min(8));
     }
     let mut bytes = allowed_set(numbers, record, apart, wanted);
     if numbers.one_in(8) {
@@ -185,6 +202,7 @@ fn some_event(numbers: &mut Numbers, record: u64) -> Vec<u8> {
     let begin = if record >> 52 & 1 == 0 { BEGIN_IN } else { BEGIN_OUT };
     let event = match numbers.below(8) {
         0 => numbers.below(6) as u8,
+        1 if drive_under_way(record) && numbers.one_in(2) => BEGIN_IN,
         1 | 2 if drive_under_way(record) => END_NOT_DONE,
         _ if drive_under_way(record) => END_DONE,
         1..=3 => BEGIN_IN + numbers.below(2) as u8,
@@ -193,10 +211,29 @@ fn some_event(numbers: &mut Numbers, record: u64) -> Vec<u8> {
     message(2, &[event])
 }
 
-/// Some record near the present one: itself, with bits flipped, with other drives under way and another height, or any number.
+/// A sound record with nearly as many cars as there can be: at any height, with a drive under way or not, one shuttle tilted or none on
+/// either side, and a few places free.
+pub fn crowded_record(numbers: &mut Numbers) -> u64 {
+    const AWAY_FROM_THE_LIFT: u64 = 0xF_C3FF;
+    let lift = match numbers.below(8) {
+        0 => 0,
+        1 | 2 => 1 << 55,
+        3 | 4 => 1 << 52 | numbers.below(2) << 56,
+        5 | 6 => 1 << 53 | numbers.below(2) << 52,
+        _ => 2 << 53,
+    };
+    let row_1 = if lift == 2 << 53 && numbers.one_in(2) { ROW_1 } else { AWAY_FROM_THE_LIFT };
+    // both sides with three lowered shuttles, or as at the start, where those of row 3 are tilted and their cells free
+    let others = if numbers.one_in(3) { START | OTHER_ROWS & !(1 << 30 | 1 << 39) } else { 0x3F << 40 | OTHER_ROWS };
+    let free = (0..numbers.below(3)).fold(0, |free, _| free | 1 << (20 + numbers.below(20)));
+    (lift | row_1 | others) & !free
+}
+
+/// Some record near the present one: itself, with bits flipped, with other drives under way and another height; one with many cars, itself
+/// with few; or any number.
 pub fn near_record(numbers: &mut Numbers, record: u64) -> u64 {
     match numbers.below(8) {
-        0 => numbers.next(),
+        0 => match numbers.below(5) { 0 | 1 => crowded_record(numbers), 2 | 3 => record & !OTHER_ROWS, _ => numbers.next() },
         1 => record,
         2 => record ^ 3 << numbers.below(19),
         3 => record ^ 1 << (20 + numbers.below(20)),
@@ -220,6 +257,8 @@ pub fn near_image(numbers: &mut Numbers, station: &Station) -> (u64, u64) {
 pub fn framed_message(numbers: &mut Numbers, station: &Station) -> Vec<u8> {
     let idle = station.count == 0;
     let mut bytes = match numbers.below(32) {
+        // drivers press where there are nearly too many cars
+        2..=7 if cars(station.record) >= Some(26) => some_event(numbers, station.record),
         // somebody has looked
         0 | 1 if idle && station.apart_number() != 0 => image(near_record(numbers, station.record), 0),
         0..=17 if idle => some_request(numbers, station),
@@ -274,7 +313,7 @@ pub fn damaged_station(numbers: &mut Numbers, station: &Station) -> Station {
         6 => other.apart = Parts::shown_by(match numbers.below(4) { 0 => 1 << 52, 1 => 1 << numbers.below(64), _ => numbers.next() >> (11 + numbers.below(50)) }),
         // any next issue is fit; every other time one round the end
         5 => other.next_issue = (if numbers.one_in(2) { numbers.next() } else { 65535 + numbers.below(3) }) as u16,
-        _ => {}
+        _ => other = Station { record: crowded_record(numbers), next_issue: station.next_issue, ..Station::start() },
     }
     other
 }

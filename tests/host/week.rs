@@ -26,7 +26,7 @@ impl Display for Total {
 }
 
 /// The numbers that an answer can have.
-fn in_force() -> impl Iterator<Item = u8> { (0..=8).chain(10..=13).chain(15..=17).chain(20..=32) }
+fn in_force() -> impl Iterator<Item = u8> { (0..=8).chain(10..=13).chain(15..=17).chain(20..=33) }
 
 /// The totals that a report has a line for, in its order.
 pub fn totals() -> impl Iterator<Item = Total> {
@@ -126,6 +126,8 @@ const BELT_AND_TILT: [u8; 15] = [13, 0, 1, 0, 2, 1, 1, 2, 0, 1, 3, 0, 3, 1, 0];
 const SHUTTLE: [u8; 10] = [8, 0, 1, 0, 1, 2, 0, 2, 0, 1];
 const ROTATE: [u8; 10] = [8, 0, 1, 0, 1, 5, 0, 0, 0, 0];
 const TWO_CARS: [u8; 20] = image([0, 0x3C, 0, 0, 0, 0x1B, 0x49, 0], 0);
+const MANY_CARS: [u8; 20] = image([0xFF, 0xC3, 0xFF, 0xBF, 0xFF, 0x3F, 0, 0], 0); // 27
+const MOST_CARS_COMING: [u8; 20] = image([0xFF, 0xC3, 0xFF, 0xFF, 0xFF, 0x3F, 0x80, 0], 0); // 28, and one on its way in
 const HALF_A_CAR: [u8; 20] = image([1, 0, 0, 0, 0, 0x1B, 0x09, 0], 0);
 const NO_CARS: [u8; 20] = image([0, 0, 0, 0, 0, 0x1B, 0x09, 0], 0);
 const A_CELL_APART: [u8; 20] = image([0, 0, 0, 0, 0, 0x1B, 0x09, 0], 1);
@@ -183,6 +185,9 @@ pub const EXAMPLES: &[(&str, &[&[u8]], &str)] = &[
     ("stuck", &[&BELT_AND_TILT, &result(0, 0, 2), &result(0, 0, 1), &result(0, 1, 0), &BELT, &SHUTTLE, &result(1, 0, 1), &A_CELL_APART, &NO_CARS, &BELT],
         "kind-1 4 kind-3 4 kind-4 2 answer-0 7 answer-13 1 answer-15 1 answer-32 1 done-2 1 failed-1 1 failed-3 1"),
     ("a lift that is stuck", &[&lift(1), &result(0, 0, 2), &BEGIN_IN, &DONE, &ROTATE], "kind-1 2 kind-2 2 kind-3 1 answer-0 2 answer-31 1 answer-32 2 failed-4 1"),
+    // with 27 cars no more come in; one that was under way does, and counts
+    ("places kept open", &[&MANY_CARS, &BEGIN_IN, &MOST_CARS_COMING, &DONE, &BEGIN_IN, &BEGIN_OUT, &DONE, &BEGIN_IN],
+        "kind-2 6 kind-4 2 answer-0 5 answer-10 1 answer-33 2 cars-in 1 cars-out 1 most-cars 29"),
     ("an image of another length", &[&WITHOUT_WHAT_IS_APART], "kind-4 1 answer-2 1"),
     // the most cars are the largest number after any message, also of an image, and stay so when cars go
     ("images", &[&TWO_CARS, &HALF_A_CAR, &NO_CARS], "kind-4 3 answer-0 2 answer-15 1 most-cars 2"),

@@ -227,6 +227,30 @@ fn answers_in_words() {
     assert_eq!(refusal(NotIssued).to_string(), "30 (of a set that was not issued)");
     assert_eq!(refusal(OutOfTurn).to_string(), "31 (out of turn)");
     assert_eq!(refusal_at(SetApart, 1).to_string(), "32 (a part is set apart) at 1");
+    assert_eq!(refusal(KeptOpen).to_string(), "33 (places are kept open)");
+}
+
+/// From 27 cars on no drive-in begins; whatever else could be told comes first, an end is taken, and so is an image.
+#[test]
+fn places_are_kept_open() {
+    // the most with the lift empty at street
+    let filled = 0x0000_3FFF_FFFF_C3FF;
+    let (fewer, open) = (filled & !(1 << 25), filled & !(1 << 25 | 1 << 35));
+    assert_eq!([filled, fewer, open].map(cars), [Some(28), Some(27), Some(26)]);
+    let mut s = Station::start();
+    for full in [filled, fewer] {
+        assert_eq!((s.image(full, 0), s.event(1), s.ask()), (TAKEN, refusal(KeptOpen), shown(full)));
+        assert_eq!(s.message(&[3, 0, 2, 0, 1]), (refusal(KeptOpen), vec![6, 0, 128, 0, 33, 255, 0, 0]));
+    }
+    // with 26 one comes, and then the lift must bring it down before it is asked again how many there are
+    assert_eq!((s.image(open, 0), s.event(1), s.event(1), s.event(3), s.event(1)), (TAKEN, TAKEN, refusal(OutOfTurn), TAKEN, refusal(EventImpossible)));
+    assert_eq!(s.ask(), shown(open | 1 << 52));
+    // who is on the way in may come, which makes 29; and anyone may go
+    assert_eq!((s.image(filled | 1 << 55, 0), s.event(3), s.ask(), cars(filled | 1 << 52)), (TAKEN, TAKEN, shown(filled | 1 << 52), Some(29)));
+    assert_eq!((s.event(2), s.event(3), s.event(1)), (TAKEN, TAKEN, refusal(KeptOpen)));
+    // thirty fit where the lift is down, and such an image is taken
+    let thirty = 0x0040_3FFF_FFFF_FFFF;
+    assert_eq!((s.image(thirty, 0), cars(thirty), s.event(1)), (TAKEN, Some(30), refusal(EventImpossible)));
 }
 
 /// What is stuck is set apart, through other sets, until an image clears it.
