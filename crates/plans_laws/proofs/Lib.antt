@@ -1,0 +1,5 @@
+pub mod Trying
+pub mod Orders
+pub mod Numbers
+pub mod Bytes
+pub mod Promises
