@@ -76,7 +76,8 @@ fn image(words: &mut Words) -> Result<[u8; 8], Wrong> {
     let digits: String = words.0.drain(..).rev().collect();
     let byte = |at: usize| digits.get(2 * at..2 * at + 2).and_then(|two| u8::from_str_radix(two, 16).ok());
     let hex = digits.len() == 16 && digits.bytes().all(|digit| digit.is_ascii_hexdigit());
-    hex.then(|| std::array::from_fn(|at| byte(at).unwrap_or(0))).ok_or_else(|| format!("expected `start` or 16 digits in hexadecimal, found `{digits}`"))
+    if !hex { return Err(format!("expected `start` or 16 digits in hexadecimal, found `{digits}`")); }
+    Ok(std::array::from_fn(|at| byte(at).unwrap_or(0)))
 }
 
 /// `with a car` or `without a car`, as the wish's byte.
@@ -170,8 +171,9 @@ fn bytes_of(text: &str) -> Result<Vec<u8>, Vec<(usize, Wrong)>> {
             plan.line(&mut Words::of(said)).unwrap_or_else(|why| wrong.push((at, why)));
         }
     }
-    let missing = [("image", plan.image.is_none()), ("wish", plan.wish.is_none())];
-    wrong.extend(missing.iter().filter(|(_, missing)| *missing).map(|(name, _)| (text.lines().count() + 1, format!("the text ends before its `{name}`"))));
+    for (name, missing) in [("image", plan.image.is_none()), ("wish", plan.wish.is_none())] {
+        if missing { wrong.push((text.lines().count() + 1, format!("the text ends before its `{name}`"))); }
+    }
     if wrong.is_empty() { Ok(plan.bytes()) } else { Err(wrong) }
 }
 

@@ -12,6 +12,9 @@ const COMING: u64 = START | 1 << 55;
 const LEAVING: u64 = CAR | 1 << 56;
 const TORN: u64 = START | 1;
 
+/// How long a plan can be that has a form: 255 sets of 255 instructions.
+const LONGEST: usize = 18 + 255 * (1 + 5 * 255);
+
 type Five = [u8; 5];
 const DOWN: Five = [4, 2, 0, 0, 0];
 const UP: Five = [4, 0, 0, 0, 0];
@@ -91,11 +94,11 @@ pub fn examples() -> Vec<(&'static str, Vec<u8>, Verdict)> {
         ("a byte behind the longest", and(longest(), &[0]), told(BAD_FIELD)),
         ("many behind the longest", and(longest(), &[0; 70_000]), told(BAD_FIELD)),
         ("many behind one without sets", and(plan(TORN, 2, &[]), &[1; 70_000]), told(BAD_FIELD)),
-        ("the longest without its last byte", longest().bytes().split_last().map(|(_, rest)| rest.to_vec()).unwrap_or_default(), told(CUT_SHORT)),
+        ("the longest without its last byte", longest().bytes()[..LONGEST - 1].to_vec(), told(CUT_SHORT)),
     ]);
     // cut anywhere, also with all else wrong that there is
-    for (name, whole) in [("cut", plan(START, WITHOUT, &[&[BELT], &[LOWER_LEFT, LOWER_RIGHT]])), ("cut, and wrong", plan(TORN, 9, &[&[], &[NO_OP; 2]]))] {
-        let bytes = whole.bytes();
+    let (whole, wrong) = (plan(START, WITHOUT, &[&[BELT], &[LOWER_LEFT, LOWER_RIGHT]]), plan(TORN, 9, &[&[], &[NO_OP; 2]]));
+    for (name, bytes) in [("cut", whole.bytes()), ("cut, and wrong", wrong.bytes())] {
         all.extend((0..bytes.len()).map(|end| (name, bytes[..end].to_vec(), told(CUT_SHORT))));
     }
     all

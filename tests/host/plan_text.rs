@@ -1,7 +1,7 @@
-//! The text form of plans: `plan_text WRITER JUDGE PAGE`. Every well-formed instruction in words becomes its own five bytes; texts that mean
-//! the same become the same bytes; each wrong line is told with its number, and then nothing is written. And the page's examples: a block
-//! marked `plan` is a text, and of the blocks behind it one marked `bytes` has the bytes that it becomes, one marked `wrong` what is told of
-//! it, and one marked `verdict` what the judge writes.
+//! The text form of plans: `plan_text WRITER JUDGE PAGE`. Every well-formed instruction in words becomes its own five bytes; texts that
+//! mean the same become the same bytes; each wrong line is told with its number, and then nothing is written. And the page's examples: a
+//! block marked `plan` is a text, and of the blocks behind it one marked `bytes` has the bytes that it becomes, one marked `wrong` what is
+//! told of it, and one marked `verdict` what the judge writes.
 
 use std::io::Write;
 use std::process::{exit, Command, Stdio};
@@ -31,7 +31,8 @@ fn words([op, a, b, c, d]: [u8; 5]) -> Option<String> {
             format!("belts row 1 {belts}{} {}", name(&ways, c), name(&["half", "full"], d))
         }
         (1, 2 | 3, 0..=7, 0..=1, 0..=1) => {
-            format!("belts row {a} {}{} {}", named(&["left-shuttle", "middle", "right-shuttle"], b), name(&ways, c), name(&["half", "full"], d))
+            let belts = named(&["left-shuttle", "middle", "right-shuttle"], b);
+            format!("belts row {a} {belts}{} {}", name(&ways, c), name(&["half", "full"], d))
         }
         (2, 0..=1, 0..=7, 0..=1, 0..=1) => {
             let (side, rows) = (name(&["left", "right"], a), named(&["1", "2", "3"], b));
@@ -50,7 +51,8 @@ fn head(wish: u8, sets: u8) -> Vec<u8> { [&[0, 0, 0, 0, 0, 0x1B, 0x09, 0][..], &
 
 /// Every instruction, in two sets.
 fn every_instruction() -> (String, Vec<u8>) {
-    let fives = (1..=5).flat_map(|op| (0..4).flat_map(move |a| (0..32).flat_map(move |b| (0..4).map(move |cd| [op, a, b, cd >> 1, cd & 1]))));
+    let of = |op: u8, a: u8| (0..32).flat_map(move |b| (0..4).map(move |cd| [op, a, b, cd >> 1, cd & 1]));
+    let fives = (1..=5).flat_map(|op| (0..4).flat_map(move |a| of(op, a)));
     let all: Vec<([u8; 5], String)> = fives.filter_map(|five| Some((five, words(five)?))).collect();
     assert_eq!(all.len(), 272);
     let (mut text, mut bytes) = (HEAD.to_string(), head(0, 2));
@@ -100,7 +102,7 @@ fn wrong_texts() -> Vec<(String, String)> {
         ("belts 1 left lower full", "expected `row`, found `1`"),
         ("belts row", "expected `1`, `2` or `3`, and the line ends"),
         ("belts row 4 left lower full", "expected `1`, `2` or `3`, found `4`"),
-        ("belts row 1 middle lower full", "expected `left-shuttle`, `left`, `lift`, `right`, `right-shuttle`, `lower` or `higher`, found `middle`"),
+        ("belts row 1 1 lower full", "expected `left-shuttle`, `left`, `lift`, `right`, `right-shuttle`, `lower` or `higher`, found `1`"),
         ("belts row 2 left lower full", "expected `left-shuttle`, `middle`, `right-shuttle`, `lower` or `higher`, found `left`"),
         ("belts row 1 left left lower full", "`left` stands twice"),
         ("belts row 1 left", "expected `left-shuttle`, `left`, `lift`, `right`, `right-shuttle`, `lower` or `higher`, and the line ends"),
@@ -120,26 +122,30 @@ fn wrong_texts() -> Vec<(String, String)> {
         ("image start", "expected `belts`, `shuttles`, `tilt`, `lift` or `rotate`, found `image`"),
     ];
     let told = |line: usize, why: &str| format!("plan-text: line {line}: {why}\n");
-    let mut all: Vec<(String, String)> = lines.iter().map(|(line, why)| (format!("{HEAD}\n# one\nrotate\n{line}\n\nrotate\n"), told(6, why))).collect();
-    let many = |count: usize, line: &str| line.repeat(count);
-    let hex = "expected `start` or 16 digits in hexadecimal, found ";
+    let inside = |line: &str| format!("{HEAD}\n# one\nrotate\n{line}\n\nrotate\n");
+    let mut all: Vec<(String, String)> = lines.iter().map(|(line, why)| (inside(line), told(6, why))).collect();
+    let hex = |found: &str| told(1, &format!("expected `start` or 16 digits in hexadecimal, found `{found}`"));
+    let no_instruction = |line: usize, found: &str| told(line, &lines[0].1.replace("`belt`", &format!("`{found}`")));
     all.extend([
         (String::new(), told(1, "the text ends before its `image`") + &told(1, "the text ends before its `wish`")),
         ("image start\n# and then\n".to_string(), told(3, "the text ends before its `wish`")),
         ("wish with a car\nimage start\n".to_string(), told(1, "expected `image`, found `wish`") + &told(2, "expected `wish`, found `image`")),
-        ("image 00 00\nwish with car\n".to_string(), told(1, &format!("{hex}`0000`")) + &told(2, "expected `a`, found `car`")),
-        ("image 00000000001B090x\nwish with a car\n".to_string(), told(1, &format!("{hex}`00000000001B090x`"))),
-        ("image +0+0+0+0+0+0+0+0\nwish with a car\n".to_string(), told(1, &format!("{hex}`+0+0+0+0+0+0+0+0`"))),
-        ("image 000000000000000é\nwish maybe\n".to_string(), told(1, &format!("{hex}`000000000000000é`")) + &told(2, "expected `without` or `with`, found `maybe`")),
+        ("image 00 00\nwish with car\n".to_string(), hex("0000") + &told(2, "expected `a`, found `car`")),
+        ("image 00000000001B090x\nwish with a car\n".to_string(), hex("00000000001B090x")),
+        ("image +0+0+0+0+0+0+0+0\nwish with a car\n".to_string(), hex("+0+0+0+0+0+0+0+0")),
+        ("image 000000000000000é\nwish with a car\n".to_string(), hex("000000000000000é")),
+        ("image start\nwish maybe\n".to_string(), told(2, "expected `without` or `with`, found `maybe`")),
         // all that is wrong is told
-        (format!("{HEAD}up\n\nlift street\ndown\n"), ["up", "down"].iter().zip([3, 6]).map(|(word, line)| told(line, &lines[0].1.replace("`belt`", &format!("`{word}`")))).collect()),
-        (format!("{HEAD}{}", many(256, "\nrotate\n")), told(514, "a plan's bytes can count 255 sets")),
-        (format!("{HEAD}{}", many(256, "rotate\n")), told(258, "a set's bytes can count 255 instructions")),
+        (format!("{HEAD}up\n\nlift street\ndown\n"), no_instruction(3, "up") + &no_instruction(6, "down")),
+        (format!("{HEAD}{}", "\nrotate\n".repeat(256)), told(514, "a plan's bytes can count 255 sets")),
+        (format!("{HEAD}{}", "rotate\n".repeat(256)), told(258, "a set's bytes can count 255 instructions")),
     ]);
     all
 }
 
-fn hexadecimal(text: &str) -> Vec<u8> { text.split_whitespace().map(|byte| u8::from_str_radix(byte, 16).expect("a byte in hexadecimal")).collect() }
+fn hexadecimal(text: &str) -> Vec<u8> {
+    text.split_whitespace().map(|byte| u8::from_str_radix(byte, 16).expect("a byte in hexadecimal")).collect()
+}
 
 /// The blocks of a page that have one of some marks: the line that each ends at, its mark and its text.
 fn blocks<'a>(page: &'a str, marks: &[&str]) -> Vec<(usize, &'a str, String)> {

@@ -52,8 +52,8 @@ fn some_sets(numbers: &mut Numbers) -> usize {
 /// The lift to street.
 const UP: [u8; 5] = [4, 0, 0, 0, 0];
 
-/// A good plan from a record: each set is allowed where it stands, and the wish is what the last record has. Where that can be had, the lift
-/// is at street there.
+/// A good plan from a record: each set is allowed where it stands, and the wish is what the last record has. Where that can be had, the
+/// lift is at street there.
 pub fn good_plan(numbers: &mut Numbers, image: u64, sets: usize, wanted: Option<usize>) -> Draft {
     let mut draft = Draft { image, apart: 0, wish: 0, sets: Vec::new() };
     let mut record = image;

@@ -1,7 +1,7 @@
-//! Plans tried before the day, against the reference: `plans PROGRAM PLANS SHARE STACK HOST..`. The papers' examples and so many plans, good
-//! ones and ones with faults, are judged by the entry, and one in SHARE of them by the host in C, which must take no more stack than STACK; of
-//! all numbers some by the program, and the examples, in pieces of many sizes. Every number that can come must have come by the entry and by
-//! the program, no other may, and every way to come by one. Each wrong reference must be found out by a plan of the run.
+//! Plans tried before the day, against the reference: `plans PROGRAM PLANS SHARE STACK HOST..`. Examples and so many plans, good ones and
+//! ones with faults, are judged by the entry, and one in SHARE of them by the host in C, whose calls must take no more stack than STACK; of
+//! each number some by the program, and most examples, in pieces of many sizes. Every number that can come must have come by the entry
+//! and by the program, no other may, and every way to come by one. Each wrong reference must be found out by a plan of the run.
 
 mod pipes;
 mod plan_examples;
@@ -32,15 +32,20 @@ fn plan_judge(plan: &[u8]) -> u32 { unsafe { raw::plan_judge(plan.as_ptr(), plan
 /// What the entry returns: the number, and 256 times the set.
 fn returned(Verdict { number, set }: Verdict) -> u32 { u32::from(number) + 256 * u32::from(set) }
 
-/// The numbers that a plan can be told, with the words of the program's line.
-const TABLE: [(u8, &str); 19] = [
+/// What a plan can be told as a whole, and of a set of it, with the words of the program's line.
+const OF_THE_PLAN: [(u8, &str); 6] = [
     (0, "accepted"),
-    (1, "cut short"),
-    (4, "a field out of range"),
+    (1, "fewer bytes than the plan says"),
+    (4, "a wish that is neither 0 nor 1, or bytes left over"),
+    (15, "image not sound"),
+    (35, "more than 64 sets"),
+    (36, "wish not met"),
+];
+const OF_A_SET: [(u8, &str); 14] = [
+    (4, "a field out of range, or a spare byte not zero"),
     (5, "more than eight instructions"),
     (7, "empty set"),
     (8, "overlap"),
-    (15, "image not sound"),
     (20, "nothing named"),
     (21, "gap"),
     (22, "not available"),
@@ -50,14 +55,13 @@ const TABLE: [(u8, &str); 19] = [
     (26, "same height"),
     (27, "not at rotation height"),
     (28, "cells not free for tilt or rotation"),
-    (31, "lift while a drive is under way"),
-    (35, "more than 64 sets"),
-    (36, "wish not met"),
+    (31, "the lift in an area while a drive is under way"),
 ];
 
 /// The program's line.
 fn line(Verdict { number, set }: Verdict) -> String {
-    let words = TABLE.iter().find(|row| row.0 == number).expect("a number of the table").1;
+    let rows = if set == NO_SET { &OF_THE_PLAN[..] } else { &OF_A_SET };
+    let words = rows.iter().find(|row| row.0 == number).expect("a number of the table").1;
     match (number, set) {
         (0, _) => format!("{words}\n"),
         (_, NO_SET) => format!("{number} {words}\n"),
@@ -78,7 +82,9 @@ struct Run {
 impl Run {
     fn fault(&mut self, name: &str, plan: &[u8], got: &str, expected: Verdict) {
         self.wrong += 1;
-        if self.wrong <= 5 { eprintln!("plans: {name}, {} bytes {:02X?}..: {got}, expected {expected:?}", plan.len(), &plan[..plan.len().min(200)]); }
+        if self.wrong > 5 { return; }
+        eprintln!("plans: {name}, {} bytes: {got}, expected {expected:?}", plan.len());
+        eprintln!("  {:02X?}", &plan[..plan.len().min(400)]);
     }
 
     fn count(&mut self, by: usize, verdict: Verdict) {
@@ -92,14 +98,16 @@ impl Run {
         if got != returned(expected) { self.fault(name, plan, &format!("the entry returned {got}"), expected); }
         self.count(0, expected);
         self.ways.extend(ways(plan, expected));
-        self.found.extend(WRONG.iter().filter(|(_, wrong)| returned(wrong(plan)) != got).map(|(name, _)| *name));
+        let told = (expected.number, expected.set);
+        self.found.extend(WRONG.iter().filter(|(_, wrong)| wrong(plan) != told).map(|(name, _)| *name));
         expected
     }
 
     fn by_program(&mut self, program: &str, name: &str, plan: &[u8], seed: u64) {
         let expected = judge(plan);
         let got = pipes::answers(program, plan, seed);
-        if got != line(expected).as_bytes() { self.fault(name, plan, &format!("the program wrote {:?}", String::from_utf8_lossy(&got)), expected); }
+        let wrote = String::from_utf8_lossy(&got);
+        if wrote != line(expected) { self.fault(name, plan, &format!("the program wrote {wrote:?}"), expected); }
         self.count(1, expected);
     }
 
@@ -120,15 +128,15 @@ impl Run {
     fn complete(&self) -> bool {
         let mut right = self.wrong == 0;
         let mut same = |what: &str, amiss: Vec<String>| if !amiss.is_empty() { right = false; eprintln!("plans: {what}: {amiss:?}"); };
-        let numbers = TABLE.iter().map(|row| row.0);
-        let wanted: BTreeSet<_> = numbers.map(|number| (number, !matches!(number, 0 | 1 | 4 | 15 | 35 | 36))).chain([(4, true)]).collect();
+        let wanted: BTreeSet<_> = OF_THE_PLAN.map(|row| (row.0, false)).into_iter().chain(OF_A_SET.map(|row| (row.0, true))).collect();
         for (came, by) in self.came.iter().zip(["the entry", "the program"]) {
             let came: BTreeSet<_> = came.keys().copied().collect();
-            let amiss = came.symmetric_difference(&wanted).map(|(number, set)| format!("{number} {}", if *set { "of a set" } else { "of the whole" }));
+            let amiss = came.symmetric_difference(&wanted).map(|(number, set)| format!("{number}{}", if *set { " of a set" } else { "" }));
             same(&format!("numbers that {by} never told, or can't"), amiss.collect());
         }
-        same("ways that never came", WAYS.iter().filter(|way| !self.ways.contains(*way)).map(|way| way.to_string()).collect());
-        same("wrong references that were not found out", WRONG.iter().map(|one| one.0).filter(|name| !self.found.contains(name)).map(str::to_string).collect());
+        let missing = |all: Vec<&str>, came: &BTreeSet<&str>| all.into_iter().filter(|one| !came.contains(one)).map(str::to_string).collect();
+        same("ways that never came", missing(WAYS.to_vec(), &self.ways));
+        same("wrong references that were not found out", missing(WRONG.iter().map(|one| one.0).collect(), &self.found));
         right
     }
 }
@@ -163,8 +171,8 @@ fn main() {
     for ((name, plan), seed) in to_program.iter().zip(1..) { run.by_program(program, name, plan, seed); }
     if !run.complete() { exit(1); }
     let accepted = run.came[0][&(0, false)];
-    println!("plans: {} judged by the entry, {accepted} of them accepted, {} by the host in C, {} by the program, each as the reference says",
+    println!("plans: {} judged by the entry ({accepted} accepted), {} by the host in C, {} by the program, each as the reference says",
         run.came[0].values().sum::<usize>(), kept.len(), to_program.len());
-    println!("plans: {} numbers and {} ways came, all that there are; {} wrong references were found out; at most {most} bytes of stack",
-        TABLE.len(), WAYS.len(), WRONG.len());
+    println!("plans: {} numbers, {} ways to come by them, all that there are; {} wrong references found out; at most {most} bytes of stack",
+        OF_THE_PLAN.len() + OF_A_SET.len() - 1, WAYS.len(), WRONG.len());
 }
