@@ -129,7 +129,7 @@ fn wrong_texts() -> Vec<(String, String)> {
     all.extend([
         (String::new(), told(1, "the text ends before its `image`") + &told(1, "the text ends before its `wish`")),
         ("image start\n# and then\n".to_string(), told(3, "the text ends before its `wish`")),
-        ("wish with a car\nimage start\n".to_string(), told(1, "expected `image`, found `wish`") + &told(2, "expected `wish`, found `image`")),
+        ("wish with a car\nimage start".to_string(), told(1, "expected `image`, found `wish`") + &told(2, "expected `wish`, found `image`")),
         ("image 00 00\nwish with car\n".to_string(), hex("0000") + &told(2, "expected `a`, found `car`")),
         ("image 00000000001B090x\nwish with a car\n".to_string(), hex("00000000001B090x")),
         ("image +0+0+0+0+0+0+0+0\nwish with a car\n".to_string(), hex("+0+0+0+0+0+0+0+0")),

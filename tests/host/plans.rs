@@ -98,7 +98,7 @@ impl Run {
         if got != returned(expected) { self.fault(name, plan, &format!("the entry returned {got}"), expected); }
         self.count(0, expected);
         self.ways.extend(ways(plan, expected));
-        let told = (expected.number, expected.set);
+        let told = (got as u8, (got >> 8) as u8);
         self.found.extend(WRONG.iter().filter(|(_, wrong)| wrong(plan) != told).map(|(name, _)| *name));
         expected
     }
@@ -131,7 +131,8 @@ impl Run {
         let wanted: BTreeSet<_> = OF_THE_PLAN.map(|row| (row.0, false)).into_iter().chain(OF_A_SET.map(|row| (row.0, true))).collect();
         for (came, by) in self.came.iter().zip(["the entry", "the program"]) {
             let came: BTreeSet<_> = came.keys().copied().collect();
-            let amiss = came.symmetric_difference(&wanted).map(|(number, set)| format!("{number}{}", if *set { " of a set" } else { "" }));
+            let told = |(number, set): &(u8, bool)| format!("{number}{}", if *set { " of a set" } else { "" });
+            let amiss = came.symmetric_difference(&wanted).map(told);
             same(&format!("numbers that {by} never told, or can't"), amiss.collect());
         }
         let missing = |all: Vec<&str>, came: &BTreeSet<&str>| all.into_iter().filter(|one| !came.contains(one)).map(str::to_string).collect();
