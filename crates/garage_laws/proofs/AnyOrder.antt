@@ -32,13 +32,13 @@ use Rattle.garage_laws.proofs.Follow.{follows, next-kept}
 
 -- ---- a station with no instruction has nothing else either
 
-abbrev Tidy : Station → Type 0
+abbrev pub Tidy : Station → Type 0
 Tidy s = (0 < s .count) ⊎ (s ≡ closed (s .bits) (s .next) (s .apart))
 
 tidy-answering : (s : Station) (i r apart : ℕ) → i < s .count → Tidy (answering s i r apart)
 tidy-answering s i r apart h = after-result Tidy s i r apart (λ t. inr refl) (λ t. inl (omega arith))
 
-tidy-step : (s t : Station) (c : Call) → Step s c t → Tidy s → Tidy t
+pub tidy-step : (s t : Station) (c : Call) → Step s c t → Tidy s → Tidy t
 tidy-step s t c (refuses n) d = d
 tidy-step s t c (opens A) d = inl (A .some)
 tidy-step s t c (fails {i} w) d = tidy-answering s i _ _ (w .1)

@@ -55,7 +55,7 @@ has-same : (l : List ℕ) (j : ℕ) → machine-jams.has l j ≡ has l j
 has-same [] j = refl
 has-same (i ∷ l) j = ap (λ (b : Bool). eqb i j || b) (has-same l j)
 
-picks-same : (n : ℕ) (l : List ℕ) → Picks n l → machine-jams.Picks n l
+pub picks-same : (n : ℕ) (l : List ℕ) → Picks n l → machine-jams.Picks n l
 picks-same n [] p = tt
 picks-same n (i ∷ l) p = (p .0, has-same l i ∙ p .1, picks-same n l (p .2))
 

@@ -49,7 +49,7 @@ same-events k [] = refl
 same-events k (result j o ∷ l) = same-events k l
 same-events k (event e ∷ l) = ap (λ (es : List ℕ). e ∷ es) (same-events k l)
 
-told-outcome : (f : Fate) → ending (outcome f) ≡ told f
+pub told-outcome : (f : Fate) → ending (outcome f) ≡ told f
 told-outcome fails = refl
 told-outcome succeeds = refl
 told-outcome sticks = refl

@@ -38,7 +38,7 @@ unfolding cars
 cars-same f g a b c = ap₂ _+_ (ap₂ (λ (x y : ℕ). x / 2 + y) a b) (ap digit c)
 
 -- the count of a row from its start
-row-count : (h : Bits) (n : ℕ) → count (from 0 n) h ≡ below h n
+pub row-count : (h : Bits) (n : ℕ) → count (from 0 n) h ≡ below h n
 row-count h n = let e : 0 + n ≡ n = omega arith in omega (arith, count-from h n 0, ap (below h) e)
 
 -- whole rows with the same weight
@@ -128,10 +128,10 @@ module _ (f : Bits) (w : Whole 20 f) where
   shuttle-even (suc (suc side)) t p = absurd (omega (arith, leb→le (suc (suc side)) 1 t))
 
   -- what the trial asks for, and an even number below a whole pair
-  abbrev Ready : Instruction → Type 0
+  abbrev pub Ready : Instruction → Type 0
   Ready i = T (allHold (known i) f) × (f (pairAt i) ≡ f (suc (pairAt i)) → below f (pairAt i) % 2 ≡ 0)
 
-  ready : (i : Instruction) → T (wellFormed i) → T (allHold (conditions i) f) → T (allHold soundRules f) → Ready i
+  pub ready : (i : Instruction) → T (wellFormed i) → T (allHold (conditions i) f) → T (allHold soundRules f) → Ready i
   ready (Belts row mask toward size) v c r = (tt, λ p. refl)
   ready (Shuttles side mask orientation toward) v c r = (tt, shuttle-even side (shuttles-side side mask orientation toward v))
   ready (Tilt side row orientation) v c r = (tt, λ p. refl)
@@ -141,7 +141,7 @@ module _ (f : Bits) (w : Whole 20 f) where
   ready Rotate v c r = (tt, λ p. refl)
 
 -- the two cells of the pair, where it is changed
-pair-cells : (i : Instruction) (f : Bits) → touches i ≡ true → T (allHold (pair i) f) → f (pairAt i) ≡ f (suc (pairAt i))
+pub pair-cells : (i : Instruction) (f : Bits) → touches i ≡ true → T (allHold (pair i) f) → f (pairAt i) ≡ f (suc (pairAt i))
 pair-cells i f e t = go (touches i) e t
   where
     a : ℕ
@@ -153,7 +153,7 @@ pair-cells i f e t = go (touches i) e t
     go false e t = clash e refl
 
 -- a cell that is neither of the pair's is not changed, nor any where the pair isn't
-alone : (e t x : Bool) → T (not e || (t && x)) → (t ≡ true → x ≡ false) → e ≡ false
+pub alone : (e t x : Bool) → T (not e || (t && x)) → (t ≡ true → x ≡ false) → e ≡ false
 alone false t x l h = refl
 alone true true x l h = absurd (subst T (h refl) l)
 alone true false x l h = absurd l

@@ -34,12 +34,12 @@ module _ (n a : ℕ) (f g : Bits)
     (out : (k : ℕ) → k < n → (k ≡ a → ⊥) → (k ≡ suc a → ⊥) → g k ≡ f k)
     (pf : f a ≡ f (suc a)) (pg : g a ≡ g (suc a)) (in-row : suc a < n) (ev : below f a % 2 ≡ 0) (w : Whole n f) where
   -- below the pair as many are occupied
-  low : (k : ℕ) → k ≤ a → below g k ≡ below f k
+  pub low : (k : ℕ) → k ≤ a → below g k ≡ below f k
   low zero h = refl
   low (suc k) h = omega (arith, low k (omega arith), ap digit (out k (omega arith) (λ e. omega arith) (λ e. omega arith)))
 
   -- above it they differ by what the pair gains
-  high : (k : ℕ) → suc a < k → k ≤ n → below g k + 2 * digit (f a) ≡ below f k + 2 * digit (g a)
+  pub high : (k : ℕ) → suc a < k → k ≤ n → below g k + 2 * digit (f a) ≡ below f k + 2 * digit (g a)
   high zero h l = omega arith
   high (suc k) h l =
       elim (decLt (suc a) k) [

@@ -1,0 +1,5 @@
+pub mod Takings
+pub mod Finding
+pub mod Listing
+pub mod Giving
+pub mod Seeking

@@ -1,0 +1,23 @@
+-- `cards::sources::row_behind` meets its contract: each return is one case of the definition. Assumes nothing.
+use Rattle.cards.specs.Private.{rowBehind}
+use borrow.Author.Tests.{eq-eqb, ne-eqb}
+use borrow.Author.Needs.{needs}
+use Rattle.cards.proofs.sources.row_behind.Statement.{statement}
+use Rattle.cards.proofs.sources.row_behind.Tie as tie
+
+sub-result : tie.Need-sub-result
+sub-result c = search needs
+
+returns : tie.Need-returns
+unfolding rowBehind
+returns c = rw (eq-eqb _ _ (c .if1 .taken))
+
+add-result : tie.Need-add-result
+add-result c = search needs
+
+returns-2 : tie.Need-returns-2
+unfolding rowBehind
+returns-2 c = rw (ne-eqb _ _ (c .if1 .left))
+
+pub row-behind-spec : {M : Type 1} → statement M
+row-behind-spec = tie.close (tie.spec sub-result returns add-result returns-2)

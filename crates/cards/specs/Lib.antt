@@ -1,0 +1,5 @@
+pub mod Cards
+pub mod Following
+pub mod Given
+pub mod Held
+pub mod Private

@@ -1,0 +1,16 @@
+pub mod Anchors
+pub mod Sliding
+pub mod Sources
+pub mod Belts
+pub mod Others
+pub mod Driving
+pub mod Laws
+pub mod Events
+pub mod Moving
+pub mod Given
+pub mod Elements
+pub mod Where
+pub mod Tested
+pub mod Whichever
+pub mod Arrays
+pub mod Torn

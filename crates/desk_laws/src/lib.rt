@@ -1,0 +1,1 @@
+// The promises of the desk; no code.
