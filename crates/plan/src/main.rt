@@ -40,7 +40,10 @@ fn read_all(buf: &mut [u8]) -> Came
                 return Came { have, failed: true };
             }
             _ => {
-                return Came { have, failed: false };
+                return Came {
+                    have,
+                    failed: false,
+                };
             }
         }
     }

@@ -1,0 +1,4 @@
+pub mod Trying
+pub mod Orders
+pub mod Numbers
+pub mod Bytes
