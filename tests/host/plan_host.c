@@ -1,0 +1,45 @@
+/* Asks plan_judge (plan.h) for each plan of standard input and writes what it returned, so that another program can compare. A plan: four
+ * bytes for its length, and its bytes. An answer: four bytes, and how many bytes of stack the call took in four more. All numbers have the
+ * lowest byte first. A plan is lent where it can't be written, and ends against a page that can't be touched; one of no bytes is lent at
+ * NULL. */
+#define _GNU_SOURCE
+#include "../fuzz/guards.h"
+#include "plan.h"
+#include "stack.h"
+
+enum { MOST = 1 << 19 }; /* more than the longest plan that has a form */
+
+struct asked {
+    const uint8_t *plan;
+    size_t size;
+    uint32_t answer;
+};
+
+static void ask(void *given) {
+    struct asked *it = given;
+    it->answer = plan_judge(it->plan, it->size);
+}
+
+static void give_number(uint32_t number) {
+    for (int at = 0; at < 4; at++)
+        putchar((int)(number >> (8 * at) & 255));
+}
+
+int main(void) {
+    struct page page;
+    open_page(&page, MOST);
+    uint8_t size[4];
+    while (fread(size, 1, sizeof size, stdin) == sizeof size) {
+        struct asked it;
+        it.size = size[0] | (size_t)size[1] << 8 | (size_t)size[2] << 16 | (size_t)size[3] << 24;
+        if (it.size > MOST || fread(page.writable + MOST - it.size, 1, it.size, stdin) != it.size) {
+            fprintf(stderr, "a plan was cut short, or is too long\n");
+            return 1;
+        }
+        it.plan = it.size == 0 ? NULL : page.readable + MOST - it.size;
+        size_t stack = stack_of(ask, &it);
+        give_number(it.answer);
+        give_number((uint32_t)stack);
+    }
+    return 0;
+}
