@@ -6,9 +6,18 @@ use native.Mathlib.Omega.{arith}
 use borrow.Author.Tests.{eq-eqb, ne-eqb, lt-ltb, le-ltb}
 use lib.ListN.{length, getD}
 use Rattle.answers.specs.Answers.{numberOf}
+use Rattle.wire.specs.Kinds.{fromLittleEndian}
+use Rattle.garage.specs.declared.Station.{Station}
+use Rattle.garage.specs.Station.{startOf}
+use Rattle.garage.specs.Calls.{imaged}
 use Rattle.plans.specs.Plans.{Plan, planSize, planIn, plainly, mostSets, tried, imagedAt, weighed, judgement}
 
 -- ---- a plan
+
+-- its image, by what the code has read
+pub imaged-so : (s : List ℕ) {t : Station} {b a : ℕ} → t ≡ startOf → b ≡ fromLittleEndian 8 0 s → a ≡ fromLittleEndian 8 8 s
+    → imaged t (record { bits = b; apart = a }) ≡ imagedAt (planIn s)
+imaged-so s e f g = rw (e, f, g)
 
 module _ (p : Plan) (number : ℕ) (e : number ≡ numberOf (imagedAt p .answer)) where
   pub image-refused : (number ≡ 0 → ⊥) → plainly number ≡ weighed p

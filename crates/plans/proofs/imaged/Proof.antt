@@ -6,6 +6,7 @@ use Rattle.wire.specs.Kinds.{fromLittleEndian}
 use Rattle.wire.proofs.Parts.{from-on}
 use Rattle.garage.proofs.Turns.{rebuilt, kept-imaged}
 use Rattle.plans.proofs.Walking.{number-at}
+use Rattle.plans.proofs.Cases.{imaged-so}
 use Rattle.plans.proofs.imaged.Statement.{statement}
 use Rattle.plans.proofs.imaged.Tie as tie
 
@@ -37,7 +38,7 @@ returns : tie.Need-returns
 returns c =
     let s = now (c .before .before .before .before .before .before .before .before .args .plan) in
     c .after .ensures ∙ rebuilt _ _ (c .before .before .imaged .ensures) (kept-imaged _ _ _)
-    ∙ rw (c .before .before .before .before .before .before .start .ensures, c .before .before .before .image-of2 .ensures, c .before .before .before .before .image-of .ensures ∙ ap (fromLittleEndian 8 0) (from-on s 8) ∙ number-at 8 8 s)
+    ∙ imaged-so s (c .before .before .before .before .before .before .start .ensures) (c .before .before .before .image-of2 .ensures) (c .before .before .before .before .image-of .ensures ∙ ap (fromLittleEndian 8 0) (from-on s 8) ∙ number-at 8 8 s)
 
 pub imaged-spec : {M : Type 1} → statement M
 imaged-spec =
