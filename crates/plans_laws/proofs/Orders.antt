@@ -18,13 +18,13 @@ use Rattle.garage_laws.specs.Orders.{resultsOf, eventsOf, succeeds, AsChosen, O
 use Rattle.garage_laws.proofs.Calls.{request-has}
 use Rattle.garage_laws.proofs.Demands.{any-order, only-stuck-sets-apart}
 use Rattle.plans.specs.Plans.{PlanSet}
-use Rattle.plans_laws.specs.Trials.{asks, successes, opened, afterSet, afterSets, EachTaken}
+use Rattle.plans_laws.specs.Trials.{asks, success, successes, opened, afterSet, afterSets, EachTaken}
 use Rattle.plans_laws.proofs.Trying.{calls-snoc}
 
 -- ---- the order in which a plan is judged
 
 -- one more result at the end of a list
-results-snoc : (i k j : ℕ) (l : List Call) → resultsOf i (l ++ (run.result k j 1 ∷ [])) ≡ resultsOf i l + cond (eqb j i) 1 0
+results-snoc : (i k j : ℕ) (l : List Call) → resultsOf i (l ++ (success k j ∷ [])) ≡ resultsOf i l + cond (eqb j i) 1 0
 results-snoc i k j [] = let z : cond (eqb j i) 1 0 + 0 ≡ 0 + cond (eqb j i) 1 0 = omega arith in z
 results-snoc i k j (run.request n set ∷ l) = results-snoc i k j l
 results-snoc i k j (run.reports r ∷ l) = omega (arith, results-snoc i k j l)
@@ -32,7 +32,7 @@ results-snoc i k j (run.event e ∷ l) = results-snoc i k j l
 results-snoc i k j (run.pictures p ∷ l) = results-snoc i k j l
 results-snoc i k j (run.ask ∷ l) = results-snoc i k j l
 
-events-snoc : (k j : ℕ) (l : List Call) → eventsOf l ≡ [] → eventsOf (l ++ (run.result k j 1 ∷ [])) ≡ []
+events-snoc : (k j : ℕ) (l : List Call) → eventsOf l ≡ [] → eventsOf (l ++ (success k j ∷ [])) ≡ []
 events-snoc k j [] e = refl
 events-snoc k j (run.request n set ∷ l) e = events-snoc k j l e
 events-snoc k j (run.reports r ∷ l) e = events-snoc k j l e
@@ -40,7 +40,7 @@ events-snoc k j (run.event w ∷ l) e = let z : _≡_ {A = ℕ} 0 1 = cc in absu
 events-snoc k j (run.pictures p ∷ l) e = events-snoc k j l e
 events-snoc k j (run.ask ∷ l) e = events-snoc k j l e
 
-chosen-snoc : (k j : ℕ) (l : List Call) → AsChosen k (λ i. succeeds) l → AsChosen k (λ i. succeeds) (l ++ (run.result k j 1 ∷ []))
+chosen-snoc : (k j : ℕ) (l : List Call) → AsChosen k (λ i. succeeds) l → AsChosen k (λ i. succeeds) (l ++ (success k j ∷ []))
 chosen-snoc k j [] c = (refl, refl, tt)
 chosen-snoc k j (run.request n set ∷ l) c = c
 chosen-snoc k j (run.reports r ∷ l) c = (c .0, c .1, chosen-snoc k j l (c .2))
@@ -97,7 +97,7 @@ images-append (run.ask ∷ l) m a b = images-append l m a b
 
 no-images : (k n : ℕ) → NoImages (successes k n)
 no-images k zero = tt
-no-images k (suc n) = images-append (successes k n) (run.result k n 1 ∷ []) (no-images k n) tt
+no-images k (suc n) = images-append (successes k n) (success k n ∷ []) (no-images k n) tt
 
 -- what every one of them has
 pub record Met (s : Station) : Type 0 where
@@ -128,8 +128,8 @@ module _ (s : Station) (M : Met s) (x : PlanSet) (e : said s (asks x) ≡ 0) whe
   results-whole : (k n : ℕ) (t : Station) → calls t (successes k n) .apart ≡ t .apart
   results-whole k zero t = refl
   results-whole k (suc n) t =
-      ap (λ (u : Station). u .apart) (calls-snoc (successes k n) t (run.result k n 1))
-      ∙ ⊎-elim (λ z. z) (λ z. absurd (let w : 1 ≡ 2 = z .1 in omega arith)) (only-stuck-sets-apart (calls t (successes k n)) (run.result k n 1))
+      ap (λ (u : Station). u .apart) (calls-snoc (successes k n) t (success k n))
+      ∙ ⊎-elim (λ z. z) (λ z. absurd (let w : 1 ≡ 2 = z .1 in omega arith)) (only-stuck-sets-apart (calls t (successes k n)) (success k n))
       ∙ results-whole k n t
 
   pub after-met : Met (afterSet s x)

@@ -266,7 +266,7 @@ plan-numbers s b = subst Numbered (sym (value-is s (case-of s))) (numbers s b (c
 
 pub plan-any-order : PlanAnyOrder
 plan-any-order s b e k h l O =
-    let (F, m) = plan-exactly s .0 e in
+    let (F, m) = told-0 s (case-of s) (told s e) in
     let (before, here) = taken-at (planIn s .sets) (started (planIn s)) k h (F .taken) in
     let A = alike (metBy (planIn s) k) (met-by s b (F .begun) k before) (setOfPlan (planIn s) k) here l O in
     (A .fair .0, A .same)

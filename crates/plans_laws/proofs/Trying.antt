@@ -18,13 +18,12 @@ use Rattle.garage.specs.declared.Outcome.{Outcome}
 use Rattle.garage.specs.declared.Report.{Report}
 use Rattle.garage.specs.Station.{startOf, present, fit}
 use Rattle.garage.specs.Calls as station
-use Rattle.garage_laws.specs.Runs as run
 use Rattle.garage_laws.specs.Runs.{Call, call, said, left, calls}
 use Rattle.garage_laws.proofs.Fits.{fit-start}
 use Rattle.garage_laws.proofs.Always.{fit-kept, fit-always}
 use Rattle.garage_laws.proofs.Issues.{in-turn}
 use Rattle.plans.specs.Plans.{PlanSet, Plan, plainly, wished, asked, done, succeeded, tried, imagedAt}
-use Rattle.plans_laws.specs.Trials.{imageOf, asks, successes, opened, afterSet, afterSets, EachTaken, started}
+use Rattle.plans_laws.specs.Trials.{imageOf, asks, success, successes, opened, afterSet, afterSets, EachTaken, started}
 
 -- ---- past the test of fitness
 
@@ -36,7 +35,7 @@ resulted-is : (s : Station) (r : Report) → fit s ≡ true → station.resulted
 unfolding station.result
 resulted-is s r f = rw f
 
-done-is : (s : Station) (i : ℕ) → fit s ≡ true → done s i ≡ left s (run.result (present s) i 1)
+done-is : (s : Station) (i : ℕ) → fit s ≡ true → done s i ≡ left s (success (present s) i)
 done-is s i f = ap (λ (o : Outcome). o .station) (resulted-is s _ f)
 
 pub image-is : (p : Plan) → imagedAt p ≡ call startOf (imageOf p)
@@ -54,8 +53,8 @@ kept-present : (s : Station) (k n : ℕ) → present (calls s (successes k n)) �
 kept-present s k zero = refl
 kept-present s k (suc n) =
     let t = calls s (successes k n) in
-    ap present (calls-snoc (successes k n) s (run.result k n 1))
-    ∙ ap (λ (m : ℕ). (m + 65535) % 65536) (in-turn t (run.result k n 1) .1)
+    ap present (calls-snoc (successes k n) s (success k n))
+    ∙ ap (λ (m : ℕ). (m + 65535) % 65536) (in-turn t (success k n) .1)
     ∙ kept-present s k n
 
 succeeded-is : (n : ℕ) (s : Station) → fit s ≡ true → succeeded n s ≡ calls s (successes (present s) n)
@@ -66,8 +65,8 @@ succeeded-is (suc n) s f =
     let t = calls s (successes k n) in
     ap (λ (u : Station). done u n) (succeeded-is n s f)
     ∙ done-is t n (fit-always (successes k n) s f)
-    ∙ ap (λ (m : ℕ). left t (run.result m n 1)) (kept-present s k n)
-    ∙ sym (calls-snoc (successes k n) s (run.result k n 1))
+    ∙ ap (λ (m : ℕ). left t (success m n)) (kept-present s k n)
+    ∙ sym (calls-snoc (successes k n) s (success k n))
 
 -- the station after a set, as it is judged
 pub after-is : (s : Station) (x : PlanSet) → fit s ≡ true → succeeded (x .count) (asked s x .station) ≡ afterSet s x

@@ -24,10 +24,13 @@ imageOf p = run.image (p .bits) (p .apart)
 abbrev pub asks : PlanSet → Call
 asks x = run.request (x .count) (setOf (x .bytes))
 
--- a success of each of the first n instructions of the set with issue k, one after the other
+-- instruction i of the set with issue k succeeds; the first n of them do, one after the other
+abbrev pub success : ℕ → ℕ → Call
+success k i = run.result k i 1
+
 abbrev pub successes : ℕ → ℕ → List Call
 successes k zero = []
-successes k (suc n) = successes k n ++ (run.result k n 1 ∷ [])
+successes k (suc n) = successes k n ++ (success k n ∷ [])
 
 -- the station on which a set is outstanding; after all its instructions succeed
 abbrev pub opened : Station → PlanSet → Station
