@@ -1,11 +1,11 @@
 -- Document 02's plans: a starting image, sets of instructions one after the other, and a wish of the last record. What the bytes of a plan
 -- say, and how it is judged: by the station's own calls, from its start. Assumes nothing.
-use mathlib.Core.Bool.{Bool, cond}
+use mathlib.Core.Bool.{cond}
 use mathlib.Core.List.{List, [], _∷_}
 use Prim.Native.Nat.{ℕ, zero, suc, _+_, _*_}
 use lib.Dec.{eqb, ltb}
 use lib.ListN.{length, getD, take, drop}
-use Rattle.bits.specs.Bits.{Bits, bit}
+use Rattle.bits.specs.Bits.{bit}
 use Rattle.floor.specs.Floor.{raisedCar, street}
 use Rattle.floor.specs.Tests.{Test, set, free, both, holds, heightIs}
 use Rattle.answers.specs.Answers.{numberOf}

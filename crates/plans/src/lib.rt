@@ -6,7 +6,7 @@ ghost use Prim.Native.Nat.{_*_};
 ghost use lib.ListN.{length};
 ghost use Rattle.bits.specs.Bits.{bit};
 ghost use Rattle.floor.specs.Tests.{holds};
-ghost use Rattle.garage.specs.Calls.{requested, imaged};
+ghost use Rattle.garage.specs.Calls.{requested};
 ghost use Rattle.wire.specs.Kinds.{setOf};
 ghost use Rattle.plans.specs.Plans.{planSize, planIn, plainly, wished, done, succeeded, tried, imagedAt, weighed, judgement};
 use floor::masks::HEIGHT_HIGH;
@@ -28,16 +28,16 @@ pub struct Judged {
 pub const NO_SET: u8 = 255;
 
 // The most sets of a plan.
-pub const SETS_MOST: u8 = 64;
+const SETS_MOST: u8 = 64;
 
-// The numbers of a judgement that no request has.
-pub const CUT_SHORT: u8 = 1;
+// The numbers that are told of a whole plan, besides its image's.
+const CUT_SHORT: u8 = 1;
 
-pub const NOT_A_PLAN: u8 = 4;
+const NOT_A_PLAN: u8 = 4;
 
-pub const TOO_MANY_SETS: u8 = 35;
+const TOO_MANY_SETS: u8 = 35;
 
-pub const WISH_NOT_MET: u8 = 36;
+const WISH_NOT_MET: u8 = 36;
 
 // Where it stands what is set apart, the wish, how many sets there are, and the first of them.
 const APART: usize = 8;

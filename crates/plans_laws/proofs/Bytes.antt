@@ -1,16 +1,16 @@
 -- A plan and its bytes: what is written reads back, what reads is the only form, and no plan is longer than 325,398 bytes. Assumes nothing.
 use mathlib.Core.Path.{_≡_, refl, sym, ap, ap₂, _∙_}
 use mathlib.Core.List.{List, [], _∷_, _++_}
-use Prim.Native.Nat.{ℕ, zero, suc, _+_, _*_, _^_, _≤_, _<_}
+use Prim.Native.Nat.{ℕ, zero, suc, _+_, _*_, _≤_}
 use native.Mathlib.Omega.{arith}
-use lib.ListN.{length, getD, take, drop, length-append, length-drop, length-take, take-append-drop}
-use lib.Seq.{take-at, drop-at, drop-drop, drop-cons, length-take-le, getD-drop}
+use lib.ListN.{length, getD, take, drop, length-append, length-drop, take-append-drop}
+use lib.Seq.{take-at, drop-at, drop-drop, drop-cons}
 use Rattle.wire.specs.Kinds.{littleEndian, fromLittleEndian}
 use Rattle.wire_laws.specs.Statements.{Bytes}
-use Rattle.wire_laws.proofs.Numbers.{bytes-take, bytes-drop, number-back, number-form}
-use Rattle.plans.specs.Plans.{PlanSet, Plan, sizes, sizeOf, head, setIn, setsIn, planIn, planSize}
+use Rattle.wire_laws.proofs.Numbers.{bytes-drop, number-back, number-form}
+use Rattle.plans.specs.Plans.{PlanSet, Plan, sizes, sizeOf, setIn, setsIn, planIn, planSize}
 use Rattle.plans.proofs.Walking.{number-at, plan-sets}
-use Rattle.plans_laws.specs.Trials.{setBytes, setsBytes, planBytes, IsPlan, Fives, Typed}
+use Rattle.plans_laws.specs.Trials.{setsBytes, planBytes, Fives, Typed}
 use Rattle.plans_laws.specs.Promises.{PlanReadsBack, PlanOneForm}
 
 -- ---- read back
@@ -55,8 +55,34 @@ sets-form (suc n) (c ∷ t) h =
     rw z (ap (λ (u : List ℕ). c ∷ (take (5 * c) t ++ u)) (sets-form n (drop (5 * c) t) rest) ∙ ap (_∷_ c) (take-append-drop (5 * c) t))
 
 -- the head and what follows it
-in-parts : (s : List ℕ) → 18 ≤ length s → take 8 s ++ take 8 (drop 8 s) ++ getD s 16 0 ∷ getD s 17 0 ∷ drop 18 s ≡ s
-in-parts s h = ?
+in-parts : (s : List ℕ) → 18 ≤ length s → take 8 s ++ (take 8 (drop 8 s) ++ (getD s 16 0 ∷ getD s 17 0 ∷ drop 18 s)) ≡ s
+in-parts s h =
+    let last : drop 17 s ≡ getD s 17 0 ∷ drop 18 s = drop-cons s 17 0 (omega arith) in
+    let both : drop 16 s ≡ getD s 16 0 ∷ getD s 17 0 ∷ drop 18 s = drop-cons s 16 0 (omega arith) ∙ ap (_∷_ (getD s 16 0)) last in
+    let second : drop 8 s ≡ take 8 (drop 8 s) ++ getD s 16 0 ∷ getD s 17 0 ∷ drop 18 s =
+    sym (take-append-drop 8 (drop 8 s)) ∙ ap (λ (t : List ℕ). take 8 (drop 8 s) ++ t) (drop-drop 8 8 s ∙ both) in
+    ap (λ (t : List ℕ). take 8 s ++ t) (sym second) ∙ take-append-drop 8 s
 
 pub plan-one-form : PlanOneForm
-plan-one-form s b P = ?
+plan-one-form s b P =
+    let l : 18 ≤ length s = omega (arith, P .whole) in
+    let rest : length (drop 18 s) ≡ sizes (planIn s .sets) = omega (arith, P .whole, length-drop 18 s) in
+    let x : littleEndian 8 (fromLittleEndian 8 0 s) ≡ take 8 s = number-form 8 s b (omega arith) in
+    let y : littleEndian 8 (fromLittleEndian 8 8 s) ≡ take 8 (drop 8 s) =
+    ap (littleEndian 8) (sym (number-at 8 8 s)) ∙ number-form 8 (drop 8 s) (bytes-drop 8 s b) (omega (arith, length-drop 8 s)) in
+    let z : setsBytes (planIn s .sets) ≡ drop 18 s = sets-form (getD s 17 0) (drop 18 s) rest in
+    joined (littleEndian 8 (fromLittleEndian 8 0 s)) (littleEndian 8 (fromLittleEndian 8 8 s)) x y (plan-sets s) z ∙ in-parts s l
+  where
+    -- each part by the bytes that it is
+    joined : (f g : List ℕ) {f' g' : List ℕ} {n : ℕ} {r r' : List ℕ} → f ≡ f' → g ≡ g' → n ≡ getD s 17 0 → r ≡ r'
+        → f ++ (g ++ (getD s 16 0 ∷ n ∷ r)) ≡ f' ++ (g' ++ (getD s 16 0 ∷ getD s 17 0 ∷ r'))
+    joined f g a c d e = ap₂ _++_ a (ap₂ _++_ c (ap₂ (λ (n : ℕ) (r : List ℕ). getD s 16 0 ∷ n ∷ r) d e))
+
+-- ---- how long a plan can be
+
+sets-long : (n : ℕ) (t : List ℕ) → Bytes t → sizes (setsIn n t) ≤ 1276 * n
+sets-long zero t b = omega arith
+sets-long (suc n) t b = omega (arith, b 0, sets-long n (drop (sizeOf (setIn t)) t) (bytes-drop (sizeOf (setIn t)) t b))
+
+pub plan-long : (s : List ℕ) → Bytes s → planSize (planIn s) ≤ 325398
+plan-long s b = omega (arith, b 17, sets-long (getD s 17 0) (drop 18 s) (bytes-drop 18 s b))

@@ -2,3 +2,4 @@ pub mod Trying
 pub mod Orders
 pub mod Numbers
 pub mod Bytes
+pub mod Promises

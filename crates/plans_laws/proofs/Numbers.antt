@@ -1,13 +1,12 @@
 -- Which numbers a set of a plan is told: no set is outstanding there and nothing is set apart. Assumes nothing.
 use mathlib.Core.Path.{_≡_, refl, sym, ap, subst, _∙_}
 use mathlib.Core.Logic.{_⊎_, inl, inr}
-use mathlib.Core.Bool.{Bool, true, false, cond, _&&_, and-false}
+use mathlib.Core.Bool.{Bool, true, false, _&&_, and-false}
 use mathlib.Core.List.{List, []}
 use Prim.Native.Nat.{ℕ, _^_, _≤_, _<_}
 use native.Mathlib.Omega.{arith}
 use lib.Dec.{eqb, ltb}
 use borrow.Author.Tests.{le-ltb}
-use lib.ListN.{getD}
 use Rattle.bits.specs.Bits.{bit}
 use Rattle.bits.specs.Search.{least}
 use Rattle.bits.proofs.Cases.{clash}
@@ -22,13 +21,12 @@ use Rattle.garage.specs.declared.Outcome.{Outcome}
 use Rattle.garage.specs.Held.{codeAt, heldParts, bad, overlapsEarlier, barred, whyNot, touches, crossesDrive}
 use Rattle.garage.specs.Station.{startOf, fit}
 use Rattle.garage.specs.Calls as station
-use Rattle.garage_laws.specs.Runs as run
 use Rattle.garage_laws.specs.Runs.{said, byImage}
 use Rattle.garage_laws.proofs.Reasons.{why-number, least-fault}
 use Rattle.garage_laws.proofs.Calls.{either, no-fault}
 use Rattle.garage_laws.proofs.Always.{begins-has}
 use Rattle.garage_laws.proofs.Demands.{image-taken}
-use Rattle.plans.specs.Plans.{Plan, planIn}
+use Rattle.plans.specs.Plans.{planIn}
 use Rattle.plans_laws.specs.Trials.{imageOf, started}
 use Rattle.plans_laws.specs.Promises.{OfSet, badField, tooMany, emptySet, overlap, notAllowed, outOfTurn}
 use Rattle.plans_laws.proofs.Orders.{Met}
@@ -42,7 +40,7 @@ pub record Told (o : Outcome) : Type 0 where
 -- nothing touches what is set apart, where nothing is
 untouching : (set : List ℕ) (i : ℕ) → touches set 0 i ≡ false
 unfolding touches
-untouching set i = none-is 64 _ (λ k h. ap (λ (b : Bool). bit (heldParts (codeAt set i)) k && b) (bit-none k) ∙ and-false _)
+untouching set i = none-is 64 _ (λ k h. ap (λ (b : Bool). bit (heldParts (codeAt set i)) k && b) (bit-none k) ∙ and-false (bit (heldParts (codeAt set i)) k))
 
 module _ (s : Station) (f : fit s ≡ true) (idle : s .count ≡ 0) (whole : s .apart ≡ 0) (n : ℕ) (set : List ℕ) where
   none-apart : ltb (least n (touches set (s .apart))) n ≡ false

@@ -1,26 +1,24 @@
 -- The results of a set in any order: the order in which a plan is judged is one of them, and every station that a plan meets is reached from
 -- the image. Assumes nothing.
-use mathlib.Core.Path.{_≡_, refl, sym, ap, ap₂, subst, _∙_}
+use mathlib.Core.Path.{_≡_, refl, sym, ap, _∙_}
 use mathlib.Core.Logic.{⊎-elim}
-use mathlib.Core.Bool.{Bool, true, false, cond}
+use mathlib.Core.Bool.{cond}
 use mathlib.Core.List.{List, [], _∷_, _++_}
-use Prim.Native.Nat.{ℕ, zero, suc, _+_, _^_, _≤_, _<_}
+use Prim.Native.Nat.{ℕ, zero, suc, _+_, _≤_, _<_}
 use native.Mathlib.Omega.{arith}
 use lib.Dec.{eqb}
-use borrow.Author.Tests.{eqb-true, eqb-false, eq-eqb, ne-eqb}
-use lib.ListN.{length, take}
+use borrow.Author.Tests.{eqb-true, eqb-false, ne-eqb}
 use Rattle.bits.proofs.Cases.{split}
 use Rattle.wire.specs.Kinds.{setOf}
 use Rattle.garage.specs.declared.Station.{Station}
-use Rattle.garage.specs.declared.Report.{Report}
-use Rattle.garage.specs.Station.{startOf, present}
+use Rattle.garage.specs.Station.{present}
 use Rattle.garage_laws.specs.Runs as run
-use Rattle.garage_laws.specs.Runs.{Call, said, left, calls, Begins, byImage, NoImages, Reached}
-use Rattle.garage_laws.specs.Orders.{resultsOf, eventsOf, Fate, succeeds, AsChosen, Order, Alike}
+use Rattle.garage_laws.specs.Runs.{Call, said, left, calls, NoImages, Reached}
+use Rattle.garage_laws.specs.Orders.{resultsOf, eventsOf, succeeds, AsChosen, Order, Alike}
 use Rattle.garage_laws.proofs.Calls.{request-has}
 use Rattle.garage_laws.proofs.Demands.{any-order, only-stuck-sets-apart}
-use Rattle.plans.specs.Plans.{PlanSet, Plan}
-use Rattle.plans_laws.specs.Trials.{imageOf, asks, successes, opened, afterSet, afterSets, EachTaken, started}
+use Rattle.plans.specs.Plans.{PlanSet}
+use Rattle.plans_laws.specs.Trials.{asks, successes, opened, afterSet, afterSets, EachTaken}
 use Rattle.plans_laws.proofs.Trying.{calls-snoc}
 
 -- ---- the order in which a plan is judged

@@ -1,13 +1,13 @@
 -- What is judged past the test of fitness is what the calls of the station do: every station that a plan meets is fit. And how the sets of a
 -- plan can end: all are taken in their turn, or one is the first refused. Assumes nothing.
-use mathlib.Core.Path.{_≡_, refl, sym, ap, subst, _∙_}
+use mathlib.Core.Path.{_≡_, refl, sym, ap, _∙_}
 use mathlib.Core.Logic.{_⊎_, inl, inr}
-use mathlib.Core.Bool.{true, false, cond}
+use mathlib.Core.Bool.{true, cond}
 use mathlib.Core.List.{List, [], _∷_, _++_}
 use Prim.Native.Nat.{ℕ, zero, suc, _+_, _%_, _<_}
 use native.Mathlib.Omega.{arith}
 use lib.Dec.{eqb}
-use borrow.Author.Tests.{eqb-true, eqb-false, eq-eqb, ne-eqb}
+use borrow.Author.Tests.{eqb-true, eqb-false, ne-eqb}
 use lib.ListN.{length, getD, take}
 use Rattle.bits.specs.Bits.{bit}
 use Rattle.bits.proofs.Cases.{split}
@@ -77,6 +77,10 @@ after-is s x f =
 
 pub fit-after : (s : Station) (x : PlanSet) → fit s ≡ true → fit (afterSet s x) ≡ true
 fit-after s x f = fit-always (successes (present (opened s x)) (x .count)) (opened s x) (fit-kept s (asks x) f)
+
+pub fit-all : (xs : List PlanSet) (s : Station) → fit s ≡ true → fit (afterSets s xs) ≡ true
+fit-all [] s f = f
+fit-all (x ∷ xs) s f = fit-all xs (afterSet s x) (fit-after s x f)
 
 pub fit-started : (p : Plan) → fit (started p) ≡ true
 fit-started p = fit-kept startOf (imageOf p) fit-start

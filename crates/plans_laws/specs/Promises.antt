@@ -6,7 +6,6 @@ use mathlib.Core.Bool.{true, false}
 use mathlib.Core.List.{List, []}
 use Prim.Native.Nat.{ℕ, _≤_, _<_}
 use lib.ListN.{length, take}
-use Rattle.garage.specs.declared.Station.{Station}
 use Rattle.garage.specs.Station.{startOf, present}
 use Rattle.garage_laws.specs.Runs.{Call, said, calls}
 use Rattle.garage_laws.specs.Orders.{succeeds, Order, Fair}

@@ -1,10 +1,10 @@
 -- A plan as calls of the station: the image, and for each set its request and a success of each of its instructions; and a plan as its bytes.
 -- Assumes nothing.
 use mathlib.Core.Path.{_≡_}
-use mathlib.Core.Bool.{Bool, true}
+use mathlib.Core.Bool.{Bool}
 use mathlib.Core.List.{List, [], _∷_, _++_}
-use Prim.Native.Nat.{ℕ, zero, suc, _+_, _*_, _^_, _≤_, _<_}
-use lib.ListN.{length, getD, take, drop}
+use Prim.Native.Nat.{ℕ, zero, suc, _*_, _^_, _≤_, _<_}
+use lib.ListN.{length, getD, take}
 use Rattle.bits.specs.Bits.{bit}
 use Rattle.floor.specs.Tests.{holds}
 use Rattle.wire.specs.Kinds.{littleEndian, setOf}
@@ -74,7 +74,7 @@ setsBytes [] = []
 setsBytes (x ∷ xs) = setBytes x ++ setsBytes xs
 
 abbrev pub planBytes : Plan → List ℕ
-planBytes p = littleEndian 8 (p .bits) ++ littleEndian 8 (p .apart) ++ p .wish ∷ length (p .sets) ∷ setsBytes (p .sets)
+planBytes p = littleEndian 8 (p .bits) ++ (littleEndian 8 (p .apart) ++ (p .wish ∷ length (p .sets) ∷ setsBytes (p .sets)))
 
 -- some bytes are a plan's: neither cut short nor with bytes left over, and the wish is one of the two
 pub record IsPlan (s : List ℕ) : Type 0 where
