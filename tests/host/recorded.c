@@ -22,12 +22,12 @@ static void line(const char *name, int number, int place) {
         snprintf(at, left, "%s-%d %" PRIu32 "\n", name, number, value);
 }
 
-static bool in_force(int number) { return number != 9 && number != 14 && number != 18 && number != 19 && number <= STATION_SET_APART; }
+static bool in_force(int number) { return number != 9 && number != 14 && number != 18 && number != 19; }
 
 static void lines(void) {
     for (int kind = 1; kind <= 5; kind++)
         line("kind", kind, REPORT_KIND(kind));
-    for (int number = 0; number <= 33; number++)
+    for (int number = STATION_TAKEN; number <= STATION_KEPT_OPEN; number++)
         if (in_force(number))
             line("answer", number, REPORT_ANSWER(number));
     for (int op = GARAGE_BELTS; op <= GARAGE_ROTATE; op++)
