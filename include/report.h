@@ -79,7 +79,7 @@ enum {
     (REPORT_BYTE(totals, place, 0) | REPORT_BYTE(totals, place, 1) | REPORT_BYTE(totals, place, 2) | REPORT_BYTE(totals, place, 3))
 
 /* The bytes of stack that a call may take on x86-64, below the frame that makes it. No theorem says so: it is added up over the archive's
- * instructions for every path. That comes to about 2620 for report_lines, 1560 for report_message and 140 for report_start; the C
+ * instructions for every path. That comes to about 2620 for report_lines, 1590 for report_message and 140 for report_start; the C
  * library's memcpy and the like are left out. */
 enum { REPORT_STACK_MOST = 3072 };
 
