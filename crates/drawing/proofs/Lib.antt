@@ -4,3 +4,4 @@ pub mod Words
 pub mod Begun
 pub mod Telling
 pub mod Standing
+pub mod Sixteen

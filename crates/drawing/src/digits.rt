@@ -65,25 +65,27 @@ pub fn gather(text: &[u8]) -> Gathered
     let mut count: usize = 0;
     let mut i: usize = 0;
     while i < text.len() {
-        if !is_blank(text[i]) {
-            if count == 16 {
-                return Gathered { count: 17, bytes };
-            }
-            bytes[count] = text[i];
-            count += 1;
-        }
+        let b = text[i];
         i += 1;
+        if is_blank(b) {
+            continue;
+        }
+        if count == 16 {
+            return Gathered { count: 17, bytes };
+        }
+        bytes[count] = b;
+        count += 1;
     }
     Gathered { count, bytes }
 }
 
 // Each of sixteen bytes is a digit.
-pub fn all_digits(bytes: [u8; 16]) -> bool
-    ensures { λ b. ⌜ b ≡ areDigits bytes ⌝ }
+pub fn all_digits(sixteen: [u8; 16]) -> bool
+    ensures { λ b. ⌜ b ≡ areDigits sixteen ⌝ }
 {
     let mut j: usize = 0;
     while j < 16 {
-        if digit_of(bytes[j]) == 16 {
+        if 16 <= digit_of(sixteen[j]) {
             return false;
         }
         j += 1;
@@ -92,16 +94,16 @@ pub fn all_digits(bytes: [u8; 16]) -> bool
 }
 
 // The number that sixteen digits say: two a byte, the lowest byte first.
-pub fn number_in(bytes: [u8; 16]) -> u64
-    requires { ⌜ areDigits bytes ≡ true ⌝ }
-    ensures { λ r. ⌜ r ≡ numberIn 8 0 bytes ⌝ }
+pub fn number_in(sixteen: [u8; 16]) -> u64
+    requires { ⌜ areDigits sixteen ≡ true ⌝ }
+    ensures { λ r. ⌜ r ≡ numberIn 8 0 sixteen ⌝ }
 {
     let mut number: u64 = 0;
     let mut k: usize = 8;
     while 0 < k {
         k -= 1;
-        let high = digit_of(bytes[2 * k]);
-        let low = digit_of(bytes[2 * k + 1]);
+        let high = digit_of(sixteen[2 * k]);
+        let low = digit_of(sixteen[2 * k + 1]);
         number = number * 256 + 16 * (high as u64) + low as u64;
     }
     number
