@@ -10,7 +10,7 @@ use Rattle.floor.specs.Floor as floor
 use Rattle.floor.specs.Floor.{raisedCar, heightLow, heightHigh}
 use Rattle.floor.specs.Sound.{sound}
 use Rattle.lines.specs.Bytes.{ascii}
-use Rattle.drawing.specs.declared.Read.{Read}
+use Rattle.drawing.specs.declared.Found.{Found}
 use Rattle.drawing.specs.Drawing.{mark, letter, lineFeed, ended, heightName, carWord, driveWord}
 
 -- ---- lines
@@ -124,11 +124,11 @@ bitsIn s k = cond (ltb k 40) (cellIn s k) (cond (ltb k 52) (slotIn s (k - 40)) (
 -- ---- a drawing read
 
 -- refused
-abbrev pub unread : ℕ → ℕ → Read
+abbrev pub unread : ℕ → ℕ → Found
 unread number place = record { number = number; place = place; bits = 0 }
 
 -- 41 with the first bad line where the text isn't of this form; then 15 where the record that it draws isn't sound
-unfoldable pub reading : List ℕ → Read
+unfoldable pub reading : List ℕ → Found
 reading s =
     let r = image (bitsIn s) in
     cond (ltb (firstBad s) 7) (unread 41 (firstBad s))
