@@ -1,16 +1,16 @@
 -- What it says that a text begins with a word, and the loop that tries it: the invariant, where it starts, one turn, and how it ends.
 -- Assumes nothing.
 use mathlib.Core.Path.{_≡_, refl, sym, ap, ap₂, _∙_}
-use mathlib.Core.Bool.{Bool, true, false, _&&_}
+use mathlib.Core.Bool.{true, false}
 use mathlib.Core.List.{List, [], _∷_, _++_}
-use Prim.Native.Nat.{ℕ, suc, _+_, _≤_, _<_}
+use Prim.Native.Nat.{ℕ, _+_, _≤_, _<_}
 use native.Mathlib.Omega.{arith}
 use native.Mathlib.Numerals.{add-one}
 use lib.Dec.{eqb}
 use lib.ListN.{length, getD, take, drop, length-drop, length-take, take-append-drop}
-use lib.Seq.{take-suc, take-length, take-at, drop-at, take-all, getD-take, getD-drop}
+use lib.Seq.{take-suc, take-length, take-at, drop-at, getD-take, getD-drop}
 use borrow.Author.Tests.{eqb-true, eq-eqb}
-use Rattle.bits.proofs.Cases.{split, both, off}
+use Rattle.bits.proofs.Cases.{both, off}
 use Rattle.drawing.specs.Reading.{same, begins, after}
 
 -- ---- two texts are the same

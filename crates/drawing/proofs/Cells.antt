@@ -1,16 +1,15 @@
 -- The place of a cell in the grid, and what the grid holds there; the bits that a text draws, place by place. Assumes nothing.
-use mathlib.Core.Path.{_≡_, refl, sym, ap, _∙_}
-use mathlib.Core.Bool.{Bool, true, false, cond, _||_}
+use mathlib.Core.Path.{_≡_, refl, ap, _∙_}
+use mathlib.Core.Bool.{_||_}
 use mathlib.Core.List.{List, []}
 use Prim.Native.Nat.{ℕ, _+_, _*_, _-_, _/_, _%_, _≤_, _<_}
 use native.Mathlib.Omega.{arith}
 use lib.Dec.{eqb, ltb}
 use lib.ListN.{getD}
 use borrow.Author.Tests.{ltb-true, ltb-false, lt-ltb, le-ltb}
-use Rattle.bits.specs.Bits.{Bits, bit}
+use Rattle.bits.specs.Bits.{Bits}
 use Rattle.bits.proofs.Cases.{split}
 use Rattle.drawing.specs.declared.Lift.{Lift}
-use Rattle.drawing.specs.Drawing.{mark}
 use Rattle.drawing.specs.Private.{cellAt, grid, rowOf, placeOf, occupied, upperAt, wordsOf, drawnAt, slotAt, liftBit, bitsAt}
 use Rattle.drawing.proofs.Tables.{getD-table}
 

@@ -5,3 +5,7 @@ pub mod Begun
 pub mod Telling
 pub mod Standing
 pub mod Sixteen
+pub mod FirstLines
+pub mod LiftLines
+pub mod Finding
+pub mod Drawn

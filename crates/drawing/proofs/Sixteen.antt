@@ -1,23 +1,21 @@
 -- Hex digits: their values, sixteen of them gathered from a text and as a number, and an image's line byte by byte. Assumes nothing.
-use mathlib.Core.Path.{_≡_, refl, sym, ap, ap₂, _∙_}
+use mathlib.Core.Path.{_≡_, refl, sym, ap, _∙_}
 use mathlib.Core.Bool.{Bool, true, false, not, cond, _&&_}
 use mathlib.Core.List.{List, [], _∷_, _++_, append-assoc, append-nil}
-use Prim.Native.Nat.{ℕ, zero, suc, _+_, _*_, _-_, _/_, _%_, _^_, _≤_, _<_, min}
-use native.Mathlib.Nat.{pow-suc, lt-of-lt-of-le, pow-le-pow-right}
+use Prim.Native.Nat.{ℕ, zero, suc, _+_, _*_, _-_, _/_, _^_, _≤_, _<_}
+use native.Mathlib.Nat.{pow-suc, pow-le-pow-right}
 use native.Mathlib.Omega.{arith}
 use native.Mathlib.Numerals.{add-one}
-use lib.Dec.{eqb, ltb, leb}
+use lib.Dec.{ltb, leb}
 use lib.ListN.{length, getD, set, take, drop, replicate, length-append, length-set, drop-of-length-le}
 use lib.Seq.{drop-cons, take-suc-set, length-take-le, take-all}
 use borrow.Author.Tests.{lt-ltb, le-ltb, le-leb, lt-leb, eq-eqb, ne-eqb, ltb-true, not-false}
-use Rattle.bits.specs.Search.{every}
 use Rattle.bits.proofs.Cases.{passed, failed}
 use Rattle.bits.proofs.Search.{every-at, every-is}
 use Rattle.bits.proofs.Least.{Passed, every-not}
 use Rattle.drawing.specs.declared.Gathered.{Gathered}
-use Rattle.drawing.specs.Hex.{digitOf, isBlank, unblanked, numberIn, hexIn, hexDigit, hexLine}
-use Rattle.drawing.specs.declared.Hex.{Hex}
 use Rattle.drawing.specs.declared.Hex.the-variants.{Image, NotHex}
+use Rattle.drawing.specs.Hex.{digitOf, isBlank, unblanked, numberIn, hexIn, hexLine}
 use Rattle.drawing.specs.Private.{table, hexAt, Gathers, areDigits}
 
 -- ---- the value of a digit, by its range
@@ -102,7 +100,7 @@ module _ (s : List ℕ) where
           let few = v .few in
           let k = length-take-le count bytes (omega (arith, v .sixteen)) in
           let l = ap length (v .held ∙ ap (λ (x : List ℕ). take count bytes ++ x) (taken e))
-              ∙ length-append (take count bytes) (getD s i 0 ∷ unblanked (drop (suc i) s)) in
+          ∙ length-append (take count bytes) (getD s i 0 ∷ unblanked (drop (suc i) s)) in
           record { many = omega arith; held = λ (x : _≡_ {A = ℕ} 17 16). absurd (omega arith) }
 
     pub gather-ends : length s ≤ i → Gathers s (record { count = count; bytes = bytes })

@@ -1,5 +1,5 @@
 -- Lists by their elements, filled from the front by a loop with one store a turn; and a grid, filled so by two. Assumes nothing.
-use mathlib.Core.Path.{_≡_, refl, sym, ap, ap₂, _∙_}
+use mathlib.Core.Path.{_≡_, refl, ap, ap₂, _∙_}
 use mathlib.Core.List.{List, [], _∷_, _++_, append-assoc, append-nil}
 use Prim.Native.Nat.{ℕ, zero, suc, _+_, _≤_, _<_}
 use native.Mathlib.Omega.{arith}
@@ -141,8 +141,11 @@ row-turns {f} {g} {i} {j} {v} inv h e =
         let l = inv .row in
         let z : i < length (upto (rows f) blank i) = omega (arith, length-upto (rows f) blank i (omega arith)) in
         let row : List ℕ = upto (λ j. f (cellAt i j)) (getD blank i []) j in
-        rw (getD-set-same (upto (rows f) blank i) i row [] z, set-set,
-            upto-turn (λ j. f (cellAt i j)) (getD blank i []) j 0 (omega (arith, blank-row i l))) refl
+        rw (
+          getD-set-same (upto (rows f) blank i) i row [] z,
+          set-set,
+          upto-turn (λ j. f (cellAt i j)) (getD blank i []) j 0 (omega (arith, blank-row i l)),
+        ) refl
 
 pub row-ends : {f : ℕ → ℕ} {g : List (List ℕ)} {i j : ℕ} → Row f g i j → 20 ≤ j → Rows f g (i + 1)
 unfolding rowTo

@@ -1,16 +1,15 @@
 -- What a text tells of the lift, test by test as the code makes them. Assumes nothing.
-use mathlib.Core.Path.{_≡_, refl, sym, ap, ap₂, _∙_}
+use mathlib.Core.Path.{_≡_, sym, ap, _∙_}
 use mathlib.Core.Bool.{Bool, true, false, cond}
 use mathlib.Core.List.{List}
-use Prim.Native.Nat.{ℕ, _+_, _≤_}
-use native.Mathlib.Omega.{arith}
+use Prim.Native.Nat.{ℕ, _+_}
 use lib.ListN.{length, drop}
 use lib.Seq.{drop-drop}
 use Rattle.drawing.specs.declared.Lift.{Lift}
 use Rattle.drawing.specs.Drawing.{ended, heightName, carWord, driveWord}
 use Rattle.drawing.specs.Reading.{begins, after, heightTold, carTold}
 use Rattle.drawing.specs.Private.{driveBegun, liftTold}
-use Rattle.drawing.proofs.Words.{lift-alike, name-short, car-short}
+use Rattle.drawing.proofs.Words.{lift-alike}
 
 -- the number of the first of three tests that passes, 3 where none does
 abbrev ofThree : Bool → Bool → Bool → ℕ

@@ -1,7 +1,7 @@
 -- A drawing read: which of its lines is the first that isn't of its form, and the record that a text of this form draws. Assumes nothing.
 use mathlib.Core.Bool.{Bool, true, false, not, cond, _&&_, _||_}
-use mathlib.Core.List.{List, [], _∷_, _++_}
-use Prim.Native.Nat.{ℕ, zero, suc, _+_, _*_, _-_, _/_, _%_}
+use mathlib.Core.List.{List, [], _∷_}
+use Prim.Native.Nat.{ℕ, zero, suc, _+_, _-_, _/_, _%_}
 use lib.Dec.{eqb, ltb}
 use lib.ListN.{length, getD, take, drop}
 use Rattle.bits.specs.Bits.{Bits, bit, image}
@@ -9,7 +9,6 @@ use Rattle.bits.specs.Search.{every, least}
 use Rattle.floor.specs.Floor as floor
 use Rattle.floor.specs.Floor.{raisedCar, heightLow, heightHigh}
 use Rattle.floor.specs.Sound.{sound}
-use Rattle.lines.specs.Bytes.{ascii}
 use Rattle.drawing.specs.declared.Found.{Found}
 use Rattle.drawing.specs.Drawing.{mark, letter, lineFeed, ended, heightName, carWord, driveWord}
 

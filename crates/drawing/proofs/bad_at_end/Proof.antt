@@ -1,12 +1,9 @@
-use Rattle.drawing.proofs.Standing.{bad-lift, bad-past, none-bad}
-use Rattle.drawing.proofs.Words.{words-short}
 use native.Mathlib.Omega.{arith}
 use borrow.Author.Needs.{needs}
+use Rattle.drawing.proofs.Standing.{bad-lift, bad-past, none-bad}
+use Rattle.drawing.proofs.Words.{words-short}
 use Rattle.drawing.proofs.bad_at_end.Statement.{statement}
 use Rattle.drawing.proofs.bad_at_end.Tie as tie
-use Rattle.drawing.proofs.bad_at_end.Reads as reads
-use Rattle.drawing.proofs.bad_at_end.Lts as lts
-use Rattle.drawing.proofs.lift_line.lift_size.Reads as lift-size-reads
 
 lift-size-requires : tie.Need-lift-size-requires
 lift-size-requires c κs = search needs

@@ -1,13 +1,8 @@
-use Rattle.drawing.proofs.Cells.{cell-bit, slot-bit, lift-bit}
 use mathlib.Core.Path.{_∙_}
 use borrow.Author.Needs.{needs}
+use Rattle.drawing.proofs.Cells.{cell-bit, slot-bit, lift-bit}
 use Rattle.drawing.proofs.bit_in.Statement.{statement}
 use Rattle.drawing.proofs.bit_in.Tie as tie
-use Rattle.drawing.proofs.bit_in.Reads as reads
-use Rattle.drawing.proofs.bit_in.Lts as lts
-use Rattle.drawing.proofs.grid.marked.Reads as marked-reads
-use Rattle.drawing.proofs.lift_line.lift_bit.Reads as lift-bit-reads
-use Rattle.drawing.proofs.slot_in.Reads as slot-in-reads
 
 cast-if1 : tie.Need-cast-if1
 cast-if1 c = search needs

@@ -1,11 +1,9 @@
-use denote.Ref.{now}
-use lib.ListN.{List·getD-eq-default}
 use mathlib.Core.Path.{sym}
+use lib.ListN.{List·getD-eq-default}
+use denote.Ref.{now}
 use borrow.Author.Needs.{needs}
 use Rattle.drawing.proofs.byte.Statement.{statement}
 use Rattle.drawing.proofs.byte.Tie as tie
-use Rattle.drawing.proofs.byte.Reads as reads
-use Rattle.drawing.proofs.byte.Lts as lts
 
 shared-slice-read-result : tie.Need-shared-slice-read-result
 shared-slice-read-result c = search needs

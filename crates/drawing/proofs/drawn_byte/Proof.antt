@@ -1,13 +1,9 @@
-use Rattle.bits.specs.Bits.{bit}
-use Rattle.drawing.proofs.Cells.{upper-at, lift-at}
 use mathlib.Core.Path.{_∙_}
 use borrow.Author.Needs.{needs}
+use Rattle.bits.specs.Bits.{bit}
+use Rattle.drawing.proofs.Cells.{upper-at, lift-at}
 use Rattle.drawing.proofs.drawn_byte.Statement.{statement}
 use Rattle.drawing.proofs.drawn_byte.Tie as tie
-use Rattle.drawing.proofs.drawn_byte.Reads as reads
-use Rattle.drawing.proofs.drawn_byte.Lts as lts
-use Rattle.drawing.proofs.lift_line.lift_byte.Reads as lift-byte-reads
-use Rattle.drawing.proofs.upper_byte.Reads as upper-byte-reads
 
 upper-byte-requires : tie.Need-upper-byte-requires
 upper-byte-requires c κs = search needs

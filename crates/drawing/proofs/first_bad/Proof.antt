@@ -1,13 +1,8 @@
-use Rattle.drawing.proofs.Standing.{bad-0, bad-1, bad-2, bad-3, bad-4, bad-later}
 use mathlib.Core.Path.{_∙_}
 use borrow.Author.Needs.{needs}
+use Rattle.drawing.proofs.Standing.{bad-0, bad-1, bad-2, bad-3, bad-4, bad-later}
 use Rattle.drawing.proofs.first_bad.Statement.{statement}
 use Rattle.drawing.proofs.first_bad.Tie as tie
-use Rattle.drawing.proofs.first_bad.Reads as reads
-use Rattle.drawing.proofs.first_bad.Lts as lts
-use Rattle.drawing.proofs.bad_at_end.Reads as bad-at-end-reads
-use Rattle.drawing.proofs.letters_stand.Reads as letters-stand-reads
-use Rattle.drawing.proofs.marks_stand.Reads as marks-stand-reads
 
 marks-stand-requires : tie.Need-marks-stand-requires
 marks-stand-requires c κs = search needs

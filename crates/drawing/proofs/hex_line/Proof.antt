@@ -1,16 +1,12 @@
-use Rattle.drawing.proofs.Sixteen.{line-is}
-use Rattle.drawing.proofs.Tables.{Filled, fill-starts, fills, fill-same, array-ends}
-use Rattle.drawing.specs.Private.{hexAt}
-use lib.ListN.{replicate}
-use native.Mathlib.Omega.{arith}
-use Prim.Native.Nat.{_-_}
 use mathlib.Core.Path.{refl, _∙_}
-use borrow.Author.Needs.{needs}
+use Prim.Native.Nat.{_-_}
+use native.Mathlib.Omega.{arith}
+use lib.ListN.{replicate}
+use Rattle.drawing.specs.Private.{hexAt}
+use Rattle.drawing.proofs.Sixteen.{line-is}
+use Rattle.drawing.proofs.Tables.{Filled, fill-starts, fills, array-ends}
 use Rattle.drawing.proofs.hex_line.Statement.{statement}
 use Rattle.drawing.proofs.hex_line.Tie as tie
-use Rattle.drawing.proofs.hex_line.Reads as reads
-use Rattle.drawing.proofs.hex_line.Lts as lts
-use Rattle.drawing.proofs.digits.line_byte.Reads as line-byte-reads
 
 abbrev Inv-loop : tie.InvT-loop
 Inv-loop image line₀ t₀ line t = Filled (hexAt image) (replicate 24 0) 24 line t

@@ -1,15 +1,12 @@
-use Rattle.drawing.specs.Private.{bitsAt}
 use mathlib.Core.Path.{_≡_, refl, ap, _∙_}
 use Prim.Native.Nat.{ℕ, _-_, _≤_}
-use Rattle.bits.specs.Bits.{Bits, packed, image}
-use Rattle.bits.proofs.Packing.{Packing, packs}
 use native.Mathlib.Omega.{arith}
 use borrow.Author.Needs.{needs}
+use Rattle.bits.specs.Bits.{Bits, packed, image}
+use Rattle.bits.proofs.Packing.{Packing, packs}
+use Rattle.drawing.specs.Private.{bitsAt}
 use Rattle.drawing.proofs.image_in.Statement.{statement}
 use Rattle.drawing.proofs.image_in.Tie as tie
-use Rattle.drawing.proofs.image_in.Reads as reads
-use Rattle.drawing.proofs.image_in.Lts as lts
-use Rattle.drawing.proofs.bit_in.Reads as bit-in-reads
 
 starts : {f : Bits} → Packing f 64 0
 unfolding packed

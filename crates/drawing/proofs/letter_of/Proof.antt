@@ -1,12 +1,8 @@
-use Rattle.drawing.specs.Drawing.{letter}
 use mathlib.Core.Path.{ap₂, _∙_}
 use borrow.Author.Needs.{needs}
+use Rattle.drawing.specs.Drawing.{letter}
 use Rattle.drawing.proofs.letter_of.Statement.{statement}
 use Rattle.drawing.proofs.letter_of.Tie as tie
-use Rattle.drawing.proofs.letter_of.Reads as reads
-use Rattle.drawing.proofs.letter_of.Lts as lts
-use Rattle.bits.proofs.bit.Reads as bit-reads
-use Rattle.drawing.proofs.letter.Reads as letter-reads
 
 bit-requires : tie.Need-bit-requires
 bit-requires c κs = search needs

@@ -1,12 +1,8 @@
-use Rattle.drawing.proofs.Standing.{three-stand}
-use Rattle.drawing.specs.Reading.{isLetter}
 use borrow.Author.Needs.{needs}
+use Rattle.drawing.specs.Reading.{isLetter}
+use Rattle.drawing.proofs.Standing.{three-stand}
 use Rattle.drawing.proofs.letters_stand.Statement.{statement}
 use Rattle.drawing.proofs.letters_stand.Tie as tie
-use Rattle.drawing.proofs.letters_stand.Reads as reads
-use Rattle.drawing.proofs.letters_stand.Lts as lts
-use Rattle.drawing.proofs.byte.Reads as byte-reads
-use Rattle.drawing.proofs.is_letter.Reads as is-letter-reads
 
 byte-requires : tie.Need-byte-requires
 byte-requires c κs = search needs

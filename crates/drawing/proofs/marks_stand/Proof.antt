@@ -1,15 +1,10 @@
-use Rattle.drawing.proofs.Standing.{fails, stands-not, stands-on, stands-end}
-use Rattle.drawing.specs.Reading.{isMark}
-use Rattle.bits.proofs.Least.{Passed, start}
-use native.Mathlib.Omega.{arith}
 use Prim.Native.Nat.{_-_}
-use borrow.Author.Needs.{needs}
+use native.Mathlib.Omega.{arith}
+use Rattle.bits.proofs.Least.{Passed, start}
+use Rattle.drawing.specs.Reading.{isMark}
+use Rattle.drawing.proofs.Standing.{fails, stands-not, stands-on, stands-end}
 use Rattle.drawing.proofs.marks_stand.Statement.{statement}
 use Rattle.drawing.proofs.marks_stand.Tie as tie
-use Rattle.drawing.proofs.marks_stand.Reads as reads
-use Rattle.drawing.proofs.marks_stand.Lts as lts
-use Rattle.drawing.proofs.byte.Reads as byte-reads
-use Rattle.drawing.proofs.is_mark.Reads as is-mark-reads
 
 abbrev Inv-loop : tie.InvT-loop
 Inv-loop text at n i₀ i = Passed (fails isMark text at n) n i

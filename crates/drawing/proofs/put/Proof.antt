@@ -1,17 +1,12 @@
-use Rattle.drawing.proofs.Tables.{Filled, fill-starts, fills, fill-same, fill-ends}
-use Rattle.drawing.specs.Private.{grid, markOf, drawnAt}
-use Rattle.bits.specs.Bits.{bit}
-use native.Mathlib.Omega.{arith}
-use Prim.Native.Nat.{ℕ, _-_}
 use mathlib.Core.List.{List}
 use mathlib.Core.Path.{ap, _∙_}
-use borrow.Author.Needs.{needs}
+use Prim.Native.Nat.{ℕ, _-_}
+use native.Mathlib.Omega.{arith}
+use Rattle.bits.specs.Bits.{bit}
+use Rattle.drawing.specs.Private.{grid, markOf, drawnAt}
+use Rattle.drawing.proofs.Tables.{Filled, fill-starts, fills, fill-same, fill-ends}
 use Rattle.drawing.proofs.put.Statement.{statement}
 use Rattle.drawing.proofs.put.Tie as tie
-use Rattle.drawing.proofs.put.Reads as reads
-use Rattle.drawing.proofs.put.Lts as lts
-use Rattle.drawing.proofs.drawn_byte.Reads as drawn-byte-reads
-use Rattle.drawing.proofs.grid.grid_of.Reads as grid-of-reads
 
 abbrev Inv-loop : tie.InvT-loop
 Inv-loop image lift size room₀ g t₀ room t = Filled (drawnAt (grid (markOf (bit image))) (bit image) lift) room₀ size room t

@@ -1,13 +1,8 @@
-use Rattle.drawing.proofs.Sixteen.{not-sixteen, not-digits, all-said}
-use Rattle.bits.proofs.Cases.{passed}
 use borrow.Author.Needs.{needs}
+use Rattle.bits.proofs.Cases.{passed}
+use Rattle.drawing.proofs.Sixteen.{not-sixteen, not-digits, all-said}
 use Rattle.drawing.proofs.read_hex.Statement.{statement}
 use Rattle.drawing.proofs.read_hex.Tie as tie
-use Rattle.drawing.proofs.read_hex.Reads as reads
-use Rattle.drawing.proofs.read_hex.Lts as lts
-use Rattle.drawing.proofs.digits.all_digits.Reads as all-digits-reads
-use Rattle.drawing.proofs.digits.gather.Reads as gather-reads
-use Rattle.drawing.proofs.digits.number_in.Reads as number-in-reads
 
 gather-requires : tie.Need-gather-requires
 gather-requires c κs = search needs

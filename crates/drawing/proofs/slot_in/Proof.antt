@@ -1,10 +1,7 @@
-use Rattle.drawing.proofs.Cells.{slot-lowered, slot-tilted}
 use borrow.Author.Needs.{needs}
+use Rattle.drawing.proofs.Cells.{slot-lowered, slot-tilted}
 use Rattle.drawing.proofs.slot_in.Statement.{statement}
 use Rattle.drawing.proofs.slot_in.Tie as tie
-use Rattle.drawing.proofs.slot_in.Reads as reads
-use Rattle.drawing.proofs.slot_in.Lts as lts
-use Rattle.drawing.proofs.byte.Reads as byte-reads
 
 mul-byte : tie.Need-mul-byte
 mul-byte c = search needs

@@ -1,13 +1,10 @@
-use Rattle.drawing.specs.Private.{upperAt}
-use borrow.Author.Tests.{eq-eqb, ne-eqb, lt-ltb, le-ltb}
-use native.Mathlib.Omega.{arith}
 use mathlib.Core.Path.{_≡_, _∙_}
+use native.Mathlib.Omega.{arith}
+use borrow.Author.Tests.{eq-eqb, ne-eqb, lt-ltb, le-ltb}
 use borrow.Author.Needs.{needs}
+use Rattle.drawing.specs.Private.{upperAt}
 use Rattle.drawing.proofs.upper_byte.Statement.{statement}
 use Rattle.drawing.proofs.upper_byte.Tie as tie
-use Rattle.drawing.proofs.upper_byte.Reads as reads
-use Rattle.drawing.proofs.upper_byte.Lts as lts
-use Rattle.drawing.proofs.letter_of.Reads as letter-of-reads
 
 index-1-result : tie.Need-index-1-result
 index-1-result c = search needs

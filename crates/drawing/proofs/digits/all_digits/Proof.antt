@@ -1,13 +1,9 @@
-use Rattle.drawing.proofs.Sixteen.{noDigit, not-all, one-more, all-are}
-use Rattle.bits.proofs.Least.{Passed, start, turn}
-use native.Mathlib.Omega.{arith}
 use Prim.Native.Nat.{_-_}
-use borrow.Author.Needs.{needs}
+use native.Mathlib.Omega.{arith}
+use Rattle.bits.proofs.Least.{Passed, start, turn}
+use Rattle.drawing.proofs.Sixteen.{noDigit, not-all, one-more, all-are}
 use Rattle.drawing.proofs.digits.all_digits.Statement.{statement}
 use Rattle.drawing.proofs.digits.all_digits.Tie as tie
-use Rattle.drawing.proofs.digits.all_digits.Reads as reads
-use Rattle.drawing.proofs.digits.all_digits.Lts as lts
-use Rattle.drawing.proofs.digits.digit_of.Reads as digit-of-reads
 
 abbrev Inv-loop : tie.InvT-loop
 Inv-loop sixteen j₀ j = Passed (noDigit sixteen) 16 j

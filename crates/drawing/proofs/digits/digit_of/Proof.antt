@@ -1,10 +1,7 @@
-use Rattle.drawing.proofs.Sixteen.{figure, large, small, below-figures, below-large, below-small, past-small}
-use native.Mathlib.Omega.{arith}
 use borrow.Author.Needs.{needs}
+use Rattle.drawing.proofs.Sixteen.{figure, large, small, below-figures, below-large, below-small, past-small}
 use Rattle.drawing.proofs.digits.digit_of.Statement.{statement}
 use Rattle.drawing.proofs.digits.digit_of.Tie as tie
-use Rattle.drawing.proofs.digits.digit_of.Reads as reads
-use Rattle.drawing.proofs.digits.digit_of.Lts as lts
 
 sub-result : tie.Need-sub-result
 sub-result c = search needs

@@ -1,13 +1,9 @@
-use Rattle.drawing.proofs.Sixteen.{Gathering, gather-starts, gather-skips, gather-keeps, gather-past, gather-ends}
-use lib.ListN.{length}
-use native.Mathlib.Omega.{arith}
 use Prim.Native.Nat.{_-_}
-use borrow.Author.Needs.{needs}
+use native.Mathlib.Omega.{arith}
+use lib.ListN.{length}
+use Rattle.drawing.proofs.Sixteen.{Gathering, gather-starts, gather-skips, gather-keeps, gather-past, gather-ends}
 use Rattle.drawing.proofs.digits.gather.Statement.{statement}
 use Rattle.drawing.proofs.digits.gather.Tie as tie
-use Rattle.drawing.proofs.digits.gather.Reads as reads
-use Rattle.drawing.proofs.digits.gather.Lts as lts
-use Rattle.drawing.proofs.digits.is_blank.Reads as is-blank-reads
 
 abbrev Inv-loop : tie.InvT-loop
 Inv-loop text bytes₀ count₀ i₀ bytes count i = Gathering text bytes count i

@@ -2,8 +2,6 @@ use borrow.Author.Tests.{lt-ltb, le-ltb}
 use borrow.Author.Needs.{needs}
 use Rattle.drawing.proofs.digits.hex_digit.Statement.{statement}
 use Rattle.drawing.proofs.digits.hex_digit.Tie as tie
-use Rattle.drawing.proofs.digits.hex_digit.Reads as reads
-use Rattle.drawing.proofs.digits.hex_digit.Lts as lts
 
 add-result : tie.Need-add-result
 add-result c = search needs

@@ -1,12 +1,9 @@
-use Rattle.drawing.specs.Private.{hexAt}
-use borrow.Author.Tests.{eq-eqb, ne-eqb}
 use mathlib.Core.Path.{_∙_}
+use borrow.Author.Tests.{eq-eqb, ne-eqb}
 use borrow.Author.Needs.{needs}
+use Rattle.drawing.specs.Private.{hexAt}
 use Rattle.drawing.proofs.digits.line_byte.Statement.{statement}
 use Rattle.drawing.proofs.digits.line_byte.Tie as tie
-use Rattle.drawing.proofs.digits.line_byte.Reads as reads
-use Rattle.drawing.proofs.digits.line_byte.Lts as lts
-use Rattle.drawing.proofs.digits.hex_digit.Reads as hex-digit-reads
 
 mul-b : tie.Need-mul-b
 mul-b c = search needs

@@ -1,11 +1,8 @@
-use Rattle.drawing.proofs.Sixteen.{Numbering, numbering-starts, numbers, numbering-ends}
 use native.Mathlib.Omega.{arith}
 use borrow.Author.Needs.{needs}
+use Rattle.drawing.proofs.Sixteen.{Numbering, numbering-starts, numbers, numbering-ends}
 use Rattle.drawing.proofs.digits.number_in.Statement.{statement}
 use Rattle.drawing.proofs.digits.number_in.Tie as tie
-use Rattle.drawing.proofs.digits.number_in.Reads as reads
-use Rattle.drawing.proofs.digits.number_in.Lts as lts
-use Rattle.drawing.proofs.digits.digit_of.Reads as digit-of-reads
 
 abbrev Inv-loop : tie.InvT-loop
 Inv-loop sixteen number₀ k₀ number k = Numbering sixteen k number

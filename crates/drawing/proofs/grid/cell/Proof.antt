@@ -1,11 +1,8 @@
-use Rattle.drawing.specs.Private.{cellAt}
-use native.Mathlib.Omega.{arith}
 use borrow.Author.Tests.{eq-eqb, ne-eqb, lt-ltb, le-ltb}
 use borrow.Author.Needs.{needs}
+use Rattle.drawing.specs.Private.{cellAt}
 use Rattle.drawing.proofs.grid.cell.Statement.{statement}
 use Rattle.drawing.proofs.grid.cell.Tie as tie
-use Rattle.drawing.proofs.grid.cell.Reads as reads
-use Rattle.drawing.proofs.grid.cell.Lts as lts
 
 returns : tie.Need-returns
 unfolding cellAt

@@ -1,15 +1,10 @@
-use Rattle.drawing.proofs.Tables.{Rows, Row, rows-start, row-starts, row-turns, row-ends, rows-end}
-use Rattle.drawing.specs.Private.{markIn}
-use native.Mathlib.Omega.{arith}
-use Prim.Native.Nat.{_-_}
 use mathlib.Core.Path.{ap, _∙_}
-use borrow.Author.Needs.{needs}
+use Prim.Native.Nat.{_-_}
+use native.Mathlib.Omega.{arith}
+use Rattle.drawing.specs.Private.{markIn}
+use Rattle.drawing.proofs.Tables.{Rows, Row, rows-start, row-starts, row-turns, row-ends, rows-end}
 use Rattle.drawing.proofs.grid.grid_in.Statement.{statement}
 use Rattle.drawing.proofs.grid.grid_in.Tie as tie
-use Rattle.drawing.proofs.grid.grid_in.Reads as reads
-use Rattle.drawing.proofs.grid.grid_in.Lts as lts
-use Rattle.drawing.proofs.grid.cell.Reads as cell-reads
-use Rattle.drawing.proofs.grid.mark_in.Reads as mark-in-reads
 
 abbrev Inv-loop2 : tie.InvT-loop2
 Inv-loop2 text g₀ i j₀ g j = Row (markIn text) g i j

@@ -1,16 +1,11 @@
-use Rattle.bits.specs.Bits.{bit}
-use Rattle.drawing.proofs.Tables.{Rows, Row, rows-start, row-starts, row-turns, row-ends, rows-end}
-use Rattle.drawing.specs.Private.{markOf}
-use native.Mathlib.Omega.{arith}
-use Prim.Native.Nat.{_-_}
 use mathlib.Core.Path.{ap, _∙_}
-use borrow.Author.Needs.{needs}
+use Prim.Native.Nat.{_-_}
+use native.Mathlib.Omega.{arith}
+use Rattle.bits.specs.Bits.{bit}
+use Rattle.drawing.specs.Private.{markOf}
+use Rattle.drawing.proofs.Tables.{Rows, Row, rows-start, row-starts, row-turns, row-ends, rows-end}
 use Rattle.drawing.proofs.grid.grid_of.Statement.{statement}
 use Rattle.drawing.proofs.grid.grid_of.Tie as tie
-use Rattle.drawing.proofs.grid.grid_of.Reads as reads
-use Rattle.drawing.proofs.grid.grid_of.Lts as lts
-use Rattle.drawing.proofs.grid.cell.Reads as cell-reads
-use Rattle.drawing.proofs.grid.mark.Reads as mark-reads
 
 abbrev Inv-loop2 : tie.InvT-loop2
 Inv-loop2 image g₀ i j₀ g j = Row (markOf (bit image)) g i j

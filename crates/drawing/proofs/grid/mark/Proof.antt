@@ -1,12 +1,8 @@
-use Rattle.drawing.specs.Private.{markOf}
-use native.Mathlib.Omega.{arith}
-use borrow.Author.Tests.{eq-eqb, ne-eqb, lt-ltb, le-ltb}
+use borrow.Author.Tests.{lt-ltb, le-ltb}
 use borrow.Author.Needs.{needs}
+use Rattle.drawing.specs.Private.{markOf}
 use Rattle.drawing.proofs.grid.mark.Statement.{statement}
 use Rattle.drawing.proofs.grid.mark.Tie as tie
-use Rattle.drawing.proofs.grid.mark.Reads as reads
-use Rattle.drawing.proofs.grid.mark.Lts as lts
-use Rattle.bits.proofs.bit.Reads as bit-reads
 
 bit-requires : tie.Need-bit-requires
 bit-requires c κs = search needs

@@ -1,13 +1,10 @@
-use Rattle.drawing.specs.Private.{markIn}
 use mathlib.Core.Path.{_∙_}
 use native.Mathlib.Omega.{arith}
-use borrow.Author.Tests.{eq-eqb, ne-eqb, lt-ltb, le-ltb}
+use borrow.Author.Tests.{lt-ltb, le-ltb}
 use borrow.Author.Needs.{needs}
+use Rattle.drawing.specs.Private.{markIn}
 use Rattle.drawing.proofs.grid.mark_in.Statement.{statement}
 use Rattle.drawing.proofs.grid.mark_in.Tie as tie
-use Rattle.drawing.proofs.grid.mark_in.Reads as reads
-use Rattle.drawing.proofs.grid.mark_in.Lts as lts
-use Rattle.drawing.proofs.byte.Reads as byte-reads
 
 byte-requires : tie.Need-byte-requires
 byte-requires c κs = search needs

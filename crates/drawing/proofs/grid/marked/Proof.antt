@@ -1,12 +1,8 @@
-use Rattle.drawing.proofs.Cells.{placed}
 use native.Mathlib.Omega.{arith}
 use borrow.Author.Needs.{needs}
+use Rattle.drawing.proofs.Cells.{placed}
 use Rattle.drawing.proofs.grid.marked.Statement.{statement}
 use Rattle.drawing.proofs.grid.marked.Tie as tie
-use Rattle.drawing.proofs.grid.marked.Reads as reads
-use Rattle.drawing.proofs.grid.marked.Lts as lts
-use Rattle.drawing.proofs.grid.place_of.Reads as place-of-reads
-use Rattle.drawing.proofs.grid.row_of.Reads as row-of-reads
 
 row-of-requires : tie.Need-row-of-requires
 row-of-requires c κs = search needs

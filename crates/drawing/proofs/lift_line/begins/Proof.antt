@@ -1,13 +1,9 @@
-use Rattle.drawing.proofs.Begun.{Alike, alike-starts, alike-turns, alike-ends, alike-short, alike-not}
-use borrow.Author.Tests.{not-true}
-use lib.ListN.{length}
-use native.Mathlib.Omega.{arith}
 use Prim.Native.Nat.{_-_}
-use borrow.Author.Needs.{needs}
+use native.Mathlib.Omega.{arith}
+use lib.ListN.{length}
+use Rattle.drawing.proofs.Begun.{Alike, alike-starts, alike-turns, alike-ends, alike-short, alike-not}
 use Rattle.drawing.proofs.lift_line.begins.Statement.{statement}
 use Rattle.drawing.proofs.lift_line.begins.Tie as tie
-use Rattle.drawing.proofs.lift_line.begins.Reads as reads
-use Rattle.drawing.proofs.lift_line.begins.Lts as lts
 
 abbrev Inv-loop : tie.InvT-loop
 Inv-loop text at word i₀ i = Alike text at word i

@@ -1,9 +1,6 @@
 use Rattle.lines.specs.Bytes.{ascii}
-use borrow.Author.Needs.{needs}
 use Rattle.drawing.proofs.lift_line.car_size.Statement.{statement}
 use Rattle.drawing.proofs.lift_line.car_size.Tie as tie
-use Rattle.drawing.proofs.lift_line.car_size.Reads as reads
-use Rattle.drawing.proofs.lift_line.car_size.Lts as lts
 
 returns : tie.Need-returns
 unfolding ascii

@@ -1,10 +1,7 @@
-use Rattle.bits.specs.Bits.{bit}
 use borrow.Author.Needs.{needs}
+use Rattle.bits.specs.Bits.{bit}
 use Rattle.drawing.proofs.lift_line.drive_of.Statement.{statement}
 use Rattle.drawing.proofs.lift_line.drive_of.Tie as tie
-use Rattle.drawing.proofs.lift_line.drive_of.Reads as reads
-use Rattle.drawing.proofs.lift_line.drive_of.Lts as lts
-use Rattle.bits.proofs.bit.Reads as bit-reads
 
 bit-requires : tie.Need-bit-requires
 bit-requires c κs = search needs

@@ -1,15 +1,12 @@
-use Rattle.drawing.proofs.Words.{end-none}
-use lib.ListN.{getD}
-use Prim.Native.Nat.{ℕ}
 use mathlib.Core.List.{List}
-use mathlib.Core.Path.{_≡_, ap, sym, _∙_}
-use Rattle.lines.specs.Bytes.{ascii}
+use mathlib.Core.Path.{ap, sym, _∙_}
+use Prim.Native.Nat.{ℕ}
+use lib.ListN.{getD}
 use borrow.Author.Needs.{needs}
+use Rattle.lines.specs.Bytes.{ascii}
+use Rattle.drawing.proofs.Words.{end-none}
 use Rattle.drawing.proofs.lift_line.end_byte.Statement.{statement}
 use Rattle.drawing.proofs.lift_line.end_byte.Tie as tie
-use Rattle.drawing.proofs.lift_line.end_byte.Reads as reads
-use Rattle.drawing.proofs.lift_line.end_byte.Lts as lts
-use Rattle.drawing.proofs.byte.Reads as byte-reads
 
 slice-aggregate-byte : tie.Need-slice-aggregate-byte
 slice-aggregate-byte c = search needs

@@ -1,12 +1,9 @@
-use Rattle.drawing.proofs.Words.{end-none}
-use lib.ListN.{length}
 use mathlib.Core.Path.{ap, sym}
+use lib.ListN.{length}
 use Rattle.lines.specs.Bytes.{ascii}
-use borrow.Author.Needs.{needs}
+use Rattle.drawing.proofs.Words.{end-none}
 use Rattle.drawing.proofs.lift_line.end_size.Statement.{statement}
 use Rattle.drawing.proofs.lift_line.end_size.Tie as tie
-use Rattle.drawing.proofs.lift_line.end_size.Reads as reads
-use Rattle.drawing.proofs.lift_line.end_size.Lts as lts
 
 returns : tie.Need-returns
 unfolding ascii

@@ -1,12 +1,8 @@
-use Rattle.drawing.proofs.Telling.{is-street, is-rotation, is-basement, is-no-height}
-use lib.ListN.{drop}
-use Rattle.lines.specs.Bytes.{ascii}
 use borrow.Author.Needs.{needs}
+use Rattle.lines.specs.Bytes.{ascii}
+use Rattle.drawing.proofs.Telling.{is-street, is-rotation, is-basement, is-no-height}
 use Rattle.drawing.proofs.lift_line.height_in.Statement.{statement}
 use Rattle.drawing.proofs.lift_line.height_in.Tie as tie
-use Rattle.drawing.proofs.lift_line.height_in.Reads as reads
-use Rattle.drawing.proofs.lift_line.height_in.Lts as lts
-use Rattle.drawing.proofs.lift_line.begins.Reads as begins-reads
 
 slice-aggregate-begins : tie.Need-slice-aggregate-begins
 slice-aggregate-begins c = search needs

@@ -1,12 +1,9 @@
-use Rattle.bits.proofs.Digits.{bit-zero}
 use mathlib.Core.Path.{sym, _∙_}
-use Rattle.drawing.specs.Private.{liftBit}
 use borrow.Author.Tests.{ne-eqb}
-use borrow.Author.Needs.{needs}
+use Rattle.bits.proofs.Digits.{bit-zero}
+use Rattle.drawing.specs.Private.{liftBit}
 use Rattle.drawing.proofs.lift_line.lift_bit.Statement.{statement}
 use Rattle.drawing.proofs.lift_line.lift_bit.Tie as tie
-use Rattle.drawing.proofs.lift_line.lift_bit.Reads as reads
-use Rattle.drawing.proofs.lift_line.lift_bit.Lts as lts
 
 returns : tie.Need-returns
 unfolding liftBit

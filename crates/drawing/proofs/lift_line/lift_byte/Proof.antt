@@ -1,17 +1,10 @@
-use Rattle.drawing.proofs.Words.{name-short, car-short, in-name, in-car, in-end}
-use native.Mathlib.Omega.{arith}
 use mathlib.Core.Path.{_∙_}
-use Rattle.lines.specs.Bytes.{ascii}
+use native.Mathlib.Omega.{arith}
 use borrow.Author.Needs.{needs}
+use Rattle.lines.specs.Bytes.{ascii}
+use Rattle.drawing.proofs.Words.{name-short, car-short, in-name, in-car, in-end}
 use Rattle.drawing.proofs.lift_line.lift_byte.Statement.{statement}
 use Rattle.drawing.proofs.lift_line.lift_byte.Tie as tie
-use Rattle.drawing.proofs.lift_line.lift_byte.Reads as reads
-use Rattle.drawing.proofs.lift_line.lift_byte.Lts as lts
-use Rattle.drawing.proofs.byte.Reads as byte-reads
-use Rattle.drawing.proofs.lift_line.car_size.Reads as car-size-reads
-use Rattle.drawing.proofs.lift_line.end_byte.Reads as end-byte-reads
-use Rattle.drawing.proofs.lift_line.name_byte.Reads as name-byte-reads
-use Rattle.drawing.proofs.lift_line.name_size.Reads as name-size-reads
 
 name-size-requires : tie.Need-name-size-requires
 name-size-requires c κs = search needs

@@ -1,17 +1,10 @@
+use native.Mathlib.Omega.{arith}
+use borrow.Author.Needs.{needs}
+use Rattle.lines.specs.Bytes.{ascii}
 use Rattle.drawing.proofs.Telling.{lift-told}
 use Rattle.drawing.proofs.Words.{name-short, car-short}
-use native.Mathlib.Omega.{arith}
-use Rattle.lines.specs.Bytes.{ascii}
-use borrow.Author.Needs.{needs}
 use Rattle.drawing.proofs.lift_line.lift_in.Statement.{statement}
 use Rattle.drawing.proofs.lift_line.lift_in.Tie as tie
-use Rattle.drawing.proofs.lift_line.lift_in.Reads as reads
-use Rattle.drawing.proofs.lift_line.lift_in.Lts as lts
-use Rattle.drawing.proofs.lift_line.begins.Reads as begins-reads
-use Rattle.drawing.proofs.lift_line.car_size.Reads as car-size-reads
-use Rattle.drawing.proofs.lift_line.drive_in.Reads as drive-in-reads
-use Rattle.drawing.proofs.lift_line.height_in.Reads as height-in-reads
-use Rattle.drawing.proofs.lift_line.name_size.Reads as name-size-reads
 
 height-in-requires : tie.Need-height-in-requires
 height-in-requires c κs = search needs

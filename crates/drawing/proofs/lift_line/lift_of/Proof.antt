@@ -1,18 +1,14 @@
-use Rattle.drawing.proofs.Words.{lift-alike}
-use Rattle.bits.specs.Bits.{digit}
+use mathlib.Core.Path.{ap, ap₂, _∙_}
 use Prim.Native.Nat.{ℕ, _+_, _*_}
-use Rattle.drawing.specs.Private.{liftOf}
+use native.Mathlib.Omega.{arith}
+use borrow.Author.Needs.{needs}
+use Rattle.bits.specs.Bits.{digit}
 use Rattle.bits.proofs.Packing.{byte-digit}
 use Rattle.bits.proofs.Digits.{digit-lt}
-use native.Mathlib.Omega.{arith}
-use mathlib.Core.Path.{_≡_, refl, ap, ap₂, sym, _∙_}
-use borrow.Author.Needs.{needs}
+use Rattle.drawing.specs.Private.{liftOf}
+use Rattle.drawing.proofs.Words.{lift-alike}
 use Rattle.drawing.proofs.lift_line.lift_of.Statement.{statement}
 use Rattle.drawing.proofs.lift_line.lift_of.Tie as tie
-use Rattle.drawing.proofs.lift_line.lift_of.Reads as reads
-use Rattle.drawing.proofs.lift_line.lift_of.Lts as lts
-use Rattle.bits.proofs.bit.Reads as bit-reads
-use Rattle.drawing.proofs.lift_line.drive_of.Reads as drive-of-reads
 
 bit-requires : tie.Need-bit-requires
 bit-requires c κs = search needs

@@ -1,13 +1,8 @@
-use Rattle.drawing.proofs.Words.{name-short, car-short, end-short, words-size}
 use native.Mathlib.Omega.{arith}
 use borrow.Author.Needs.{needs}
+use Rattle.drawing.proofs.Words.{name-short, car-short, end-short, words-size}
 use Rattle.drawing.proofs.lift_line.lift_size.Statement.{statement}
 use Rattle.drawing.proofs.lift_line.lift_size.Tie as tie
-use Rattle.drawing.proofs.lift_line.lift_size.Reads as reads
-use Rattle.drawing.proofs.lift_line.lift_size.Lts as lts
-use Rattle.drawing.proofs.lift_line.car_size.Reads as car-size-reads
-use Rattle.drawing.proofs.lift_line.end_size.Reads as end-size-reads
-use Rattle.drawing.proofs.lift_line.name_size.Reads as name-size-reads
 
 name-size-requires : tie.Need-name-size-requires
 name-size-requires c κs = search needs

@@ -1,12 +1,9 @@
-use borrow.Author.Tests.{ne-eqb}
 use mathlib.Core.Path.{_∙_}
-use Rattle.lines.specs.Bytes.{ascii}
+use borrow.Author.Tests.{ne-eqb}
 use borrow.Author.Needs.{needs}
+use Rattle.lines.specs.Bytes.{ascii}
 use Rattle.drawing.proofs.lift_line.name_byte.Statement.{statement}
 use Rattle.drawing.proofs.lift_line.name_byte.Tie as tie
-use Rattle.drawing.proofs.lift_line.name_byte.Reads as reads
-use Rattle.drawing.proofs.lift_line.name_byte.Lts as lts
-use Rattle.drawing.proofs.byte.Reads as byte-reads
 
 slice-aggregate-byte : tie.Need-slice-aggregate-byte
 slice-aggregate-byte c = search needs

@@ -1,13 +1,10 @@
-use Prim.Native.Nat.{ℕ}
-use Rattle.drawing.proofs.Words.{street-size, other-size}
-use Rattle.drawing.specs.Drawing.{heightName}
-use lib.ListN.{length}
 use mathlib.Core.Path.{sym, _∙_, ap}
-use borrow.Author.Needs.{needs}
+use Prim.Native.Nat.{ℕ}
+use lib.ListN.{length}
+use Rattle.drawing.specs.Drawing.{heightName}
+use Rattle.drawing.proofs.Words.{street-size, other-size}
 use Rattle.drawing.proofs.lift_line.name_size.Statement.{statement}
 use Rattle.drawing.proofs.lift_line.name_size.Tie as tie
-use Rattle.drawing.proofs.lift_line.name_size.Reads as reads
-use Rattle.drawing.proofs.lift_line.name_size.Lts as lts
 
 returns : tie.Need-returns
 returns c = sym (ap (λ (h : ℕ). length (heightName h)) (c .match .keys1) ∙ street-size)
