@@ -5,6 +5,7 @@
 //! number and every place must have come by each of the three, no other may, and every way of the lists. Each wrong reference must be found
 //! out by a call of the run.
 
+mod drawer;
 mod drawing_examples;
 mod drawing_raw;
 mod drawing_reference;
@@ -12,9 +13,8 @@ mod drawing_traffic;
 mod pipes;
 mod reference;
 mod traffic;
-// references with a fault each, as tests/host/run makes them from the edits: WRONG is the list of them
-include!(env!("WRONG_DRAWINGS"));
 
+use drawer::{Drawer, REFERENCE, WRONG};
 use drawing_examples::{drawn_ones, refused_ones, spelled_ones};
 use drawing_reference::{begins_hex, drawn, hex_line, image_in, record_in, LINES, NOT_A_DRAWING, NO_ROOM, UNSOUND};
 use drawing_traffic::{any_record, changed_text, drawable_record, faulty_text, lift_settings, lines_of, sound_record, DAMAGES};
@@ -23,23 +23,10 @@ use std::collections::{BTreeMap, BTreeSet};
 use std::process::exit;
 use traffic::{any_bytes, Numbers};
 
-/// Whoever writes and reads drawings, and reads images in hex: what is returned, with the room as it is left.
-struct Drawer {
-    write: fn(u64, &mut [u8]) -> u32,
-    read: fn(&[u8], &mut [u8]) -> u32,
-    image_in: fn(&[u8]) -> Option<u64>,
-}
-
 /// The entries; what reads hex is the program's, so the reference stands for it.
 const ENTRIES: Drawer = Drawer {
     write: |image, room| unsafe { drawing_raw::drawing_write(image, room.as_mut_ptr(), room.len()) },
     read: |text, room| unsafe { drawing_raw::drawing_read(text.as_ptr(), text.len(), room.as_mut_ptr(), room.len()) },
-    image_in,
-};
-
-const REFERENCE: Drawer = Drawer {
-    write: |image, room| drawing_reference::write(image, room).returned(),
-    read: |text, room| drawing_reference::read(text, room).returned(),
     image_in,
 };
 
