@@ -148,5 +148,6 @@ pub fn spelled_ones() -> Vec<(String, Option<u64>)> {
         format!("\n{}", text(EMPTY)),
         "B".to_string() + &text(EMPTY),
     ];
-    images.map(|text| (text, Some(car))).into_iter().chain(none.map(|text| (text, None))).collect()
+    let unsound = [("01 00 00 00 00 1B 09 00", START | 1), ("FFFFFFFFffffffff", u64::MAX)].map(|(text, image)| (text.to_string(), Some(image)));
+    images.map(|text| (text, Some(car))).into_iter().chain(unsound).chain(none.map(|text| (text, None))).collect()
 }

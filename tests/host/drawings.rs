@@ -7,14 +7,13 @@
 
 mod drawer;
 mod drawing_examples;
-mod drawing_raw;
 mod drawing_reference;
 mod drawing_traffic;
 mod pipes;
 mod reference;
 mod traffic;
 
-use drawer::{Drawer, REFERENCE, WRONG};
+use drawer::{Drawer, ENTRIES, REFERENCE, WRONG};
 use drawing_examples::{drawn_ones, refused_ones, spelled_ones};
 use drawing_reference::{begins_hex, drawn, hex_line, image_in, record_in, LINES, NOT_A_DRAWING, NO_ROOM, UNSOUND};
 use drawing_traffic::{any_record, changed_text, drawable_record, faulty_text, lift_settings, lines_of, sound_record, DAMAGES};
@@ -22,13 +21,6 @@ use reference::{sound, NO_PLACE, START};
 use std::collections::{BTreeMap, BTreeSet};
 use std::process::exit;
 use traffic::{any_bytes, Numbers};
-
-/// The entries; what reads hex is the program's, so the reference stands for it.
-const ENTRIES: Drawer = Drawer {
-    write: |image, room| unsafe { drawing_raw::drawing_write(image, room.as_mut_ptr(), room.len()) },
-    read: |text, room| unsafe { drawing_raw::drawing_read(text.as_ptr(), text.len(), room.as_mut_ptr(), room.len()) },
-    image_in,
-};
 
 /// A call: a record to be written or a text to be read, and the room that is lent for what comes of it.
 #[derive(Clone)]
