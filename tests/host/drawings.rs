@@ -148,8 +148,6 @@ impl Run {
         said
     }
 
-    fn write(&mut self, image: u64, size: usize) -> u32 { self.made(Ok(image), size, false) }
-
     /// Read into a room of a record's eight bytes or more; gives the place.
     fn read(&mut self, text: &[u8], keep: bool) -> u8 {
         let more = [0, 0, 1, 40][self.numbers.below(4) as usize];
@@ -170,19 +168,18 @@ impl Run {
         }
     }
 
-    /// A record drawn, sound or not: into a room that is longer, and into one that just fits; where it is sound it is read back, into
-    /// rooms too short for it too. Where all rooms are tried, the drawing is written to each that is too short.
+    /// A record drawn, sound or not, into a room that is long enough, and where it is sound into one that just fits and one that is a byte
+    /// too short, and read back; or into every room up to the longest drawing's, and read back into every room that is too short too.
     fn both_ways(&mut self, image: u64, all_rooms: bool) {
         let more = self.numbers.below(40) as usize;
-        let said = self.write(image, 66 + more);
-        let size = (said >> 16) as usize;
-        if all_rooms || said as u8 == 0 {
-            for room in (0..=size.max(66)).filter(|&room| all_rooms || room == size || room + 1 == size) { self.write(image, room); }
-        }
-        if said as u8 != 0 { return; }
+        let said = self.made(Ok(image), 66 + more, all_rooms);
+        let (taken, size) = (said as u8 == 0, (said >> 16) as usize);
+        let rooms = if all_rooms { 0..67 } else if taken { size - 1..size + 1 } else { 0..0 };
+        for room in rooms { self.made(Ok(image), room, all_rooms); }
+        if !taken { return; }
         let text = drawn(image).into_bytes();
         self.read(&text, all_rooms);
-        for room in 0..if all_rooms { 8 } else { 0 } { self.made(Err(text.clone()), room, true); }
+        for room in if all_rooms { 0..8 } else { 0..0 } { self.made(Err(text.clone()), room, true); }
     }
 
     /// Every way of damage at every line of a sound record's drawing.
