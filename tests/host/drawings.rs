@@ -22,10 +22,15 @@ use std::collections::{BTreeMap, BTreeSet};
 use std::process::exit;
 use traffic::{any_bytes, Numbers};
 
-/// A call: a record to be written or a text to be read, and the room that is lent for what comes of it.
-#[derive(Clone)]
+/// What a call is given: a record to be written or a text to be read.
+enum Given {
+    Record(u64),
+    Text(Vec<u8>),
+}
+
+/// A call, and the room that is lent for what comes of it.
 struct Call {
-    given: Result<u64, Vec<u8>>,
+    given: Given,
     room: Vec<u8>,
 }
 
@@ -34,15 +39,15 @@ impl Call {
     fn by(&self, drawer: &Drawer) -> (u32, Vec<u8>) {
         let mut room = self.room.clone();
         let said = match &self.given {
-            Ok(image) => (drawer.write)(*image, &mut room),
-            Err(text) => (drawer.read)(text, &mut room),
+            Given::Record(image) => (drawer.write)(*image, &mut room),
+            Given::Text(text) => (drawer.read)(text, &mut room),
         };
         (said, room)
     }
 
     /// As the host in C takes it; a call that is refused may write nothing.
     fn told(&self) -> Vec<u8> {
-        let (reads, image, text) = match &self.given { Ok(image) => (0, *image, &[][..]), Err(text) => (1, 0, &text[..]) };
+        let (reads, image, text) = match &self.given { Given::Record(image) => (0, *image, &[][..]), Given::Text(text) => (1, 0, &text[..]) };
         let sizes = [text.len() as u32, self.room.len() as u32].map(u32::to_le_bytes).concat();
         let taken = u8::from(self.by(&REFERENCE).0 as u8 == 0);
         [&[reads, taken], &image.to_le_bytes()[..], &sizes, text, &self.room].concat()
@@ -111,12 +116,12 @@ impl Run {
         Run { came, by_program, programs: 0, ways, found, wrong: 0, numbers: Numbers(13), share, kept }
     }
 
-    fn fault(&mut self, who: &str, given: &Result<u64, Vec<u8>>, got: String, expected: String) {
+    fn fault(&mut self, who: &str, given: &Given, got: String, expected: String) {
         self.wrong += 1;
         if self.wrong > 5 { return; }
         match given {
-            Ok(image) => eprintln!("drawings: {who}, record {image:#018X}: {got}, expected {expected}"),
-            Err(text) => eprintln!("drawings: {who}, {:?}: {got}, expected {expected}", String::from_utf8_lossy(text)),
+            Given::Record(image) => eprintln!("drawings: {who}, record {image:#018X}: {got}, expected {expected}"),
+            Given::Text(text) => eprintln!("drawings: {who}, {:?}: {got}, expected {expected}", String::from_utf8_lossy(text)),
         }
     }
 
@@ -128,7 +133,8 @@ impl Run {
             self.fault(["the entry", "the host in C"][by], &call.given, told(&got), told(&expected));
         }
         let [number, place, ..] = got.0.to_le_bytes();
-        *self.came[by].entry((if call.given.is_ok() { "a record" } else { "a text" }, number, place)).or_default() += 1;
+        let what = match call.given { Given::Record(_) => "a record", Given::Text(_) => "a text" };
+        *self.came[by].entry((what, number, place)).or_default() += 1;
         expected.0
     }
 
@@ -139,7 +145,7 @@ impl Run {
     }
 
     /// Made by the entry, and by the wrong references; some are kept for the host in C. Gives what must be returned.
-    fn made(&mut self, given: Result<u64, Vec<u8>>, size: usize, keep: bool) -> u32 {
+    fn made(&mut self, given: Given, size: usize, keep: bool) -> u32 {
         let call = Call { given, room: any_bytes(&mut self.numbers, size) };
         let got = call.by(&ENTRIES);
         self.find(|wrong| call.by(wrong) != got);
@@ -151,7 +157,7 @@ impl Run {
     /// Read into a room of a record's eight bytes or more; gives the place.
     fn read(&mut self, text: &[u8], keep: bool) -> u8 {
         let more = [0, 0, 1, 40][self.numbers.below(4) as usize];
-        let said = self.made(Err(text.to_vec()), 8 + more, keep);
+        let said = self.made(Given::Text(text.to_vec()), 8 + more, keep);
         if let 0 | UNSOUND = said as u8 { self.shown(text, said as u8); }
         said.to_le_bytes()[1]
     }
@@ -172,14 +178,14 @@ impl Run {
     /// too short, and read back; or into every room up to the longest drawing's, and read back into every room that is too short too.
     fn both_ways(&mut self, image: u64, all_rooms: bool) {
         let more = self.numbers.below(40) as usize;
-        let said = self.made(Ok(image), 66 + more, all_rooms);
+        let said = self.made(Given::Record(image), 66 + more, all_rooms);
         let (taken, size) = (said as u8 == 0, (said >> 16) as usize);
         let rooms = if all_rooms { 0..67 } else if taken { size - 1..size + 1 } else { 0..0 };
-        for room in rooms { self.made(Ok(image), room, all_rooms); }
+        for room in rooms { self.made(Given::Record(image), room, all_rooms); }
         if !taken { return; }
         let text = drawn(image).into_bytes();
         self.read(&text, all_rooms);
-        for room in if all_rooms { 0..8 } else { 0..0 } { self.made(Err(text.clone()), room, true); }
+        for room in if all_rooms { 0..8 } else { 0..0 } { self.made(Given::Text(text.clone()), room, true); }
     }
 
     /// Every way of damage at every line of a sound record's drawing.
@@ -193,7 +199,7 @@ impl Run {
                 if place == told {
                     self.ways.insert(format!("{}, line {line}", damage.name));
                 } else {
-                    self.fault(damage.name, &Err(text), format!("line {place} is told"), format!("line {told}"));
+                    self.fault(damage.name, &Given::Text(text), format!("line {place} is told"), format!("line {told}"));
                 }
             }
         }
@@ -212,7 +218,7 @@ impl Run {
             (at, most) = (end, most.max(stack));
         }
         if at != output.len() || self.came[1].values().sum::<usize>() != kept.len() {
-            self.fault("the host in C", &Err(Vec::new()), "another number of answers".to_string(), kept.len().to_string());
+            self.fault("the host in C", &Given::Text(Vec::new()), "another number of answers".to_string(), kept.len().to_string());
         }
         most
     }
@@ -221,7 +227,7 @@ impl Run {
         self.programs += 1;
         let (expected, hex) = (of_program(input), is_hex(input));
         let got = pipes::run(program, input, self.programs as u64);
-        if got != expected { self.fault("the program", &Err(input.to_vec()), format!("{got:?}"), format!("{expected:?}")); }
+        if got != expected { self.fault("the program", &Given::Text(input.to_vec()), format!("{got:?}"), format!("{expected:?}")); }
         if hex { self.find(|wrong| (wrong.image_in)(input) != image_in(input)); }
         self.by_program.insert((hex, got.1));
     }
@@ -273,7 +279,7 @@ fn examples(run: &mut Run) -> Vec<Vec<u8>> {
         let said = record_in(text.as_bytes()).expect_err("refused");
         assert_eq!((said.number, said.place), (number, place), "{text:?}");
         run.read(text.as_bytes(), true);
-        run.made(Err(text.clone().into_bytes()), 7, true);
+        run.made(Given::Text(text.clone().into_bytes()), 7, true);
         inputs.push(text.into_bytes());
     }
     for (text, image) in spelled_ones() {
