@@ -72,7 +72,7 @@ static void summary(void) {
             all = false;
         }
     }
-    fprintf(stderr, "sorts of handed-in desks: %d, each call on each %llu times or more\n", reference_sorts(), (unsigned long long)fewest);
+    fprintf(stderr, "reached: sorts of handed-in desks: %d, each call on each %llu times or more\n", reference_sorts(), (unsigned long long)fewest);
     fprintf(stderr, "calls compared: %llu, %s\n", (unsigned long long)calls, all ? "every number and reason came" : "some are amiss");
 }
 

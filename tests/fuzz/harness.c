@@ -72,7 +72,7 @@ static void summary(void) {
             }
             fewest = handed[entry][sort] < fewest ? handed[entry][sort] : fewest;
         }
-    fprintf(stderr, "sorts of handed-in stations: %d, each call on each %llu times or more\n", reference_sorts(), (unsigned long long)fewest);
+    fprintf(stderr, "reached: sorts of handed-in stations: %d, each call on each %llu times or more\n", reference_sorts(), (unsigned long long)fewest);
     for (uint8_t opcode = 0; opcode < OPCODES; opcode++)
         for (uint8_t number = 0; number < NUMBERS; number++)
             if (reference_refuses(opcode, number) != refused[opcode][number]) {

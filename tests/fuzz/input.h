@@ -37,7 +37,7 @@ static void take_run(uint8_t *to, size_t size) {
 }
 
 /* How much is lent: about what is needed, or more than a byte can say. */
-static size_t take_size(void) {
+static inline size_t take_size(void) {
     uint8_t byte = take();
     return byte < 0xC0 ? byte % 64 : RUN_MOST - 64 + byte % 64;
 }
@@ -50,7 +50,7 @@ static inline size_t take_size_near(size_t size) {
 }
 
 /* Changes some bits of one byte. */
-static void damage(uint8_t *bytes, size_t size) {
+static inline void damage(uint8_t *bytes, size_t size) {
     size_t at = take() % size;
     bytes[at] ^= take();
 }
@@ -65,7 +65,7 @@ static uint64_t number_of(const uint8_t *eight) {
     return image;
 }
 
-static void put_number(uint8_t *eight, uint64_t image) {
+static inline void put_number(uint8_t *eight, uint64_t image) {
     for (int at = 0; at < STATION_IMAGE_SIZE; at++)
         eight[at] = (uint8_t)(image >> (8 * at));
 }
@@ -78,7 +78,7 @@ static uint64_t take_number(void) {
 }
 
 /* An image: mostly the station's record, with one thing changed; or many cars more, other drives under way and another raised car. */
-static uint64_t take_image(void) {
+static inline uint64_t take_image(void) {
     uint64_t record = number_of(kept);
     uint8_t pick = take();
     switch (pick >> 6) {
@@ -89,10 +89,10 @@ static uint64_t take_image(void) {
     }
 }
 
-static uint8_t bit(uint8_t byte, int at) { return byte >> at & 1; }
+static inline uint8_t bit(uint8_t byte, int at) { return byte >> at & 1; }
 
 /* An instruction: well formed, from two bytes, or any five. */
-static void take_five(uint8_t *five) {
+static inline void take_five(uint8_t *five) {
     uint8_t pick = take(), fields = take(), row = (uint8_t)(1 + (pick >> 3) % 3);
     uint8_t well_formed[][STATION_CODE_SIZE] = {
         {GARAGE_BELTS, row, fields & (row == 1 ? 31 : 7), bit(fields, 5), bit(fields, 6)},
@@ -111,17 +111,17 @@ static void take_five(uint8_t *five) {
 }
 
 /* A count and as many instructions, up to nine of them. */
-static uint8_t take_set(uint8_t *set) {
+static inline uint8_t take_set(uint8_t *set) {
     uint8_t count = take() % 10;
     for (int at = 0; at < count; at++)
         take_five(set + STATION_CODE_SIZE * at);
     return count;
 }
 
-static uint16_t present_issue(void) { return (uint16_t)((kept[ISSUE_AT] | kept[ISSUE_AT + 1] << 8) - 1); }
+static inline uint16_t present_issue(void) { return (uint16_t)((kept[ISSUE_AT] | kept[ISSUE_AT + 1] << 8) - 1); }
 
 /* The issue of a result: the present one's, one that lies behind it by a distance that counts, or any two bytes. */
-static uint16_t take_issue(unsigned pick) {
+static inline uint16_t take_issue(unsigned pick) {
     static const uint16_t behind[] = {0, 0, 0, 1, 32767, 32768, 65535};
     uint8_t two[2];
     if (pick < sizeof behind / sizeof *behind)

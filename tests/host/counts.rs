@@ -96,6 +96,31 @@ fn whole_floor(records: &[ByCars; 32]) {
     assert_eq!((within, beyond), (807_425_532_386, 7_710));
 }
 
+/// How many sound records there are for each setting of a raised lift and its drive.
+const RAISED: u64 = 83_915_440_128;
+
+/// The lift's lines that drawings of sound records have, by bits 52 to 56: the words, the length of such a drawing, and how many there are.
+const DRAWN: [(usize, &str, usize, u64); 7] = [
+    (0b00000, "street", 58, RAISED),
+    (0b01000, "street in", 61, RAISED),
+    (0b00001, "street car", 62, RAISED),
+    (0b10001, "street car out", 66, RAISED),
+    (0b00010, "rotation", 60, RAISED),
+    (0b00011, "rotation car", 64, RAISED),
+    (0b00100, "basement", 60, 303_932_899_328),
+];
+
+/// How many drawings have each of these lines, and that no sound record has another.
+fn drawings(records: &[ByCars; 32]) {
+    let counted = |lift: usize| records[lift].iter().sum::<u64>();
+    for (lift, words, length, found) in DRAWN {
+        println!("counts: {} drawings with the lift's line `{words}`, of {length} bytes", counted(lift));
+        assert_eq!((counted(lift), 52 + words.len()), (found, length), "{words}");
+    }
+    let others = (0..32).filter(|lift| DRAWN.iter().all(|drawn| drawn.0 != *lift));
+    assert_eq!(others.map(counted).sum::<u64>(), 0);
+}
+
 /// Spreads a record's bits over the table.
 #[derive(Default)]
 struct Spread(u64);
@@ -150,6 +175,7 @@ fn main() {
     assert_eq!((alone, alone + driven), (639_594_659_840, 807_425_540_096));
 
     whole_floor(&records);
+    drawings(&records);
 
     let sound_ones = in_all(&sound_records(cars, reduced::ROW_1, reduced::OTHER_ROWS));
     let (reached, steps) = reduced_floor();

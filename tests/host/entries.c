@@ -4,29 +4,7 @@
  * many bytes of stack the call took in four more, then the two rooms that an entry may write. All numbers have the lowest byte first. */
 #include "desk_command.h"
 #include "stack.h"
-
-#include <stdio.h>
-#include <stdlib.h>
-
-static void take(void *to, size_t size) {
-    if (fread(to, 1, size, stdin) != size) {
-        fprintf(stderr, "a command was cut short\n");
-        exit(1);
-    }
-}
-
-static uint8_t take_byte(void) {
-    uint8_t byte;
-    take(&byte, 1);
-    return byte;
-}
-
-static uint64_t take_number(int size) {
-    uint64_t number = 0;
-    for (int at = 0; at < size; at++)
-        number |= (uint64_t)take_byte() << (8 * at);
-    return number;
-}
+#include "told.h"
 
 /* A run is lent in its own room; where it has no bytes, every other time at NULL. */
 static void take_run(struct lent *run, uint8_t *room) {
@@ -35,16 +13,6 @@ static void take_run(struct lent *run, uint8_t *room) {
     take(room, run->size);
     odd = !odd;
     run->bytes = run->size == 0 && odd ? NULL : room;
-}
-
-static void give_number(uint32_t number) {
-    for (int at = 0; at < 4; at++)
-        putchar((int)(number >> (8 * at) & 255));
-}
-
-static void give_run(const struct lent *run) {
-    if (run->size != 0)
-        fwrite(run->bytes, 1, run->size, stdout);
 }
 
 struct answered {
@@ -85,8 +53,8 @@ int main(void) {
         size_t stack = stack_of(at_desk ? answer_at_desk : answer_command, &it);
         give_number(it.answer);
         give_number((uint32_t)stack);
-        give_run(&it.command.room);
-        give_run(&it.command.out);
+        give_run(LENT(it.command.room));
+        give_run(LENT(it.command.out));
     }
     return 0;
 }

@@ -1,33 +1,32 @@
 //! A program run over its pipes, and the messages that went through them.
 #![allow(dead_code)] // each driver uses its own part of this module
 
+#[path = "child.rs"]
+mod child;
+
 use crate::reference::{read_message, Answer, Message};
 use crate::traffic::Numbers;
-use std::io::Write;
-use std::process::{Command, Stdio};
 
-/// What the program writes for an input that comes in pieces. The program may have words, after spaces.
+/// An input in pieces of many sizes.
+fn pieces(input: &[u8], seed: u64) -> impl Iterator<Item = &[u8]> {
+    let (mut numbers, mut rest) = (Numbers(seed), input);
+    std::iter::from_fn(move || {
+        if rest.is_empty() { return None; }
+        let most = if numbers.one_in(4) { 7 } else { 200_000 };
+        let (piece, behind) = rest.split_at(rest.len().min(1 + numbers.below(most) as usize));
+        rest = behind;
+        Some(piece)
+    })
+}
+
+/// What the program writes for an input that comes in pieces, what it tells on standard error, and whether its status is 0.
+pub fn run(program: &str, input: &[u8], seed: u64) -> (Vec<u8>, String, bool) { child::run(program, pieces(input, seed)) }
+
+/// What a program writes whose status must be 0.
 pub fn answers(program: &str, input: &[u8], seed: u64) -> Vec<u8> {
-    let mut words = program.split(' ');
-    let mut command = Command::new(words.next().expect("a program"));
-    let mut child = command.args(words).stdin(Stdio::piped()).stdout(Stdio::piped()).spawn().expect("the program starts");
-    let mut pipe = child.stdin.take().expect("a pipe");
-    let output = std::thread::scope(|all| {
-        all.spawn(move || {
-            let mut numbers = Numbers(seed);
-            let mut rest = input;
-            while !rest.is_empty() {
-                let most = if numbers.one_in(4) { 7 } else { 200_000 };
-                let size = rest.len().min(1 + numbers.below(most) as usize);
-                // the program may stop before the input ends: then the pipe is closed
-                if pipe.write_all(&rest[..size]).is_err() { break; }
-                rest = &rest[size..];
-            }
-        });
-        child.wait_with_output().expect("the program ends")
-    });
-    assert!(output.status.success(), "the program's exit status is not 0");
-    output.stdout
+    let (written, told, well) = run(program, input, seed);
+    assert!(well, "the program's exit status is not 0: {told}");
+    written
 }
 
 /// The messages that some bytes begin with, as far as they are whole.

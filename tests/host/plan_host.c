@@ -6,6 +6,7 @@
 #include "../fuzz/guards.h"
 #include "plan.h"
 #include "stack.h"
+#include "told.h"
 
 enum { MOST = 1 << 19 }; /* more than the longest plan that has a form */
 
@@ -18,11 +19,6 @@ struct asked {
 static void ask(void *given) {
     struct asked *it = given;
     it->answer = plan_judge(it->plan, it->size);
-}
-
-static void give_number(uint32_t number) {
-    for (int at = 0; at < 4; at++)
-        putchar((int)(number >> (8 * at) & 255));
 }
 
 int main(void) {

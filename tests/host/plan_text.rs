@@ -3,17 +3,14 @@
 //! block marked `plan` is a text, and of the blocks behind it one marked `bytes` has the bytes that it becomes, one marked `wrong` what is
 //! told of it, and one marked `verdict` what the judge writes.
 
-use std::io::Write;
-use std::process::{exit, Command, Stdio};
+mod child;
+mod page;
+
+use page::blocks;
+use std::process::exit;
 
 /// What a program writes to its output and tells on standard error for an input, and whether its status is 0.
-fn run(program: &str, input: &[u8]) -> (Vec<u8>, String, bool) {
-    let mut command = Command::new(program);
-    let mut child = command.stdin(Stdio::piped()).stdout(Stdio::piped()).stderr(Stdio::piped()).spawn().expect("the program starts");
-    child.stdin.take().expect("a pipe").write_all(input).expect("the program reads");
-    let output = child.wait_with_output().expect("the program ends");
-    (output.stdout, String::from_utf8_lossy(&output.stderr).into_owned(), output.status.success())
-}
+fn run(program: &str, input: &[u8]) -> (Vec<u8>, String, bool) { child::run(program, std::iter::once(input)) }
 
 fn name(names: &[&'static str], at: u8) -> &'static str { names[usize::from(at)] }
 
@@ -145,23 +142,6 @@ fn wrong_texts() -> Vec<(String, String)> {
 
 fn hexadecimal(text: &str) -> Vec<u8> {
     text.split_whitespace().map(|byte| u8::from_str_radix(byte, 16).expect("a byte in hexadecimal")).collect()
-}
-
-/// The blocks of a page that have one of some marks: the line that each ends at, its mark and its text.
-fn blocks<'a>(page: &'a str, marks: &[&str]) -> Vec<(usize, &'a str, String)> {
-    let (mut found, mut inside) = (Vec::new(), None);
-    for (line, at) in page.lines().zip(1..) {
-        match (&mut inside, line.strip_prefix("```")) {
-            (None, Some(mark)) => inside = Some((mark, String::new())),
-            (Some(_), Some(_)) => {
-                let (mark, text) = inside.take().expect("a block");
-                if marks.contains(&mark) { found.push((at, mark, text)); }
-            }
-            (Some((_, text)), None) => { text.push_str(line); text.push('\n'); }
-            (None, None) => {}
-        }
-    }
-    found
 }
 
 fn main() {

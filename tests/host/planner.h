@@ -3,6 +3,7 @@
 #define PLANNER_H
 
 #include "desk.h"
+#include "drawing.h"
 
 #include <inttypes.h>
 #include <stdio.h>
@@ -113,6 +114,17 @@ static inline void say_instruction(const Instruction *i) {
     }
 }
 
+/* ---- answers */
+
+static inline void must(const char *call, uint32_t answer) {
+    unsigned number = STATION_NUMBER(answer);
+    if (number == STATION_TAKEN) return;
+    printf("stopped: %s is refused with %u (%s)", call, number, words(number));
+    if (STATION_PLACE(answer) != STATION_NOWHERE) printf(" at instruction %u", STATION_PLACE(answer));
+    putchar('\n');
+    exit(1);
+}
+
 /* ---- records */
 
 static inline uint64_t number_of(const uint8_t *eight) {
@@ -128,43 +140,33 @@ typedef struct {
     uint64_t image, apart;
 } Held;
 
-/* A row as twenty signs: the cells of rows 2 and 3 are as wide as two of row 1. One that is set apart has a sign of its own, by the record,
- * since what stands there is not known. */
-static inline void show_row(Held held, unsigned row) {
-    printf("  row %u ", row);
-    for (unsigned k = 0; k < 20; k++) {
-        unsigned cell = row == 1 ? k : 10 * row + k / 2;
-        putchar(bit(held.image, cell) ? (bit(held.apart, cell) ? '?' : '#') : (bit(held.apart, cell) ? ':' : '.'));
+/* What is set apart, which no drawing shows: cells, slots and the lift. */
+static inline void show_apart(uint64_t apart) {
+    const char *before = "  apart cells ";
+    for (unsigned k = 0; k < 40; k++) {
+        if (bit(apart, k)) {
+            printf("%s%u", before, k);
+            before = ", ";
+        }
     }
-    putchar('\n');
-}
-
-static inline void show_slots(uint64_t apart) {
+    if (before[0] == ',') putchar('\n');
     for (unsigned k = 0; k < 12; k++) {
         if (bit(apart, 40 + k)) printf("  apart %s %s slot of row %u\n", sides[k / 3 % 2], k < 6 ? "lowered" : "tilted", k % 3 + 1);
     }
+    if (bit(apart, 52)) printf("  apart the lift\n");
 }
 
+/* The floor as its drawing, each line behind two spaces; what is set apart; the number of cars. */
 static inline void show(Held held) {
-    uint64_t image = held.image;
-    for (unsigned row = 1; row <= 3; row++) show_row(held, row);
-    printf("  lift  %s%s", heights[image >> 53 & 3u], bit(image, 52) ? ", with a car" : "");
-    printf("%s%s", bit(image, 55) ? ", a drive in under way" : "", bit(image, 56) ? ", a drive out under way" : "");
-    printf("%s\n", bit(held.apart, 52) ? ", set apart" : "");
-    show_slots(held.apart);
-    printf("  cars  %" PRIu32 "\n", garage_cars(image));
+    uint8_t text[DRAWING_MOST];
+    uint32_t answer = drawing_write(held.image, text, sizeof text);
+    must("drawing", answer);
+    for (unsigned k = 0; k < DRAWING_LENGTH(answer); k++) printf("%s%c", k == 0 || text[k - 1] == '\n' ? "  " : "", text[k]);
+    show_apart(held.apart);
+    printf("  cars  %" PRIu32 "\n", garage_cars(held.image));
 }
 
-/* ---- answers */
-
-static inline void must(const char *call, uint32_t answer) {
-    unsigned number = STATION_NUMBER(answer);
-    if (number == STATION_TAKEN) return;
-    printf("stopped: %s is refused with %u (%s)", call, number, words(number));
-    if (STATION_PLACE(answer) != STATION_NOWHERE) printf(" at instruction %u", STATION_PLACE(answer));
-    putchar('\n');
-    exit(1);
-}
+/* ---- steps */
 
 static unsigned steps;
 

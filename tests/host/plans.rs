@@ -9,7 +9,7 @@ mod plan_reference;
 mod plan_traffic;
 mod reference;
 mod traffic;
-// references with a fault each, as tests/host/plan_run makes them from the edits: WRONG is the list of them
+// references with a fault each, as tests/host/wrong makes them from the edits: WRONG is the list of them
 include!(env!("WRONG_PLANS"));
 
 use plan_examples::{examples, ways, WAYS};

@@ -1,0 +1,30 @@
+//! Whoever writes and reads drawings: the entries, the reference, and with `--cfg wrong` references with a fault each.
+#![allow(dead_code)] // each driver uses its own part of this module
+
+#[path = "drawing_raw.rs"]
+mod raw;
+// as tests/host/wrong makes it from the edits: WRONG is the list of them
+#[cfg(wrong)]
+include!(env!("WRONG_DRAWINGS"));
+
+use crate::drawing_reference;
+
+/// What a call returns, with the room as it is left; and what an image in hex says.
+pub struct Drawer {
+    pub write: fn(u64, &mut [u8]) -> u32,
+    pub read: fn(&[u8], &mut [u8]) -> u32,
+    pub image_in: fn(&[u8]) -> Option<u64>,
+}
+
+pub const REFERENCE: Drawer = Drawer {
+    write: |image, room| drawing_reference::write(image, room).returned(),
+    read: |text, room| drawing_reference::read(text, room).returned(),
+    image_in: drawing_reference::image_in,
+};
+
+/// No entry reads hex, so the reference stands for it.
+pub const ENTRIES: Drawer = Drawer {
+    write: |image, room| unsafe { raw::drawing_write(image, room.as_mut_ptr(), room.len()) },
+    read: |text, room| unsafe { raw::drawing_read(text.as_ptr(), text.len(), room.as_mut_ptr(), room.len()) },
+    ..REFERENCE
+};
