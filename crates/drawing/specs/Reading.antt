@@ -1,7 +1,7 @@
 -- A drawing read: which of its lines is the first that isn't of its form, and the record that a text of this form draws. Assumes nothing.
 use mathlib.Core.Bool.{Bool, true, false, not, cond, _&&_, _||_}
-use mathlib.Core.List.{List, [], _∷_, _++_}
-use Prim.Native.Nat.{ℕ, zero, suc, _+_, _*_, _-_, _/_, _%_}
+use mathlib.Core.List.{List, [], _∷_}
+use Prim.Native.Nat.{ℕ, zero, suc, _+_, _-_, _/_, _%_}
 use lib.Dec.{eqb, ltb}
 use lib.ListN.{length, getD, take, drop}
 use Rattle.bits.specs.Bits.{Bits, bit, image}
@@ -9,8 +9,7 @@ use Rattle.bits.specs.Search.{every, least}
 use Rattle.floor.specs.Floor as floor
 use Rattle.floor.specs.Floor.{raisedCar, heightLow, heightHigh}
 use Rattle.floor.specs.Sound.{sound}
-use Rattle.lines.specs.Bytes.{ascii}
-use Rattle.drawing.specs.declared.Read.{Read}
+use Rattle.drawing.specs.declared.Found.{Found}
 use Rattle.drawing.specs.Drawing.{mark, letter, lineFeed, ended, heightName, carWord, driveWord}
 
 -- ---- lines
@@ -124,11 +123,11 @@ bitsIn s k = cond (ltb k 40) (cellIn s k) (cond (ltb k 52) (slotIn s (k - 40)) (
 -- ---- a drawing read
 
 -- refused
-abbrev pub unread : ℕ → ℕ → Read
+abbrev pub unread : ℕ → ℕ → Found
 unread number place = record { number = number; place = place; bits = 0 }
 
 -- 41 with the first bad line where the text isn't of this form; then 15 where the record that it draws isn't sound
-unfoldable pub reading : List ℕ → Read
+unfoldable pub reading : List ℕ → Found
 reading s =
     let r = image (bitsIn s) in
     cond (ltb (firstBad s) 7) (unread 41 (firstBad s))

@@ -12,14 +12,14 @@ use Rattle.bits.specs.Places.{join}
 use Rattle.floor.specs.Floor.{drives}
 use Rattle.floor.specs.Tests.{set, no, holds, heightIs}
 use Rattle.floor.specs.Sound.{sound}
-use Rattle.drawing.specs.declared.Read.{Read}
+use Rattle.drawing.specs.declared.Found.{Found}
 use Rattle.drawing.specs.Drawing.{linesOf, drawn}
 use Rattle.drawing.specs.Reading.{unread, reading}
 use Rattle.drawing.specs.declared.Hex.the-variants.{Image}
 use Rattle.drawing.specs.Hex.{hexIn, hexLine}
 
 -- what reading says where it takes a text
-abbrev pub read : ℕ → Read
+abbrev pub read : ℕ → Found
 read r = record { number = 0; place = 255; bits = r }
 
 -- every sound record reads back as itself
