@@ -55,19 +55,19 @@ enum {
 enum { DRAWING_PAST_THE_LAST = 6, DRAWING_NOWHERE = 255 };
 
 /* The bytes of stack that a call may take on x86-64, below the frame that makes it. No theorem says so: it is added up over the archive's
- * instructions for every path, which comes to STACK_WRITE for drawing_write and STACK_READ for drawing_read, and measured on calls; the C
+ * instructions for every path, which comes to 432 for drawing_write and 448 for drawing_read, and measured on calls; the C
  * library's memcpy and the like are left out. */
-enum { DRAWING_STACK_MOST = 1024 };
+enum { DRAWING_STACK_MOST = 640 };
 
 /* Writes the drawing of the record `image` to `text`. 15 where the record isn't sound; then 17 where `text` has fewer bytes than the drawing
  * (DRAWING_MOST is always enough). Taken, the answer has the drawing's length, and bytes past it keep their values. */
 uint32_t drawing_write(uint64_t image, uint8_t *text, size_t text_length);
 
-/* Reads the drawing that is all of `text`, and writes its record to the first DRAWING_IMAGE_SIZE bytes of `image`, the lowest byte first; bytes
- * past them keep their values. 17 where `image` has fewer bytes; then 41 where the text isn't a drawing, with the first line that isn't of
+/* Reads the drawing that is all of `text`, and writes its record to the first DRAWING_IMAGE_SIZE bytes of `room`, the lowest byte first; bytes
+ * past them keep their values. 17 where `room` has fewer bytes; then 41 where the text isn't a drawing, with the first line that isn't of
  * its form: a line that isn't there or whose line feed is missing is such a line, so of a text of no bytes line 0 is told, and
  * DRAWING_PAST_THE_LAST where something follows six good lines; then 15 where a garage is drawn that can't be. */
-uint32_t drawing_read(const uint8_t *text, size_t text_length, uint8_t *image, size_t image_length);
+uint32_t drawing_read(const uint8_t *text, size_t text_length, uint8_t *room, size_t room_length);
 
 #ifdef __cplusplus
 }

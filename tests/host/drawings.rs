@@ -66,7 +66,11 @@ fn all_told() -> BTreeSet<Told> {
 
 /// What the program tells where it refuses something.
 const NOT_HEX: &str = "draw: not an image in hex: sixteen digits are wanted\n";
+const TOO_LONG: &str = "draw: not an image in hex: more than 65536 bytes\n";
 const NOT_SOUND: &str = "draw: 15: the record is not sound\n";
+
+/// So many bytes may have the sixteen digits and the blanks between them.
+const LONGEST_HEX: usize = 65536;
 
 fn bad_line(place: u8) -> String {
     if usize::from(place) == LINES { return "draw: 41, place 6: text after the last line\n".to_string(); }
@@ -76,14 +80,16 @@ fn bad_line(place: u8) -> String {
 /// All that it can tell, of an image in hex or of a drawing; nothing where it is taken.
 fn all_lines() -> BTreeSet<(bool, String)> {
     let either = ["", NOT_SOUND].into_iter().flat_map(|line| [(true, line.to_string()), (false, line.to_string())]);
-    either.chain([(true, NOT_HEX.to_string())]).chain((0..=LINES as u8).map(|place| (false, bad_line(place)))).collect()
+    either.chain([NOT_HEX, TOO_LONG].map(|line| (true, line.to_string()))).chain((0..=LINES as u8).map(|place| (false, bad_line(place)))).collect()
 }
 
 fn is_hex(input: &[u8]) -> bool { input.first().is_some_and(|&first| begins_hex(first)) }
 
 /// What the program writes, what it tells, and whether its status is 0.
 fn of_program(input: &[u8]) -> (Vec<u8>, String, bool) {
-    let written = if is_hex(input) {
+    let written = if is_hex(input) && input.len() > LONGEST_HEX {
+        Err(TOO_LONG.to_string())
+    } else if is_hex(input) {
         image_in(input).ok_or(NOT_HEX.to_string()).and_then(|image| if sound(image) { Ok(drawn(image)) } else { Err(NOT_SOUND.to_string()) })
     } else {
         record_in(input).map(hex_line).map_err(|said| if said.number == UNSOUND { NOT_SOUND.to_string() } else { bad_line(said.place) })
@@ -286,6 +292,10 @@ fn examples(run: &mut Run) -> Vec<Vec<u8>> {
         assert_eq!(image_in(text.as_bytes()), image, "{text:?}");
         inputs.push(text.into_bytes());
     }
+    // long inputs: hex with as many blanks as there may be and with one more, a drawing with much behind it, a line that doesn't end
+    let (hex, text) = (hex_line(START), drawn(START));
+    let long = [hex.clone() + &" ".repeat(LONGEST_HEX - hex.len()), hex + &" ".repeat(LONGEST_HEX), text + &"\n".repeat(LONGEST_HEX), ".".repeat(200_000)];
+    inputs.extend(long.map(String::into_bytes));
     inputs
 }
 
