@@ -1,0 +1,6 @@
+pub mod Frames
+pub mod Messages
+pub mod Restart
+pub mod Which
+pub mod Pieces
+pub mod Examples
