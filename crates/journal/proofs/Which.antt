@@ -1,7 +1,7 @@
 -- Which bytes are damaged, and that what a run takes is whole messages, so that a journal stays one. Assumes nothing.
-use mathlib.Core.Path.{_≡_, refl, sym, ap, _∙_}
+use mathlib.Core.Path.{_≡_, refl, sym, ap, ap₂, _∙_}
 use mathlib.Core.Logic.{_⊎_, inl, inr}
-use mathlib.Core.Bool.{true, false}
+use mathlib.Core.Bool.{Bool, true, false, cond}
 use mathlib.Core.List.{List, [], _∷_, _++_, append-assoc, append-nil}
 use Prim.Native.Nat.{ℕ, _+_, _≤_}
 use native.Mathlib.Nat.{add-zero}
@@ -13,12 +13,13 @@ use Rattle.bits.proofs.Cases.{clash}
 use Rattle.answers.specs.declared.Answer.the-variants.{BadLength}
 use Rattle.garage.specs.declared.Station.{Station}
 use Rattle.garage.specs.Station.{startOf}
+use Rattle.wire.specs.declared.Frame.{Frame}
 use Rattle.wire.specs.declared.Frame.the-variants.{Cut, Wrong}
 use Rattle.wire.specs.Reads.{frameOf}
 use Rattle.service.specs.Service.{answerMessage, answerBytes}
 use Rattle.service.specs.Runs.{Ran, run, further}
 use Rattle.service.proofs.Running.{turn-wrong}
-use Rattle.journal.specs.Journal.{Messages, stationAfter, repliesTo, Replayed, replay, counted}
+use Rattle.journal.specs.Journal.{Messages, stationAfter, repliesTo, Replayed, replay, counted, Follows}
 use Rattle.journal.specs.Statements.{Behind, DamagedExactly, SoundExactly, Recorded, OnlyMessages, KeepsUp, StaysJournaled}
 use Rattle.journal.proofs.Messages.{run-messages, parsed}
 use Rattle.journal.proofs.Restart.{messages-cut, replay-messages}
@@ -74,24 +75,30 @@ used-within s input = by (parsed input)
     by (inl b) = within-by s input (b .rest) (b .messages) (b .bytes-are) (ap (λ (r : Ran). r .used) (run-sound s input b))
     by (inr b) = within-by s input (b .rest) (b .messages) (b .bytes-are) (ap (λ (r : Ran). r .used) (run-damaged s input b))
 
+-- the messages that a run found
+abbrev before : (s : Station) (input : List ℕ) {f : Frame} (b : Behind f input) → run s input .used ≡ length (join (b .messages))
+    → run s input .station ≡ stationAfter s (b .messages) → Follows s (take (run s input .used) input) (run s input .station)
+before s input b used station =
+    record { messages = b .messages; each = b .each; bytes-are = front s input (b .rest) (b .messages) (b .bytes-are) used; station = station }
+
+-- their answers, and the one to a length out of range
+all-answers : (s : Station) (input : List ℕ) (ms : List (List ℕ)) (stop : Bool)
+    → run s input .bytes ≡ repliesTo s ms ++ cond stop (answerBytes (answerMessage BadLength)) [] → run s input .stop ≡ stop
+    → run s input .bytes ≡ repliesTo s ms ++ cond (run s input .stop) (answerBytes (answerMessage BadLength)) []
+all-answers s input ms stop e q = e ∙ ap (λ (t : Bool). repliesTo s ms ++ cond t (answerBytes (answerMessage BadLength)) []) (sym q)
+
 recorded-by : (s : Station) (input : List ℕ) → Behind Cut input ⊎ Behind Wrong input → Recorded s input
 recorded-by s input (inl b) =
     let e = run-sound s input b in
     record {
-      messages = b .messages;
-      each = b .each;
-      taken = front s input (b .rest) (b .messages) (b .bytes-are) (ap (λ (r : Ran). r .used) e);
-      station = ap (λ (r : Ran). r .station) e;
-      answered = rw e (sym (append-nil (repliesTo s (b .messages))));
+      follows = before s input b (ap (λ (r : Ran). r .used) e) (ap (λ (r : Ran). r .station) e);
+      answered = all-answers s input (b .messages) false (ap (λ (r : Ran). r .bytes) e ∙ sym (append-nil (repliesTo s (b .messages)))) (ap (λ (r : Ran). r .stop) e);
     }
 recorded-by s input (inr b) =
     let e = run-damaged s input b in
     record {
-      messages = b .messages;
-      each = b .each;
-      taken = front s input (b .rest) (b .messages) (b .bytes-are) (ap (λ (r : Ran). r .used) e);
-      station = ap (λ (r : Ran). r .station) e;
-      answered = rw e;
+      follows = before s input b (ap (λ (r : Ran). r .used) e) (ap (λ (r : Ran). r .station) e);
+      answered = all-answers s input (b .messages) true (ap (λ (r : Ran). r .bytes) e) (ap (λ (r : Ran). r .stop) e);
     }
 
 pub only-messages : OnlyMessages
@@ -115,34 +122,32 @@ after-both s (m ∷ ms) ks = after-both _ ms ks
 wrapped : (a b : ℕ) → counted (counted a + b) ≡ counted (a + b)
 wrapped a b = omega arith
 
--- how many bytes those of a run are
-used-long : (s : Station) (input : List ℕ) → run s input .used ≡ length (join (only-messages s input .messages))
-used-long s input =
-    sym (length-take-le (run s input .used) input (used-within s input)) ∙ ap length (only-messages s input .taken)
-
 pub keeps-up : KeepsUp
 keeps-up ms input w =
     let s = replay (join ms) .station in
-    let k = only-messages s input in
+    let k = only-messages s input .follows in
     let ks = k .messages in
     let told = replay-messages startOf ms w in
-    ap (λ (l : List ℕ). replay (join ms ++ l)) (k .taken)
+    let used : length (join ks) ≡ run s input .used =
+    sym (ap length (k .bytes-are)) ∙ length-take-le (run s input .used) input (used-within s input) in
+    ap (λ (l : List ℕ). replay (join ms ++ l)) (k .bytes-are)
     ∙ ap replay (sym (join-both ms ks))
     ∙ replay-messages startOf (ms ++ ks) (both-messages ms ks w (k .each))
-    ∙ rw (after-both startOf ms ks, join-both ms ks, length-append (join ms) (join ks), ← ap (λ (r : Replayed). r .station) told, ← k .station, ← used-long s input)
+    ∙ rw (after-both startOf ms ks, join-both ms ks, length-append (join ms) (join ks), ← ap (λ (r : Replayed). r .station) told, ← k .station, used)
 
 pub stays-journaled : StaysJournaled
-stays-journaled s n input j =
-    let ms = j .messages in
-    let k = only-messages s input in
-    let ks = k .messages in
-    let a = length (join ms) in
-    let b = length (join ks) in
-    let l : length (join (ms ++ ks)) ≡ a + b = ap length (join-both ms ks) ∙ length-append (join ms) (join ks) in
-    let u = used-long s input in
+stays-journaled s next n bytes j f =
+    let g = j .follows in
+    let ms = g .messages in
+    let ks = f .messages in
     record {
-      messages = ms ++ ks;
-      each = both-messages ms ks (j .each) (k .each);
-      station = k .station ∙ ap (λ (x : Station). stationAfter x ks) (j .station) ∙ sym (after-both startOf ms ks);
-      long = rw (j .long, u, l) (wrapped a b);
+      bytes = j .bytes ++ bytes;
+      follows =
+          record {
+            messages = ms ++ ks;
+            each = both-messages ms ks (g .each) (f .each);
+            bytes-are = ap₂ _++_ (g .bytes-are) (f .bytes-are) ∙ sym (join-both ms ks);
+            station = f .station ∙ ap (λ (x : Station). stationAfter x ks) (g .station) ∙ sym (after-both startOf ms ks);
+          };
+      long = rw (j .long, length-append (j .bytes) bytes) (wrapped (length (j .bytes)) (length bytes));
     }

@@ -53,9 +53,15 @@ replay bytes = replayOn startOf bytes
 abbrev pub counted : ℕ → ℕ
 counted n = n % 2 ^ 64
 
--- the station is the one that a journal of so many bytes makes
-pub record Journaled (s : Station) (n : ℕ) : Type 0 where
+-- some bytes are whole messages, and these take a station to the next
+pub record Follows (s : Station) (bytes : List ℕ) (next : Station) : Type 0 where
   pub messages : List (List ℕ)
   pub each : Messages messages
-  pub station : s ≡ stationAfter startOf messages
-  pub long : n ≡ counted (length (join messages))
+  pub bytes-are : bytes ≡ join messages
+  pub station : next ≡ stationAfter s messages
+
+-- the station is the one that a journal of so many bytes makes
+pub record Journaled (s : Station) (n : ℕ) : Type 0 where
+  pub bytes : List ℕ
+  pub follows : Follows startOf bytes s
+  pub long : n ≡ counted (length bytes)

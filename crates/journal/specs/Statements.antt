@@ -14,7 +14,7 @@ use Rattle.wire.specs.declared.Frame.the-variants.{Cut, Wrong}
 use Rattle.wire.specs.Reads.{frameOf}
 use Rattle.service.specs.Service.{respond, answers, answersOn, answerMessage, answerBytes}
 use Rattle.service.specs.Runs.{run, enough}
-use Rattle.journal.specs.Journal.{Messages, stationAfter, repliesTo, within, replay, counted, Journaled}
+use Rattle.journal.specs.Journal.{Messages, stationAfter, repliesTo, within, replay, counted, Follows, Journaled}
 use Rattle.journal.specs.Pieces.{further, replayFed, replaying}
 
 -- ---- a restart
@@ -60,14 +60,11 @@ SoundExactly = (bytes : List ℕ) → (replay bytes .damaged ≡ false) ↔ Behi
 
 -- ---- what a turn appends
 
--- what a run takes of its input is whole messages; its station is the one after them; they are answered, and nothing else but a length out
--- of range
+-- what a run takes of its input is whole messages, which take the station to the one that it leaves; they are answered, and nothing else
+-- but a length out of range
 pub record Recorded (s : Station) (input : List ℕ) : Type 0 where
-  pub messages : List (List ℕ)
-  pub each : Messages messages
-  pub taken : take (run s input .used) input ≡ join messages
-  pub station : run s input .station ≡ stationAfter s messages
-  pub answered : run s input .bytes ≡ repliesTo s messages ++ cond (run s input .stop) (answerBytes (answerMessage BadLength)) []
+  pub follows : Follows s (take (run s input .used) input) (run s input .station)
+  pub answered : run s input .bytes ≡ repliesTo s (follows .messages) ++ cond (run s input .stop) (answerBytes (answerMessage BadLength)) []
 
 -- so it is for every input, on every station
 abbrev pub OnlyMessages : Type 0
@@ -80,10 +77,10 @@ KeepsUp =
     → let r = run (replay (join ms) .station) input in
     replay (join ms ++ take (r .used) input) ≡ record { station = r .station; whole = length (join ms) + r .used; damaged = false }
 
--- so a run on a station that a journal makes leaves one too, of so many bytes more
+-- and messages behind a journal make a longer one
 abbrev pub StaysJournaled : Type 0
 StaysJournaled =
-    (s : Station) (n : ℕ) (input : List ℕ) → Journaled s n → Journaled (run s input .station) (counted (n + run s input .used))
+    (s next : Station) (n : ℕ) (bytes : List ℕ) → Journaled s n → Follows s bytes next → Journaled next (counted (n + length bytes))
 
 -- ---- in pieces
 
