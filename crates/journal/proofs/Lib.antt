@@ -1,3 +1,4 @@
+pub mod Determined
 pub mod Frames
 pub mod Messages
 pub mod Restart
