@@ -1,3 +1,4 @@
 pub mod Plain
 pub mod Conditions
 pub mod Walks
+pub mod Private
