@@ -4,4 +4,5 @@ pub mod Ranges
 pub mod Telling
 pub mod Asking
 pub mod Listing
+pub mod Imaging
 pub mod Walking

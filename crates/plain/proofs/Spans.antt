@@ -21,7 +21,7 @@ use Rattle.floor.specs.Floor.{left, right, lowered, slot, beltOf}
 use Rattle.rules.specs.Named.{higher, cells, neededSlots, end, rowsOf, ahead}
 use Rattle.rules.specs.Rules.{beltsNamed}
 use Rattle.rules.proofs.Every.{rows, each-row}
-use Rattle.cards.specs.Private.{cellNamed}
+use Rattle.plain.specs.Named.{cellNamed}
 use Rattle.plain.specs.Private.{gaplessFrom, gapless, firstCell, width, fromEnd, lastBelt, rowAhead}
 
 -- ---- the belts that a mask names

@@ -7,7 +7,6 @@ ghost use Rattle.floor.specs.Tests.{holds, both, set, when, atBasement};
 ghost use Rattle.rules.specs.declared.Instruction.{Instruction};
 ghost use Rattle.rules.specs.Named.{cells, neededSlots, liftNamed, step, end};
 ghost use Rattle.rules.specs.Rules.{beltsNamed, wellFormed, clauses};
-ghost use Rattle.cards.specs.Private.{cellNamed};
 ghost use Rattle.plain.specs.Plain.{plainBits};
 ghost use Rattle.plain.specs.Conditions.{conditionIn};
 ghost use Rattle.plain.specs.Private.{firstCell, width, fromEnd, lastBelt};
@@ -15,13 +14,13 @@ use super::Condition;
 use super::Floor;
 use super::conditions::none;
 use super::conditions::told;
+use super::named;
 use super::places::gapless;
 use super::places::lift_at;
 use super::places::names;
 use super::places::occupied;
 use super::places::shuttle;
 use answers::Reason;
-use floor::Belt;
 
 // ---- rows
 
@@ -63,17 +62,6 @@ fn last_belt(row: u8) -> u8
 }
 
 // ---- spans
-
-// The cell is on a belt of the row that the mask names.
-fn named(row: u8, mask: u8, cell: u8) -> bool
-    ensures { λ b. ⌜ b ≡ cellNamed row mask cell ⌝ }
-{
-    let belt = floor::belt_of(cell as u64);
-    match belt {
-        Belt::On(on, number) => (on == row) & names(mask, number),
-        Belt::NoCell => false,
-    }
-}
 
 // By how many cells a move shifts.
 fn step(row: u8, size: u8) -> u8

@@ -3,8 +3,10 @@
 ghost use mathlib.Core.Path.{_≡_};
 ghost use Rattle.bits.specs.Bits.{bit, image};
 ghost use Rattle.plain.specs.Plain.{plainBits, floorOf};
+ghost use Rattle.plain.specs.Named.{cellNamed};
 ghost use Rattle.plain.specs.Conditions.{conditionOf, verdictOn};
 use answers::Reason;
+use floor::Belt;
 use rules::Instruction;
 use rules::Verdict;
 
@@ -52,6 +54,17 @@ pub struct Condition {
 pub struct Walk {
     pub starts: [u8; 31],
     pub count: u8,
+}
+
+// Whether a cell is on a belt of the row that the mask names.
+pub fn named(row: u8, mask: u8, cell: u8) -> bool
+    ensures { λ b. ⌜ b ≡ cellNamed row mask cell ⌝ }
+{
+    let belt = floor::belt_of(cell as u64);
+    match belt {
+        Belt::On(on, number) => (on == row) & places::names(mask, number),
+        Belt::NoCell => false,
+    }
 }
 
 // No instruction has more conditions than a belt move.

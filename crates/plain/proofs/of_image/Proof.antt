@@ -1,7 +1,7 @@
 -- `plain::of_image` meets its contract: each part is its own. Assumes nothing.
 use borrow.Author.Needs.{needs}
 use Rattle.bits.specs.Bits.{bit}
-use Rattle.plain.proofs.Listing.{floor-is}
+use Rattle.plain.proofs.Imaging.{floor-is}
 use Rattle.plain.proofs.of_image.Statement.{statement}
 use Rattle.plain.proofs.of_image.Tie as tie
 

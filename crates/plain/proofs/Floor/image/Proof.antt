@@ -3,7 +3,7 @@ use native.Mathlib.Omega.{arith}
 use borrow.Author.Needs.{needs}
 use Rattle.bits.proofs.Packing.{Packing, packs}
 use Rattle.plain.specs.Plain.{plainBits}
-use Rattle.plain.proofs.Listing.{nothing-packed, all-packed}
+use Rattle.plain.proofs.Imaging.{nothing-packed, all-packed}
 use Rattle.plain.proofs.Floor.image.Statement.{statement}
 use Rattle.plain.proofs.Floor.image.Tie as tie
 

@@ -3,7 +3,7 @@ use mathlib.Core.Path.{refl}
 use borrow.Author.Needs.{needs}
 use Rattle.plain.specs.Plain.{plainBits}
 use Rattle.plain.proofs.Walking.{last-room, whole-walk}
-use Rattle.plain.proofs.Listing.{car-bit}
+use Rattle.plain.proofs.Imaging.{car-bit}
 use Rattle.plain.proofs.Floor.walk.Statement.{statement}
 use Rattle.plain.proofs.Floor.walk.Tie as tie
 

@@ -4,7 +4,7 @@ use Prim.Native.Nat.{_-_}
 use native.Mathlib.Omega.{arith}
 use borrow.Author.Needs.{needs}
 use Rattle.plain.proofs.Standing.{cell-bit, slot-bit}
-use Rattle.plain.proofs.Listing.{height-bit, car-bit, coming-bit, going-bit, no-bit}
+use Rattle.plain.proofs.Imaging.{height-bit, car-bit, coming-bit, going-bit, no-bit}
 use Rattle.plain.proofs.images.bit.Statement.{statement}
 use Rattle.plain.proofs.images.bit.Tie as tie
 

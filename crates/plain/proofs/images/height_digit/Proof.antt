@@ -1,6 +1,6 @@
 -- `plain::images::height_digit` meets its contract, height by height. Assumes nothing.
 use borrow.Author.Needs.{needs}
-use Rattle.plain.proofs.Listing.{street-digit, rotation-digit, basement-digit}
+use Rattle.plain.proofs.Imaging.{street-digit, rotation-digit, basement-digit}
 use Rattle.plain.proofs.images.height_digit.Statement.{statement}
 use Rattle.plain.proofs.images.height_digit.Tie as tie
 

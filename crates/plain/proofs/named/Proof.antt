@@ -1,7 +1,7 @@
--- `plain::belts::named` meets its contract: each variant is one case of the definition. Assumes nothing.
+-- `plain::named` meets its contract: each variant is one case of the definition. Assumes nothing.
 use borrow.Author.Needs.{needs}
-use Rattle.plain.proofs.belts.named.Statement.{statement}
-use Rattle.plain.proofs.belts.named.Tie as tie
+use Rattle.plain.proofs.named.Statement.{statement}
+use Rattle.plain.proofs.named.Tie as tie
 
 belt-of-requires : tie.Need-belt-of-requires
 belt-of-requires c κs = search needs
