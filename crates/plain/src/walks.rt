@@ -42,8 +42,10 @@ fn row_1(f: Floor) -> Walk
     let mut half = false;
     let mut k: u8 = 0;
     while k < 20 {
-        half = occupied(f, k) & !half;
-        w = noted(w, half, k);
+        let here = occupied(f, k);
+        let begins = here & !half;
+        w = noted(w, begins, k);
+        half = begins;
         k += 1;
     }
     w
