@@ -1,6 +1,6 @@
 -- The cases of what the code looks up: what comes to a cell of a belt run, and to a row of a shuttle move; the cells of a position.
 -- Assumes nothing.
-use mathlib.Core.Path.{_≡_, sym, ap, _∙_}
+use mathlib.Core.Path.{_≡_, sym, ap, ap₂, _∙_}
 use mathlib.Core.Bool.{Bool, true, false, cond, not, _&&_, and-true}
 use mathlib.Core.List.{List, [], _∷_}
 use Prim.Native.Nat.{ℕ, suc, _+_, _-_, _*_, _≤_, _<_}
@@ -15,7 +15,7 @@ use Rattle.bits.proofs.Digits.{bit-past}
 use Rattle.floor.specs.Floor.{beltOf, slot, place}
 use Rattle.rules.specs.Named.{step}
 use Rattle.plain.specs.Named.{cellNamed}
-use Rattle.plain_moves.specs.Private.{cellsIn, slotsIn, slotAt, stored, cellBehind, beltAfter, rowNamed, rowBehind, firstCell, slotAfter, slotsAfter, rowAfter, cellsAfter}
+use Rattle.plain_moves.specs.Private.{cellsIn, slotsIn, slotAt, stored, cellBehind, beltAfter, rowNamed, rowBehind, rowSource, firstCell, slotFrom, slotsAfter, carAt, rowFrom, cellsAfter}
 
 -- ---- belts
 
@@ -63,34 +63,46 @@ named-row mask row h e =
     (λ t. let l = ltb-false row 4 t in clash b (bit-past mask 3 (row - 1) (omega arith) (omega arith))) in
     (omega arith, omega arith)
 
-module _ (side mask orientation toward : ℕ) (f : Bits) (row : ℕ) {from : ℕ} (e : from ≡ rowBehind toward row) where
-  pub slot-comes : rowNamed mask from ≡ true → f (slot side orientation from) ≡ slotAfter side mask orientation toward f row
-  unfolding slotAfter
-  slot-comes n = rw (← e, n)
+module _ (mask toward row : ℕ) {back : ℕ} (e : back ≡ rowBehind toward row) where
+  pub comes-from : rowNamed mask back ≡ true → back ≡ rowSource mask toward row
+  unfolding rowSource
+  comes-from n = rw (← e, n)
 
-  module _ (n : rowNamed mask from ≡ false) where
-    pub slot-left : rowNamed mask row ≡ true → false ≡ slotAfter side mask orientation toward f row
-    unfolding slotAfter
-    slot-left m = rw (← e, n, m)
+  module _ (n : rowNamed mask back ≡ false) where
+    pub leaves : rowNamed mask row ≡ true → 0 ≡ rowSource mask toward row
+    unfolding rowSource
+    leaves m = rw (← e, n, m)
 
-    pub slot-stays : rowNamed mask row ≡ false → f (slot side orientation row) ≡ slotAfter side mask orientation toward f row
-    unfolding slotAfter
-    slot-stays m = rw (← e, n, m)
+    pub stays-there : rowNamed mask row ≡ false → row ≡ rowSource mask toward row
+    unfolding rowSource
+    stays-there m = rw (← e, n, m)
 
-module _ (side mask toward : ℕ) (f : Bits) (row : ℕ) (new : List Bool) {from : ℕ} (e : from ≡ rowBehind toward row) where
-  pub row-comes : rowNamed mask from ≡ true → {a : List Bool} {car : Bool} → car ≡ allSet (place side from) f → a ≡ stored (place side row) car new
-      → a ≡ rowAfter side mask toward f row new
-  unfolding rowAfter
-  row-comes n {a} {car} d q = q ∙ rw (← e, n) (ap (λ (b : Bool). stored (place side row) b new) d)
+pub source-row : (mask toward row : ℕ) → mask ≤ 7 → row ≤ 3 → rowSource mask toward row ≤ 3
+unfolding rowSource
+source-row mask toward row h l = split (rowNamed mask (rowBehind toward row))
+    (λ t. rw t (named-row mask (rowBehind toward row) h t .1))
+    (λ t. split (rowNamed mask row) (λ u. rw (t, u) (omega arith)) (λ u. rw (t, u) l))
 
-  module _ (n : rowNamed mask from ≡ false) where
-    pub row-left : rowNamed mask row ≡ true → {a : List Bool} → a ≡ stored (place side row) false new → a ≡ rowAfter side mask toward f row new
-    unfolding rowAfter
-    row-left m q = q ∙ rw (← e, n, m)
+-- ---- what comes from a row
 
-    pub row-stays : rowNamed mask row ≡ false → new ≡ rowAfter side mask toward f row new
-    unfolding rowAfter
-    row-stays m = rw (← e, n, m)
+module _ (side orientation : ℕ) (f : Bits) {from : ℕ} where
+  pub no-slot : from ≡ 0 → false ≡ slotFrom side orientation f from
+  unfolding slotFrom
+  no-slot e = rw (eq-eqb from 0 e)
+
+  pub that-slot : (from ≡ 0 → ⊥) → f (slot side orientation from) ≡ slotFrom side orientation f from
+  unfolding slotFrom
+  that-slot e = rw (ne-eqb from 0 e)
+
+module _ (side : ℕ) (f : Bits) {row from : ℕ} (new : List Bool) where
+  pub row-stays : from ≡ row → new ≡ rowFrom side f row from new
+  unfolding rowFrom
+  row-stays e = rw (eq-eqb from row e)
+
+  pub row-comes : (from ≡ row → ⊥) → {a : List Bool} {car : Bool} → car ≡ carAt side f from → a ≡ stored (place side row) car new
+      → a ≡ rowFrom side f row from new
+  unfolding rowFrom
+  row-comes e {a} {car} d q = q ∙ ap (λ (b : Bool). stored (place side row) b new) d ∙ rw (ne-eqb from row e)
 
 -- ---- the cells of a position
 
@@ -121,11 +133,16 @@ module _ (side row : ℕ) {first : ℕ} (d : first ≡ firstCell side row) where
       (λ t. let p : first ≡ 20 + side * 9 = d ∙ rw (o, t) in rw (o, t) (ap (λ (k : ℕ). k ∷ []) (sym p)))
       (λ t. let p : first ≡ 30 + side * 9 = d ∙ rw (o, t) in rw (o, t) (ap (λ (k : ℕ). k ∷ []) (sym p)))
 
-  pub car-halves : (f : Bits) → row ≡ 1 → f first && f (first + 1) ≡ allSet (place side row) f
-  car-halves f e = ap (λ (b : Bool). f first && b) (sym (and-true (f (first + 1)))) ∙ sym (ap (λ (ks : List ℕ). allSet ks f) (place-two e))
+  car-there : (f : Bits) → (row ≡ 0 → ⊥) → allSet (place side row) f ≡ carAt side f row
+  unfolding carAt
+  car-there f n = rw (ne-eqb row 0 n)
 
-  pub car-cell : (f : Bits) → (row ≡ 1 → ⊥) → f first ≡ allSet (place side row) f
-  car-cell f e = sym (and-true (f first)) ∙ sym (ap (λ (ks : List ℕ). allSet ks f) (place-one e))
+  pub car-halves : (f : Bits) → (row ≡ 0 → ⊥) → row ≡ 1 → f first && f (first + 1) ≡ carAt side f row
+  car-halves f n e =
+      ap (λ (b : Bool). f first && b) (sym (and-true (f (first + 1)))) ∙ sym (ap (λ (ks : List ℕ). allSet ks f) (place-two e)) ∙ car-there f n
+
+  pub car-cell : (f : Bits) → (row ≡ 0 → ⊥) → (row ≡ 1 → ⊥) → f first ≡ carAt side f row
+  car-cell f n e = sym (and-true (f first)) ∙ sym (ap (λ (ks : List ℕ). allSet ks f) (place-one e)) ∙ car-there f n
 
   pub put-halves : (v : Bool) (a : List Bool) → row ≡ 1 → set (set a first v) (first + 1) v ≡ stored (place side row) v a
   unfolding stored
@@ -135,30 +152,34 @@ module _ (side row : ℕ) {first : ℕ} (d : first ≡ firstCell side row) where
   unfolding stored
   put-cell v a e = sym (ap (λ (ks : List ℕ). stored ks v a) (place-one e))
 
+pub no-car : (side : ℕ) (f : Bits) {row : ℕ} → row ≡ 0 → false ≡ carAt side f row
+unfolding carAt
+no-car side f {row} e = rw (eq-eqb row 0 e)
+
 -- ---- loops over the three rows
 
 -- as many rows are made as come before the next
-pub slots-more : (side mask orientation toward : ℕ) (a : List Bool) {new : List Bool} {row at : ℕ} {v : Bool} → 0 < row
-    → new ≡ slotsAfter side mask orientation toward a (row - 1) → at ≡ slotAt side orientation row → v ≡ slotAfter side mask orientation toward (slotsIn a) row
-    → set new at v ≡ slotsAfter side mask orientation toward a (row + 1 - 1)
+pub slots-more : (side mask orientation toward : ℕ) (a : List Bool) {new : List Bool} {row at from : ℕ} {v : Bool} → 1 ≤ row
+    → new ≡ slotsAfter side mask orientation toward a (row - 1) → at ≡ slotAt side orientation row → from ≡ rowSource mask toward row
+    → v ≡ slotFrom side orientation (slotsIn a) from → set new at v ≡ slotsAfter side mask orientation toward a (row + 1 - 1)
 unfolding slotsAfter
-slots-more side mask orientation toward a {new} {row} {at} {v} h e d q =
-    let r : suc (row - 1) ≡ row = omega arith in
-    let m : suc (row - 1) ≡ row + 1 - 1 = omega arith in
-    ap (λ (l : List Bool). set l at v) e
-    ∙ ap (λ (j : ℕ). set (slotsAfter side mask orientation toward a (row - 1)) j v) (d ∙ ap (slotAt side orientation) (sym r))
-    ∙ ap (λ (b : Bool). set (slotsAfter side mask orientation toward a (row - 1)) (slotAt side orientation (suc (row - 1))) b)
-    (q ∙ ap (slotAfter side mask orientation toward (slotsIn a)) (sym r))
-    ∙ ap (slotsAfter side mask orientation toward a) m
-
-pub cells-more : (side mask toward : ℕ) (a : List Bool) {new made : List Bool} {row : ℕ} → 0 < row → new ≡ cellsAfter side mask toward a (row - 1)
-    → made ≡ rowAfter side mask toward (cellsIn a) row new → made ≡ cellsAfter side mask toward a (row + 1 - 1)
-unfolding cellsAfter
-cells-more side mask toward a {new} {made} {row} h e q =
+slots-more side mask orientation toward a {new} {row} {at} {from} {v} h e d s q =
     let r : row ≡ suc (row - 1) = omega arith in
     let m : suc (row - 1) ≡ row + 1 - 1 = omega arith in
-    q ∙ ap (λ (l : List Bool). rowAfter side mask toward (cellsIn a) row l) e
-    ∙ ap (λ (n : ℕ). rowAfter side mask toward (cellsIn a) n (cellsAfter side mask toward a (row - 1))) r
+    ap₂ (λ (l : List Bool) (b : Bool). set l at b) e (q ∙ ap (slotFrom side orientation (slotsIn a)) s)
+    ∙ ap (λ (j : ℕ). set (slotsAfter side mask orientation toward a (row - 1)) j (slotFrom side orientation (slotsIn a) (rowSource mask toward row))) d
+    ∙ ap (λ (n : ℕ). set (slotsAfter side mask orientation toward a (row - 1)) (slotAt side orientation n)
+    (slotFrom side orientation (slotsIn a) (rowSource mask toward n))) r
+    ∙ ap (slotsAfter side mask orientation toward a) m
+
+pub cells-more : (side mask toward : ℕ) (a : List Bool) {new made : List Bool} {row from : ℕ} → 1 ≤ row → new ≡ cellsAfter side mask toward a (row - 1)
+    → from ≡ rowSource mask toward row → made ≡ rowFrom side (cellsIn a) row from new → made ≡ cellsAfter side mask toward a (row + 1 - 1)
+unfolding cellsAfter
+cells-more side mask toward a {new} {made} {row} {from} h e s q =
+    let r : row ≡ suc (row - 1) = omega arith in
+    let m : suc (row - 1) ≡ row + 1 - 1 = omega arith in
+    q ∙ ap₂ (λ (j : ℕ) (l : List Bool). rowFrom side (cellsIn a) row j l) s e
+    ∙ ap (λ (n : ℕ). rowFrom side (cellsIn a) n (rowSource mask toward n) (cellsAfter side mask toward a (row - 1))) r
     ∙ ap (cellsAfter side mask toward a) m
 
 -- past the third row all are

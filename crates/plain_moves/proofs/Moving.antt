@@ -6,14 +6,14 @@ use Prim.Native.Nat.{ℕ, zero, suc, _+_, _-_, _*_, _≤_, _<_}
 use native.Mathlib.Omega.{arith}
 use lib.Dec.{T, eqb}
 use lib.ListN.{length, getD, set}
-use Rattle.bits.specs.Bits.{Bits}
+use Rattle.bits.specs.Bits.{Bits, allSet}
 use Rattle.bits.specs.Places.{elem, from, adjacent, isEmpty}
 use Rattle.bits.specs.Search.{every}
 use Rattle.bits.proofs.Cases.{both, and-l, and-r, true→T}
 use Rattle.bits.proofs.Counts.{from-elem}
 use Rattle.bits.proofs.Search.{each as each-below}
 use Rattle.floor.specs.Floor.{lowered, slot, place}
-use Rattle.floor.specs.Tests.{Change, changed, allHold}
+use Rattle.floor.specs.Tests.{changed, allHold}
 use Rattle.rules.specs.declared.Instruction.{Instruction}
 use Rattle.rules.specs.declared.Instruction.the-variants.{Belts, Shuttles, Tilt, Rotate}
 use Rattle.rules.specs.Named.{cells, step, rowsOf}
@@ -21,14 +21,14 @@ use Rattle.rules.specs.Rules.{wellFormed, conditions, allowed, changes, next}
 use Rattle.plain.specs.declared.Floor.{Floor}
 use Rattle.plain.specs.Plain.{listed, plainBits, floorOf}
 use Rattle.plain.specs.Named.{cellNamed}
-use Rattle.plain_moves.specs.Private.{cellsIn, slotsIn, slotAt, cellBehind, beltAfter, rowNamed, rowBehind, slotAfter, slotsAfter, rowAfter, cellsAfter}
+use Rattle.plain_moves.specs.Private.{cellsIn, slotsIn, slotAt, cellBehind, beltAfter, rowSource, slotFrom, slotsAfter, carAt, rowFrom, cellsAfter}
 use Rattle.plain.proofs.Listing.{listed-same}
 use Rattle.plain_moves.proofs.Contents.{Content, told, all, has, Told, told-starts, told-set, told-stored, told-either, rightAt, told-ends, keeps, kept}
 use Rattle.plain.proofs.Imaging.{floor-is, car-bit, coming-bit, going-bit}
 use Rattle.plain.proofs.Ranges.{shuttles-ranges}
 use Rattle.plain.proofs.Standing.{cell-bit}
 use Rattle.plain_moves.proofs.Floors.{Sized, slot-in, height-bits, floor-kept}
-use Rattle.plain_moves.proofs.Takings.{itself, slotPlace, beltContent, slotContent, slotContents, cellContents, tiltContents, rightBy, belts-right, shuttles-right, tilt-right}
+use Rattle.plain_moves.proofs.Takings.{itself, slotPlace, beltContent, slotContent, slotContents, carContent, cellContents, tiltContents, rightBy, belts-right, shuttles-right, tilt-right}
 
 -- ---- what an allowed instruction has
 
@@ -113,24 +113,22 @@ module _ (f : Floor) (full : Sized f) where
 
 -- ---- shuttles
 
-module _ (side mask orientation toward : ℕ) where
-  slot-has : (f : Bits) (row : ℕ) → slotAfter side mask orientation toward f row ≡ has (slotContent side mask orientation toward row) f
-  unfolding slotAfter slotContent
-  slot-has f row =
-      go (rowNamed mask (rowBehind toward row)) (rowNamed mask row) (slot side orientation (rowBehind toward row)) (slot side orientation row)
-    where
-      go : (n m : Bool) (j k : ℕ) → cond n (f j) (cond m false (f k)) ≡ has (cond n (itself j) (cond m (told false) (itself k))) f
-      go true m j k = sym (and-true (f j))
-      go false true j k = refl
-      go false false j k = sym (and-true (f k))
+slot-has : (side orientation : ℕ) (f : Bits) (from : ℕ) → slotFrom side orientation f from ≡ has (slotContent side orientation from) f
+unfolding slotFrom slotContent
+slot-has side orientation f from = go (eqb from 0) (slot side orientation from)
+  where
+    go : (n : Bool) (k : ℕ) → not n && f k ≡ has (cond n (told false) (itself k)) f
+    go true k = refl
+    go false k = sym (and-true (f k))
 
+module _ (side mask orientation toward : ℕ) where
   slots-told : side ≤ 1 → orientation ≤ 1 → (a : List Bool) → length a ≡ 12 → (n : ℕ) → n ≤ 3
       → Told 12 (slotsIn a) (slotsAfter side mask orientation toward a n) (slotContents side mask orientation toward n)
   unfolding slotsAfter slotContents
   slots-told s o a len zero h = slots-start a len
   slots-told s o a len (suc n) h =
-      told-set (slots-told s o a len n (omega arith)) (slotAt side orientation (suc n)) (slotContent side mask orientation toward (suc n))
-      (omega arith) (slot-has (slotsIn a) (suc n))
+      told-set (slots-told s o a len n (omega arith)) (slotAt side orientation (suc n)) (slotContent side orientation (rowSource mask toward (suc n)))
+      (omega arith) (slot-has side orientation (slotsIn a) (rowSource mask toward (suc n)))
 
 place-cell : (side row k : ℕ) → side ≤ 1 → T (elem k (place side row)) → k < 40
 place-cell side row k s = go (eqb row 1) (eqb row 2)
@@ -140,15 +138,23 @@ place-cell side row k s = go (eqb row 1) (eqb row 2)
     go false true m = let h = from-elem k (20 + side * 9) 1 m in omega arith
     go false false m = let h = from-elem k (30 + side * 9) 1 m in omega arith
 
+car-has : (side : ℕ) (f : Bits) (from : ℕ) → carAt side f from ≡ has (carContent side from) f
+unfolding carAt carContent
+car-has side f from = go (eqb from 0)
+  where
+    go : (n : Bool) → not n && allSet (place side from) f ≡ has (cond n (told false) (all (place side from))) f
+    go true = refl
+    go false = refl
+
 module _ (side mask toward : ℕ) where
   cells-told : side ≤ 1 → (a : List Bool) → length a ≡ 40 → (n : ℕ) → Told 40 (cellsIn a) (cellsAfter side mask toward a n) (cellContents side mask toward n)
-  unfolding cellsAfter rowAfter cellContents
+  unfolding cellsAfter rowFrom cellContents
   cells-told s a len zero = cells-start a len
   cells-told s a len (suc n) =
       let before = cells-told s a len n in
-      let from-there = told-stored before (place side (suc n)) (all (place side (rowBehind toward (suc n)))) (λ k. place-cell side (suc n) k s) refl in
-      let left-free = told-stored before (place side (suc n)) (told false) (λ k. place-cell side (suc n) k s) refl in
-      told-either (rowNamed mask (rowBehind toward (suc n))) from-there (told-either (rowNamed mask (suc n)) left-free before)
+      let from = rowSource mask toward (suc n) in
+      told-either (eqb from (suc n)) before
+      (told-stored before (place side (suc n)) (carContent side from) (λ k. place-cell side (suc n) k s) (car-has side (cellsIn a) from))
 
 module _ (f : Floor) (full : Sized f) where
   pub shuttles-moved : (side mask orientation toward : ℕ) → allowed (Shuttles side mask orientation toward) (plainBits f) ≡ true

@@ -16,7 +16,7 @@ use Rattle.rules.specs.Named.{cells, step, rowsOf}
 use Rattle.rules.specs.Rules.{wellFormed, changes}
 use Rattle.rules.proofs.Every.{everywhere, each}
 use Rattle.plain.specs.Named.{cellNamed}
-use Rattle.plain_moves.specs.Private.{slotAt, cellBehind, rowNamed, rowBehind}
+use Rattle.plain_moves.specs.Private.{slotAt, cellBehind, rowNamed, rowBehind, rowSource}
 use Rattle.plain_moves.proofs.Contents.{Content, told, all, rightAt, keeps}
 
 -- ---- what is taken
@@ -34,26 +34,25 @@ beltContent row mask toward size k =
     let j = cellBehind toward (step row size) k in
     cond (cellNamed row mask k) (cond (cellNamed row mask j) (itself j) (told false)) (itself k)
 
--- a row's slot after a shuttle move, and the slots with the first n rows made so
-unfoldable pub slotContent : ℕ → ℕ → ℕ → ℕ → ℕ → Content
-slotContent side mask orientation toward row =
-    cond (rowNamed mask (rowBehind toward row)) (itself (slot side orientation (rowBehind toward row)))
-    (cond (rowNamed mask row) (told false) (itself (slot side orientation row)))
+-- what a slot takes from the slot of a row, and the slots with the first n rows made so
+unfoldable pub slotContent : ℕ → ℕ → ℕ → Content
+slotContent side orientation from = cond (eqb from 0) (told false) (itself (slot side orientation from))
 
 unfoldable pub slotContents : ℕ → ℕ → ℕ → ℕ → ℕ → ℕ → Content
 slotContents side mask orientation toward zero j = itself (slotPlace j)
 slotContents side mask orientation toward (suc n) j =
     let r = slotContents side mask orientation toward n j in
-    cond (eqb (slotAt side orientation (suc n)) j) (slotContent side mask orientation toward (suc n)) r
+    cond (eqb (slotAt side orientation (suc n)) j) (slotContent side orientation (rowSource mask toward (suc n))) r
 
--- the cells with the first n rows made so
+-- what the cells of a row take from the position of another, and the cells with the first n rows made so
+unfoldable pub carContent : ℕ → ℕ → Content
+carContent side from = cond (eqb from 0) (told false) (all (place side from))
+
 unfoldable pub cellContents : ℕ → ℕ → ℕ → ℕ → ℕ → Content
 cellContents side mask toward zero k = itself k
 cellContents side mask toward (suc n) k =
     let r = cellContents side mask toward n k in
-    let here = elem k (place side (suc n)) in
-    cond (rowNamed mask (rowBehind toward (suc n))) (cond here (all (place side (rowBehind toward (suc n)))) r)
-    (cond (rowNamed mask (suc n)) (cond here (told false) r) r)
+    cond (eqb (rowSource mask toward (suc n)) (suc n)) r (cond (elem k (place side (suc n))) (carContent side (rowSource mask toward (suc n))) r)
 
 -- the slots after a tilt
 unfoldable pub tiltContents : ℕ → ℕ → ℕ → ℕ → Content
@@ -81,7 +80,7 @@ rightOf (Lift height) = true
 rightOf Rotate = true
 
 all-right : T (everywhere rightOf)
-unfolding everywhere every beltOf rightOf cellBehind rowNamed rowBehind beltContent slotContent slotContents cellContents tiltContents
+unfolding everywhere every beltOf rightOf cellBehind rowNamed rowBehind rowSource beltContent slotContent slotContents carContent cellContents tiltContents
 all-right = tt
 
 -- ---- what it says of each

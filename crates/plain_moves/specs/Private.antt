@@ -1,6 +1,5 @@
--- What the contracts of private functions cite; no public one rests on it. A move as the code makes it: what each cell takes after a belt
--- run, what each row of a side takes after its shuttles move, and the parts that an instruction takes, marked one after the other. That this
--- is what the rules list is shown in proofs/. Assumes nothing.
+-- What the contracts of private functions cite; no public one rests on it. A move as the code makes it: what each cell takes from a belt run,
+-- and what each row of a side takes from its shuttles' move. That this is what the rules list is shown in proofs/. Assumes nothing.
 use mathlib.Core.Bool.{Bool, false, cond, not, _&&_}
 use mathlib.Core.List.{List, [], _∷_}
 use Prim.Native.Nat.{ℕ, zero, suc, _+_, _-_, _*_}
@@ -53,25 +52,31 @@ rowBehind toward row = cond (higher toward) (row - 1) (row + 1)
 unfoldable pub firstCell : ℕ → ℕ → ℕ
 firstCell side row = cond (eqb row 1) (side * 18) (cond (eqb row 2) (20 + side * 9) (30 + side * 9))
 
--- the slot of a row takes what the slot of the named row behind has; where none is, a named one is empty, and any other stays
-unfoldable pub slotAfter : ℕ → ℕ → ℕ → ℕ → Bits → ℕ → Bool
-slotAfter side mask orientation toward f row =
-    cond (rowNamed mask (rowBehind toward row)) (f (slot side orientation (rowBehind toward row)))
-    (cond (rowNamed mask row) false (f (slot side orientation row)))
+-- the row from which a row takes what it has afterwards: the named row behind; where none is, a named one takes from 0, where nothing is,
+-- and any other from itself
+unfoldable pub rowSource : ℕ → ℕ → ℕ → ℕ
+rowSource mask toward row = cond (rowNamed mask (rowBehind toward row)) (rowBehind toward row) (cond (rowNamed mask row) 0 row)
+
+-- what a slot takes from the slot of a row
+unfoldable pub slotFrom : ℕ → ℕ → Bits → ℕ → Bool
+slotFrom side orientation f from = not (eqb from 0) && f (slot side orientation from)
 
 -- the slots with the first n rows made so
 unfoldable pub slotsAfter : ℕ → ℕ → ℕ → ℕ → List Bool → ℕ → List Bool
 slotsAfter side mask orientation toward a zero = a
 slotsAfter side mask orientation toward a (suc n) =
-    set (slotsAfter side mask orientation toward a n) (slotAt side orientation (suc n)) (slotAfter side mask orientation toward (slotsIn a) (suc n))
+    set (slotsAfter side mask orientation toward a n) (slotAt side orientation (suc n))
+    (slotFrom side orientation (slotsIn a) (rowSource mask toward (suc n)))
 
--- the cells of a row take the car at the position of the named row behind; where none is, those of a named one are free, and others stay
-unfoldable pub rowAfter : ℕ → ℕ → ℕ → Bits → ℕ → List Bool → List Bool
-rowAfter side mask toward f row new =
-    cond (rowNamed mask (rowBehind toward row)) (stored (place side row) (allSet (place side (rowBehind toward row)) f) new)
-    (cond (rowNamed mask row) (stored (place side row) false new) new)
+-- a car is at the position of a row
+unfoldable pub carAt : ℕ → Bits → ℕ → Bool
+carAt side f row = not (eqb row 0) && allSet (place side row) f
+
+-- the cells of a row take the car at the position of another; where it takes from itself they stay
+unfoldable pub rowFrom : ℕ → Bits → ℕ → ℕ → List Bool → List Bool
+rowFrom side f row from new = cond (eqb from row) new (stored (place side row) (carAt side f from) new)
 
 -- the cells with the first n rows made so
 unfoldable pub cellsAfter : ℕ → ℕ → ℕ → List Bool → ℕ → List Bool
 cellsAfter side mask toward a zero = a
-cellsAfter side mask toward a (suc n) = rowAfter side mask toward (cellsIn a) (suc n) (cellsAfter side mask toward a n)
+cellsAfter side mask toward a (suc n) = rowFrom side (cellsIn a) (suc n) (rowSource mask toward (suc n)) (cellsAfter side mask toward a n)

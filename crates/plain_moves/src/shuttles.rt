@@ -3,12 +3,11 @@ ghost use mathlib.Core.Path.{_≡_};
 ghost use mathlib.Core.Bool.{true};
 ghost use Prim.Native.Nat.{_≤_};
 ghost use lib.Dec.{T};
-ghost use Rattle.bits.specs.Bits.{allSet};
 ghost use Rattle.floor.specs.Floor.{place};
 ghost use Rattle.rules.specs.declared.Instruction.{Instruction};
 ghost use Rattle.rules.specs.Rules.{wellFormed, allowed, next};
 ghost use Rattle.plain.specs.Plain.{plainBits, floorOf};
-ghost use Rattle.plain_moves.specs.Private.{cellsIn, slotsIn, slotAt, stored, firstCell, rowNamed, rowBehind, slotAfter, slotsAfter, rowAfter, cellsAfter};
+ghost use Rattle.plain_moves.specs.Private.{cellsIn, slotsIn, slotAt, stored, firstCell, rowNamed, rowBehind, rowSource, slotFrom, slotsAfter, carAt, rowFrom, cellsAfter};
 use plain::Floor;
 
 // A slot's place among the twelve.
@@ -29,7 +28,7 @@ pub fn named(mask: u8, row: u8) -> bool
     bits::bit(mask as u64, (row - 1) as u64)
 }
 
-// The row behind, seen toward d: the named row from which a row takes what it has afterwards.
+// The row behind, seen toward d.
 pub fn behind(toward: u8, row: u8) -> u8
     requires { ⌜ (1 ≤ row) × (row ≤ 3) ⌝ }
     ensures { λ n. ⌜ n ≡ rowBehind toward row ⌝ }
@@ -38,6 +37,22 @@ pub fn behind(toward: u8, row: u8) -> u8
         return row - 1;
     }
     row + 1
+}
+
+// The row from which a row takes what it has afterwards: the named row behind it. Where none is, a named row takes from 0, where nothing
+// is, and any other row stays as it is.
+fn source(mask: u8, toward: u8, row: u8) -> u8
+    requires { ⌜ (1 ≤ row) × (row ≤ 3) ⌝ }
+    ensures { λ n. ⌜ n ≡ rowSource mask toward row ⌝ }
+{
+    let back = behind(toward, row);
+    if named(mask, back) {
+        return back;
+    }
+    if named(mask, row) {
+        return 0;
+    }
+    row
 }
 
 // The first cell of a position.
@@ -54,21 +69,15 @@ pub fn first_cell(side: u8, row: u8) -> u8
 
 // ---- slots
 
-// What a row's slot has afterwards: what the slot of the named row behind has. Where none is, a named one is left empty, and any other keeps
-// what it has.
-fn slot_after(slots: &[bool; 12], side: u8, mask: u8, orientation: u8, toward: u8, row: u8) -> bool
-    requires { ⌜ (side ≤ 1) × (orientation ≤ 1) × (mask ≤ 7) × (1 ≤ row) × (row ≤ 3) ⌝ }
-    ensures { λ b. ⌜ b ≡ slotAfter side mask orientation toward (slotsIn (now (slots .entry))) row ⌝ }
+// What a slot has afterwards: what the slot of the row has from which it takes.
+fn slot_from(slots: &[bool; 12], side: u8, orientation: u8, from: u8) -> bool
+    requires { ⌜ (side ≤ 1) × (orientation ≤ 1) × (from ≤ 3) ⌝ }
+    ensures { λ b. ⌜ b ≡ slotFrom side orientation (slotsIn (now (slots .entry))) from ⌝ }
 {
-    let from = behind(toward, row);
-    if named(mask, from) {
-        let at = slot(side, orientation, from);
-        return slots[at as usize];
-    }
-    if named(mask, row) {
+    if from == 0 {
         return false;
     }
-    let at = slot(side, orientation, row);
+    let at = slot(side, orientation, from);
     slots[at as usize]
 }
 
@@ -81,7 +90,8 @@ fn slots_after(slots: [bool; 12], side: u8, mask: u8, orientation: u8, toward: u
     let mut row: u8 = 1;
     while row < 4 {
         let at = slot(side, orientation, row);
-        new[at as usize] = slot_after(&slots, side, mask, orientation, toward, row);
+        let from = source(mask, toward, row);
+        new[at as usize] = slot_from(&slots, side, orientation, from);
         row += 1;
     }
     new
@@ -92,8 +102,11 @@ fn slots_after(slots: [bool; 12], side: u8, mask: u8, orientation: u8, toward: u
 // A car is at the position of a row: on both half cells in row 1, on the one cell in rows 2 and 3.
 fn car_at(cells: &[bool; 40], side: u8, row: u8) -> bool
     requires { ⌜ side ≤ 1 ⌝ }
-    ensures { λ b. ⌜ b ≡ allSet (place side row) (cellsIn (now (cells .entry))) ⌝ }
+    ensures { λ b. ⌜ b ≡ carAt side (cellsIn (now (cells .entry))) row ⌝ }
 {
+    if row == 0 {
+        return false;
+    }
     let first = first_cell(side, row);
     if row == 1 {
         return cells[first as usize] & cells[(first + 1) as usize];
@@ -116,27 +129,16 @@ pub fn put(cells: [bool; 40], side: u8, row: u8, car: bool) -> [bool; 40]
     new
 }
 
-// The cells with those of one row made anew, if it moves or takes what moves: a row that does neither keeps its cells as they are, also half
-// a car in row 1.
-fn row_after(
-    new: [bool; 40],
-    old: &[bool; 40],
-    side: u8,
-    mask: u8,
-    toward: u8,
-    row: u8,
-) -> [bool; 40]
-    requires { ⌜ (side ≤ 1) × (1 ≤ row) × (row ≤ 3) ⌝ }
-    ensures { λ a. ⌜ a ≡ rowAfter side mask toward (cellsIn (now (old .entry))) row new ⌝ }
+// The cells with those of one row made anew from the row from which it takes. A row that stays keeps its cells as they are, also half a car
+// in row 1.
+fn row_from(new: [bool; 40], old: &[bool; 40], side: u8, row: u8, from: u8) -> [bool; 40]
+    requires { ⌜ side ≤ 1 ⌝ }
+    ensures { λ a. ⌜ a ≡ rowFrom side (cellsIn (now (old .entry))) row from new ⌝ }
 {
-    let from = behind(toward, row);
-    if named(mask, from) {
-        return put(new, side, row, car_at(old, side, from));
+    if from == row {
+        return new;
     }
-    if named(mask, row) {
-        return put(new, side, row, false);
-    }
-    new
+    put(new, side, row, car_at(old, side, from))
 }
 
 // Lowered shuttles take their cars along.
@@ -147,7 +149,8 @@ fn cells_after(cells: [bool; 40], side: u8, mask: u8, toward: u8) -> [bool; 40]
     let mut new = cells;
     let mut row: u8 = 1;
     while row < 4 {
-        let made = row_after(new, &cells, side, mask, toward, row);
+        let from = source(mask, toward, row);
+        let made = row_from(new, &cells, side, row, from);
         new = made;
         row += 1;
     }
