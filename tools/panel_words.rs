@@ -122,6 +122,7 @@ fn of_cells(image: u64, all: &[u8], even: bool) -> (String, bool) {
     let (count, odd) = (occupied.len(), occupied.len() % 2 == 1);
     match (count, even) {
         (0, _) => (format!("{}: free", cells(all)), false),
+        (_, false) if all.len() == 1 => (format!("{}: occupied", cells(all)), true),
         (_, true) => (format!("{}: {count} occupied ({}), {}", cells(all), numbers(&occupied), if odd { "odd" } else { "even" }), odd),
         (_, false) => (format!("{}: {} occupied", cells(all), numbers(&occupied)), true),
     }

@@ -116,7 +116,10 @@ pub fn line_of([op, a, b, c, d]: [u8; 5]) -> String {
     let listed = |names: &[&'static str]| named(names, b).iter().map(|name| format!(" {name}")).collect::<String>();
     match op {
         1 => format!("belts row {a}{}, {}, {}", listed(belts_of(a)), word(&WAYS, c), word(&SIZES, d)),
-        2 => format!("shuttles {} rows{} {} {}", word(&SIDES, a), listed(&ROWS), word(&ORIENTATIONS, c), word(&WAYS, d)),
+        2 => {
+            let rows = if b.count_ones() == 1 { "row" } else { "rows" };
+            format!("shuttles {} {rows}{} {} {}", word(&SIDES, a), listed(&ROWS), word(&ORIENTATIONS, c), word(&WAYS, d))
+        }
         3 => format!("tilt {} row {b} {}", word(&SIDES, a), word(&ORIENTATIONS, c)),
         4 => format!("lift {}", word(&HEIGHTS, a)),
         _ => "rotate".to_string(),
