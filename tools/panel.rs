@@ -11,6 +11,12 @@ use std::io::{self, BufRead, Write};
 use std::process::ExitCode;
 use words::{Words, Wrong};
 
+/// Why a stream failed, in words.
+fn failed(stream: &str, why: io::Error) -> Wrong {
+    let words = why.to_string();
+    format!("standard {stream}: {}", words.split(" (os error").next().unwrap_or(&words))
+}
+
 /// Reads the input line by line, with each line's end, and counts them.
 struct Lines<R> {
     input: R,
@@ -18,9 +24,9 @@ struct Lines<R> {
 }
 
 impl<R: BufRead> Lines<R> {
-    fn next(&mut self) -> io::Result<Option<Vec<u8>>> {
+    fn next(&mut self) -> Result<Option<Vec<u8>>, Wrong> {
         let mut line = Vec::new();
-        if self.input.read_until(b'\n', &mut line)? == 0 { return Ok(None); }
+        if self.input.read_until(b'\n', &mut line).map_err(|why| failed("input", why))? == 0 { return Ok(None); }
         self.number += 1;
         Ok(Some(line))
     }
@@ -61,7 +67,7 @@ fn image_in(line: &[u8]) -> Result<u64, Wrong> {
 }
 
 /// The floor: one line with an image, or the six of a drawing. A bad line is told as soon as it is read, by its number.
-fn floor<R: BufRead>(lines: &mut Lines<R>) -> io::Result<Result<u64, (usize, Wrong)>> {
+fn floor<R: BufRead>(lines: &mut Lines<R>) -> Result<Result<u64, (usize, Wrong)>, Wrong> {
     let mut text = Vec::new();
     loop {
         let Some(line) = lines.next()? else { return Ok(Err((lines.number + 1, bad(lines.number, None)))) };
@@ -124,10 +130,11 @@ fn instruction_in(line: &[u8]) -> Result<Option<[u8; 5]>, Wrong> {
     Ok(Some(five))
 }
 
-/// The whole session; gives whether every line said something.
-fn session(input: impl BufRead, out: &mut impl Write) -> io::Result<bool> {
+/// The whole session; gives whether every line said something, or why a stream failed.
+fn session(input: impl BufRead, out: &mut impl Write) -> Result<bool, Wrong> {
     let mut lines = Lines { input, number: 0 };
     let told = |line: usize, why: Wrong| eprintln!("panel: line {line}: {why}");
+    let unwritten = |why| failed("output", why);
     let mut image = match floor(&mut lines)? {
         Ok(image) => image,
         Err((line, why)) => {
@@ -135,19 +142,18 @@ fn session(input: impl BufRead, out: &mut impl Write) -> io::Result<bool> {
             return Ok(false);
         }
     };
-    show_floor(out, image)?;
-    out.flush()?;
+    show_floor(out, image).and_then(|()| out.flush()).map_err(unwritten)?;
     let mut right = true;
     while let Some(line) = lines.next()? {
         match instruction_in(&line) {
             Ok(None) => {}
-            Ok(Some(five)) => image = explain(out, image, five)?,
+            Ok(Some(five)) => image = explain(out, image, five).map_err(unwritten)?,
             Err(why) => {
                 told(lines.number, why);
                 right = false;
             }
         }
-        out.flush()?;
+        out.flush().map_err(unwritten)?;
     }
     Ok(right)
 }
