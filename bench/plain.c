@@ -60,7 +60,8 @@ int main(int words, char **word) {
     memcpy(moving_eight, station, sizeof station);
     all = all && station_request(moving, sizeof moving, 1, belt, sizeof belt) == taken;
     all = all && station_request(moving_eight, sizeof moving_eight, STATION_MOST, eight, sizeof eight) == taken;
-    all = all && panel_next(CARS, shuttle, sizeof shuttle, next, sizeof next) == taken && panel_next(CARS, lift, sizeof lift, next, sizeof next) == taken;
+    all = all && panel_next(CARS, shuttle, sizeof shuttle, next, sizeof next) == taken;
+    all = all && panel_next(CARS, lift, sizeof lift, next, sizeof next) == taken;
     if (!all)
         return 1;
     measure(entries, sizeof entries / sizeof *entries, words > 1 ? word[1] : NULL);

@@ -66,33 +66,47 @@ fn no_next_row(mask: u8, toward: u8) -> String {
     format!("there is no row {} than row {}", word(&WAYS, toward), if toward == 0 { 1 } else { 3 })
 }
 
+const AVAILABLE: &str = "each is available: a shuttle belt needs its lowered shuttle, the lift belt basement height";
+const LEAVING: &str =
+    "leaving the basement, cells 11 and 12 are free, or cells 0 to 10 and cells 13 to 19 each hold an even number of occupied cells";
+
+fn belts(row: u8, mask: u8, toward: u8, size: u8) -> Vec<Asked> {
+    let long = if (row, size) == (1, 1) { "two cells" } else { "one cell" };
+    let counted = if row == 1 { "no belt is named".to_string() } else { format!("row {row}: not asked") };
+    vec![
+        asked("rows 2 and 3 move full only", Asks::There, format!("row {row}, {}", word(&SIZES, size))),
+        asked("at least one belt", Asks::There, all_named(belts_of(row), mask)),
+        asked("the belts border each other without a gap", Asks::There, with_gaps(belts_of(row), mask)),
+        asked(AVAILABLE, Asks::There, "no shuttle belt and no lift belt is named"),
+        asked(format!("the end of the span toward {} is free: {long}", word(&WAYS, toward)), Asks::Free, "no belt is named"),
+        asked("in row 1 the number of occupied cells in the span is even", Asks::Even, counted),
+    ]
+}
+
+fn shuttles(side: u8, mask: u8, orientation: u8, toward: u8) -> Vec<Asked> {
+    let (side, stands, way) = (word(&SIDES, side), word(&ORIENTATIONS, orientation), word(&WAYS, toward));
+    let whole = format!("if lowered and row 1 is named, an even number of the {side} shuttle's two cells there is occupied");
+    let uncounted = if orientation == 0 { "row 1 is not named: not asked" } else { "tilted: not asked" };
+    vec![
+        asked("at least one row", Asks::There, all_named(&ROWS, mask)),
+        asked("no gap", Asks::There, with_gaps(&ROWS, mask)),
+        asked(format!("each has a shuttle that is {stands}"), Asks::There, "no row is named"),
+        asked(whole, Asks::Even, uncounted),
+        asked(format!("a next row toward {way} exists and has no shuttle that is {stands}"), Asks::Free, no_next_row(mask, toward)),
+    ]
+}
+
 /// The conditions of an instruction in the paper's order.
 pub fn conditions([op, a, b, c, d]: [u8; 5]) -> Vec<Asked> {
     match op {
-        1 => vec![
-            asked("rows 2 and 3 move full only", Asks::There, format!("row {a}, {}", word(&SIZES, d))),
-            asked("at least one belt", Asks::There, all_named(belts_of(a), b)),
-            asked("the belts border each other without a gap", Asks::There, with_gaps(belts_of(a), b)),
-            asked("each is available: a shuttle belt needs its lowered shuttle, the lift belt basement height", Asks::There, "no shuttle belt and no lift belt is named"),
-            asked(format!("the end of the span toward {} is free: {}", word(&WAYS, c), if (a, d) == (1, 1) { "two cells" } else { "one cell" }), Asks::Free, "no belt is named"),
-            asked("in row 1 the number of occupied cells in the span is even", Asks::Even, if a == 1 { "no belt is named".to_string() } else { format!("row {a}: not asked") }),
-        ],
-        2 => {
-            let (side, stands) = (word(&SIDES, a), word(&ORIENTATIONS, c));
-            vec![
-                asked("at least one row", Asks::There, all_named(&ROWS, b)),
-                asked("no gap", Asks::There, with_gaps(&ROWS, b)),
-                asked(format!("each has a shuttle that is {stands}"), Asks::There, "no row is named"),
-                asked(format!("if lowered and row 1 is named, an even number of the {side} shuttle's two cells there is occupied"), Asks::Even, if c == 0 { "row 1 is not named: not asked" } else { "tilted: not asked" }),
-                asked(format!("a next row toward {} exists and has no shuttle that is {stands}", word(&WAYS, d)), Asks::Free, no_next_row(b, d)),
-            ]
+        1 => belts(a, b, c, d),
+        2 => shuttles(a, b, c, d),
+        3 if c == 0 => {
+            let all = format!("all three of the {} side are lowered", word(&SIDES, a));
+            vec![asked(all, Asks::There, ""), asked("the position's cells are free", Asks::Free, "")]
         }
-        3 if c == 0 => vec![asked(format!("all three of the {} side are lowered", word(&SIDES, a)), Asks::There, ""), asked("the position's cells are free", Asks::Free, "")],
         3 => vec![asked("a tilted one is there", Asks::There, ""), asked("no lowered one is there", Asks::Free, "")],
-        4 => vec![
-            asked("the height differs", Asks::Height, ""),
-            asked("leaving the basement, cells 11 and 12 are free, or cells 0 to 10 and cells 13 to 19 each hold an even number of occupied cells", Asks::Whole, ""),
-        ],
+        4 => vec![asked("the height differs", Asks::Height, ""), asked(LEAVING, Asks::Whole, "")],
         _ => vec![asked("at rotation height", Asks::Height, ""), asked("cells 8, 9, 10, 13, 14, 15 are free", Asks::Free, "")],
     }
 }

@@ -252,7 +252,8 @@ static void report_call(uint8_t entry, unsigned places) {
     compare(&command, places);
 }
 
-/* Damage that no call does, marks, the next issue or what is set apart among it, calls in a row, and the report's calls; numbered behind the entries. */
+/* Damage that no call does, marks, the next issue or what is set apart among it, calls in a row, and the report's calls; numbered behind the
+ * entries. */
 enum { NEW_RECORD = ENTRIES, NEW_SET, NEW_MARKS, NEW_STATION, SETTLE };
 
 static void one_step(void) {

@@ -55,5 +55,6 @@ fn main() {
         }
     }
     if !every_reason("panel", &reasons) { exit(1); }
-    println!("panel: {} commands, each answer and room as the reference's; every number of each entry, {} pairs of opcode and reason", trials.len(), reasons.len());
+    println!("panel: {} commands, each answer and room as the reference's; every number of each entry, {} pairs of opcode and reason",
+        trials.len(), reasons.len());
 }

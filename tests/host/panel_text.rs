@@ -1,8 +1,8 @@
 //! The panel for the terminal: `panel_text PANEL PAGE`. Every instruction in words on many floors: what is shown is read back and held against
-//! the reference, condition by condition with the parts that decide it, the verdict, and the floor after it. Floors as drawings and as
-//! images, texts that mean the same, and each wrong line told with its number. And the page's examples: a block marked `panel` is an input,
-//! and of the blocks behind it one marked `shown` is all that is written, one marked `told` what is told on standard error; every reason
-//! from 20 to 28 must be a verdict there.
+//! the reference, condition by condition with the parts that decide it and those at fault, the verdict, and the floor after it. Floors as
+//! drawings and as images, texts that mean the same, and each wrong line told with its number. And the page's examples: a block marked
+//! `panel` is an input, and of the blocks behind it one marked `shown` is all that is written, one marked `told` what is told on standard
+//! error; every reason from 20 to 28 must be a verdict there.
 
 mod reference;
 mod sound_records;
@@ -57,26 +57,48 @@ fn parts_in(line: &str) -> u64 {
     1 << (39 + side + row + if what.contains("tilted") { 6 } else { 0 })
 }
 
+/// A condition as it is shown: its number, whether it holds, and the parts of each line below it, with whether they are at fault.
+struct Condition {
+    number: u8,
+    holds: bool,
+    lines: Vec<(u64, bool)>,
+}
+
+/// Whether some parts stand against a condition that fails: a shuttle that isn't there or one that is, occupied cells, an odd number of them,
+/// the lift at another height; where no part decides it, the instruction's words do.
+fn against(number: u8, parts: u64, image: u64) -> bool {
+    let (occupied, height) = ((image & parts).count_ones(), image >> 53 & 3);
+    match (number, parts) {
+        (_, 0) | (26 | 27, _) => true,
+        (22, LIFT) => height != 2,
+        (24, LIFT) => false,
+        (22, _) => occupied == 0,
+        (24, LIFT_CELLS) => occupied > 0,
+        (24, _) => occupied % 2 == 1,
+        _ => occupied > 0,
+    }
+}
+const LIFT: u64 = 1 << 52;
+const LIFT_CELLS: u64 = 3 << 11;
+
 /// What is shown of one instruction, up to the next.
 struct Shown {
     words: String,
-    /// Of each condition its number, whether it holds, the parts that decide it, and whether something is at fault.
-    conditions: Vec<(u8, bool, u64, bool)>,
+    conditions: Vec<Condition>,
     verdict: u8,
     after: Option<Floor>,
 }
 
 fn shown<'a>(lines: &mut std::iter::Peekable<impl Iterator<Item = &'a str>>) -> Option<Shown> {
     let words = lines.next()?.replace(',', "").replace(" row ", " rows ");
-    let mut conditions: Vec<(u8, bool, u64, bool)> = Vec::new();
+    let mut conditions: Vec<Condition> = Vec::new();
     while let Some(line) = lines.next_if(|line| line.starts_with(' ')) {
         if let Some(line) = line.strip_prefix("          ") {
-            let last = conditions.last_mut()?;
-            (last.2, last.3) = (last.2 | parts_in(line), last.3 || line.ends_with(", at fault"));
+            conditions.last_mut()?.lines.push((parts_in(line), line.ends_with(", at fault")));
         } else {
             let mut words = line.split_whitespace();
             let number = words.next()?.parse().ok()?;
-            conditions.push((number, words.next()? == "yes", 0, false));
+            conditions.push(Condition { number, holds: words.next()? == "yes", lines: Vec::new() });
         }
     }
     let verdict: u8 = lines.next()?.strip_prefix("verdict ")?.split_once(':')?.0.parse().ok()?;
@@ -95,9 +117,16 @@ fn held(output: &str, mut image: u64, fives: &[[u8; 5]]) -> usize {
     let mut allowed = 0;
     for &five in fives {
         let (one, shown) = (Instruction::read(five).expect("an instruction"), shown(&mut lines).expect("what is shown of it"));
-        let expected: Vec<_> = one.conditions(image).iter().map(|one| (one.number, one.holds, one.parts.number(), !one.holds)).collect();
+        let expected: Vec<_> = one.conditions(image).iter().map(|one| (one.number, one.holds, one.parts.number())).collect();
+        let all_parts = |lines: &[(u64, bool)]| lines.iter().fold(0, |all, (parts, _)| all | parts);
+        let conditions: Vec<_> = shown.conditions.iter().map(|one| (one.number, one.holds, all_parts(&one.lines))).collect();
         let line = words(five).map(|words| words.replace(" row ", " rows "));
-        assert_eq!((Some(shown.words), shown.conditions), (line, expected), "on {}", hexadecimal(image));
+        assert_eq!((Some(shown.words), conditions), (line, expected), "on {}", hexadecimal(image));
+        for condition in shown.conditions {
+            let right = |&(parts, fault): &(u64, bool)| fault == (!condition.holds && against(condition.number, parts, image));
+            let told = condition.holds || condition.lines.iter().any(|(_, fault)| *fault);
+            assert!(told && condition.lines.iter().all(right), "{one:?} on {}: {}", hexadecimal(image), condition.number);
+        }
         assert_eq!(shown.verdict, one.asked(image).err().unwrap_or(0), "{one:?} on {}", hexadecimal(image));
         if let Some(after) = shown.after {
             image = one.next(image);
@@ -177,7 +206,12 @@ fn main() {
     let [_, panel, page] = &given[..] else { panic!("usage: panel_text PANEL PAGE") };
     let text = |input: &str| { let (output, told, well) = run(panel, input.as_bytes()); (String::from_utf8_lossy(&output).into_owned(), told, well) };
     let mut failed = 0;
-    let mut same = |what: &str, got: String, expected: String| if got != expected { failed += 1; eprintln!("panel_text: {what}: expected\n{expected}\ngot\n{got}"); };
+    let mut same = |what: &str, got: String, expected: String| {
+        if got != expected {
+            failed += 1;
+            eprintln!("panel_text: {what}: expected\n{expected}\ngot\n{got}");
+        }
+    };
 
     // every instruction on many floors; each floor is given as an image, and as the drawing of it that was shown
     let (fives, sound_records, mut any) = (every_five(), SoundRecords::new(), Numbers(10));
@@ -221,6 +255,8 @@ fn main() {
     let missing: Vec<u8> = REASON_NUMBERS.filter(|number| !verdicts.contains(number)).collect();
     same(page, format!("no example of {missing:?}"), "no example of []".to_string());
     if failed > 0 || examples[0] != examples[1] || examples[2] == 0 { exit(1); }
-    println!("panel_text: {} instructions on {floors} floors and those after them, {allowed} allowed, each shown as the reference says", floors * fives.len());
-    println!("panel_text: {} texts that mean the same, {} wrong ones; {} examples of {page}, verdicts {verdicts:?}", alike.len(), wrong.len(), examples[0]);
+    println!("panel_text: {} instructions on {floors} floors and those after them, {allowed} allowed, each shown as the reference says",
+        floors * fives.len());
+    println!("panel_text: {} texts that mean the same, {} wrong ones; {} examples of {page}, verdicts {verdicts:?}",
+        alike.len(), wrong.len(), examples[0]);
 }

@@ -41,7 +41,9 @@ use wrong_plain::{Lent, WRONG};
 /// A call by the reference.
 fn reference_call(given: &Given) -> Left {
     let &Given { entry, first, second, issue, image, apart, card, ref input, .. } = given;
-    engines::on_copies(given, |room, output| panel_command::call(&mut Command { entry, first, second, issue, image, apart, card, room, input, output }))
+    engines::on_copies(given, |room, output| {
+        panel_command::call(&mut Command { entry, first, second, issue, image, apart, card, room, input, output })
+    })
 }
 
 /// A call by a reference with a fault.
@@ -138,13 +140,18 @@ impl Run {
     fn complete(&self) -> bool {
         let mut right = true;
         let mut held = |is: bool, what: String| if !is { right = false; eprintln!("plain: {what}") };
-        for ((entry, numbers), seen) in ENTRIES.iter().zip(&self.seen) { held(seen.iter().eq(*numbers), format!("{entry} gave {seen:?}, expected {numbers:?}")); }
-        for entry in [REQUEST, NEXT].map(usize::from) { held(every_reason(ENTRIES[entry].0, &self.reasons[entry]), "some reasons are amiss".to_string()); }
+        for ((entry, numbers), seen) in ENTRIES.iter().zip(&self.seen) {
+            held(seen.iter().eq(*numbers), format!("{entry} gave {seen:?}, expected {numbers:?}"));
+        }
+        for entry in [REQUEST, NEXT].map(usize::from) {
+            held(every_reason(ENTRIES[entry].0, &self.reasons[entry]), "some reasons are amiss".to_string());
+        }
         for ((entry, _), sorts) in ENTRIES.iter().zip(&self.sorts).filter(|((_, numbers), _)| numbers.contains(&UNFIT)) {
             held(sorts.keys().eq(&handed::ALL), format!("{entry} was not called on every sort of handed-in station, but on {sorts:?}"));
         }
         held(filling::every_event("plain", &self.filled), "some ways to meet places that are kept open are amiss".to_string());
-        let wanted: BTreeSet<_> = CONDITIONS.iter().flat_map(|&(op, from, many)| (0..many).flat_map(move |at| [false, true].map(|holds| (op, from, at, holds)))).collect();
+        let of = |&(op, from, many): &(u8, u8, u8)| (0..many).flat_map(move |at| [false, true].map(|holds| (op, from, at, holds)));
+        let wanted: BTreeSet<_> = CONDITIONS.iter().flat_map(of).collect();
         held(self.conditions == wanted, format!("conditions: {:?}", self.conditions.symmetric_difference(&wanted).collect::<Vec<_>>()));
         let unfound: Vec<_> = self.unfound.iter().map(|wrong| wrong.0).collect();
         held(unfound.is_empty(), format!("wrong references that were not found out: {unfound:?}"));
