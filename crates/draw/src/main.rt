@@ -1,0 +1,172 @@
+// Reads standard input to its end. An image in hex comes out as its drawing, and a drawing as the image in hex, on standard output; what is
+// refused is told in one line on standard error. What is written and read stands in drawing, what is tried again and what is told of a
+// failure in streams; no contract can say what comes in and goes out.
+ghost use Prim.Native.Nat.{_≤_};
+ghost use lib.ListN.{length};
+ghost use Rattle.streams.specs.Input.{Fills};
+use drawing::Hex;
+use streams::Input;
+
+// The longest input that is read as hex: of one byte more no more is read, and a drawing is not so long.
+const LONGEST: usize = 65536;
+
+const ROOM: usize = 65537;
+
+// No drawing of a sound record is longer.
+const LONGEST_DRAWING: usize = 66;
+
+// The numbers of what is read.
+const TAKEN: u8 = 0;
+
+const NO_DRAWING: u8 = 41;
+
+// The place that stands for text after the last line.
+const PAST_LAST: u8 = 6;
+
+// What came: so many bytes at the front of the buffer; or a read failed, and that is told.
+struct Came {
+    have: usize,
+    failed: bool,
+}
+
+// Reads once past the bytes that are held.
+fn read_on(buf: &mut [u8], have: usize) -> Input
+    ensures { λ r. ⌜ Fills (now (buf .entry)) have r (now (buf .exit)) ⌝ }
+{
+    streams::fill(libc::STDIN_FILENO, buf, have, b"draw: standard input")
+}
+
+// Reads to the end of the input, or until the buffer is full.
+fn read_all(buf: &mut [u8]) -> Came
+    ensures { λ r. ⌜ r .have ≤ length (now (buf .exit)) ⌝ }
+{
+    let mut have: usize = 0;
+    loop {
+        let input = read_on(buf, have);
+        match input {
+            Input::Bytes(end) => {
+                have = end;
+            }
+            Input::Failed => {
+                return Came { have, failed: true };
+            }
+            _ => {
+                return Came {
+                    have,
+                    failed: false,
+                };
+            }
+        }
+    }
+}
+
+// Writes the first n bytes of a text; where that fails, it is told.
+fn say(text: &[u8], n: usize) {
+    streams::send(libc::STDOUT_FILENO, text, n, b"draw: standard output");
+}
+
+// Tells something on standard error.
+fn tell(text: &[u8]) {
+    streams::send(
+        libc::STDERR_FILENO,
+        text,
+        text.len(),
+        b"draw: standard error",
+    );
+}
+
+fn tell_number(n: u64) {
+    let mut digits = [0u8; 20];
+    let k = io::decimal(n, &mut digits);
+    tell(&digits[..k]);
+}
+
+fn tell_unsound() {
+    tell(b"draw: 15: the record is not sound\n");
+}
+
+// Tells which line is the first bad one: people count lines from 1, places are counted from 0.
+fn tell_bad_line(place: u8) {
+    if place == PAST_LAST {
+        tell(b"draw: 41, place 6: text after the last line\n");
+        return;
+    }
+    tell(b"draw: 41, place ");
+    tell_number(place as u64);
+    tell(b": not a drawing; line ");
+    tell_number(place as u64 + 1);
+    tell(b" is the first bad one\n");
+}
+
+// The drawing of an image.
+fn show(image: u64) {
+    let mut text = [0u8; LONGEST_DRAWING];
+    let w = drawing::write(image, &mut text);
+    if w.number == TAKEN {
+        say(&text, w.size as usize);
+        return;
+    }
+    tell_unsound();
+}
+
+// Draws the image that some hex says.
+fn draw_image(input: &[u8]) {
+    if LONGEST < input.len() {
+        tell(b"draw: not an image in hex: more than 65536 bytes\n");
+        return;
+    }
+    let hex = drawing::read_hex(input);
+    match hex {
+        Hex::Image(image) => show(image),
+        Hex::NotHex => tell(b"draw: not an image in hex: sixteen digits are wanted\n"),
+    }
+}
+
+// Says the image of a drawing.
+fn read_drawing(input: &[u8]) {
+    let found = drawing::read(input);
+    if found.number == TAKEN {
+        let line = drawing::hex_line(found.bits);
+        say(&line, 24);
+        return;
+    }
+    if found.number == NO_DRAWING {
+        tell_bad_line(found.place);
+        return;
+    }
+    tell_unsound();
+}
+
+// Hex begins with a digit or a blank, as no line of a floor does.
+fn begins_hex(input: &[u8]) -> bool {
+    if input.len() == 0 {
+        return false;
+    }
+    match input[0] {
+        b'0'..=b'9' | b'A'..=b'F' | b'a'..=b'f' => true,
+        b' ' | b'\t' | b'\r' | b'\n' => true,
+        _ => false,
+    }
+}
+
+fn answer(input: &[u8]) {
+    if begins_hex(input) {
+        draw_image(input);
+        return;
+    }
+    read_drawing(input);
+}
+
+// Answers what is read, unless that failed.
+fn session(buf: &mut [u8]) {
+    let came = read_all(buf);
+    if came.failed {
+        return;
+    }
+    answer(&buf[..came.have]);
+}
+
+fn main() {
+    let mut buf = [0u8; ROOM];
+    session(&mut buf);
+}

@@ -1,0 +1,11 @@
+pub mod Tables
+pub mod Cells
+pub mod Words
+pub mod Begun
+pub mod Telling
+pub mod Standing
+pub mod Sixteen
+pub mod FirstLines
+pub mod LiftLines
+pub mod Finding
+pub mod Drawn

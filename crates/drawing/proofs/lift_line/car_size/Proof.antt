@@ -1,0 +1,13 @@
+use Rattle.lines.specs.Bytes.{ascii}
+use Rattle.drawing.proofs.lift_line.car_size.Statement.{statement}
+use Rattle.drawing.proofs.lift_line.car_size.Tie as tie
+
+returns : tie.Need-returns
+unfolding ascii
+returns c = rw (c .if1 .taken)
+
+returns-2 : tie.Need-returns-2
+returns-2 c = rw (c .if1 .left)
+
+pub car-size-spec : {M : Type 1} → statement M
+car-size-spec = tie.close (tie.spec returns returns-2)

@@ -1,0 +1,4 @@
+pub mod Drawing
+pub mod Reading
+pub mod Hex
+pub mod Private

@@ -1,0 +1,134 @@
+-- A drawing read: which of its lines is the first that isn't of its form, and the record that a text of this form draws. Assumes nothing.
+use mathlib.Core.Bool.{Bool, true, false, not, cond, _&&_, _||_}
+use mathlib.Core.List.{List, [], _∷_}
+use Prim.Native.Nat.{ℕ, zero, suc, _+_, _-_, _/_, _%_}
+use lib.Dec.{eqb, ltb}
+use lib.ListN.{length, getD, take, drop}
+use Rattle.bits.specs.Bits.{Bits, bit, image}
+use Rattle.bits.specs.Search.{every, least}
+use Rattle.floor.specs.Floor as floor
+use Rattle.floor.specs.Floor.{raisedCar, heightLow, heightHigh}
+use Rattle.floor.specs.Sound.{sound}
+use Rattle.drawing.specs.declared.Found.{Found}
+use Rattle.drawing.specs.Drawing.{mark, letter, lineFeed, ended, heightName, carWord, driveWord}
+
+-- ---- lines
+
+-- the first line of a text, up to and with its line feed; where there is none, all of it
+unfoldable pub firstLine : List ℕ → List ℕ
+firstLine [] = []
+firstLine (b ∷ s) = cond (eqb b lineFeed) (b ∷ []) (b ∷ firstLine s)
+
+-- the text from line j on; line j
+unfoldable pub fromLine : ℕ → List ℕ → List ℕ
+fromLine zero s = s
+fromLine (suc j) s = let r = fromLine j s in drop (length (firstLine r)) r
+
+abbrev pub lineAt : ℕ → List ℕ → List ℕ
+lineAt j s = firstLine (fromLine j s)
+
+-- ---- the form of a line
+
+-- byte j of a line
+abbrev pub byteAt : ℕ → List ℕ → ℕ
+byteAt j l = getD l j 0
+
+-- it has n bytes that pass a test, and its line feed
+unfoldable pub each : ℕ → (ℕ → Bool) → List ℕ → Bool
+each n good l = eqb (length l) (suc n) && every n (λ j. good (byteAt j l)) && eqb (byteAt n l) lineFeed
+
+abbrev pub isMark : ℕ → Bool
+isMark b = eqb b (mark true) || eqb b (mark false)
+
+abbrev pub isLetter : ℕ → Bool
+isLetter b = eqb b (letter true true) || eqb b (letter true false) || eqb b (letter false true) || eqb b (letter false false)
+
+-- two texts are the same
+unfoldable pub same : List ℕ → List ℕ → Bool
+same [] [] = true
+same [] (c ∷ t) = false
+same (b ∷ s) [] = false
+same (b ∷ s) (c ∷ t) = eqb b c && same s t
+
+-- a text begins with a word
+abbrev pub begins : List ℕ → List ℕ → Bool
+begins word s = same (take (length word) s) word
+
+-- what stands after a word that a text begins with
+abbrev pub after : List ℕ → List ℕ → List ℕ
+after word s = drop (length word) s
+
+-- the height that a lift line begins with, 3 where it is none; whether a car is told after it; the drive that ends the line, 3 where it
+-- ends otherwise
+unfoldable pub heightTold : List ℕ → ℕ
+heightTold l = cond (begins (heightName 0) l) 0 (cond (begins (heightName 1) l) 1 (cond (begins (heightName 2) l) 2 3))
+
+unfoldable pub carTold : List ℕ → Bool
+carTold l = begins (carWord true) (after (heightName (heightTold l)) l)
+
+unfoldable pub driveTold : List ℕ → ℕ
+driveTold l =
+    let rest = after (carWord (carTold l)) (after (heightName (heightTold l)) l) in
+    cond (same rest (ended (driveWord 0))) 0 (cond (same rest (ended (driveWord 1))) 1 (cond (same rest (ended (driveWord 2))) 2 3))
+
+-- twenty marks, ten, ten; three letters, and three; a height, then a car or none, then a drive or none
+unfoldable pub isLine : ℕ → List ℕ → Bool
+isLine j l =
+    cond (eqb j 0) (each 20 isMark l)
+    (cond (ltb j 3) (each 10 isMark l)
+    (cond (ltb j 5) (each 3 isLetter l)
+    (ltb (heightTold l) 3 && ltb (driveTold l) 3)))
+
+-- line j is bad; past the last line, 6, any text is
+unfoldable pub badLine : List ℕ → ℕ → Bool
+badLine s j = cond (ltb j 6) (not (isLine j (lineAt j s))) (ltb 0 (length (fromLine 6 s)))
+
+-- the first bad line, or 7 where there is none
+abbrev pub firstBad : List ℕ → ℕ
+firstBad s = least 7 (badLine s)
+
+-- ---- the record of a text of this form
+
+-- cell k is marked as occupied: in row 1 twenty, in rows 2 and 3 ten each
+unfoldable pub cellIn : List ℕ → Bits
+cellIn s k =
+    cond (ltb k 20) (eqb (byteAt k (lineAt 0 s)) (mark true))
+    (cond (ltb k 30) (eqb (byteAt (k - 20) (lineAt 1 s)) (mark true))
+    (eqb (byteAt (k - 30) (lineAt 2 s)) (mark true)))
+
+-- the letter of slot n of twelve: of the six of either orientation three are the left side's
+abbrev pub letterIn : List ℕ → ℕ → ℕ
+letterIn s n = byteAt (n % 3) (lineAt (3 + n / 3 % 2) s)
+
+-- a shuttle is drawn in slot n: the first six are lowered, the others tilted
+unfoldable pub slotIn : List ℕ → Bits
+slotIn s n =
+    eqb (letterIn s n) (letter true true)
+    || eqb (letterIn s n) (cond (ltb n 6) (letter true false) (letter false true))
+
+-- the lift's bits, from the last line
+unfoldable pub liftIn : List ℕ → Bits
+liftIn l k =
+    cond (eqb k raisedCar) (carTold l)
+    (cond (eqb k heightLow) (bit (heightTold l) 0)
+    (cond (eqb k heightHigh) (bit (heightTold l) 1)
+    (cond (eqb k floor.driveIn) (eqb (driveTold l) 1)
+    (cond (eqb k floor.driveOut) (eqb (driveTold l) 2)
+    false))))
+
+-- the bits that a text draws
+unfoldable pub bitsIn : List ℕ → Bits
+bitsIn s k = cond (ltb k 40) (cellIn s k) (cond (ltb k 52) (slotIn s (k - 40)) (liftIn (lineAt 5 s) k))
+
+-- ---- a drawing read
+
+-- refused
+abbrev pub unread : ℕ → ℕ → Found
+unread number place = record { number = number; place = place; bits = 0 }
+
+-- 41 with the first bad line where the text isn't of this form; then 15 where the record that it draws isn't sound
+unfoldable pub reading : List ℕ → Found
+reading s =
+    let r = image (bitsIn s) in
+    cond (ltb (firstBad s) 7) (unread 41 (firstBad s))
+    (cond (sound r) (record { number = 0; place = 255; bits = r }) (unread 15 255))

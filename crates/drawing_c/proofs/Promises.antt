@@ -1,0 +1,135 @@
+-- The promises of specs/Promises.antt. Assumes nothing.
+use mathlib.Core.Path.{_≡_, refl}
+use mathlib.Core.Logic.{_⊎_, inl, inr}
+use mathlib.Core.List.{List}
+use Prim.Native.Nat.{ℕ, _/_, _%_, _<_}
+use native.Mathlib.Omega.{arith}
+use lib.Dec.{ltb}
+use lib.ListN.{length}
+use borrow.Author.Tests.{ltb-true, le-ltb, ne-eqb}
+use Rattle.bits.specs.Bits.{bit, image}
+use Rattle.bits.proofs.Cases.{split}
+use Rattle.floor.specs.Sound.{sound}
+use Rattle.drawing.specs.declared.Found.{Found}
+use Rattle.drawing.specs.Drawing.{drawn, writing}
+use Rattle.drawing.specs.Reading.{firstBad, bitsIn, reading}
+use Rattle.drawing_c.specs.Entries.{drawnInto, foundSaid, kept, readInto}
+use Rattle.drawing_c.specs.Promises.{RefusedUntouched, WrittenReadsBack, FoundReadsBack, NumbersReturned}
+
+-- ---- what writing and reading say, by cases
+
+-- a number that refuses, with nothing written; or 0
+record Wrote (r : ℕ) (room : List ℕ) (number : ℕ) : Type 0 where
+  is : writing r room .says .number ≡ number
+  untouched : (number ≡ 0 → ⊥) → writing r room .leaves ≡ room
+
+wrote : (r : ℕ) (room : List ℕ) → Wrote r room 0 ⊎ Wrote r room 15 ⊎ Wrote r room 17
+unfolding writing
+wrote r room = split (sound r)
+    (λ s. split (ltb (length room) (length (drawn (bit r))))
+    (λ t. inr (inr (record { is = rw (s, t); untouched = λ n. rw (s, t) })))
+    (λ t. inl (record { is = rw (s, t); untouched = λ n. absurd (n refl) })))
+    (λ s. inr (inl (record { is = rw s; untouched = λ n. rw s })))
+
+-- 41 with a line, or another number with none
+record Says (f : Found) : Type 0 where
+  says : ((f .number ≡ 41) × (f .place < 7)) ⊎ (((f .number ≡ 0) ⊎ (f .number ≡ 15)) × (f .place ≡ 255))
+
+found : (text : List ℕ) → Says (reading text)
+unfolding reading
+found text = split (ltb (firstBad text) 7)
+    (λ t. rw t (record { says = inl (refl, ltb-true (firstBad text) 7 t) }))
+    (λ t. split (sound (image (bitsIn text)))
+    (λ s. rw (t, s) (record { says = inr (inl refl, refl) }))
+    (λ s. rw (t, s) (record { says = inr (inr refl, refl) })))
+
+-- each number is a byte
+wrote-byte : (r : ℕ) (room : List ℕ) → writing r room .says .number < 256
+wrote-byte r room = go (wrote r room)
+  where
+    go : Wrote r room 0 ⊎ Wrote r room 15 ⊎ Wrote r room 17 → writing r room .says .number < 256
+    go (inl w) = omega (arith, w .is)
+    go (inr (inl w)) = omega (arith, w .is)
+    go (inr (inr w)) = omega (arith, w .is)
+
+found-byte : (f : Found) → Says f → f .number < 256
+found-byte f v = go (v .says)
+  where
+    go : ((f .number ≡ 41) × (f .place < 7)) ⊎ (((f .number ≡ 0) ⊎ (f .number ≡ 15)) × (f .place ≡ 255)) → f .number < 256
+    go (inl (p, q)) = omega arith
+    go (inr (inl p, q)) = omega arith
+    go (inr (inr p, q)) = omega arith
+
+-- ---- what is said reads back
+
+pub written-reads-back : WrittenReadsBack
+unfolding drawnInto
+written-reads-back r room = let h = wrote-byte r room in (omega arith, omega arith, omega arith)
+
+pub found-reads-back : FoundReadsBack
+unfolding readInto kept
+found-reads-back text room l =
+    let h = found-byte (reading text) (found text) in
+    rw (le-ltb (length room) 8 l) (omega arith, omega arith)
+
+-- ---- refused, nothing is written
+
+refused-write : (r : ℕ) (room : List ℕ) → (drawnInto r room .says % 256 ≡ 0 → ⊥) → drawnInto r room .leaves ≡ room
+unfolding drawnInto
+refused-write r room n = go (wrote r room)
+  where
+    zero-said : writing r room .says .number ≡ 0 → ⊥
+    zero-said z = n (omega (arith, z))
+
+    go : Wrote r room 0 ⊎ Wrote r room 15 ⊎ Wrote r room 17 → writing r room .leaves ≡ room
+    go (inl w) = absurd (zero-said (w .is))
+    go (inr (inl w)) = w .untouched (λ z. omega arith)
+    go (inr (inr w)) = w .untouched (λ z. omega arith)
+
+refused-kept : (f : Found) (room : List ℕ) → (foundSaid f % 256 ≡ 0 → ⊥) → Says f → kept f room .leaves ≡ room
+unfolding kept
+refused-kept f room n v = rw (ne-eqb (f .number) 0 (λ z. n (said z (v .says))))
+  where
+    said : f .number ≡ 0 → ((f .number ≡ 41) × (f .place < 7)) ⊎ (((f .number ≡ 0) ⊎ (f .number ≡ 15)) × (f .place ≡ 255)) → foundSaid f % 256 ≡ 0
+    said z w = omega arith
+
+refused-read : (text room : List ℕ) → (readInto text room .says % 256 ≡ 0 → ⊥) → readInto text room .leaves ≡ room
+unfolding readInto kept
+refused-read text room n = split (ltb (length room) 8)
+    (λ t. rw t)
+    (λ t. rw t (refused-kept (reading text) room (λ z. n (rw t z)) (found text)))
+
+pub refused-untouched : RefusedUntouched
+refused-untouched = (refused-write, refused-read)
+
+-- ---- the numbers and places that are returned
+
+write-numbers : (r : ℕ) (room : List ℕ) → let n = drawnInto r room .says % 256 in (n ≡ 0) ⊎ (n ≡ 15) ⊎ (n ≡ 17)
+unfolding drawnInto
+write-numbers r room = go (wrote r room)
+  where
+    go : Wrote r room 0 ⊎ Wrote r room 15 ⊎ Wrote r room 17 → let n = drawnInto r room .says % 256 in (n ≡ 0) ⊎ (n ≡ 15) ⊎ (n ≡ 17)
+    go (inl w) = inl (omega (arith, w .is))
+    go (inr (inl w)) = inr (inl (omega (arith, w .is)))
+    go (inr (inr w)) = inr (inr (omega (arith, w .is)))
+
+-- a number and its place, as one number
+abbrev Returned : ℕ → Type 0
+Returned n = ((n % 256 ≡ 41) × (n / 256 < 7)) ⊎ (((n % 256 ≡ 0) ⊎ (n % 256 ≡ 15) ⊎ (n % 256 ≡ 17)) × (n / 256 ≡ 255))
+
+found-numbers : (f : Found) → Says f → Returned (foundSaid f)
+found-numbers f v = go (v .says)
+  where
+    go : ((f .number ≡ 41) × (f .place < 7)) ⊎ (((f .number ≡ 0) ⊎ (f .number ≡ 15)) × (f .place ≡ 255)) → Returned (foundSaid f)
+    go (inl (p, q)) = inl (omega arith, omega arith)
+    go (inr (inl p, q)) = inr (inl (omega arith), omega arith)
+    go (inr (inr p, q)) = inr (inr (inl (omega arith)), omega arith)
+
+read-numbers : (text room : List ℕ) → Returned (readInto text room .says)
+unfolding readInto kept
+read-numbers text room = split (ltb (length room) 8)
+    (λ t. rw t (inr (inr (inr refl), refl)))
+    (λ t. rw t (found-numbers (reading text) (found text)))
+
+pub numbers-returned : NumbersReturned
+numbers-returned = (write-numbers, read-numbers)
