@@ -2,82 +2,20 @@
 //! nothing are told on standard error, each with its number, and then nothing is written and the status is 1. Whether the plan is a good
 //! one is not looked at: what can be said in bytes can be written, and the judge tells the rest.
 
+mod words;
+
 use std::io::{self, Read, Write};
 use std::process::ExitCode;
-
-// Numbers as the messages have them, by the places of their words.
-const ROWS: [&str; 3] = ["1", "2", "3"];
-const BELTS_OF_ROW_1: [&str; 5] = ["left-shuttle", "left", "lift", "right", "right-shuttle"];
-const BELTS: [&str; 3] = ["left-shuttle", "middle", "right-shuttle"];
-const WAYS: [&str; 2] = ["lower", "higher"];
-const SIZES: [&str; 2] = ["half", "full"];
-const SIDES: [&str; 2] = ["left", "right"];
-const ORIENTATIONS: [&str; 2] = ["lowered", "tilted"];
-const HEIGHTS: [&str; 3] = ["street", "rotation", "basement"];
-const INSTRUCTIONS: [&str; 5] = ["belts", "shuttles", "tilt", "lift", "rotate"];
+use words::{instruction, record_in, Words, Wrong};
 
 /// The record with no cars, rows 1 and 2 lowered and row 3 tilted on both sides, the lift at street.
 const START: [u8; 8] = [0, 0, 0, 0, 0, 0x1B, 0x09, 0];
 
-/// What is wrong with a line, in words.
-type Wrong = String;
-
-fn listed(names: &[&str]) -> String {
-    match names {
-        [] => String::new(),
-        [one] => format!("`{one}`"),
-        [before @ .., last] => format!("{} or `{last}`", before.iter().map(|name| format!("`{name}`")).collect::<Vec<_>>().join(", ")),
-    }
-}
-
-/// The words of a line that are still to be read; commas stand between words as spaces do.
-struct Words<'a>(Vec<&'a str>);
-
-impl<'a> Words<'a> {
-    fn of(line: &'a str) -> Self {
-        Words(line.split(|letter: char| letter.is_whitespace() || letter == ',').filter(|word| !word.is_empty()).rev().collect())
-    }
-
-    fn wrong(&self, expected: &str) -> Wrong {
-        match self.0.last() {
-            Some(word) => format!("expected {expected}, found `{word}`"),
-            None => format!("expected {expected}, and the line ends"),
-        }
-    }
-
-    /// The place of the next word among some, if it is one of them.
-    fn among(&mut self, names: &[&str]) -> Option<u8> {
-        let at = names.iter().position(|name| self.0.last() == Some(name))?;
-        self.0.pop();
-        Some(at as u8)
-    }
-
-    fn one_of(&mut self, names: &[&str]) -> Result<u8, Wrong> { self.among(names).ok_or_else(|| self.wrong(&listed(names))) }
-
-    /// Of all that come next, a bit for each name; the words that may follow them are told too where neither comes.
-    fn all_of(&mut self, names: &[&str], then: &[&str]) -> Result<u8, Wrong> {
-        let mut mask = 0;
-        while let Some(at) = self.among(names) {
-            if mask >> at & 1 == 1 { return Err(format!("`{}` stands twice", names[usize::from(at)])); }
-            mask |= 1 << at;
-        }
-        let follows = self.0.last().is_some_and(|word| then.contains(word));
-        if follows { Ok(mask) } else { Err(self.wrong(&listed(&[names, then].concat()))) }
-    }
-
-    fn end(&self) -> Result<(), Wrong> {
-        self.0.last().map_or(Ok(()), |word| Err(format!("`{word}` and what follows it is more than the line can say")))
-    }
-}
-
 /// The starting record: `start`, or its eight bytes, the lowest first.
 fn image(words: &mut Words) -> Result<[u8; 8], Wrong> {
     if words.among(&["start"]).is_some() { return Ok(START); }
-    let digits: String = words.0.drain(..).rev().collect();
-    let byte = |at: usize| digits.get(2 * at..2 * at + 2).and_then(|two| u8::from_str_radix(two, 16).ok());
-    let hex = digits.len() == 16 && digits.bytes().all(|digit| digit.is_ascii_hexdigit());
-    if !hex { return Err(format!("expected `start` or 16 digits in hexadecimal, found `{digits}`")); }
-    Ok(std::array::from_fn(|at| byte(at).unwrap_or(0)))
+    let digits = words.rest();
+    record_in(&digits).ok_or_else(|| format!("expected `start` or 16 digits in hexadecimal, found `{digits}`"))
 }
 
 /// `with a car` or `without a car`, as the wish's byte.
@@ -86,32 +24,6 @@ fn wish(words: &mut Words) -> Result<u8, Wrong> {
     words.one_of(&["a"])?;
     words.one_of(&["car"])?;
     Ok(with)
-}
-
-/// An instruction's five bytes.
-fn instruction(words: &mut Words) -> Result<[u8; 5], Wrong> {
-    let op = 1 + words.one_of(&INSTRUCTIONS)?;
-    Ok(match op {
-        1 => {
-            words.one_of(&["row"])?;
-            let row = 1 + words.one_of(&ROWS)?;
-            let mask = words.all_of(if row == 1 { &BELTS_OF_ROW_1 } else { &BELTS }, &WAYS)?;
-            [op, row, mask, words.one_of(&WAYS)?, words.one_of(&SIZES)?]
-        }
-        2 => {
-            let side = words.one_of(&SIDES)?;
-            words.one_of(&["rows", "row"])?;
-            let mask = words.all_of(&ROWS, &ORIENTATIONS)?;
-            [op, side, mask, words.one_of(&ORIENTATIONS)?, words.one_of(&WAYS)?]
-        }
-        3 => {
-            let side = words.one_of(&SIDES)?;
-            words.one_of(&["row"])?;
-            [op, side, 1 + words.one_of(&ROWS)?, words.one_of(&ORIENTATIONS)?, 0]
-        }
-        4 => [op, words.one_of(&HEIGHTS)?, 0, 0, 0],
-        _ => [op, 0, 0, 0, 0],
-    })
 }
 
 /// What the lines have said so far.

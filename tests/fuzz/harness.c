@@ -1,8 +1,10 @@
-/* The entries of station.h and report.h under a coverage-guided fuzzer, against the reference. An input is a small program: each of its
- * bytes picks a call on one kept station and totals beside it, or damage to them, and the next ones are what the call is given. What the call returns and what it
- * leaves of every byte that it was lent must be what the reference says. `seeds` has programs, and how they are written. */
+/* The entries of station.h, report.h and panel.h under a coverage-guided fuzzer, against the reference. An input is a small program: each
+ * of its bytes picks a call on one kept station and totals beside it, or damage to them, and the next ones are what the call is given. What
+ * the call returns and what it leaves of every byte that it was lent must be what the reference says; and the same of the plain engine, on
+ * the same bytes. `seeds` has programs, and how they are written. */
 #define _GNU_SOURCE /* memfd_create */
 #include "compare.h"
+#include "panel_command.h"
 #include "report.h"
 
 /* The reference's side, reference_c.rs. */
@@ -19,8 +21,8 @@ int LLVMFuzzerTestOneInput(const uint8_t *data, size_t size);
 enum { LIFT_AT = 52, SLOTS_AT = 40 };
 
 /* The report's entries, behind the station's. The station stands in the room, the totals that are counted in and the text in the run to
- * write; the totals that are only read in the run to read. */
-enum { REPORT_START = ENTRIES, REPORT_MESSAGE, REPORT_LINES, ALL_ENTRIES };
+ * write; the totals that are only read in the run to read. Behind them the plain station's and the panel's, as panel_command.h numbers them. */
+enum { REPORT_START = ENTRIES, REPORT_MESSAGE, REPORT_LINES, PLAIN_AT, ALL_ENTRIES = PLAIN_AT + PANEL_ENTRIES };
 
 enum { NUMBERS = REPORT_FULL + 1, OPCODES = GARAGE_ROTATE + 1, SORTS = 32 };
 
@@ -96,19 +98,58 @@ static uint32_t call_any(const struct command *c) {
     case REPORT_START: return report_start(LENT(c->out));
     case REPORT_MESSAGE: return report_message(LENT(c->out), LENT(c->room), LENT(c->in));
     case REPORT_LINES: return report_lines(LENT(c->in), c->first, LENT(c->out));
-    default: return call_entry(c);
+    default: break;
     }
+    if (c->entry < PLAIN_AT)
+        return call_entry(c);
+    struct command plain = *c;
+    plain.entry -= PLAIN_AT;
+    return call_panel(&plain);
 }
 
 /* Whether an entry may write a run at all. A call that isn't taken writes nothing; of a message that isn't, the refusal is written, and the
- * station's room is not; nor do the report's calls write that. */
+ * station's room is not; nor do the report's calls and the panel's questions write that. */
 static bool may_write(uint8_t entry, int run, uint32_t answer) {
     uint8_t number = STATION_NUMBER(answer);
     switch (run) {
-    case 0: return number == STATION_TAKEN && entry != ASK && entry < ENTRIES;
+    case 0: return number == STATION_TAKEN && entry != ASK && (entry < ENTRIES || (PLAIN_AT <= entry && entry < PLAIN_AT + PANEL_CONDITION));
     case 2: return number == STATION_TAKEN || (entry == MESSAGE && number != STATION_NO_ROOM);
     default: return false;
     }
+}
+
+/* ---- the plain engine beside the packed one */
+
+/* A size with some more, as far as a run goes. */
+static size_t with_more(size_t size, size_t more) { return size + more < RUN_MOST ? size + more : RUN_MOST; }
+
+/* What the plain engine says on the bytes that a call is about to be made on: of a call on the station the same; of a question on a record
+ * the next one, each condition and one past them, or the cars. The panel's rooms have other sizes than the questions'. */
+static void compare_plain(const struct command *command, unsigned places) {
+    uint8_t room[RUN_MOST], out[RUN_MOST];
+    struct command plain = *command;
+    plain.room.bytes = room, plain.out.bytes = out;
+    memcpy(room, command->room.bytes, command->room.size);
+    memset(out, 0xA5, sizeof out);
+    switch (command->entry) {
+    case REQUEST: plain.entry = PLAIN_AT + PLAIN_REQUEST; break;
+    case EVENT: plain.entry = PLAIN_AT + PLAIN_EVENT; break;
+    case RESULT: plain.entry = PLAIN_AT + PLAIN_RESULT; break;
+    case NEXT: plain.entry = PLAIN_AT + PANEL_NEXT; break;
+    case ALLOWED:
+        plain.entry = PLAIN_AT + PANEL_CONDITION;
+        plain.out.size = with_more(command->out.size, PANEL_CONDITION_SIZE - STATION_IMAGE_SIZE);
+        for (plain.first = 0; plain.first < PANEL_CONDITIONS_MOST; plain.first++)
+            compare(&plain, places);
+        plain.first += command->first;
+        break;
+    case CARS:
+        plain.entry = PLAIN_AT + PANEL_CARS_OF;
+        plain.out.size = with_more(command->out.size, PANEL_CARS_SIZE - STATION_IMAGE_SIZE);
+        break;
+    default: return;
+    }
+    compare(&plain, places);
 }
 
 /* ---- the steps of a program */
@@ -166,6 +207,7 @@ static void one_call(uint8_t entry, unsigned places, bool unusual) {
         if (which & 64) damage(kept, 64);
         if (which & 128) command.apart = take_number();
     }
+    compare_plain(&command, places);
     compare(&command, places);
 }
 
@@ -175,6 +217,7 @@ static void settle(unsigned places, bool backward) {
     for (uint8_t at = 0; at < count; at++) {
         struct command command = {.entry = RESULT, .first = backward ? (uint8_t)(count - 1 - at) : at, .second = STATION_DONE,
                                   .issue = present_issue(), .room = {kept, STATION_SIZE}, .in = {none, 0}, .out = {none, 0}};
+        compare_plain(&command, places);
         compare(&command, places);
     }
 }
@@ -209,7 +252,8 @@ static void report_call(uint8_t entry, unsigned places) {
     compare(&command, places);
 }
 
-/* Damage that no call does, marks, the next issue or what is set apart among it, calls in a row, and the report's calls; numbered behind the entries. */
+/* Damage that no call does, marks, the next issue or what is set apart among it, calls in a row, and the report's calls; numbered behind the
+ * entries. */
 enum { NEW_RECORD = ENTRIES, NEW_SET, NEW_MARKS, NEW_STATION, SETTLE };
 
 static void one_step(void) {

@@ -5,6 +5,8 @@ mod command;
 #[path = "../host/handed.rs"]
 mod handed;
 mod lent;
+#[path = "../host/panel_command.rs"]
+mod panel_command;
 #[path = "../host/places.rs"]
 mod places;
 #[path = "../host/reference.rs"]
@@ -17,10 +19,11 @@ mod week;
 use lent::Command;
 use reference::{Station, REASONS};
 
-/// The report's entries, as harness.c numbers them.
+/// The report's entries, and behind them the plain station's and the panel's, as harness.c numbers them.
 const REPORT_START: u8 = command::ENTRIES.len() as u8;
 const REPORT_MESSAGE: u8 = REPORT_START + 1;
 const REPORT_LINES: u8 = REPORT_START + 2;
+const PLAIN_AT: u8 = REPORT_START + 3;
 
 /// What the call must return; its rooms are left as it must leave them.
 ///
@@ -33,6 +36,10 @@ pub unsafe extern "C" fn reference_call(given: &Command) -> u32 {
         REPORT_START => places::start(lent.output),
         REPORT_MESSAGE => places::message(lent.output, lent.room, lent.input),
         REPORT_LINES => places::lines(lent.input, lent.first, lent.output),
+        PLAIN_AT.. => {
+            lent.entry -= PLAIN_AT;
+            panel_command::call(&mut lent)
+        }
         _ => command::call(&mut lent),
     }
 }
@@ -78,6 +85,7 @@ pub extern "C" fn reference_gives(entry: u8, number: u8) -> bool {
         REPORT_START => report(&[0, 17]),
         REPORT_MESSAGE => report(&[0, 17, 40]),
         REPORT_LINES => report(&[0, 4, 17]),
+        PLAIN_AT.. => panel_command::ENTRIES.get(usize::from(entry - PLAIN_AT)).is_some_and(|(_, numbers)| numbers.contains(&number)),
         _ => command::ENTRIES.get(usize::from(entry)).is_some_and(|(_, numbers)| numbers.contains(&number)),
     }
 }

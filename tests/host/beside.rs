@@ -3,13 +3,15 @@
 //! and those that would if a lift run had all of row 1 in its area, as it had once. Then the same on so many sound records, of the two that
 //! each allows: they must be taken exactly if their areas share nothing; and with a lift run, their results in either order must be, and leave
 //! the same station.
-use reference::{sound, Instruction, Parts, Station, DONE};
+use reference::{Instruction, Parts, Station, DONE};
+use sound_records::{every_five, SoundRecords};
 use traffic::Numbers;
 
 #[allow(dead_code)] // only row 1 is asked for
 mod floor;
 mod raw;
 mod reference;
+mod sound_records;
 mod traffic;
 
 /// How many pairs overlap, and how many would with all of row 1 in a lift run's area: of all, and of those with a lift run.
@@ -31,13 +33,12 @@ impl Known {
 }
 
 fn instructions() -> Vec<Known> {
-    let bytes = (1..=5u8).flat_map(|op| (0..4u8).flat_map(move |a| (0..32u8).flat_map(move |b| (0..4u8).map(move |cd| [op, a, b, cd >> 1, cd & 1]))));
     let known = |five: [u8; 5]| {
         let one = Instruction::read(five)?;
         let area = one.area();
         Some(Known { five, one, areas: [area, if five[0] == 4 { area.and_cells(floor::ROW_1) } else { area }] })
     };
-    bytes.filter_map(known).collect()
+    every_five().into_iter().filter_map(known).collect()
 }
 
 /// A station of the archive.
@@ -57,15 +58,6 @@ fn done(mut room: Room, order: [u8; 2]) -> Room {
         assert_eq!(answer & 255, 0, "result {number} of {order:?} on {room:02X?}");
     }
     room
-}
-
-/// Any sound record, each as likely as another: tried again and again, the rows of which most are not sound from a list.
-fn any_sound(numbers: &mut Numbers, rows: &[u64], uppers: &[u64]) -> u64 {
-    loop {
-        let pick = |numbers: &mut Numbers, from: &[u64]| from[numbers.below(from.len() as u64) as usize];
-        let record = pick(numbers, rows) | numbers.below(1 << 20) << 20 | pick(numbers, uppers);
-        if sound(record) { return record; }
-    }
 }
 
 /// How many are true, at each place.
@@ -97,14 +89,12 @@ fn main() {
     }
     println!("beside: {pairs} pairs of instructions, each asked for in either order and told 8 as the areas say");
     told("beside: so many overlap", overlapping, with_lift);
-    assert_eq!((known.len(), overlapping, with_lift), (272, OVERLAPPING, WITH_LIFT));
+    assert_eq!((overlapping, with_lift), (OVERLAPPING, WITH_LIFT));
 
-    // rows that can be filled so on their own, and settings of all but the cells that are sound
-    let rows: Vec<u64> = (0..1 << 20).filter(|row| sound(row | 0b111_111 << 40 | 2 << 53)).collect();
-    let uppers: Vec<u64> = (0..1 << 17).map(|upper| upper << 40).filter(|&upper| sound(upper)).collect();
+    let sound_records = SoundRecords::new();
     let (mut numbers, mut together, mut with_lift) = (Numbers(8), [0; 2], [0; 2]);
     for _ in 0..records.parse().expect("a number") {
-        let record = any_sound(&mut numbers, &rows, &uppers);
+        let record = sound_records.any(&mut numbers);
         let room = Station { record, ..Station::start() }.to_bytes();
         let allowed: Vec<&Known> = known.iter().filter(|known| known.one.asked(record).is_ok()).collect();
         for (at, first) in allowed.iter().enumerate() {

@@ -1,7 +1,7 @@
 //! What each entry for C must return and leave, by the reference. command.h makes the same calls on the entries.
 #![allow(dead_code)] // each driver uses its own part of this module
 
-use crate::reference::{
+use super::reference::{
     answer, answer_message, cars, lent, read_call, shown_message, sound, Answer, Call, Instruction, Station, REASON_NUMBERS,
 };
 

@@ -1,6 +1,6 @@
 //! The numbers that the paper of the first garage gives of its state space and of its cars, counted again: the sound records of the whole
-//! floor and the most cars at each height, by the proved `garage_cars`; and the sound records, states and steps of the paper's reduced
-//! floor, by the reference's rules on it. The paper has no drives, which begin and end here: records with one under way are counted beside
+//! floor and the most cars at each height, by the proved `garage_cars`, and once more by the cars that the plain engine's walk lists; and the
+//! sound records, states and steps of the paper's reduced floor, by the reference's rules on it. The paper has no drives, which begin and end here: records with one under way are counted beside
 //! those without.
 use std::collections::HashSet;
 use std::hash::{BuildHasherDefault, Hasher};
@@ -8,6 +8,7 @@ use std::ops::Range;
 
 #[allow(dead_code)] // only the rows are counted over
 mod floor;
+mod panel_raw;
 mod raw;
 #[allow(dead_code)]
 mod reduced;
@@ -16,6 +17,13 @@ use reference::{bit, cars, drive_under_way, sound, Instruction, Station, BEGIN_I
 
 /// The cars of an image of the whole floor by the station's own code; none where it isn't sound.
 fn garage_cars(image: u64) -> Option<u32> { Some(unsafe { raw::garage_cars(image) }).filter(|&cars| cars != 255) }
+
+/// The same by walking its rows.
+fn walked_cars(image: u64) -> Option<u32> {
+    let mut room = [0; 31];
+    let answer = unsafe { panel_raw::panel_cars(image, room.as_mut_ptr(), room.len()) };
+    (answer as u8 == 0).then_some(answer >> 16)
+}
 
 /// How many records, by their cars: none has more.
 const MOST: usize = 30;
@@ -176,6 +184,8 @@ fn main() {
 
     whole_floor(&records);
     drawings(&records);
+    assert!(sound_records(walked_cars, floor::ROW_1, floor::OTHER_ROWS) == records, "the walk counts otherwise");
+    println!("counts: the same by the plain engine's walk, for each setting of the lift and each number of cars");
 
     let sound_ones = in_all(&sound_records(cars, reduced::ROW_1, reduced::OTHER_ROWS));
     let (reached, steps) = reduced_floor();

@@ -1,8 +1,10 @@
-/* Runs the entries of station.h, and behind them those of desk.h, on commands from standard input and writes what each returned and left,
- * so that another program can compare. A command: its number, two byte arguments, an issue of two bytes, an image of eight, what it sets
- * apart in eight more, a card's number of four, and three lent runs of bytes, each with a byte for its length. An answer: four bytes, how
- * many bytes of stack the call took in four more, then the two rooms that an entry may write. All numbers have the lowest byte first. */
+/* Runs the entries of station.h, behind them those of desk.h, and behind these those of panel.h, on commands from standard input and writes
+ * what each returned and left, so that another program can compare. A command: its number, two byte arguments, an issue of two bytes, an
+ * image of eight, what it sets apart in eight more, a card's number of four, and three lent runs of bytes, each with a byte for its length.
+ * An answer: four bytes, how many bytes of stack the call took in four more, then the two rooms that an entry may write. All numbers have
+ * the lowest byte first. */
 #include "desk_command.h"
+#include "panel_command.h"
 #include "stack.h"
 #include "told.h"
 
@@ -30,17 +32,31 @@ static void answer_at_desk(void *given) {
     it->answer = call_desk(&it->command);
 }
 
+static void answer_by_panel(void *given) {
+    struct answered *it = given;
+    it->answer = call_panel(&it->command);
+}
+
+/* One behind the other. */
+enum { GROUPS = 3 };
+static const struct {
+    int entries;
+    void (*answer)(void *);
+} groups[GROUPS] = {{ENTRIES, answer_command}, {DESK_ENTRIES, answer_at_desk}, {PANEL_ENTRIES, answer_by_panel}};
+
 int main(void) {
     static uint8_t room[255], in[255], out[255];
     struct answered it;
     int entry;
     while ((entry = getchar()) != EOF) {
-        bool at_desk = entry >= ENTRIES;
-        if (entry >= ENTRIES + DESK_ENTRIES) {
-            fprintf(stderr, "unknown command %d\n", entry);
+        size_t group = 0;
+        while (group < GROUPS && entry >= groups[group].entries)
+            entry -= groups[group++].entries;
+        if (group == GROUPS) {
+            fprintf(stderr, "unknown command\n");
             return 1;
         }
-        it.command.entry = (uint8_t)(at_desk ? entry - ENTRIES : entry);
+        it.command.entry = (uint8_t)entry;
         it.command.first = take_byte();
         it.command.second = take_byte();
         it.command.issue = (uint16_t)take_number(2);
@@ -50,7 +66,7 @@ int main(void) {
         take_run(&it.command.room, room);
         take_run(&it.command.in, in);
         take_run(&it.command.out, out);
-        size_t stack = stack_of(at_desk ? answer_at_desk : answer_command, &it);
+        size_t stack = stack_of(groups[group].answer, &it);
         give_number(it.answer);
         give_number((uint32_t)stack);
         give_run(LENT(it.command.room));

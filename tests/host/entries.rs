@@ -4,6 +4,7 @@
 //! it can give, and no other; those that say why an instruction isn't allowed, every reason of each opcode on sound records. Each call
 //! must have been made on handed-in stations of every sort that handed.rs tells apart, and calls must have met all that filling.rs lists.
 
+mod calls;
 mod command;
 mod filling;
 mod handed;
@@ -11,13 +12,14 @@ mod reference;
 mod traffic;
 mod trials;
 
+use calls::{lent_station, message_call, record_call, station_call};
 use command::ENTRIES;
 use handed::{handed, Handed};
 use reference::{read_call, Call, Station, REASONS};
 use std::collections::{BTreeMap, BTreeSet};
 use std::process::exit;
-use traffic::{any_bytes, Numbers};
-use trials::{room_for, Given, Trial};
+use traffic::Numbers;
+use trials::{Given, Trial};
 
 /// Bytes that are no station.
 const UNFIT: u8 = 16;
@@ -53,58 +55,6 @@ fn trial(given: Given) -> Trial<Told> {
     })
 }
 
-fn station_call(numbers: &mut Numbers, station: &Station) -> Given {
-    let room = room_for(numbers, &station.to_bytes());
-    match numbers.below(8) {
-        0 => Given { entry: 0, room, ..Given::default() },
-        1 | 2 => {
-            let count = if numbers.one_in(12) { numbers.byte() } else { numbers.below(4) as u8 };
-            let mut set: Vec<u8> = (0..count.min(9)).flat_map(|_| traffic::any_five(numbers)).collect();
-            if numbers.one_in(10) { set.truncate(numbers.below(set.len() as u64 + 1) as usize); }
-            Given { entry: 1, first: count, room, input: set, ..Given::default() }
-        }
-        3 => {
-            let event = if numbers.one_in(8) { numbers.byte() } else { 1 + numbers.below(4) as u8 };
-            Given { entry: 2, first: event, room, ..Given::default() }
-        }
-        4 | 5 => {
-            let number = if numbers.one_in(8) { numbers.byte() } else { numbers.below(4) as u8 };
-            let ending = if numbers.one_in(20) { numbers.byte() } else { numbers.below(3) as u8 };
-            let issue = traffic::some_issue(numbers, station);
-            Given { entry: 3, first: number, second: ending, issue, room, ..Given::default() }
-        }
-        6 => {
-            let (image, apart) = traffic::near_image(numbers, station);
-            Given { entry: 4, image, apart, room, ..Given::default() }
-        }
-        _ => {
-            let size = if numbers.one_in(4) { numbers.below(16) } else { 16 + numbers.below(4) } as usize;
-            Given { entry: 5, room, output: any_bytes(numbers, size), ..Given::default() }
-        }
-    }
-}
-
-fn message_call(numbers: &mut Numbers, station: &Station) -> Given {
-    let room = room_for(numbers, &station.to_bytes());
-    let message = traffic::any_message(numbers, station);
-    let size = if numbers.one_in(10) { numbers.below(22) } else { 20 + numbers.below(4) } as usize;
-    Given { entry: 6, room, input: message, output: any_bytes(numbers, size), ..Given::default() }
-}
-
-fn record_call(numbers: &mut Numbers, record: u64) -> Given {
-    let image = if numbers.one_in(3) { record } else { traffic::near_record(numbers, record) };
-    let refused = if numbers.one_in(4) { traffic::refused_five(numbers, image) } else { None };
-    let mut five = refused.unwrap_or_else(|| traffic::any_five(numbers)).to_vec();
-    if numbers.one_in(20) { five.truncate(numbers.below(5) as usize); }
-    let size = if numbers.one_in(20) { numbers.below(8) } else { 8 + numbers.below(3) } as usize;
-    match numbers.below(5) {
-        0 => Given { entry: 7, image, ..Given::default() },
-        1 => Given { entry: 8, image, ..Given::default() },
-        2 => Given { entry: 9, image, input: five, ..Given::default() },
-        _ => Given { entry: 10, image, input: five, output: any_bytes(numbers, size), ..Given::default() },
-    }
-}
-
 fn trials(count: usize) -> Vec<Trial<Told>> {
     let mut numbers = Numbers(20_26);
     let mut station = Station::start();
@@ -112,11 +62,7 @@ fn trials(count: usize) -> Vec<Trial<Told>> {
         .map(|_| {
             let message = traffic::framed_message(&mut numbers, &station);
             traffic::after(&mut station, &message);
-            let lent = match numbers.below(6) {
-                0 => handed::made(&mut numbers, &station).unwrap_or(station),
-                1 | 2 => traffic::damaged_station(&mut numbers, &station),
-                _ => station,
-            };
+            let lent = lent_station(&mut numbers, &station);
             trial(match numbers.below(4) {
                 0 => record_call(&mut numbers, lent.record),
                 1 => message_call(&mut numbers, &lent),

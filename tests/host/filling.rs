@@ -1,6 +1,8 @@
 //! What calls meet of places that are kept open, so that a run can say that it met all there is: begins of drive-ins with the last number
 //! of cars that still lets one begin and with those that don't, by all that they can be told; other events with as many cars or more, which
 //! are taken; and images with as many as there can be at each height, which are taken too.
+#![allow(dead_code)] // each driver uses its own part of this module
+
 use crate::reference::{bit, cars, drive_under_way, Call, Station, BEGIN_IN, BEGIN_OUT, DRIVE_IN, END_DONE, END_NOT_DONE, LIFT_CAR};
 use std::collections::BTreeSet;
 
@@ -52,9 +54,17 @@ fn all() -> BTreeSet<Met> {
     all
 }
 
-/// Whether all was met that there is, and nothing else; if not, says what is amiss.
-pub fn every_filling(who: &str, met: &BTreeSet<Met>) -> bool {
-    let amiss: Vec<_> = met.symmetric_difference(&all()).copied().collect();
+/// Whether this was met and nothing else; if not, says what is amiss.
+fn exactly(who: &str, met: &BTreeSet<Met>, wanted: &BTreeSet<Met>) -> bool {
+    let amiss: Vec<_> = met.symmetric_difference(wanted).copied().collect();
     if !amiss.is_empty() { eprintln!("{who}: what was never met of places kept open, or can't be: {amiss:?}"); }
     amiss.is_empty()
+}
+
+/// Whether all was met that there is.
+pub fn every_filling(who: &str, met: &BTreeSet<Met>) -> bool { exactly(who, met, &all()) }
+
+/// Whether all was met that there is of events, for a run whose entries take no images.
+pub fn every_event(who: &str, met: &BTreeSet<Met>) -> bool {
+    exactly(who, met, &all().into_iter().filter(|one| !matches!(one, Met::Image { .. })).collect())
 }

@@ -3,6 +3,10 @@ use super::floor::ROTATION_CELLS;
 use super::*;
 use std::ops::RangeInclusive;
 
+#[path = "conditions.rs"]
+mod conditions;
+pub use conditions::Condition;
+
 /// An instruction, its fields as the message gives them.
 #[derive(Clone, Copy, Debug, PartialEq, Eq)]
 pub enum Instruction {

@@ -18,7 +18,7 @@ mod parts;
 
 pub use floor::{LIFT_CELLS, OTHER_ROWS, ROW_1};
 use floor::{LEFT_BELT, RIGHT_BELT};
-pub use instructions::{Instruction, REASONS, REASON_NUMBERS};
+pub use instructions::{Condition, Instruction, REASONS, REASON_NUMBERS};
 use instructions::{areas, named, overlap, read_set};
 pub use messages::{answer_message, read_call, read_message, serve, shown_message, stream, write_message, Message, Refused};
 pub use parts::Parts;
