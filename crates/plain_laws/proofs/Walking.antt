@@ -14,14 +14,13 @@ use Rattle.bits.specs.Bits.{Bits, digit}
 use Rattle.bits.specs.Places.{from}
 use Rattle.bits.proofs.Cases.{split, both, clash}
 use Rattle.floor.specs.Floor.{raisedCar}
-use Rattle.floor.specs.Cars.{Car, pair, single, raised, covered, AllStand, Place, cars}
+use Rattle.floor.specs.Cars.{Car, pair, single, raised, covered, AllStand, Place, Layout, cars}
 use Rattle.floor.specs.Sound.{Sound, paired}
 use Rattle.floor.proofs.Layouts.{at-same, at-other}
 use Rattle.floor.proofs.Promises.{layout-exactly, layout-cars}
 use Rattle.cards.specs.Cards.{anchor, Among}
 use Rattle.cards.specs.Given.{Rising}
 use Rattle.plain.specs.Walks.{pairsFrom, singlesOf, walked}
-use Rattle.plain_laws.specs.Promises.{CarsWalked, WalkRises}
 
 -- ---- a layout
 
@@ -114,15 +113,15 @@ module _ (f : Bits) where
         go true t s rest = begins k _ (room n e s) t (rest true s)
         go false t s rest = passes k false _ (sym t) (rest false s)
 
-pub cars-walked : CarsWalked
+pub walked-layout : (f : Bits) → Sound f → Layout f (walked f)
 unfolding walked
-cars-walked f S =
+walked-layout f S =
     let p = pairs-laid f _ 20 0 false (omega arith) (layout-exactly f .1 (S .layout)) (singles-laid f _ 20 20 (omega arith) (omega arith) (lifted f)) in
     record { stand = p .stand; cover = λ k h. omega (arith, p .on k (omega arith) h) }
 
 -- as many as are counted
 pub walked-cars : (f : Bits) → Sound f → length (walked f) ≡ cars f
-walked-cars f S = layout-cars f (walked f) (cars-walked f S)
+walked-cars f S = layout-cars f (walked f) (walked-layout f S)
 
 -- ---- in order
 
@@ -168,6 +167,6 @@ module _ (f : Bits) where
         (λ t. rw t (one-more k (pair k) _ (omega arith) (pairs-rise n (suc k) true s)))
         (λ t. rw t (later k _ (pairs-rise n (suc k) false s)))
 
-pub walk-rises : WalkRises
+pub walked-rises : (f : Bits) → Rising (walked f)
 unfolding walked
-walk-rises f = pairs-rise f _ 20 0 false (singles-rise f _ 20 20 (lift-rises f)) .1
+walked-rises f = pairs-rise f _ 20 0 false (singles-rise f _ 20 20 (lift-rises f)) .1
