@@ -1,5 +1,5 @@
--- What the contracts of private functions cite; no public one rests on it. A condition that is asked, and masks without a gap.
--- Assumes nothing.
+-- What the contracts of private functions cite; no public one rests on it. A condition as it is told, masks without a gap, a row from its
+-- end, the row ahead, a digit of a height, and a walk with one car more. Assumes nothing.
 use mathlib.Core.Bool.{Bool, true, false, cond, not, _&&_, _||_}
 use Prim.Native.Nat.{ℕ, zero, suc, _+_, _-_}
 use lib.Dec.{eqb}

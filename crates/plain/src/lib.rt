@@ -56,20 +56,6 @@ pub struct Walk {
     pub count: u8,
 }
 
-// Whether a cell is on a belt of the row that the mask names.
-pub fn named(row: u8, mask: u8, cell: u8) -> bool
-    ensures { λ b. ⌜ b ≡ cellNamed row mask cell ⌝ }
-{
-    let belt = floor::belt_of(cell as u64);
-    match belt {
-        Belt::On(on, number) => (on == row) & places::names(mask, number),
-        Belt::NoCell => false,
-    }
-}
-
-// No instruction has more conditions than a belt move.
-const MOST: u8 = 6;
-
 // The floor of the record with this image.
 pub fn of_image(r: u64) -> Floor
     ensures { λ f. ⌜ f ≡ floorOf (bit r) ⌝ }
@@ -86,6 +72,20 @@ pub fn of_image(r: u64) -> Floor
         going: bits::bit(r, 56),
     }
 }
+
+// Whether a cell is on a belt of the row that the mask names.
+pub fn named(row: u8, mask: u8, cell: u8) -> bool
+    ensures { λ b. ⌜ b ≡ cellNamed row mask cell ⌝ }
+{
+    let belt = floor::belt_of(cell as u64);
+    match belt {
+        Belt::On(on, number) => (on == row) & places::names(mask, number),
+        Belt::NoCell => false,
+    }
+}
+
+// No instruction has more conditions than a belt move.
+const MOST: u8 = 6;
 
 impl Floor {
     // The image of the record that a floor stands for.

@@ -78,7 +78,7 @@ pub fn names(mask: u8, n: u8) -> bool
     bits::bit(mask as u64, n as u64)
 }
 
-// Whether those that it names border each other: none of which the one before isn't named comes after one that is.
+// Whether those that it names border each other: after a gap none is named.
 pub fn gapless(mask: u8) -> bool
     ensures { λ b. ⌜ b ≡ gapless mask ⌝ }
 {

@@ -13,7 +13,7 @@ use Rattle.plain.proofs.lifts.lift_condition.Statement.{statement}
 use Rattle.plain.proofs.lifts.lift_condition.Tie as tie
 
 lift-at-requires : tie.Need-lift-at-requires
-lift-at-requires c κs = leb→le (c .before .args .height) 2 (c .before .pre)
+lift-at-requires c κs = omega (arith, leb→le (c .before .args .height) 2 (c .before .pre))
 
 told-requires : tie.Need-told-requires
 told-requires c κs = search needs

@@ -19,7 +19,7 @@ returns c = let a = c .before .before .args in
 shuttle-requires : tie.Need-shuttle-requires
 shuttle-requires c κs = let a = c .before .before .args in
     let r = shuttles-ranges (a .side) (a .mask) (a .orientation) (a .toward) (c .before .before .pre) in
-    (r .0, r .2, omega (arith, c .if1 .left), omega (arith, c .before .ahead .ensures, ahead-row (a .mask) (omega (arith, r .1)) (a .toward) (omega (arith, r .3))))
+    (r .0, omega (arith, r .2), omega (arith, c .if1 .left), omega (arith, c .before .ahead .ensures, ahead-row (a .mask) (omega (arith, r .1)) (a .toward) (omega (arith, r .3))))
 
 returns-2 : tie.Need-returns-2
 returns-2 c = let a = c .before .before .before .args in
