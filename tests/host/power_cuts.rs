@@ -11,14 +11,14 @@ mod traffic;
 
 use journals::{started, Trouble, ASK};
 use pipes::messages_in;
-use reference::{drive_under_way, read_call, serve_on, Call, Station};
+use reference::{drive_under_way, read_call, serve_on, Call, Station, START};
 use std::fs;
 use std::io::{Read, Write};
 use std::path::Path;
 use std::sync::{Arc, Condvar, Mutex};
 use std::thread;
 use std::time::Duration;
-use traffic::{framed_message, result, Numbers};
+use traffic::{framed_message, image, result, Numbers};
 
 /// More time than a station ever takes for an answer.
 const LONG: Duration = Duration::from_secs(60);
@@ -74,7 +74,7 @@ impl Back {
 }
 
 /// A session's messages, of any sort but those that end it: first an ask, so that the image is seen; now and then a result of a set from
-/// before. With each stands how many bytes of answers there are up to it.
+/// before, and an image with a drive under way. With each stands how many bytes of answers there are up to it.
 fn session(numbers: &mut Numbers, from: &Station, count: u64) -> Vec<(Vec<u8>, usize)> {
     let (mut station, mut answers) = (*from, 0);
     let mut with_answer = |message: Vec<u8>, station: &mut Station| {
@@ -83,8 +83,11 @@ fn session(numbers: &mut Numbers, from: &Station, count: u64) -> Vec<(Vec<u8>, u
     };
     let mut all = vec![with_answer(ASK.to_vec(), &mut station)];
     for _ in 0..count {
-        let before = station.present_issue().wrapping_sub(1 + numbers.below(3) as u16);
-        let message = if numbers.one_in(9) { result(before, 0, numbers.below(3) as u8) } else { framed_message(numbers, &station) };
+        let message = match numbers.below(20) {
+            0 | 1 => result(station.present_issue().wrapping_sub(1 + numbers.below(3) as u16), 0, numbers.below(3) as u8),
+            2 => image(START | 1 << 55, 0),
+            _ => framed_message(numbers, &station),
+        };
         all.push(with_answer(message, &mut station));
     }
     all
@@ -120,9 +123,11 @@ fn cut_session(program: &str, journal: &str, numbers: &mut Numbers, from: &Stati
     let messages = session(numbers, from, count);
     let (seed, bytes) = (numbers.next(), sent(&messages));
     let answers = messages.last().map_or(0, |(_, answers)| *answers);
-    let (until, moment) = match numbers.below(6) {
-        0 => (0, numbers.below(100_000)),
-        1..=3 => (1 + numbers.below(answers as u64), 0),
+    // how soon a station has started depends on the machine
+    let (until, moment) = match numbers.below(8) {
+        0 => (0, numbers.below(2000)),
+        1 => (0, numbers.below(100_000)),
+        2..=4 => (1 + numbers.below(answers as u64), 0),
         _ => (1 + numbers.below(answers as u64), numbers.below(8000)),
     };
     let mut child = started(program, &[journal], Trouble::Nothing);
