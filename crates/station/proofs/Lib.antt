@@ -1,1 +1,2 @@
-mod Short
+mod Turning
+mod Replaying

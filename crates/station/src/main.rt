@@ -1,17 +1,26 @@
-// Reads messages from standard input and writes the answer to each to standard output: one read and one write a turn. What a turn leaves
-// stands in turns, what is tried again and what is told of a failure in streams; no contract can say what is read and written.
+// Reads messages from standard input and writes the answer to each to standard output: one read and one write a turn, and between them one
+// append to the journal, where one is kept. What a turn leaves stands in turns, what is tried again and what is told of a failure in
+// streams; no contract can say what is read and written.
 ghost use mathlib.Core.Path.{_≡_};
-ghost use mathlib.Core.Bool.{false};
+ghost use mathlib.Core.Bool.{true};
 ghost use Prim.Native.Nat.{_≤_, _<_};
 ghost use lib.ListN.{length};
+ghost use Rattle.journal.specs.Journal.{Journaled};
 ghost use Rattle.service.specs.Runs.{enough};
+ghost use Rattle.station.specs.Keeping.{Kept, Goes, Roomy};
 ghost use Rattle.streams.specs.Input.{Fills};
-use garage::Station;
+
+mod asking;
+mod keeping;
+mod opening;
+
+use keeping::Journal;
 use streams::Input;
 
-// Between two turns: the station, how many bytes are held at the front of the buffer, and whether nothing more is to be read.
+// Between two turns: the station with its journal, how many bytes are held at the front of the buffer, and whether nothing more is to be
+// read.
 struct Between {
-    station: Station,
+    journal: Journal,
     have: usize,
     stop: bool,
 }
@@ -23,71 +32,79 @@ fn read_on(buf: &mut [u8], have: usize) -> Input
     streams::fill(libc::STDIN_FILENO, buf, have, b"station: standard input")
 }
 
-// Writes the first n bytes of the answers, and says whether that went well.
-fn say(out: &[u8], n: usize) -> bool {
+// Writes the first n bytes of the answers, and says whether that went well. The messages that they answer are in the journal by then: it is
+// safe, and so long that it makes the station that answered.
+fn say(j: Journal, out: &[u8], n: usize) -> bool
+    requires { ⌜ Kept j ⌝ }
+{
     streams::send(libc::STDOUT_FILENO, out, n, b"station: standard output")
 }
 
-// Answers what came whole, and holds the rest: less than a message, so that a read that brings nothing is always the input's end.
-fn answer(s: Station, buf: &mut [u8], end: usize, out: &mut [u8]) -> Between
-    requires { ⌜ enough (length (now buf)) ≤ length (now out) ⌝ }
-    ensures { λ r. ⌜ (r .stop ≡ false → r .have < 45) ⌝ }
-{
-    let t = turns::turn(s, buf, end, out);
-    let station = t.station;
-    let have = t.have;
-    let sent = say(out, t.made);
-    Between {
-        station,
-        have,
-        stop: t.stop | !sent,
-    }
-}
-
-// The end of the input, where the first `have` bytes are left over.
-fn close(buf: &[u8], have: usize, out: &mut [u8])
-    requires { ⌜ have ≤ length (now buf) ⌝ }
-{
-    let w = service::finish(&buf[..have], out);
-    say(out, w.size);
-}
-
 // Nothing more is read or written.
-fn stopped(s: Station) -> Between
-    ensures { λ r. ⌜ (r .stop ≡ false → r .have < 45) ⌝ }
+fn stopped(j: Journal) -> Between
+    ensures { λ r. ⌜ r .stop ≡ true ⌝ }
 {
     Between {
-        station: s,
+        journal: j,
         have: 0,
         stop: true,
     }
 }
 
+// Works out the answers to what came whole, appends it to the journal, and only then writes them. The rest is held: less than a message, so
+// that a read that brings nothing is always the input's end.
+fn answer(j: Journal, buf: &mut [u8], end: usize, out: &mut [u8]) -> Between
+    requires { ⌜ (end ≤ length (now buf)) × (enough (length (now buf)) ≤ length (now out)) × Journaled (j .station) (j .length) ⌝ }
+    ensures { λ r. ⌜ Goes r ⌝ }
+{
+    let w = service::serve(j.station, &buf[..end], out);
+    let used = w.used;
+    let next = w.station;
+    let kept = keeping::append(j, next, &buf[..used]);
+    if !kept.safe {
+        return stopped(kept);
+    }
+    let sent = say(kept, out, w.made);
+    let have = turns::hold(buf, used, end);
+    Between {
+        journal: kept,
+        have,
+        stop: w.stop | !sent,
+    }
+}
+
+// The end of the input, where the first `have` bytes are left over.
+fn close(j: Journal, buf: &[u8], have: usize, out: &mut [u8])
+    requires { ⌜ (have ≤ length (now buf)) × Kept j ⌝ }
+{
+    let w = service::finish(&buf[..have], out);
+    say(j, out, w.size);
+}
+
 // Reads once, answers what came whole, and holds the rest. After a read that failed nothing more is written.
 fn one_turn(t: Between, buf: &mut [u8], out: &mut [u8]) -> Between
-    requires { ⌜ (t .have < 45) × (45 ≤ length (now buf)) × (enough (length (now buf)) ≤ length (now out)) ⌝ }
-    ensures { λ r. ⌜ (r .stop ≡ false → r .have < 45) ⌝ }
+    requires { ⌜ (t .have < 45) × Roomy (now buf) (now out) × Kept (t .journal) ⌝ }
+    ensures { λ r. ⌜ Goes r ⌝ }
 {
-    let station = t.station;
+    let j = t.journal;
     let have = t.have;
     let input = read_on(buf, have);
     match input {
-        Input::Bytes(end) => answer(station, buf, end, out),
+        Input::Bytes(end) => answer(j, buf, end, out),
         Input::Ended => {
-            close(buf, have, out);
-            stopped(station)
+            close(j, buf, have, out);
+            stopped(j)
         }
-        _ => stopped(station),
+        _ => stopped(j),
     }
 }
 
 // Turn after turn; no input is so long that it takes more.
-fn session(buf: &mut [u8], out: &mut [u8])
-    requires { ⌜ (45 ≤ length (now buf)) × (enough (length (now buf)) ≤ length (now out)) ⌝ }
+fn session(j: Journal, buf: &mut [u8], out: &mut [u8])
+    requires { ⌜ Roomy (now buf) (now out) × Kept j ⌝ }
 {
-    let station = Station::start();
     let mut t = Between {
-        station,
+        journal: j,
         have: 0,
         stop: false,
     };
@@ -105,5 +122,8 @@ fn session(buf: &mut [u8], out: &mut [u8])
 fn main() {
     let mut buf = [0u8; 65536];
     let mut out = [0u8; 327680];
-    session(&mut buf, &mut out);
+    let j = asking::asked(&mut buf, &mut out);
+    if j.safe {
+        session(j, &mut buf, &mut out);
+    }
 }

@@ -1,14 +1,32 @@
--- `station::answer` meets its contract. Assumes nothing.
+-- `station::answer` meets its contract: what is appended is what the run took, and nothing is said before. Assumes nothing.
 use borrow.Author.Needs.{needs}
-use Rattle.station.proofs.Short.{held-short}
+use mathlib.Core.Path.{sym}
+use lib.Seq.{length-take-le}
+use Rattle.bits.proofs.Cases.{clash}
+use Rattle.station.proofs.Turning.{taken-within, taken-long, taken-follows, held-short, appended}
 use Rattle.station.proofs.answer.Statement.{statement}
 use Rattle.station.proofs.answer.Tie as tie
 
-turn-requires : tie.Need-turn-requires
-turn-requires c κs = search needs
+slice-reshare-prefix-serve : tie.Need-slice-reshare-prefix-serve
+slice-reshare-prefix-serve c = search needs
 
-say-requires : tie.Need-say-requires
-say-requires c κs = search needs
+slice-aggregate-serve : tie.Need-slice-aggregate-serve
+slice-aggregate-serve c = sym (length-take-le _ _ (c .before .before .before .pre .0))
+
+serve-requires : tie.Need-serve-requires
+serve-requires c κs = search needs
+
+slice-reshare-prefix-append : tie.Need-slice-reshare-prefix-append
+slice-reshare-prefix-append c = taken-within _ (c .before .before .before .before .before .before .before .before .args .buf .now) (c .before .before .before .before .before .before .before .before .args .end) (c .before .before .before .before .before .before .before .before .args .out .now) _ (c .before .before .before .before .before .before .before .before .pre .1) (c .before .before .before .serve .ensures .0) .1
+
+slice-aggregate-append : tie.Need-slice-aggregate-append
+slice-aggregate-append c = taken-long _ (c .before .before .before .before .before .before .before .before .before .args .buf .now) (c .before .before .before .before .before .before .before .before .before .args .end) (c .before .before .before .before .before .before .before .before .before .args .out .now) _ (c .before .before .before .before .before .before .before .before .before .pre .1) (c .before .before .before .before .serve .ensures .0)
+
+append-requires : tie.Need-append-requires
+append-requires c κs = taken-follows _ (c .before .before .before .before .before .before .before .before .before .args .buf .now) (c .before .before .before .before .before .before .before .before .before .args .end) (c .before .before .before .before .before .before .before .before .before .args .out .now) _ (c .before .before .before .before .before .before .before .before .before .pre .1) (c .before .before .before .before .serve .ensures .0)
+
+stopped-requires : tie.Need-stopped-requires
+stopped-requires c κs = search needs
 
 same-length : tie.Need-same-length
 same-length c = search needs
@@ -17,7 +35,46 @@ same-length-2 : tie.Need-same-length-2
 same-length-2 c = search needs
 
 returns : tie.Need-returns
-returns c = held-short _ _ _ _ _ _ (c .before .before .before .before .before .before .before .before .before .before .before .before .before .pre) (c .before .before .before .before .before .before .before .before .turn .ensures .0)
+returns c = λ q. clash (c .stopped .ensures) q
+
+say-requires : tie.Need-say-requires
+say-requires c κs = appended (c .before .before .before .before .before .before .before .before .before .before .before .before .before .pre .2) (taken-follows _ (c .before .before .before .before .before .before .before .before .before .before .before .before .before .args .buf .now) (c .before .before .before .before .before .before .before .before .before .before .before .before .before .args .end) (c .before .before .before .before .before .before .before .before .before .before .before .before .before .args .out .now) _ (c .before .before .before .before .before .before .before .before .before .before .before .before .before .pre .1) (c .before .before .before .before .before .before .before .before .serve .ensures .0)) (c .before .before .before .append .ensures) (c .before .if1 .left)
+
+hold-requires : tie.Need-hold-requires
+hold-requires c κs = search needs
+
+same-length-3 : tie.Need-same-length-3
+same-length-3 c = search needs
+
+same-length-4 : tie.Need-same-length-4
+same-length-4 c = search needs
+
+returns-2 : tie.Need-returns-2
+returns-2 c =
+    let pre = c .before .before .before .before .before .before .before .before .before .before .before .before .before .before .before .before .before .before .before .pre in
+    let args = c .before .before .before .before .before .before .before .before .before .before .before .before .before .before .before .before .before .before .before .args in
+    let serve = c .before .before .before .before .before .before .before .before .before .before .before .before .before .before .serve .ensures .0 in
+    λ q. (
+      held-short _ (args .buf .now) (args .end) (args .out .now) _ (pre .1) serve _ _ (c .before .before .before .hold .ensures .0) q,
+      appended (pre .2) (taken-follows _ (args .buf .now) (args .end) (args .out .now) _ (pre .1) serve) (c .before .before .before .before .before .before .before .before .before .append .ensures) (c .before .before .before .before .before .before .before .if1 .left),
+    )
 
 pub answer-spec : {M : Type 1} → statement M
-answer-spec = tie.close (tie.spec turn-requires say-requires same-length same-length-2 returns)
+answer-spec =
+    tie.close
+    (tie.spec
+    slice-reshare-prefix-serve
+    slice-aggregate-serve
+    serve-requires
+    slice-reshare-prefix-append
+    slice-aggregate-append
+    append-requires
+    stopped-requires
+    same-length
+    same-length-2
+    returns
+    say-requires
+    hold-requires
+    same-length-3
+    same-length-4
+    returns-2)

@@ -1,12 +1,12 @@
 -- `station::close` meets its contract. Assumes nothing.
-use mathlib.Core.Path.{sym}
 use borrow.Author.Needs.{needs}
+use mathlib.Core.Path.{sym}
 use lib.Seq.{length-take-le}
 use Rattle.station.proofs.close.Statement.{statement}
 use Rattle.station.proofs.close.Tie as tie
 
 slice-aggregate-finish : tie.Need-slice-aggregate-finish
-slice-aggregate-finish c = sym (length-take-le _ _ (c .before .before .before .pre))
+slice-aggregate-finish c = sym (length-take-le _ _ (c .before .before .before .pre .0))
 
 finish-requires : tie.Need-finish-requires
 finish-requires c κs = search needs

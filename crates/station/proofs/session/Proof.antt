@@ -1,19 +1,17 @@
--- `station::session` meets its contract: less than a message is held, and the turns that are left shrink. Assumes nothing.
+-- `station::session` meets its contract: less than a message is held, all that was answered is in the journal, and the turns that are left shrink. Assumes nothing.
+use borrow.Author.Needs.{needs}
 use mathlib.Core.Path.{_≡_}
 use Prim.Native.Nat.{_<_}
-use borrow.Author.Needs.{needs}
 use lib.ListN.{length}
+use Rattle.station.specs.Keeping.{Kept}
 use Rattle.station.proofs.session.Statement.{statement}
 use Rattle.station.proofs.session.Tie as tie
 
 abbrev Inv-loop : tie.InvT-loop
-Inv-loop buf₀ out₀ t₀ turns₀ buf out t turns = (length buf ≡ length buf₀) × (length out ≡ length out₀) × (t .have < 45)
+Inv-loop buf₀ out₀ t₀ turns₀ buf out t turns = (length buf ≡ length buf₀) × (length out ≡ length out₀) × (t .have < 45) × Kept (t .journal)
 
 abbrev μ-loop : tie.MeasureT-loop
 μ-loop buf₀ out₀ t₀ turns₀ buf out t turns = turns
-
-start-requires : tie.Need-start-requires Inv-loop μ-loop
-start-requires c κs = search needs
 
 loop-holds : tie.Need-loop-holds Inv-loop μ-loop
 loop-holds c = search needs
@@ -37,7 +35,7 @@ loop-less : tie.Need-loop-less Inv-loop μ-loop
 loop-less c = search needs
 
 loop-again : tie.Need-loop-again Inv-loop μ-loop
-loop-again c = (search needs, search needs, c .before .before .before .before .before .one-turn .ensures (c .if1 .left))
+loop-again c = let g = c .before .before .before .before .before .one-turn .ensures (c .if1 .left) in (search needs, search needs, g .0, g .1)
 
 same-length-3 : tie.Need-same-length-3 Inv-loop μ-loop
 same-length-3 c = search needs
@@ -54,7 +52,6 @@ session-spec =
     (tie.spec
     Inv-loop
     μ-loop
-    start-requires
     loop-holds
     one-turn-requires
     same-length

@@ -1,0 +1,74 @@
+-- A turn as the program's loop has it: what it takes of the buffer is whole messages, which take the journal's station to the next, and what
+-- it holds is less than a message, unless it stops. Assumes nothing.
+use mathlib.Core.Path.{_≡_, sym, ap, subst, _∙_}
+use mathlib.Core.Bool.{Bool, true, false, not, _||_}
+use mathlib.Core.List.{List}
+use Prim.Native.Nat.{ℕ, _+_, _≤_, _<_}
+use native.Mathlib.Omega.{arith}
+use borrow.Author.Tests.{le-leb, not-false}
+use lib.ListN.{length, take, length-take}
+use lib.Seq.{take-take, length-take-le}
+use Rattle.bits.proofs.Cases.{neither}
+use Rattle.garage.specs.declared.Station.{Station}
+use Rattle.service.specs.declared.Served.{Served}
+use Rattle.service.specs.Runs.{Serving, run, served, serving, enough}
+use Rattle.streams.specs.declared.Input.{Input}
+use Rattle.streams.specs.declared.Input.the-variants.{Bytes}
+use Rattle.streams.specs.Input.{Fills}
+use Rattle.turns.specs.Turns.{holding, turning}
+use Rattle.turns.proofs.Statements.{rest-is-short}
+use Rattle.journal.specs.Journal.{counted, Follows, Journaled}
+use Rattle.journal.proofs.Which.{used-within, only-messages, stays-journaled}
+
+-- in room that is enough all is served
+pub all-served : (s : Station) (buf : List ℕ) (end : ℕ) (room : List ℕ) → enough (length buf) ≤ length room
+    → serving s (take end buf) room ≡ served (run s (take end buf)) room
+unfolding serving
+all-served s buf end room h =
+    let l = length-take end buf in
+    rw (le-leb (enough (length (take end buf))) (length room) (omega arith))
+
+-- a read fills no more than the buffer
+pub filled : (before after : List ℕ) (have end : ℕ) (r : Input) → Fills before have r after → r ≡ Bytes end → end ≤ length before
+filled before after have end r f e = let g : Fills before have (Bytes end) after = subst (λ (x : Input). Fills before have x after) e f in g .1
+
+module _ (s : Station) (buf : List ℕ) (end : ℕ) (room : List ℕ) (w : Served) (fits : enough (length buf) ≤ length room)
+    (says : w ≡ serving s (take end buf) room .says) where
+  -- it says what the run leaves
+  ran : w ≡ served (run s (take end buf)) room .says
+  ran = says ∙ ap (λ (r : Serving). r .says) (all-served s buf end room fits)
+
+  used : w .used ≡ run s (take end buf) .used
+  used = ap (λ (r : Served). r .used) ran
+
+  pub taken-within : (w .used ≤ end) × (w .used ≤ length buf)
+  taken-within =
+      let l = length-take end buf in
+      let u = used-within s (take end buf) in
+      let e = used in
+      (omega arith, omega arith)
+
+  pub taken-long : w .used ≡ length (take (w .used) buf)
+  taken-long = sym (length-take-le (w .used) buf (taken-within .1))
+
+  pub taken-follows : Follows s (take (w .used) buf) (w .station)
+  taken-follows =
+      let input = take end buf in
+      let next : w .station ≡ run s input .station = ap (λ (r : Served). r .station) ran in
+      let bytes : take (w .used) buf ≡ take (run s input .used) input =
+      sym (take-take (w .used) end buf (taken-within .0)) ∙ ap (λ (n : ℕ). take n input) used in
+      rw (next, bytes) (only-messages s input .follows)
+
+  pub held-short : (have : ℕ) (other : Bool) → have ≡ holding (w .used) end buf .says → w .stop || other ≡ false → have < 45
+  unfolding turning
+  held-short have other h q =
+      let l = length-take end buf in
+      let stop = sym (ap (λ (r : Served). r .stop) says) ∙ neither (w .stop) other q .0 in
+      rw (h, ap (λ (r : Served). r .used) says) (rest-is-short s buf end room (omega arith) stop)
+
+-- what an append that went well leaves
+pub appended : {s station next : Station} {n long : ℕ} {bytes : List ℕ} {safe : Bool} → Journaled s n → Follows s bytes next
+    → (safe ≡ true → (station ≡ next) × (long ≡ counted (n + length bytes))) → not safe ≡ false → (safe ≡ true) × Journaled station long
+appended {s} {station} {next} {n} {long} {bytes} {safe} was follows well told =
+    let e = not-false safe told in
+    (e, rw (well e .0, well e .1) (stays-journaled s next n bytes was follows))

@@ -1,0 +1,37 @@
+-- What holds of a station and its journal between two turns. Assumes nothing.
+use mathlib.Core.Path.{_≡_}
+use mathlib.Core.Bool.{true, false, cond}
+use mathlib.Core.List.{List}
+use Prim.Native.Nat.{ℕ, _≤_, _<_}
+use lib.Dec.{ltb}
+use lib.IntN.{ℤ, pos, negsuc}
+use lib.ListN.{length}
+use Rattle.service.specs.Runs.{enough}
+use Rattle.journal.specs.Journal.{Journaled}
+use Rattle.station.specs.declared.keeping.Journal.{Journal}
+use Rattle.station.specs.declared.opening.Reading.{Reading}
+use Rattle.station.specs.declared.Between.{Between}
+
+-- the place behind so many bytes of a file; there is none past 2^63
+abbrev pub placeOf : ℕ → ℤ
+placeOf n = cond (ltb n 9223372036854775808) (pos n) (negsuc 0)
+
+-- the journal is safe, and it is so long that it makes the station
+abbrev pub Kept : Journal → Type 0
+Kept j = (j .safe ≡ true) × Journaled (j .station) (j .length)
+
+-- whoever finds it safe can go on with it
+abbrev pub KeptIfSafe : Journal → Type 0
+KeptIfSafe j = j .safe ≡ true → Journaled (j .station) (j .length)
+
+-- a turn that doesn't stop holds less than a message, and all that was answered is in the journal
+abbrev pub Goes : Between → Type 0
+Goes t = t .stop ≡ false → (t .have < 45) × Kept (t .journal)
+
+-- where the journal went well so far, less than a message is held and the bytes before it make the station; else there is no more of it
+abbrev pub Reads : Reading → Type 0
+Reads q = (q .going ≡ true → q .well ≡ true) × (q .well ≡ true → (q .replay .have < 45) × Journaled (q .replay .station) (q .replay .whole))
+
+-- a buffer that is longer than a message, and room for all answers to it
+abbrev pub Roomy : List ℕ → List ℕ → Type 0
+Roomy buf out = (45 ≤ length buf) × (enough (length buf) ≤ length out)
