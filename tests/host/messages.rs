@@ -179,10 +179,13 @@ fn run(
 }
 
 /// All the program answers to the whole of an input.
-pub fn serve(input: &[u8]) -> Vec<u8> {
+pub fn serve(input: &[u8]) -> Vec<u8> { serve_on(&mut Station::start(), input, true).0 }
+
+/// The same on a station as it is, of an input that has ended or hasn't: the answers, the bytes used up and whether to go on.
+pub fn serve_on(station: &mut Station, input: &[u8], ended: bool) -> (Vec<u8>, usize, bool) {
     let mut output = Vec::new();
-    run(&mut Station::start(), Station::take, (input, true), &mut output);
-    output
+    let (used, on) = run(station, Station::take, (input, ended), &mut output);
+    (output, used, on)
 }
 
 /// The program over streams: the messages complete after a read are answered with one write before

@@ -20,7 +20,7 @@ pub use floor::{LIFT_CELLS, OTHER_ROWS, ROW_1};
 use floor::{LEFT_BELT, RIGHT_BELT};
 pub use instructions::{Condition, Instruction, REASONS, REASON_NUMBERS};
 use instructions::{areas, named, overlap, read_set};
-pub use messages::{answer_message, read_call, read_message, serve, shown_message, stream, write_message, Message, Refused};
+pub use messages::{answer_message, read_call, read_message, serve, serve_on, shown_message, stream, write_message, Message, Refused};
 pub use parts::Parts;
 
 /// What a call answers: a number of the table, the place of the instruction that it names or none, and the issue of a set that was

@@ -1,5 +1,6 @@
 //! Runs the worked examples of a page: `sessions PROGRAM PAGE`. In each block marked `session`, the bytes of the `>` lines are given
-//! to the program and its output must be the bytes of the `<` lines; in each one marked `report`, it must be all the other lines.
+//! to the program and its output must be the bytes of the `<` lines; in each one marked `report`, it must be all the other lines. At a
+//! line `!` the program is ended and started again: a session with one is held on a journal.
 
 use std::io::Write;
 use std::process::{exit, Command, Stdio};
@@ -8,31 +9,44 @@ fn bytes(line: &str) -> Vec<u8> {
     line[1..].split_whitespace().map(|byte| u8::from_str_radix(byte, 16).expect("a byte in hexadecimal")).collect()
 }
 
-/// What the program writes for an input.
-fn answers(program: &str, input: &[u8]) -> Vec<u8> {
-    let mut child = Command::new(program).stdin(Stdio::piped()).stdout(Stdio::piped()).spawn().expect("the program starts");
+/// What the program writes for an input, started with these words.
+fn answers(program: &str, words: &[&str], input: &[u8]) -> Vec<u8> {
+    let mut child = Command::new(program).args(words).stdin(Stdio::piped()).stdout(Stdio::piped()).spawn().expect("the program starts");
     child.stdin.take().expect("a pipe").write_all(input).expect("the program reads");
     child.wait_with_output().expect("the program ends").stdout
+}
+
+/// What it writes for the inputs between restarts.
+fn all_answers(program: &str, inputs: &[Vec<u8>]) -> Vec<u8> {
+    let [first, others @ ..] = inputs else { return Vec::new() };
+    if others.is_empty() { return answers(program, &[], first); }
+    let path = std::env::temp_dir().join(format!("sessions.{}", std::process::id()));
+    let journal = path.to_str().expect("a name");
+    let mut all = answers(program, &["--new", journal], first);
+    for input in others { all.extend(answers(program, &[journal], input)); }
+    std::fs::remove_file(journal).expect("the journal goes");
+    all
 }
 
 fn main() {
     let words: Vec<String> = std::env::args().collect();
     let [_, program, page] = &words[..] else { panic!("usage: sessions PROGRAM PAGE") };
     let text = std::fs::read_to_string(page).expect("the page is there");
-    let (mut inside, mut input, mut expected, mut run, mut failed) = ("", Vec::new(), Vec::new(), 0, 0);
+    let (mut inside, mut inputs, mut expected, mut run, mut failed) = ("", Vec::new(), Vec::new(), 0, 0);
     for (at, line) in text.lines().enumerate() {
         match (inside, line) {
-            ("", "```session" | "```report") => { inside = &line[3..]; input.clear(); expected.clear(); }
+            ("", "```session" | "```report") => { inside = &line[3..]; inputs = vec![Vec::new()]; expected.clear(); }
             ("session" | "report", "```") => {
                 inside = "";
                 run += 1;
-                let got = answers(program, &input);
+                let got = all_answers(program, &inputs);
                 if got != expected {
                     failed += 1;
                     eprintln!("{page}:{}: expected {expected:02X?}, got {got:02X?}", at + 1);
                 }
             }
-            ("session" | "report", _) if line.starts_with('>') => input.extend(bytes(line)),
+            ("session" | "report", _) if line.starts_with('>') => inputs.last_mut().expect("an input").extend(bytes(line)),
+            ("session", "!") => inputs.push(Vec::new()),
             ("session", _) if line.starts_with('<') => expected.extend(bytes(line)),
             ("report", _) => expected.extend([line.as_bytes(), b"\n"].concat()),
             _ => {}

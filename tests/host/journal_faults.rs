@@ -1,0 +1,325 @@
+//! Journals that are missing, damaged, full, shared or long: `journal_faults SCRIPT PROGRAM DIRECTORY MESSAGES`. The script is the command
+//! that people start, whose status and words are looked at; the program is started as it is where something is made to fail in its process
+//! or a second station is needed. Where the station must not start or go on, it answers nothing more, says one line on standard error, and
+//! leaves what is in the journal. At the end the time to the first answer is measured, with a journal of so many messages.
+
+mod journals;
+mod pipes;
+mod reference;
+mod traffic;
+
+use journals::{started, Call, Trouble, ASK, INPUT_OUTPUT_ERROR, NO_SPACE_LEFT};
+use pipes::messages_in;
+use reference::{serve, serve_on, Station};
+use std::fs;
+use std::io::{Read, Write};
+use std::os::unix::fs::PermissionsExt;
+use std::path::Path;
+use std::process::{Child, Output};
+use std::thread;
+use std::time::{Duration, Instant};
+use traffic::{input, message, Numbers};
+
+/// A station that is given an input to its end.
+fn run(program: &str, words: &[&str], bytes: &[u8], trouble: Trouble) -> Output {
+    let mut child = started(program, words, trouble);
+    let mut pipe = child.stdin.take().expect("a pipe");
+    thread::scope(|all| {
+        // it may stop before it has read everything
+        all.spawn(move || drop(pipe.write_all(bytes)));
+        child.wait_with_output().expect("it ends")
+    })
+}
+
+/// One line on standard error, which is shown.
+fn one_line(what: &str, words: &[u8]) {
+    let lines = words.iter().filter(|&&byte| byte == b'\n').count();
+    let words = String::from_utf8_lossy(words);
+    assert!(words.starts_with("station: ") && lines == 1 && words.ends_with('\n'), "{what}: it told {words:?}");
+    println!("  {what}: {}", words.trim_end());
+}
+
+/// It has not started: no answer, one line, and by the script a status of its own.
+fn not_started(what: &str, status: Option<i32>, output: &Output) {
+    assert!(output.stdout.is_empty(), "{what}: it has answered");
+    assert!(status.is_none() || output.status.code() == status, "{what}: {:?}", output.status);
+    one_line(what, &output.stderr);
+}
+
+/// How many bytes of these are whole messages.
+fn whole(bytes: &[u8]) -> usize { messages_in(bytes).map(<[u8]>::len).sum() }
+
+/// What the reference answers to an ask after some messages.
+fn image_after(bytes: &[u8]) -> Vec<u8> {
+    let mut station = Station::start();
+    serve_on(&mut station, bytes, true);
+    serve_on(&mut station, &ASK, true).0
+}
+
+/// Sends some bytes and reads so many of what comes back, or all that comes where it ends.
+fn exchanged(station: &mut Child, bytes: &[u8], answers: usize) -> Vec<u8> {
+    // where it has stopped nobody reads them
+    drop(station.stdin.as_mut().expect("a pipe").write_all(bytes));
+    let mut all = Vec::new();
+    station.stdout.as_mut().expect("a pipe").take(answers as u64).read_to_end(&mut all).expect("what it writes");
+    all
+}
+
+struct Place<'a> {
+    script: &'a str,
+    program: &'a str,
+    directory: &'a str,
+}
+
+impl Place<'_> {
+    fn file(&self, name: &str) -> String { format!("{}/{name}.journal", self.directory) }
+
+    /// A file with these bytes.
+    fn with(&self, name: &str, bytes: &[u8]) -> String {
+        let path = self.without(name);
+        fs::write(&path, bytes).expect("a file");
+        path
+    }
+
+    /// A file that is not there.
+    fn without(&self, name: &str) -> String {
+        let path = self.file(name);
+        if Path::new(&path).exists() { fs::remove_file(&path).expect("an old file goes"); }
+        path
+    }
+
+    /// What is asked for in the wrong way.
+    fn asked_wrong(&self) {
+        let path = self.with("there", &ASK);
+        let wrong: [(&str, &[&str]); 6] = [
+            ("an unknown word", &["--old", &path]),
+            ("an unknown word alone", &["--help"]),
+            ("two journals", &[&path, &path]),
+            ("a new journal without its name", &["--new"]),
+            ("two words too many", &["--new", &path, &path]),
+            ("no name", &[""]),
+        ];
+        for (what, words) in wrong { not_started(what, Some(2), &run(self.script, words, &ASK, Trouble::Nothing)); }
+        assert!(fs::read(&path).expect("the file") == ASK, "wrong words have changed a journal");
+    }
+
+    /// Files that are not what they should be.
+    fn not_there(&self) {
+        let by_script = |words: &[&str]| run(self.script, words, &ASK, Trouble::Nothing);
+        let path = self.without("missing");
+        not_started("a journal that is not there", Some(1), &by_script(&[&path]));
+        assert!(!Path::new(&path).exists(), "a wrong path has made a journal");
+        let path = self.with("there", &input(7, 300));
+        not_started("a new journal that is there", Some(1), &by_script(&["--new", &path]));
+        assert!(fs::read(&path).expect("the file") == input(7, 300), "a journal that was there has changed");
+        not_started("a directory", Some(1), &by_script(&[self.directory]));
+        not_started("a new journal in no directory", Some(1), &by_script(&["--new", &format!("{}/none/new", self.directory)]));
+        not_started("a name that is too long", Some(1), &by_script(&[&"n".repeat(5000)]));
+        not_started("a device without a disk", Some(1), &by_script(&["/dev/null"]));
+        not_started("a device that is always full", Some(1), &by_script(&["/dev/full"]));
+        // the program as it is: root would be let in by the script
+        fs::set_permissions(&path, fs::Permissions::from_mode(0o444)).expect("a mode");
+        not_started("a journal that can't be written", None, &run(self.program, &[&path], &ASK, Trouble::ModeHolds));
+        fs::set_permissions(&path, fs::Permissions::from_mode(0o644)).expect("a mode");
+    }
+
+    /// A length out of range, anywhere.
+    fn damaged(&self) {
+        let messages = input(7, 300);
+        let half = whole(&messages[..messages.len() / 2]);
+        for (what, at) in [("damaged at its start", 0), ("damaged in the middle", half), ("damaged at its end", messages.len())] {
+            for length in [[0, 0], [1, 0], [44, 0], [2, 1], [255, 255]] {
+                let bytes = [&messages[..at], &length, &messages[at..]].concat();
+                let path = self.with("damaged", &bytes);
+                let output = run(self.program, &[&path], &ASK, Trouble::Nothing);
+                assert!(output.stdout.is_empty() && output.stderr.starts_with(b"station: "), "{what} by {length:?}: it has started");
+                assert!(String::from_utf8_lossy(&output.stderr).contains(&format!(" {at} ")), "{what} by {length:?}: where is not told");
+                assert!(fs::read(&path).expect("the file") == bytes, "{what} by {length:?}: the journal has changed");
+            }
+            not_started(what, Some(1), &run(self.script, &[&self.file("damaged")], &ASK, Trouble::Nothing));
+        }
+    }
+
+    /// A tail that is cut short at every byte of a message is cut off, and nothing else. A journal that has nothing yet, and one that is new.
+    fn torn(&self) {
+        let (messages, last) = (input(8, 40), message(4, &[9; 16]));
+        for size in 0..last.len() {
+            let path = self.with("torn", &[&messages[..], &last[..size]].concat());
+            let output = run(self.program, &[&path], &ASK, Trouble::Nothing);
+            assert!(output.stdout == image_after(&messages) && output.stderr.is_empty(), "{size} bytes of a message at the end");
+            assert!(fs::read(&path).expect("the journal") == [&messages[..], &ASK].concat(), "a tail of {size} bytes is left");
+        }
+        let path = self.with("torn", &[&messages[..], &last[..9]].concat());
+        not_started("a tail that can't be cut off", None, &run(self.program, &[&path], &ASK, Trouble::Fails(Call::Cut, INPUT_OUTPUT_ERROR)));
+        let path = self.with("empty", &[]);
+        assert_eq!(run(self.program, &[&path], &ASK, Trouble::Nothing).stdout, image_after(&[]), "an empty journal");
+        let path = self.without("a new one, with spaces in its name");
+        assert_eq!(run(self.script, &["--new", &path], &ASK, Trouble::Nothing).stdout, image_after(&[]), "a new journal");
+        assert_eq!(fs::read(&path).expect("the journal"), ASK);
+    }
+
+    /// What stops a session is answered, and is not in the journal.
+    fn stops(&self) {
+        let messages = input(9, 60);
+        for end in [&[1, 0][..], &[44, 0], &[9], &[6, 0, 3, 0, 1]] {
+            let path = self.without("stops");
+            let bytes = [&messages[..], end].concat();
+            assert_eq!(run(self.program, &["--new", &path], &bytes, Trouble::Nothing).stdout, serve(&bytes), "a session that ends in {end:?}");
+            assert!(fs::read(&path).expect("the journal") == messages, "{end:?} is in the journal, or something is not");
+        }
+    }
+
+    /// A device that gets full: what fits is answered, what does not is not, and the restart goes on from what is whole.
+    fn full(&self) {
+        let (path, bytes) = (self.without("full"), input(10, 3000));
+        let mut station = started(self.program, &["--new", &path], Trouble::FullAt(8000));
+        let (mut model, mut sent, mut back) = (Station::start(), 0, Vec::<u8>::new());
+        for messages in messages_in(&bytes).collect::<Vec<_>>().chunks(40) {
+            let piece = messages.concat();
+            let answers = serve_on(&mut model, &piece, true).0.len();
+            let came = exchanged(&mut station, &piece, answers);
+            back.extend(&came);
+            if came.len() < answers { break; }
+            sent += piece.len();
+        }
+        let ended = station.wait_with_output().expect("it ends");
+        one_line("a device that gets full", &ended.stderr);
+        let journal = fs::read(&path).expect("the journal");
+        assert!(journal.len() == 8000 && bytes.starts_with(&journal), "a full device: the journal is not what was sent");
+        assert!(sent > 0 && back == serve(&bytes[..sent]) && sent <= journal.len(), "a full device: answered and not kept, or not answered");
+        let kept = &journal[..whole(&journal)];
+        assert_eq!(run(self.program, &[&path], &ASK, Trouble::Nothing).stdout, image_after(kept), "after a full device");
+    }
+
+    /// Calls that fail: nothing is answered, and no message is in the journal that was answered and is lost.
+    fn failing(&self) {
+        let messages = input(12, 50);
+        let failing = [
+            ("a journal that can't be written for want of room", Call::Write, NO_SPACE_LEFT, &messages[..]),
+            ("a journal that can't be written", Call::Write, INPUT_OUTPUT_ERROR, &messages),
+            ("a journal that doesn't come to the disk", Call::SyncData, INPUT_OUTPUT_ERROR, &messages),
+            ("a journal whose start doesn't", Call::Sync, INPUT_OUTPUT_ERROR, &messages),
+        ];
+        for (what, call, error, before) in failing {
+            let path = self.with("failing", before);
+            not_started(what, None, &run(self.program, &[&path], &ASK, Trouble::Fails(call, error)));
+            let journal = fs::read(&path).expect("the journal");
+            assert!(journal == *before || journal == [before, &ASK].concat(), "{what}: the journal has changed");
+            assert_eq!(run(self.program, &[&path], &ASK, Trouble::Nothing).stdout, image_after(&journal), "after that");
+        }
+        let path = self.without("failing");
+        let unnamed = run(self.program, &["--new", &path], &ASK, Trouble::Fails(Call::Sync, INPUT_OUTPUT_ERROR));
+        not_started("a new journal whose name doesn't come to the disk", None, &unnamed);
+        assert!(String::from_utf8_lossy(&unnamed.stderr).contains("folder"), "a new journal's name is not waited for");
+        // a read without a whole message asks nothing of the disk
+        let path = self.with("failing", &messages);
+        for call in [Call::Write, Call::SyncData] {
+            let cut = run(self.program, &[&path], &ASK[..3], Trouble::Fails(call, INPUT_OUTPUT_ERROR));
+            assert!(cut.stdout == serve(&ASK[..3]) && cut.stderr.is_empty(), "less than a message is kept, or waited for");
+        }
+    }
+
+    /// Two stations on one journal, the second begun when the first has answered: the first finds it longer than it should be, stops, and
+    /// answers nothing more. The second goes on.
+    fn shared(&self) {
+        let path = self.with("shared", &[]);
+        let image = image_after(&[]);
+        let mut one = started(self.program, &[&path], Trouble::Nothing);
+        assert_eq!(exchanged(&mut one, &ASK, 20), image);
+        let mut other = started(self.program, &[&path], Trouble::Nothing);
+        assert_eq!(exchanged(&mut other, &ASK, 20), image);
+        assert_eq!(exchanged(&mut one, &ASK, 20), [], "it has answered though another station has written");
+        one_line("a shared journal", &one.wait_with_output().expect("it ends").stderr);
+        assert_eq!(exchanged(&mut other, &ASK, 20), image, "the second goes on");
+        assert!(other.wait_with_output().expect("it ends").stderr.is_empty());
+        assert!(fs::read(&path).expect("the journal") == ASK.repeat(3));
+    }
+
+    /// Two stations that are sent messages at once: at most one of them answers, and what it answered stands at the front of the journal.
+    fn raced(&self, times: u64) {
+        let mut answered = 0;
+        for time in 0..times {
+            let path = self.with("raced", &[]);
+            let mut both = [(); 2].map(|()| started(self.program, &[&path], Trouble::Nothing));
+            let inputs = [input(100 + time, 30), input(200 + time, 30)];
+            both.iter().for_each(|station| opened(station.id(), &path));
+            for (station, bytes) in both.iter_mut().zip(&inputs) { drop(station.stdin.take().expect("a pipe").write_all(bytes)); }
+            let ended = both.map(|station| station.wait_with_output().expect("it ends"));
+            let journal = fs::read(&path).expect("the journal");
+            let answering: Vec<_> = ended.iter().zip(&inputs).filter(|(output, _)| !output.stdout.is_empty()).collect();
+            assert!(answering.len() < 2, "both of two stations have answered");
+            for (output, bytes) in &answering {
+                assert!(output.stdout == serve(bytes) && journal.starts_with(bytes), "of two stations one has answered what is not kept");
+            }
+            answered += answering.len();
+        }
+        println!("  two stations at once, {times} times: one of them answered {answered} times, and never both");
+    }
+
+    /// The same input with a journal and without, in one go and with a restart anywhere: the same answers.
+    fn restarts(&self) {
+        let (bytes, mut numbers) = (input(11, 3000), Numbers(11));
+        let (expected, messages) = (serve(&bytes), messages_in(&bytes).collect::<Vec<_>>());
+        for turn in 0..12 {
+            let path = self.without("restarts");
+            let program = if turn == 0 { self.script } else { self.program };
+            let (first, second) = messages.split_at(numbers.below(3001) as usize);
+            let first = run(program, &["--new", &path], &first.concat(), Trouble::Nothing);
+            let second = run(program, &[&path], &second.concat(), Trouble::Nothing);
+            assert!(first.status.success() && second.status.success() && [first.stdout, second.stdout].concat() == expected, "with a restart");
+            assert!(fs::read(&path).expect("the journal") == bytes, "the journal is not what was sent");
+        }
+        assert_eq!(run(self.program, &[], &bytes, Trouble::Nothing).stdout, expected, "without a journal");
+    }
+
+    /// A journal of so many messages: its image, and how long the first answer takes.
+    fn long(&self, messages: usize) {
+        let block = input(13, messages.min(20_000));
+        let bytes = block.repeat(messages / 20_000);
+        let path = self.with("long", &bytes);
+        // on the disk, as a journal is
+        fs::File::open(&path).and_then(|file| file.sync_all()).expect("a sync");
+        let begun = Instant::now();
+        let mut station = started(self.program, &[&path], Trouble::Nothing);
+        let came = exchanged(&mut station, &ASK, 20);
+        let took = begun.elapsed().as_secs_f64();
+        station.wait_with_output().expect("it ends");
+        assert_eq!(came, image_after(&bytes), "the image after a long journal");
+        println!("  a journal of {messages} messages, {} bytes: {took:.2} s to the first answer", bytes.len());
+        fs::remove_file(&path).expect("it goes");
+    }
+}
+
+/// Waits until a process has the journal open to append, as the system tells.
+fn opened(process: u32, path: &str) {
+    let path = fs::canonicalize(path).expect("the journal");
+    let appends = |descriptor: &fs::DirEntry| {
+        let told = fs::read_to_string(format!("/proc/{process}/fdinfo/{}", descriptor.file_name().to_string_lossy())).unwrap_or_default();
+        let flags = told.lines().find_map(|line| u32::from_str_radix(line.strip_prefix("flags:")?.trim(), 8).ok());
+        fs::read_link(descriptor.path()).is_ok_and(|open| open == path) && flags.is_some_and(|flags| flags & 0o2000 != 0)
+    };
+    for _ in 0..10_000 {
+        let descriptors = fs::read_dir(format!("/proc/{process}/fd")).expect("the process");
+        if descriptors.flatten().any(|descriptor| appends(&descriptor)) { return; }
+        thread::sleep(Duration::from_millis(1));
+    }
+    panic!("a station has not opened its journal to append");
+}
+
+fn main() {
+    let words: Vec<String> = std::env::args().collect();
+    let [_, script, program, directory, messages] = &words[..] else { panic!("usage: journal_faults SCRIPT PROGRAM DIRECTORY MESSAGES") };
+    let place = Place { script, program, directory };
+    place.asked_wrong();
+    place.not_there();
+    place.damaged();
+    place.torn();
+    place.stops();
+    place.full();
+    place.failing();
+    place.shared();
+    place.raced(20);
+    place.restarts();
+    place.long(messages.parse().expect("a number"));
+    println!("journal_faults: every journal that can't be trusted stops the station, and no other does");
+}
