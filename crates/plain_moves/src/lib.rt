@@ -151,7 +151,7 @@ pub fn opens(e: Event, cars: u8) -> bool
 
 // ---- parts
 
-// The parts of a well-formed instruction's area.
+// The parts that an instruction takes: its area; an ill-formed one takes none.
 pub fn area(i: Instruction) -> Parts
     ensures { λ p. ⌜ p ≡ areaParts i ⌝ }
 {
