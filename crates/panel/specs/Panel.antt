@@ -7,9 +7,8 @@ use Rattle.floor.specs.Tests.{Test, fact, set, exactly, even, no, both, either}
 use Rattle.rules.specs.declared.Instruction.{Instruction}
 use Rattle.rules.specs.Rules.{wellFormed, Clause, _else_, clauses}
 use Rattle.plain.specs.Conditions.{conditionOf}
-use Rattle.plain_moves.specs.declared.Parts.{Parts}
 use Rattle.plain_moves.specs.Moves.{partsAt}
-use Rattle.panel.specs.declared.Explained.{Explained}
+use Rattle.panel.specs.declared.Explanation.{Explanation}
 
 -- the places that a test reads
 unfoldable pub readBy : Test → List ℕ
@@ -28,7 +27,7 @@ readIn ((t else why) ∷ cs) zero = readBy t
 readIn ((t else why) ∷ cs) (suc c) = readIn cs c
 
 -- condition c of an instruction on a record, and the parts that decide it
-unfoldable pub explained : Instruction → ℕ → Bits → Explained
+unfoldable pub explained : Instruction → ℕ → Bits → Explanation
 explained i c f =
     let x = conditionOf i c f in
     record {

@@ -24,6 +24,13 @@ list-is zero (x ∷ a) e = absurd (omega arith)
 list-is (suc n) [] e = absurd (omega arith)
 list-is (suc n) (x ∷ a) e = ap (λ (l : List Bool). x ∷ l) (list-is n a (omega arith))
 
+-- one of its elements
+pub listed-at : (n k : ℕ) (f : Bits) → k < n → getD (listed n f) k false ≡ f k
+unfolding listed
+listed-at zero k f h = absurd (omega arith)
+listed-at (suc n) zero f h = refl
+listed-at (suc n) (suc k) f h = listed-at n k (λ j. f (suc j)) (omega arith)
+
 -- one element stored
 pub set-listed : (n k : ℕ) (f : Bits) (v : Bool) → k < n → set (listed n f) k v ≡ listed n (λ j. cond (eqb k j) v (f j))
 unfolding listed

@@ -3,7 +3,7 @@
 use mathlib.Core.Path.{_≡_, refl, sym, ap, ap₂, _∙_, fun-ext}
 use mathlib.Core.Bool.{Bool, true, false, cond, not, _&&_, and-true}
 use mathlib.Core.Logic.{⊎-elim}
-use Prim.Native.Nat.{ℕ, zero, suc, _+_, _-_, _≤_, _<_}
+use Prim.Native.Nat.{ℕ, _+_, _-_, _≤_, _<_}
 use native.Mathlib.Omega.{arith}
 use lib.Dec.{T, eqb, ltb, ltb→lt, eqb→eq}
 use lib.ListN.{getD}
@@ -30,13 +30,8 @@ use Rattle.rules.specs.Events.{after}
 use Rattle.rules.proofs.Every.{everywhere, each}
 use Rattle.rules_laws.proofs.Tried.{targets, not-target}
 use Rattle.plain.specs.Plain.{listed, heightNumber, heightOf, plainBits, floorOf}
+use Rattle.plain.proofs.Listing.{listed-at}
 use Rattle.plain_laws.specs.Promises.{SoundRecord}
-
-pub listed-at : (n k : ℕ) (f : Bits) → k < n → getD (listed n f) k false ≡ f k
-unfolding listed
-listed-at zero k f h = absurd (omega arith)
-listed-at (suc n) zero f h = refl
-listed-at (suc n) (suc k) f h = listed-at n k (λ j. f (suc j)) (omega arith)
 
 -- cells and slots, and what stands past them
 pub parts-at : (f : Bits) (k : ℕ) {b : Bool} → (52 ≤ k → b ≡ f k)

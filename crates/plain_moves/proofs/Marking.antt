@@ -23,7 +23,7 @@ use Rattle.plain_moves.specs.Private.{slotAt, stored, firstCell, rowName
 
 -- ---- two arrays, and two parts, are the same
 
-abbrev sameMarks : List Bool → List Bool → Bool
+abbrev pub sameMarks : List Bool → List Bool → Bool
 sameMarks [] [] = true
 sameMarks [] (y ∷ b) = false
 sameMarks (x ∷ a) [] = false
@@ -35,10 +35,10 @@ marks-eq [] (y ∷ b) t = absurd t
 marks-eq (x ∷ a) [] t = absurd t
 marks-eq (x ∷ a) (y ∷ b) t = ap₂ _∷_ (beq→eq x y (and-l (Bool·beq x y) (sameMarks a b) t)) (marks-eq a b (and-r (Bool·beq x y) (sameMarks a b) t))
 
-abbrev sameParts : Parts → Parts → Bool
+abbrev pub sameParts : Parts → Parts → Bool
 sameParts p q = sameMarks (p .cells) (q .cells) && (sameMarks (p .slots) (q .slots) && Bool·beq (p .lift) (q .lift))
 
-parts-eq : (p q : Parts) → T (sameParts p q) → p ≡ q
+pub parts-eq : (p q : Parts) → T (sameParts p q) → p ≡ q
 parts-eq p q t =
     let r = and-r (sameMarks (p .cells) (q .cells)) _ t in
     ap₂ (λ (c s : List Bool). record { cells = c; slots = s; lift = p .lift })
