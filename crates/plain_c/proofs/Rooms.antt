@@ -120,6 +120,7 @@ module _ (r : ℕ) (room : List ℕ) where
     unfolding walkedBy walkOf
     walked-so {f} {w} k s e d z l c =
         let all : w ≡ walkOf (walked (bit r)) = d ∙ ap (λ (b : Bits). walkOf (walked b)) (shows r k s e) in
-        lead (by-walk false true (le-ltb (length room) 31 h) s)
-        (c ∙ ap (λ (y : Walk). returned Taken + 65536 * y .count) all,
-        l ∙ rw (take-length, z) (ap (λ (y : Walk). y .starts ++ drop 31 room) all))
+        lead (by-walk false true (le-ltb (length room) 31 h) s) (
+          c ∙ ap (λ (y : Walk). returned Taken + 65536 * y .count) all,
+          l ∙ rw (take-length, z) (ap (λ (y : Walk). y .starts ++ drop 31 room) all),
+        )

@@ -1,14 +1,13 @@
 -- The parts that instructions take, as lists of places and as parts: they meet exactly where the places are shared, and what is set apart
 -- grows by them. Assumes nothing.
-use mathlib.Core.Path.{_≡_, refl, sym, ap, ap₂, fun-ext, _∙_}
+use mathlib.Core.Path.{_≡_, sym, ap, ap₂, fun-ext, _∙_}
 use mathlib.Core.Bool.{Bool, true, false, _&&_, _||_}
 use mathlib.Core.List.{List}
-use Prim.Native.Nat.{ℕ, zero, suc, _+_, _-_, _≤_, _<_}
+use Prim.Native.Nat.{ℕ, _+_, _-_, _≤_, _<_}
 use native.Mathlib.Omega.{arith}
 use borrow.Author.Tests.{ltb-true, ltb-false, lt-ltb, le-ltb, ne-eqb}
 use lib.Bits.{bitOr}
 use lib.Dec.{ltb}
-use lib.ListN.{getD}
 use Rattle.bits.specs.Bits.{Bits, bit, image}
 use Rattle.bits.specs.Places.{elem, share}
 use Rattle.bits.specs.Search.{some}
@@ -20,29 +19,22 @@ use Rattle.floor.specs.Floor.{lift}
 use Rattle.rules.specs.declared.Code.{Code}
 use Rattle.garage.specs.Held.{codeAt, heldArea, partsIn, heldParts, touches}
 use Rattle.garage.proofs.Areas.{held-small, held-upper}
-use Rattle.plain.specs.Plain.{listed}
+use Rattle.plain.proofs.Listing.{listed-at}
 use Rattle.plain_moves.specs.declared.Parts.{Parts}
 use Rattle.plain_moves.specs.Moves.{partsBits, partsOf, partsAt, meeting, together}
 use Rattle.plain_station.proofs.Standing.{none-past, parts-bits}
 
 -- ---- parts of places
 
--- the value at a place of a list
-listed-at : (n : ℕ) (f : Bits) (k : ℕ) → k < n → getD (listed n f) k false ≡ f k
-unfolding listed
-listed-at zero f k h = absurd (omega arith)
-listed-at (suc n) f zero h = refl
-listed-at (suc n) f (suc k) h = listed-at n (λ j. f (suc j)) k (omega arith)
-
 -- the bits of the parts are those that a number for what is set apart has
 parts-in : (ks : List ℕ) → partsBits (partsAt ks) ≡ partsIn ks
 unfolding partsBits partsAt partsIn
 parts-in ks = fun-ext (λ k. split (ltb k 40)
-    (λ t. let h = ltb-true k 40 t in rw (t, lt-ltb k 52 (omega arith)) (listed-at 40 (λ j. elem j ks) k h))
+    (λ t. let h = ltb-true k 40 t in rw (t, lt-ltb k 52 (omega arith)) (listed-at 40 k (λ j. elem j ks) h))
     (λ t. let h = ltb-false k 40 t in split (ltb k 52)
     (λ u. let l = ltb-true k 52 u in
     let e : 40 + (k - 40) ≡ k = omega arith in
-    rw (t, u) (listed-at 12 (λ j. elem (40 + j) ks) (k - 40) (omega arith) ∙ ap (λ (j : ℕ). elem j ks) e))
+    rw (t, u) (listed-at 12 (k - 40) (λ j. elem (40 + j) ks) (omega arith) ∙ ap (λ (j : ℕ). elem j ks) e))
     (λ u. rw (t, u))))
 
 -- so the bits of that number
