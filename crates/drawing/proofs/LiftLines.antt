@@ -1,7 +1,7 @@
 -- The lift's line: a line that is of its form is the words of what it tells, and what a text tells of the lift is what its first line does.
 -- Assumes nothing.
 use mathlib.Core.Path.{_≡_, refl, sym, ap, ap₂, _∙_}
-use mathlib.Core.Bool.{Bool, true, false, cond, _&&_}
+use mathlib.Core.Bool.{Bool, true, false, _&&_}
 use mathlib.Core.List.{List, _++_}
 use Prim.Native.Nat.{ℕ, _<_}
 use native.Mathlib.Omega.{arith}
@@ -15,6 +15,7 @@ use Rattle.drawing.specs.Reading.{firstLine, same, begins, after, height
 use Rattle.drawing.specs.Private.{driveBegun, liftTold, wordsOf, liftBit}
 use Rattle.drawing.proofs.Words.{words-parts, lift-alike}
 use Rattle.drawing.proofs.Begun.{same-eq, begins-eq}
+use Rattle.drawing.proofs.Telling.{ofThree}
 use Rattle.drawing.proofs.FirstLines.{isWord, begins-line, after-line, same-line}
 
 -- ---- the words have no line feed
@@ -33,9 +34,6 @@ unfolding ascii
 drive-word d = split (eqb d 1) (λ e. rw e tt) (λ e. rw e (split (eqb d 2) (λ f. rw f tt) (λ f. rw f tt)))
 
 -- ---- the first of three tests that passes
-
-abbrev ofThree : Bool → Bool → Bool → ℕ
-ofThree t u v = cond t 0 (cond u 1 (cond v 2 3))
 
 -- what holds of its number, where that is below 3
 of-three : (P : ℕ → Type 0) (t u v : Bool) → (t ≡ true → P 0) → (u ≡ true → P 1) → (v ≡ true → P 2) → ofThree t u v < 3 → P (ofThree t u v)

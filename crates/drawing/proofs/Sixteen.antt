@@ -10,7 +10,6 @@ use lib.Dec.{ltb, leb}
 use lib.ListN.{length, getD, set, take, drop, replicate, length-append, length-set, drop-of-length-le}
 use lib.Seq.{drop-cons, take-suc-set, length-take-le, take-all}
 use borrow.Author.Tests.{lt-ltb, le-ltb, le-leb, lt-leb, eq-eqb, ne-eqb, ltb-true, not-false}
-use Rattle.bits.proofs.Cases.{passed, failed}
 use Rattle.bits.proofs.Search.{every-at, every-is}
 use Rattle.bits.proofs.Least.{Passed, every-not}
 use Rattle.drawing.specs.declared.Gathered.{Gathered}
@@ -183,13 +182,13 @@ module _ (s : List ℕ) {r : Gathered} (g : Gathers s r) where
     asked : t ≡ areDigits (unblanked s)
     asked = p ∙ ap areDigits (g .held e)
 
-    pub not-digits : not t ≡ true → NotHex ≡ hexIn s
+    pub not-digits : t ≡ false → NotHex ≡ hexIn s
     unfolding hexIn
-    not-digits n = rw (eq-eqb (length (unblanked s)) 16 sixteen, failed asked n)
+    not-digits y = rw (eq-eqb (length (unblanked s)) 16 sixteen, sym asked ∙ y)
 
-    pub all-said : {x : ℕ} → not t ≡ false → x ≡ numberIn 8 0 (r .bytes) → Image x ≡ hexIn s
+    pub all-said : {x : ℕ} → t ≡ true → x ≡ numberIn 8 0 (r .bytes) → Image x ≡ hexIn s
     unfolding hexIn
-    all-said {x} y q = rw (eq-eqb (length (unblanked s)) 16 sixteen, passed asked y) (ap Image (q ∙ ap (numberIn 8 0) (g .held e)))
+    all-said {x} y q = rw (eq-eqb (length (unblanked s)) 16 sixteen, sym asked ∙ y) (ap Image (q ∙ ap (numberIn 8 0) (g .held e)))
 
 -- ---- an image's line
 

@@ -12,7 +12,7 @@ use Rattle.drawing.specs.Private.{driveBegun, liftTold}
 use Rattle.drawing.proofs.Words.{lift-alike}
 
 -- the number of the first of three tests that passes, 3 where none does
-abbrev ofThree : Bool → Bool → Bool → ℕ
+abbrev pub ofThree : Bool → Bool → Bool → ℕ
 ofThree t u v = cond t 0 (cond u 1 (cond v 2 3))
 
 module _ (t u v : Bool) {a : Bool} (p : a ≡ t) where

@@ -334,8 +334,8 @@ pub fn read_hex(text: &[u8]) -> Hex
         return Hex::NotHex;
     }
     let sixteen = gathered.bytes;
-    if !digits::all_digits(sixteen) {
-        return Hex::NotHex;
+    if digits::all_digits(sixteen) {
+        return Hex::Image(digits::number_in(sixteen));
     }
-    Hex::Image(digits::number_in(sixteen))
+    Hex::NotHex
 }

@@ -1,5 +1,5 @@
+use mathlib.Core.Path.{sym, _∙_}
 use borrow.Author.Needs.{needs}
-use Rattle.bits.proofs.Cases.{passed}
 use Rattle.drawing.proofs.Sixteen.{not-sixteen, not-digits, all-said}
 use Rattle.drawing.proofs.read_hex.Statement.{statement}
 use Rattle.drawing.proofs.read_hex.Tie as tie
@@ -13,16 +13,16 @@ returns c = not-sixteen (c .before .before .before .before .args .text .now) (c 
 all-digits-requires : tie.Need-all-digits-requires
 all-digits-requires c κs = search needs
 
-returns-2 : tie.Need-returns-2
-returns-2 c = not-digits (c .before .before .before .before .before .before .before .args .text .now) (c .before .before .before .before .before .gather .ensures) (c .before .before .before .if1 .left) (c .before .all-digits .ensures) (c .if2 .taken)
-
 number-in-requires : tie.Need-number-in-requires
-number-in-requires c κs = passed (c .before .all-digits .ensures) (c .if2 .left)
+number-in-requires c κs = sym (c .before .all-digits .ensures) ∙ c .if2 .taken
+
+returns-2 : tie.Need-returns-2
+returns-2 c = all-said (c .before .before .before .before .before .before .before .before .args .text .now) (c .before .before .before .before .before .before .gather .ensures) (c .before .before .before .before .if1 .left) (c .before .before .all-digits .ensures) (c .before .if2 .taken) (c .number-in .ensures)
 
 returns-3 : tie.Need-returns-3
-returns-3 c = all-said (c .before .before .before .before .before .before .before .before .args .text .now) (c .before .before .before .before .before .before .gather .ensures) (c .before .before .before .before .if1 .left) (c .before .before .all-digits .ensures) (c .before .if2 .left) (c .number-in .ensures)
+returns-3 c = not-digits (c .before .before .before .before .before .before .before .args .text .now) (c .before .before .before .before .before .gather .ensures) (c .before .before .before .if1 .left) (c .before .all-digits .ensures) (c .if2 .left)
 
 pub read-hex-spec : {M : Type 1} → statement M
 read-hex-spec =
     tie.close
-    (tie.spec gather-requires returns all-digits-requires returns-2 number-in-requires returns-3)
+    (tie.spec gather-requires returns all-digits-requires number-in-requires returns-2 returns-3)
