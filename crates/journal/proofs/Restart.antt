@@ -1,5 +1,5 @@
 -- After a restart the station goes on where it was, from a journal that was cut anywhere too. Assumes nothing.
-use mathlib.Core.Path.{_≡_, refl, sym, ap, _∙_}
+use mathlib.Core.Path.{_≡_, refl, sym, ap, ap₂, _∙_}
 use mathlib.Core.Bool.{false, cond}
 use mathlib.Core.List.{List, [], _∷_, _++_, append-assoc, append-nil}
 use Prim.Native.Nat.{ℕ, _+_, _-_}
@@ -65,7 +65,8 @@ replay-messages s ms w = ap (λ (r : Ran). record { station = r .station; whole 
 pub goes-on : GoesOn
 goes-on ms input w =
     goes-on-from startOf ms input w
-    ∙ rw (← answers-alone startOf ms w, ap (λ (r : Replayed). r .station) (replay-messages startOf ms w))
+    ∙ ap₂ (λ (l : List ℕ) (s : Station). l ++ answersOn s input) (sym (answers-alone startOf ms w))
+    (sym (ap (λ (r : Replayed). r .station) (replay-messages startOf ms w)))
 
 -- ---- cut anywhere
 

@@ -11,11 +11,11 @@ use lib.Seq.{take-take, length-take-le}
 use Rattle.bits.proofs.Cases.{neither}
 use Rattle.garage.specs.declared.Station.{Station}
 use Rattle.service.specs.declared.Served.{Served}
-use Rattle.service.specs.Runs.{Serving, run, served, serving, enough}
+use Rattle.service.specs.Runs.{Serving, Serves, run, served, serving, enough}
 use Rattle.streams.specs.declared.Input.{Input}
 use Rattle.streams.specs.declared.Input.the-variants.{Bytes}
 use Rattle.streams.specs.Input.{Fills}
-use Rattle.turns.specs.Turns.{holding, turning}
+use Rattle.turns.specs.Turns.{Holding, Holds, holding, turning}
 use Rattle.turns.proofs.Statements.{rest-is-short}
 use Rattle.journal.specs.Journal.{counted, Follows, Journaled}
 use Rattle.journal.proofs.Which.{used-within, only-messages, stays-journaled}
@@ -65,6 +65,16 @@ module _ (s : Station) (buf : List ℕ) (end : ℕ) (room : List ℕ) (w : Serve
       let l = length-take end buf in
       let stop = sym (ap (λ (r : Served). r .stop) says) ∙ neither (w .stop) other q .0 in
       rw (h, ap (λ (r : Served). r .used) says) (rest-is-short s buf end room (omega arith) stop)
+
+-- the two steps are a turn
+pub as-turn : (s : Station) (buf : List ℕ) (end : ℕ) (room : List ℕ) (w : Served) (out : List ℕ) (n : ℕ) (after : List ℕ) (station : Station)
+    → Serves (serving s (take end buf) room) w out → Holds (holding (w .used) end buf) n after → station ≡ w .station
+    → let t = turning s buf end room in
+    (station ≡ t .says .station) × (n ≡ t .says .have) × (after ≡ t .buffer) × (out ≡ t .answers)
+unfolding turning
+as-turn s buf end room w out n after station (says, leaves) (holds, front) e =
+    let held = ap (λ (r : Served). holding (r .used) end buf) says in
+    (e ∙ ap (λ (r : Served). r .station) says, holds ∙ ap (λ (h : Holding). h .says) held, front ∙ ap (λ (h : Holding). h .leaves) held, leaves)
 
 -- what an append that went well leaves
 pub appended : {s station next : Station} {n long : ℕ} {bytes : List ℕ} {safe : Bool} → Journaled s n → Follows s bytes next

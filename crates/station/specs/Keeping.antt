@@ -7,6 +7,7 @@ use lib.Dec.{ltb}
 use lib.IntN.{ℤ, pos, negsuc}
 use lib.ListN.{length}
 use Rattle.service.specs.Runs.{enough}
+use Rattle.turns.specs.Turns.{Turning}
 use Rattle.journal.specs.Journal.{Journaled}
 use Rattle.station.specs.declared.keeping.Journal.{Journal}
 use Rattle.station.specs.declared.opening.Reading.{Reading}
@@ -27,6 +28,12 @@ KeptIfSafe j = j .safe ≡ true → Journaled (j .station) (j .length)
 -- a turn that doesn't stop holds less than a message, and all that was answered is in the journal
 abbrev pub Goes : Between → Type 0
 Goes t = t .stop ≡ false → (t .have < 45) × Kept (t .journal)
+
+-- and where all is in the journal it was a turn: the station, what is held, the buffer and the answers are those that one leaves
+abbrev pub AsTurn : Turning → Between → List ℕ → List ℕ → Type 0
+AsTurn w t buf out =
+    t .journal .safe ≡ true
+    → (t .journal .station ≡ w .says .station) × (t .have ≡ w .says .have) × (buf ≡ w .buffer) × (out ≡ w .answers)
 
 -- where the journal went well so far, less than a message is held and the bytes before it make the station; else there is no more of it
 abbrev pub Reads : Reading → Type 0

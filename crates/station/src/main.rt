@@ -7,8 +7,9 @@ ghost use Prim.Native.Nat.{_≤_, _<_};
 ghost use lib.ListN.{length};
 ghost use Rattle.journal.specs.Journal.{Journaled};
 ghost use Rattle.service.specs.Runs.{enough};
-ghost use Rattle.station.specs.Keeping.{Kept, Goes, Roomy};
+ghost use Rattle.station.specs.Keeping.{Kept, Goes, AsTurn, Roomy};
 ghost use Rattle.streams.specs.Input.{Fills};
+ghost use Rattle.turns.specs.Turns.{turning};
 
 mod asking;
 mod keeping;
@@ -42,7 +43,7 @@ fn say(j: Journal, out: &[u8], n: usize) -> bool
 
 // Nothing more is read or written.
 fn stopped(j: Journal) -> Between
-    ensures { λ r. ⌜ r .stop ≡ true ⌝ }
+    ensures { λ r. ⌜ (r .stop ≡ true) × (r .journal ≡ j) ⌝ }
 {
     Between {
         journal: j,
@@ -55,7 +56,7 @@ fn stopped(j: Journal) -> Between
 // that a read that brings nothing is always the input's end.
 fn answer(j: Journal, buf: &mut [u8], end: usize, out: &mut [u8]) -> Between
     requires { ⌜ (end ≤ length (now buf)) × (enough (length (now buf)) ≤ length (now out)) × Journaled (j .station) (j .length) ⌝ }
-    ensures { λ r. ⌜ Goes r ⌝ }
+    ensures { λ r. ⌜ Goes r × AsTurn (turning (j .station) (now (buf .entry)) end (now (out .entry))) r (now (buf .exit)) (now (out .exit)) ⌝ }
 {
     let w = service::serve(j.station, &buf[..end], out);
     let used = w.used;

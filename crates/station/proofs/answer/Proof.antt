@@ -1,9 +1,11 @@
 -- `station::answer` meets its contract: what is appended is what the run took, and nothing is said before. Assumes nothing.
+use borrow.Author.Tests.{not-true}
 use borrow.Author.Needs.{needs}
-use mathlib.Core.Path.{sym}
+use mathlib.Core.Path.{sym, ap, _∙_}
 use lib.Seq.{length-take-le}
 use Rattle.bits.proofs.Cases.{clash}
-use Rattle.station.proofs.Turning.{taken-within, taken-long, taken-follows, held-short, appended}
+use Rattle.station.proofs.Turning.{taken-within, taken-long, taken-follows, held-short, as-turn, appended}
+use Rattle.station.specs.declared.keeping.Journal.{Journal}
 use Rattle.station.proofs.answer.Statement.{statement}
 use Rattle.station.proofs.answer.Tie as tie
 
@@ -35,7 +37,9 @@ same-length-2 : tie.Need-same-length-2
 same-length-2 c = search needs
 
 returns : tie.Need-returns
-returns c = λ q. clash (c .stopped .ensures) q
+returns c =
+    let s = c .stopped .ensures in
+    (λ q. clash (s .0) q, λ q. clash (sym (ap (λ (j : Journal). j .safe) (s .1)) ∙ q) (not-true _ (c .before .if1 .taken)))
 
 say-requires : tie.Need-say-requires
 say-requires c κs = appended (c .before .before .before .before .before .before .before .before .before .before .before .before .before .pre .2) (taken-follows _ (c .before .before .before .before .before .before .before .before .before .before .before .before .before .args .buf .now) (c .before .before .before .before .before .before .before .before .before .before .before .before .before .args .end) (c .before .before .before .before .before .before .before .before .before .before .before .before .before .args .out .now) _ (c .before .before .before .before .before .before .before .before .before .before .before .before .before .pre .1) (c .before .before .before .before .before .before .before .before .serve .ensures .0)) (c .before .before .before .append .ensures) (c .before .if1 .left)
@@ -53,10 +57,14 @@ returns-2 : tie.Need-returns-2
 returns-2 c =
     let pre = c .before .before .before .before .before .before .before .before .before .before .before .before .before .before .before .before .before .before .before .pre in
     let args = c .before .before .before .before .before .before .before .before .before .before .before .before .before .before .before .before .before .before .before .args in
-    let serve = c .before .before .before .before .before .before .before .before .before .before .before .before .before .before .serve .ensures .0 in
-    λ q. (
-      held-short _ (args .buf .now) (args .end) (args .out .now) _ (pre .1) serve _ _ (c .before .before .before .hold .ensures .0) q,
-      appended (pre .2) (taken-follows _ (args .buf .now) (args .end) (args .out .now) _ (pre .1) serve) (c .before .before .before .before .before .before .before .before .before .append .ensures) (c .before .before .before .before .before .before .before .if1 .left),
+    let serve = c .before .before .before .before .before .before .before .before .before .before .before .before .before .before .serve .ensures in
+    let hold = c .before .before .before .hold .ensures in
+    let append = c .before .before .before .before .before .before .before .before .before .append .ensures in (
+      λ q. (
+        held-short _ (args .buf .now) (args .end) (args .out .now) _ (pre .1) (serve .0) _ _ (hold .0) q,
+        appended (pre .2) (taken-follows _ (args .buf .now) (args .end) (args .out .now) _ (pre .1) (serve .0)) append (c .before .before .before .before .before .before .before .if1 .left),
+      ),
+      λ q. as-turn _ (args .buf .now) (args .end) (args .out .now) _ _ _ _ _ serve hold (append q .0),
     )
 
 pub answer-spec : {M : Type 1} → statement M

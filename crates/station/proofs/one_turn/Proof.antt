@@ -43,13 +43,13 @@ same-length-4 : tie.Need-same-length-4
 same-length-4 c = search needs
 
 returns-2 : tie.Need-returns-2
-returns-2 c = λ q. clash (c .stopped .ensures) q
+returns-2 c = λ q. clash (c .stopped .ensures .0) q
 
 same-length-5 : tie.Need-same-length-5
 same-length-5 c = search needs
 
 returns-3 : tie.Need-returns-3
-returns-3 c = λ q. clash (c .stopped2 .ensures) q
+returns-3 c = λ q. clash (c .stopped2 .ensures .0) q
 
 pub one-turn-spec : {M : Type 1} → statement M
 one-turn-spec =
