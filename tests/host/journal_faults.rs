@@ -15,7 +15,7 @@ use std::fs;
 use std::io::{Read, Write};
 use std::os::unix::fs::PermissionsExt;
 use std::path::Path;
-use std::process::{Child, Output};
+use std::process::{Child, Command, Output};
 use std::thread;
 use std::time::{Duration, Instant};
 use traffic::{input, message, Numbers};
@@ -115,6 +115,11 @@ impl Place<'_> {
         not_started("a directory", Some(1), &by_script(&[self.directory]));
         not_started("a new journal in no directory", Some(1), &by_script(&["--new", &format!("{}/none/new", self.directory)]));
         not_started("a name that is too long", Some(1), &by_script(&[&"n".repeat(5000)]));
+        let pipe = self.without("pipe");
+        assert!(Command::new("mkfifo").arg(&pipe).status().is_ok_and(|made| made.success()), "a pipe");
+        not_started("a pipe", Some(1), &by_script(&[&pipe]));
+        // nothing stands at the start of a process's memory
+        not_started("a file that can't be read", Some(1), &by_script(&["/proc/self/mem"]));
         not_started("a device without a disk", Some(1), &by_script(&["/dev/null"]));
         not_started("a device that is always full", Some(1), &by_script(&["/dev/full"]));
         // the program as it is: root would be let in by the script

@@ -114,6 +114,7 @@ fn forgetful(fault: &Fault, station: &mut Station) {
 fn opened(fault: &Fault, path: &str) -> (Station, Journal) {
     if fault.is("makes_what_is_missing") && !Path::new(path).exists() { made(fault, path); }
     let mut file = fault.done(OpenOptions::new().read(true).append(true).open(path), "the journal can't be opened");
+    fault.done(file.rewind(), "the journal is no plain file");
     let mut bytes = Vec::new();
     let most = if path.starts_with("/dev/") { 4096 } else { u64::MAX };
     fault.done((&mut file).take(most).read_to_end(&mut bytes), "the journal can't be read");
