@@ -1,0 +1,19 @@
+-- `panel::deciding::from_end` meets its contract: each return is one case of the definition. Assumes nothing.
+use Rattle.panel.specs.Private.{fromEnd}
+use borrow.Author.Needs.{needs}
+use Rattle.panel.proofs.deciding.from_end.Statement.{statement}
+use Rattle.panel.proofs.deciding.from_end.Tie as tie
+
+sub-result : tie.Need-sub-result
+sub-result c = search needs
+
+returns : tie.Need-returns
+unfolding fromEnd
+returns c = rw (c .if1 .taken)
+
+returns-2 : tie.Need-returns-2
+unfolding fromEnd
+returns-2 c = rw (c .if1 .left)
+
+pub from-end-spec : {M : Type 1} → statement M
+from-end-spec = tie.close (tie.spec sub-result returns returns-2)

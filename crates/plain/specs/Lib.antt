@@ -1,0 +1,5 @@
+pub mod Plain
+pub mod Named
+pub mod Conditions
+pub mod Walks
+pub mod Private

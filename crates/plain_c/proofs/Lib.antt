@@ -1,0 +1,4 @@
+pub mod Calls
+pub mod Rooms
+pub mod Following
+pub mod Promises

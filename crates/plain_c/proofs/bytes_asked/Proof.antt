@@ -1,0 +1,17 @@
+-- `plain_c::bytes_asked` meets its contract. Assumes nothing.
+use Rattle.station_c.proofs.Padding.{none-asked, five-asked}
+use borrow.Author.Needs.{needs}
+use Rattle.plain_c.proofs.bytes_asked.Statement.{statement}
+use Rattle.plain_c.proofs.bytes_asked.Tie as tie
+
+returns : tie.Need-returns
+returns c = none-asked _ (c .if1 .taken)
+
+mul-result : tie.Need-mul-result
+mul-result c = search needs
+
+returns-2 : tie.Need-returns-2
+returns-2 c = five-asked _ (c .if1 .left)
+
+pub bytes-asked-spec : {M : Type 1} → statement M
+bytes-asked-spec = tie.close (tie.spec returns mul-result returns-2)

@@ -1,0 +1,1 @@
+// What is promised of the plain engine, stated in specs/ and proved in proofs/: no code.

@@ -1,0 +1,9 @@
+pub mod Contents
+pub mod Floors
+pub mod Takings
+pub mod Moving
+pub mod Lifting
+pub mod Driving
+pub mod Sharing
+pub mod Marking
+pub mod Finding

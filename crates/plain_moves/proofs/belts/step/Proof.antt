@@ -1,0 +1,12 @@
+-- `plain_moves::belts::step` meets its contract: each branch is one case. Assumes nothing.
+use Rattle.plain_moves.proofs.belts.step.Statement.{statement}
+use Rattle.plain_moves.proofs.belts.step.Tie as tie
+
+returns : tie.Need-returns
+returns c = rw (c .if1 .taken)
+
+returns-2 : tie.Need-returns-2
+returns-2 c = rw (c .if1 .left)
+
+pub step-spec : {M : Type 1} → statement M
+step-spec = tie.close (tie.spec returns returns-2)
