@@ -167,6 +167,12 @@ fn session(buf: &mut [u8]) {
 }
 
 fn main() {
+    if commands::told_version(b"draw", b"draw: standard output") {
+        return;
+    }
+    if commands::has_words(b"draw: usage: draw < IMAGE-OR-DRAWING\n") {
+        return;
+    }
     let mut buf = [0u8; ROOM];
     session(&mut buf);
 }

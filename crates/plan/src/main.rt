@@ -137,6 +137,12 @@ fn session(buf: &mut [u8]) {
 }
 
 fn main() {
+    if commands::told_version(b"plan", b"plan: standard output") {
+        return;
+    }
+    if commands::has_words(b"plan: usage: plan < PLAN\n") {
+        return;
+    }
     let mut buf = [0u8; ROOM];
     session(&mut buf);
 }

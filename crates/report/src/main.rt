@@ -145,6 +145,12 @@ fn print(counts: [u32; 52], full: u8) {
 
 // 64 KiB of input at a time.
 fn main() {
+    if commands::told_version(b"report", b"report: standard output") {
+        return;
+    }
+    if commands::has_words(b"report: usage: report < MESSAGES\n") {
+        return;
+    }
     let mut counts = [0u32; 52];
     let mut buf = [0u8; 65536];
     let t = session(&mut counts, &mut buf);

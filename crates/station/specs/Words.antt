@@ -1,16 +1,14 @@
 -- The words that the program is started with. Assumes nothing.
-use mathlib.Core.Bool.{Bool, false, cond, not, _&&_}
-use mathlib.Core.List.{List}
+use mathlib.Core.Bool.{Bool, false, cond, not}
+use mathlib.Core.List.{List, [], _∷_}
 use Prim.Native.Nat.{ℕ}
 use lib.Dec.{eqb}
 use lib.ListN.{length, getD}
+use Rattle.commands.specs.Words.{isText}
 
 -- `--new`
 abbrev pub isNew : List ℕ → Bool
-isNew w =
-    cond (eqb (length w) 5)
-    (eqb (getD w 0 0) 45 && eqb (getD w 1 0) 45 && eqb (getD w 2 0) 110 && eqb (getD w 3 0) 101 && eqb (getD w 4 0) 119)
-    false
+isNew w = isText (45 ∷ 45 ∷ 110 ∷ 101 ∷ 119 ∷ []) w
 
 -- a file's name: it is not empty, and does not begin with `-`
 abbrev pub isName : List ℕ → Bool

@@ -10,14 +10,7 @@ use crate::keeping::unkept;
 fn is_new(word: &[u8]) -> bool
     ensures { λ b. ⌜ b ≡ isNew (now (word .entry)) ⌝ }
 {
-    if word.len() != 5 {
-        return false;
-    }
-    (word[0] == b'-')
-        & (word[1] == b'-')
-        & (word[2] == b'n')
-        & (word[3] == b'e')
-        & (word[4] == b'w')
+    commands::is_text(word, b"--new")
 }
 
 // Whether a word can be a file's name: it is not empty, and no word of another kind.

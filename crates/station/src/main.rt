@@ -121,6 +121,9 @@ fn session(j: Journal, buf: &mut [u8], out: &mut [u8])
 
 // 64 KiB of input, and room for all answers to it.
 fn main() {
+    if commands::told_version(b"station", b"station: standard output") {
+        return;
+    }
     let mut buf = [0u8; 65536];
     let mut out = [0u8; 327680];
     let j = asking::asked(&mut buf, &mut out);
