@@ -93,7 +93,7 @@ impl Place<'_> {
         let path = self.with("there", &ASK);
         let wrong: [(&str, &[&str]); 6] = [
             ("an unknown word", &["--old", &path]),
-            ("an unknown word alone", &["--help"]),
+            ("an unknown word alone", &["--other"]),
             ("two journals", &[&path, &path]),
             ("a new journal without its name", &["--new"]),
             ("two words too many", &["--new", &path, &path]),
