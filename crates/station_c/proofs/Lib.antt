@@ -2,5 +2,6 @@ pub mod Rooms
 pub mod Padding
 pub mod Judging
 pub mod Exchanging
+pub mod Building
 pub mod Promises
 pub mod Determined
