@@ -25,7 +25,7 @@ use rules::Moved;
 use rules::Reading;
 use wire::What;
 
-mod sets;
+pub mod sets;
 
 // The bytes of a lent station, of a record, of a record and what is set apart, and of an instruction.
 const STATION: usize = 60;
