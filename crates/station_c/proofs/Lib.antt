@@ -4,4 +4,5 @@ pub mod Judging
 pub mod Exchanging
 pub mod Building
 pub mod Promises
+pub mod Pairs
 pub mod Determined
