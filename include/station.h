@@ -4,7 +4,7 @@
  * sends it sets of up to eight instructions; the station accepts a set or says why not, and changes its record only when an
  * instruction is reported done. It is told when a driver begins to drive in or out and how that ended; in between nothing may move the
  * lift. What is reported stuck is set apart: nothing may be run into it until somebody has looked. The entries below are proved to answer
- * what the definitions in crates/station_c/specs/Entries.antt say, on every input; nothing proves this header or its caller right, so:
+ * what the definitions in crates/station_c/specs (Entries.antt and Sets.antt) say, on every input; nothing proves this header or its caller right, so:
  *
  * What the caller must see to
  *   - Each pointer goes with the length that follows it, and is valid for that many bytes: to read where it is `const`, to read and
@@ -82,6 +82,13 @@
 #ifdef __cplusplus
 extern "C" {
 #endif
+
+/* The version that this header belongs to: the first number moves where a caller must change something, the second where something was
+ * added, the third else. station_version tells the archive's, as one number. */
+#define STATION_VERSION_FIRST 1
+#define STATION_VERSION_SECOND 0
+#define STATION_VERSION_THIRD 0
+#define STATION_VERSION (65536u * STATION_VERSION_FIRST + 256u * STATION_VERSION_SECOND + STATION_VERSION_THIRD)
 
 /* The three parts of an answer. */
 #define STATION_NUMBER(answer) ((uint8_t)((answer) & 0xFFu))
@@ -238,6 +245,23 @@ uint32_t garage_allowed(uint64_t image, const uint8_t *five, size_t five_length)
 /* The same, and if it is 0 the eight bytes of the record after the instruction are written to `next`. 17 where that is too short, then 1,
  * 4, 31, 20 to 28. */
 uint32_t garage_next(uint64_t image, const uint8_t *five, size_t five_length, uint8_t *next, size_t next_length);
+
+/* ---- questions for building sets: areas are the same on every record, so none is given. What stands past five bytes is not looked at */
+
+/* Writes the eight bytes of the instruction's area to `area`, the lowest first: the bits of the record that it may read or write. The lift is
+ * bits 52 to 54. Two instructions overlap exactly if their areas share a bit. 17 where `area` is too short, then 1, 4, with STATION_NOWHERE as
+ * the place. */
+uint32_t garage_area(const uint8_t *five, size_t five_length, uint8_t *area, size_t area_length);
+
+/* Whether the two may not stand in one set, as a request of these two in this order would be told so far as the instructions alone decide:
+ * 1 where either has fewer than five bytes; 4 where either says no instruction, with 0 as the place if the first doesn't, else 1; 8 with
+ * place 1 where they overlap; else 0. A set of more is free of overlaps exactly if each two of it are. */
+uint32_t garage_overlap(const uint8_t *one, size_t one_length, const uint8_t *other, size_t other_length);
+
+/* ---- the version */
+
+/* The archive's version: 65536 times its first number, 256 times its second, and its third. A caller may hold it against STATION_VERSION. */
+uint32_t station_version(void);
 
 #ifdef __cplusplus
 }

@@ -83,7 +83,7 @@ static void summary(void) {
             }
     for (uint8_t entry = 0; entry < ALL_ENTRIES; entry++)
         for (uint8_t number = 0; number < NUMBERS; number++)
-            if (entry != CARS && reference_gives(entry, number) != seen[entry][number]) {
+            if (entry != CARS && entry != VERSION && reference_gives(entry, number) != seen[entry][number]) {
                 fprintf(stderr, "entry %d %s %d\n", entry, seen[entry][number] ? "gave" : "never gave", number);
                 all = false;
             }
@@ -108,11 +108,11 @@ static uint32_t call_any(const struct command *c) {
 }
 
 /* Whether an entry may write a run at all. A call that isn't taken writes nothing; of a message that isn't, the refusal is written, and the
- * station's room is not; nor do the report's calls and the panel's questions write that. */
+ * station's room is not; nor do questions and the report's calls write that. */
 static bool may_write(uint8_t entry, int run, uint32_t answer) {
     uint8_t number = STATION_NUMBER(answer);
     switch (run) {
-    case 0: return number == STATION_TAKEN && entry != ASK && (entry < ENTRIES || (PLAIN_AT <= entry && entry < PLAIN_AT + PANEL_CONDITION));
+    case 0: return number == STATION_TAKEN && entry != ASK && (entry < SOUND || (PLAIN_AT <= entry && entry < PLAIN_AT + PANEL_CONDITION));
     case 2: return number == STATION_TAKEN || (entry == MESSAGE && number != STATION_NO_ROOM);
     default: return false;
     }
@@ -150,6 +150,31 @@ static void compare_plain(const struct command *command, unsigned places) {
     default: return;
     }
     compare(&plain, places);
+}
+
+/* ---- questions for building sets */
+
+/* They are asked beside other calls, on the same bytes: beside a question on an instruction for its area; beside a request whether its first
+ * instruction and what stands behind it may stand in one set; beside a start for the version. */
+static void compare_sets(const struct command *command, unsigned places) {
+    uint8_t other[RUN_MOST], out[RUN_MOST];
+    struct command asked = *command;
+    asked.out.bytes = out;
+    memset(out, 0xA5, sizeof out);
+    switch (command->entry) {
+    case START: asked.entry = VERSION; break;
+    case ALLOWED:
+    case NEXT: asked.entry = AREA; break;
+    case REQUEST:
+        asked.entry = OVERLAP;
+        if (asked.in.size > STATION_CODE_SIZE)
+            asked.in.size = STATION_CODE_SIZE;
+        asked.room = (struct lent){other, command->in.size - asked.in.size};
+        memcpy(other, command->in.bytes + asked.in.size, asked.room.size);
+        break;
+    default: return;
+    }
+    compare(&asked, places);
 }
 
 /* ---- the steps of a program */
@@ -208,6 +233,7 @@ static void one_call(uint8_t entry, unsigned places, bool unusual) {
         if (which & 128) command.apart = take_number();
     }
     compare_plain(&command, places);
+    compare_sets(&command, places);
     compare(&command, places);
 }
 
@@ -253,8 +279,8 @@ static void report_call(uint8_t entry, unsigned places) {
 }
 
 /* Damage that no call does, marks, the next issue or what is set apart among it, calls in a row, and the report's calls; numbered behind the
- * entries. */
-enum { NEW_RECORD = ENTRIES, NEW_SET, NEW_MARKS, NEW_STATION, SETTLE };
+ * entries that a step picks. */
+enum { NEW_RECORD = NEXT + 1, NEW_SET, NEW_MARKS, NEW_STATION, SETTLE };
 
 static void one_step(void) {
     uint8_t pick = take();

@@ -55,6 +55,23 @@ pub fn message_call(numbers: &mut Numbers, station: &Station) -> Given {
     Given { entry: 6, room, input: message, output: any_bytes(numbers, size), ..Given::default() }
 }
 
+/// A question for building sets: an instruction's area, or of two instructions, the second in the room, whether they overlap; now and then
+/// the version.
+pub fn sets_call(numbers: &mut Numbers) -> Given {
+    let cut = |numbers: &mut Numbers| {
+        let mut five = traffic::any_five(numbers).to_vec();
+        if numbers.one_in(12) { five.truncate(numbers.below(5) as usize) } else if numbers.one_in(4) { five.push(numbers.byte()) }
+        five
+    };
+    let (one, other) = (cut(numbers), cut(numbers));
+    let size = if numbers.one_in(12) { numbers.below(8) } else { 8 + numbers.below(3) } as usize;
+    match numbers.below(5) {
+        0 | 1 => Given { entry: 11, input: one, output: any_bytes(numbers, size), ..Given::default() },
+        2 | 3 => Given { entry: 12, room: other, input: one, ..Given::default() },
+        _ => Given { entry: 13, ..Given::default() },
+    }
+}
+
 /// A question on a record near one.
 pub fn record_call(numbers: &mut Numbers, record: u64) -> Given {
     let image = if numbers.one_in(3) { record } else { traffic::near_record(numbers, record) };

@@ -17,10 +17,10 @@ struct command {
     uint16_t issue;        /* the set that a result is of */
     uint64_t image, apart; /* a record, and what it sets apart */
     uint32_t card;         /* a card's number */
-    struct lent room, in, out; /* the station; a run of bytes to read; a run to write */
+    struct lent room, in, out; /* the station, or the second of two instructions; a run of bytes to read; a run to write */
 };
 
-enum { START, REQUEST, EVENT, RESULT, IMAGE, ASK, MESSAGE, SOUND, CARS, ALLOWED, NEXT, ENTRIES };
+enum { START, REQUEST, EVENT, RESULT, IMAGE, ASK, MESSAGE, SOUND, CARS, ALLOWED, NEXT, AREA, OVERLAP, VERSION, ENTRIES };
 
 /* A run of bytes crosses as its address and its length. */
 #define LENT(run) (run).bytes, (run).size
@@ -38,7 +38,10 @@ static inline uint32_t call_entry(const struct command *c) {
     case SOUND: return garage_sound(c->image);
     case CARS: return garage_cars(c->image);
     case ALLOWED: return garage_allowed(c->image, LENT(c->in));
-    default: return garage_next(c->image, LENT(c->in), LENT(c->out));
+    case NEXT: return garage_next(c->image, LENT(c->in), LENT(c->out));
+    case AREA: return garage_area(LENT(c->in), LENT(c->out));
+    case OVERLAP: return garage_overlap(LENT(c->in), LENT(c->room));
+    default: return station_version();
     }
 }
 

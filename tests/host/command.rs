@@ -2,12 +2,12 @@
 #![allow(dead_code)] // each driver uses its own part of this module
 
 use super::reference::{
-    answer, answer_message, cars, lent, read_call, shown_message, sound, Answer, Call, Instruction, Station, REASON_NUMBERS,
+    answer, answer_message, cars, lent, read_call, set_told, shown_message, sound, Answer, Call, Instruction, Station, REASON_NUMBERS,
 };
 
 /// The entries in the order of their numbers, each with the answer numbers that it can give: no others, and a long run gives them
-/// all. (What garage_cars returns is not of the table.)
-pub const ENTRIES: [(&str, &[u8]); 11] = [
+/// all. (What garage_cars and station_version return is not of the table.)
+pub const ENTRIES: [(&str, &[u8]); 14] = [
     ("station_start", &[0, 17]),
     ("station_request", &[0, 1, 4, 5, 6, 7, 8, 16, 17, 20, 21, 22, 23, 24, 25, 26, 27, 28, 31, 32]),
     ("station_event", &[0, 4, 6, 10, 16, 17, 31, 32, 33]),
@@ -19,7 +19,13 @@ pub const ENTRIES: [(&str, &[u8]); 11] = [
     ("garage_cars", &[]),
     ("garage_allowed", &[0, 1, 4, 20, 21, 22, 23, 24, 25, 26, 27, 28, 31]),
     ("garage_next", &[0, 1, 4, 17, 20, 21, 22, 23, 24, 25, 26, 27, 28, 31]),
+    ("garage_area", &[0, 1, 4, 17]),
+    ("garage_overlap", &[0, 1, 4, 8]),
+    ("station_version", &[]),
 ];
+
+/// The version, its three numbers from the lowest byte up.
+const VERSION: [u8; 4] = [0, 0, 1, 0];
 
 /// One call with all that it is given; what an entry doesn't take is not looked at.
 pub struct Command<'a> {
@@ -120,6 +126,20 @@ fn next(image: u64, five: &[u8], output: &mut [u8]) -> Answer {
     })
 }
 
+/// The area of the instruction of these bytes, put to a room for it.
+fn area(five: &[u8], output: &mut [u8]) -> Answer {
+    lent(output.len() >= RECORD, five.len() >= CODE, || {
+        let Some(instruction) = five.first_chunk().and_then(|&five| Instruction::read(five)) else { return answer(4) };
+        put(output, &instruction.area().record_bits().to_le_bytes());
+        answer(0)
+    })
+}
+
+/// What a request of these two is told for overlapping, or for bytes that say no instruction.
+fn overlap(one: &[u8], other: &[u8]) -> Answer {
+    lent(true, one.len() >= CODE && other.len() >= CODE, || set_told(&[&one[..CODE], &other[..CODE]].concat()))
+}
+
 /// Where a call's answer says why an instruction isn't allowed on a sound record: its opcode and the number. A station that answers so
 /// is fit; of the questions on any image, those on a sound one count.
 pub fn reason_told(command: &Command, answer: u32) -> Option<(u8, u8)> {
@@ -148,6 +168,9 @@ pub fn call(command: &mut Command) -> u32 {
         7 => return sound(image).into(),
         8 => return cars(image).unwrap_or(255),
         9 => allowed(image, input),
-        _ => next(image, input, output),
+        10 => next(image, input, output),
+        11 => area(input, output),
+        12 => overlap(input, room),
+        _ => return u32::from_le_bytes(VERSION),
     })
 }

@@ -48,6 +48,10 @@ int main(void) {
     static uint8_t room[255], in[255], out[255];
     struct answered it;
     int entry;
+    if (station_version() != STATION_VERSION) {
+        fprintf(stderr, "the header is of another version than the archive\n");
+        return 1;
+    }
     while ((entry = getchar()) != EOF) {
         size_t group = 0;
         while (group < GROUPS && entry >= groups[group].entries)

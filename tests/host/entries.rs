@@ -12,7 +12,7 @@ mod reference;
 mod traffic;
 mod trials;
 
-use calls::{lent_station, message_call, record_call, station_call};
+use calls::{lent_station, message_call, record_call, sets_call, station_call};
 use command::ENTRIES;
 use handed::{handed, Handed};
 use reference::{read_call, Call, Station, REASONS};
@@ -63,9 +63,10 @@ fn trials(count: usize) -> Vec<Trial<Told>> {
             let message = traffic::framed_message(&mut numbers, &station);
             traffic::after(&mut station, &message);
             let lent = lent_station(&mut numbers, &station);
-            trial(match numbers.below(4) {
-                0 => record_call(&mut numbers, lent.record),
-                1 => message_call(&mut numbers, &lent),
+            trial(match numbers.below(9) {
+                0 | 1 => record_call(&mut numbers, lent.record),
+                2 | 3 => message_call(&mut numbers, &lent),
+                4 => sets_call(&mut numbers),
                 _ => station_call(&mut numbers, &lent),
             })
         })

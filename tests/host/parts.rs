@@ -38,6 +38,9 @@ impl Parts {
     /// The number that shows them.
     pub fn number(&self) -> u64 { self.cells | u64::from(self.slots) << SLOTS_AT | u64::from(self.lift) << LIFT_AT }
 
+    /// The bits of a record that they are: the lift is its car and the two of its height.
+    pub fn record_bits(&self) -> u64 { self.number() | if self.lift { 3 << (LIFT_AT + 1) } else { 0 } }
+
     /// The parts that a number shows; or the number, where it has a bit above the lift's.
     pub fn shown_by(number: u64) -> Result<Parts, u64> {
         if number >> LIFT_AT > 1 { return Err(number); }

@@ -20,4 +20,7 @@ extern "C" {
     pub fn garage_cars(image: u64) -> u32;
     pub fn garage_allowed(image: u64, five: *const u8, five_length: usize) -> u32;
     pub fn garage_next(image: u64, five: *const u8, five_length: usize, next: *mut u8, next_length: usize) -> u32;
+    pub fn garage_area(five: *const u8, five_length: usize, area: *mut u8, area_length: usize) -> u32;
+    pub fn garage_overlap(one: *const u8, one_length: usize, other: *const u8, other_length: usize) -> u32;
+    pub fn station_version() -> u32;
 }

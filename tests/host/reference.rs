@@ -368,6 +368,14 @@ impl Station {
 
 // ---- Calls over lent bytes -----------------------------------------------------------------------
 
+/// What a set is told so far as its instructions alone decide: for one that is bad, or that shares a part with an earlier one.
+pub fn set_told(bytes: &[u8]) -> Answer {
+    match read_set(bytes) {
+        Ok(set) => overlap(&areas(set.into_iter().take(bytes.len() / 5))).map_or(answer(0), |place| answer_at(8, place as u8)),
+        Err(place) => answer_at(4, place),
+    }
+}
+
 /// The order of a call over lent bytes: 17 where a room is shorter than what a taken call writes, then
 /// 1 where fewer bytes are lent than the call says, and only then is the call looked at: 16 if it has
 /// a station, and the call's own.

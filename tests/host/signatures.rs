@@ -15,12 +15,15 @@ struct Signature {
 
 type Entries = BTreeMap<String, Signature>;
 
+/// What C has in the place of no parameters.
+const NONE: &str = "void";
+
 impl Signature {
     /// As C declares a function or a pointer to one, by what stands for its name.
     fn declare(&self, name: &str, with_names: bool) -> String {
         let parameters: Vec<String> =
             self.parameters.iter().map(|(kind, name)| if with_names { format!("{kind} {name}") } else { kind.clone() }).collect();
-        format!("{} {name}({})", self.returns, parameters.join(", "))
+        format!("{} {name}({})", self.returns, if parameters.is_empty() { NONE.to_string() } else { parameters.join(", ") })
     }
 }
 
@@ -90,7 +93,7 @@ fn header(text: &str) -> Entries {
     let one = |declaration: &str| {
         let (before, parameters) = declaration.split_once('(')?;
         let (returns, name) = typed(before);
-        let parameters = parameters.strip_suffix(')').expect("one pair of brackets").split(',').map(typed);
+        let parameters = parameters.strip_suffix(')').expect("one pair of brackets").split(',').filter(|&one| one != NONE).map(typed);
         Some((name, Signature { returns, parameters: parameters.collect() }))
     };
     lines.join("\n").split(';').filter_map(one).collect()

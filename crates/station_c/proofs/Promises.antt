@@ -25,8 +25,9 @@ use Rattle.service.specs.Service.{respond}
 use Rattle.service.specs.Statements.{Answers}
 use Rattle.service.proofs.Ranges.{always-answered, never-seventeen}
 use Rattle.station_c.specs.Entries.{stationBytes, stationOf, imageBytes, returned, writes, entry, asking, returnedOf, exchange, moved, judgement, recordIn, nexting}
+use Rattle.station_c.specs.Sets.{areaIn, areaBits, areaAnswer, areaInto, pairAnswer}
 use Rattle.station_c.proofs.Rooms.{within}
-use Rattle.station_c.specs.Promises.{Typed, StationFits, StationReadsBack, StationOneForm, ReturnedReadsBack, RefusedUntouched, AskRefusedUntouched, NextRefusedUntouched, MessageRefusedUntouched, NumbersInTable}
+use Rattle.station_c.specs.Promises.{Typed, StationFits, StationReadsBack, StationOneForm, ReturnedReadsBack, RefusedUntouched, AskRefusedUntouched, NextRefusedUntouched, MessageRefusedUntouched, AreaRefusedUntouched, NumbersInTable}
 
 pub station-fits : StationFits
 unfolding stationBytes
@@ -115,6 +116,12 @@ next-refused-untouched r five room h = split (ltb (length room) 8)
     (λ t. rw t)
     (λ t. rw t (refused-writes (judgement r five) (littleEndian 8 (recordIn (moved r five))) room (λ z. h (rw t z))))
 
+pub area-refused-untouched : AreaRefusedUntouched
+unfolding areaInto writes
+area-refused-untouched five room h = split (ltb (length room) 8)
+    (λ t. rw t)
+    (λ t. rw t (refused-writes (areaAnswer five) (littleEndian 8 (areaBits (areaIn five))) room (λ z. h (rw t z))))
+
 -- ---- of the table
 
 of-table : (a : Answer) → OfTable (returned a % 256)
@@ -133,7 +140,7 @@ reply-of-table (Image bits apart) t = absurd t
 reply-of-table Ask t = absurd t
 
 pub numbers-in-table : NumbersInTable
-unfolding entry asking exchange nexting writes
+unfolding entry asking exchange nexting areaInto writes
 numbers-in-table = (
   λ call room. split (ltb (length room) 60) (λ t. rw t (of-table NoRoom)) (λ t. rw t (of-table (call (stationOf room) .answer))),
   λ room image. split (ltb (length room) 60 || ltb (length image) 16) (λ t. rw t (of-table NoRoom)) (λ t. rw t (of-table (ask (stationOf room) .answer))),
@@ -142,6 +149,8 @@ numbers-in-table = (
       (λ t. rw t (reply-of-table (respond (stationOf room) message .answer) (always-answered (stationOf room) message))),
   λ r five. of-table (judgement r five),
   λ r five room. split (ltb (length room) 8) (λ t. rw t (of-table NoRoom)) (λ t. rw t (of-table (judgement r five))),
+  λ five room. split (ltb (length room) 8) (λ t. rw t (of-table NoRoom)) (λ t. rw t (of-table (areaAnswer five))),
+  λ one other. of-table (pairAnswer one other),
 )
 
 -- ---- a refused message

@@ -1,3 +1,4 @@
 pub mod Entries
+pub mod Sets
 pub mod Promises
 pub mod Private

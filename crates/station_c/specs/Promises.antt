@@ -1,14 +1,20 @@
 -- What is promised of lent stations, and of answers as numbers. Proved in proofs/Promises.antt. Assumes nothing.
 use mathlib.Core.Path.{_≡_}
+use mathlib.Core.Bool.{cond}
 use mathlib.Core.List.{List, _++_}
 use Prim.Native.Nat.{ℕ, _/_, _%_, _^_, _≤_, _<_}
+use lib.Bits.{bitAnd}
+use lib.Dec.{eqb}
 use lib.ListN.{length, take}
 use Rattle.answers.specs.declared.Answer.{Answer}
+use Rattle.answers.specs.declared.Answer.the-variants.{Taken, Overlap}
 use Rattle.answers.specs.Answers.{numberOf, OfTable, placeOf, issueOf}
 use Rattle.garage.specs.declared.Station.{Station}
 use Rattle.garage.specs.declared.Outcome.{Outcome}
+use Rattle.wire.specs.Kinds.{fromLittleEndian}
 use Rattle.wire_laws.specs.Statements.{Bytes}
 use Rattle.station_c.specs.Entries.{stationSize, stationBytes, stationOf, returned, entry, asking, exchange, judgement, nexting}
+use Rattle.station_c.specs.Sets.{areaInto, pairAnswer}
 
 -- a station as code holds it: the record is a number of 64 bits, the set has forty places, the next issue 16 bits, what is set apart 64
 pub record Typed (s : Station) : Type 0 where
@@ -48,6 +54,10 @@ AskRefusedUntouched = (room image : List ℕ) → (asking room image .says % 256
 abbrev pub NextRefusedUntouched : Type 0
 NextRefusedUntouched = (r : ℕ) (five room : List ℕ) → (nexting r five room .says % 256 ≡ 0 → ⊥) → nexting r five room .leaves ≡ room
 
+-- and a question for an area
+abbrev pub AreaRefusedUntouched : Type 0
+AreaRefusedUntouched = (five room : List ℕ) → (areaInto five room .says % 256 ≡ 0 → ⊥) → areaInto five room .leaves ≡ room
+
 -- and a message, of the station's room; where 17 is returned the reply's is as it was too, else it has the refusal
 abbrev pub MessageRefusedUntouched : Type 0
 MessageRefusedUntouched =
@@ -62,3 +72,21 @@ NumbersInTable =
     × ((room message reply : List ℕ) → OfTable (exchange room message reply .says % 256))
     × ((r : ℕ) (five : List ℕ) → OfTable (returned (judgement r five) % 256))
     × ((r : ℕ) (five room : List ℕ) → OfTable (nexting r five room .says % 256))
+    × ((five room : List ℕ) → OfTable (areaInto five room .says % 256))
+    × ((one other : List ℕ) → OfTable (returned (pairAnswer one other) % 256))
+
+-- ---- questions for building sets
+
+-- which of two stands first makes no difference to the number
+abbrev pub PairEitherWay : Type 0
+PairEitherWay = (one other : List ℕ) → numberOf (pairAnswer one other) ≡ numberOf (pairAnswer other one)
+
+-- the number that stands in the first eight bytes of a room, as a planner reads an area
+abbrev pub readArea : List ℕ → ℕ
+readArea room = fromLittleEndian 8 0 room
+
+-- of two whose areas are written it says 8, at the second, exactly if a bit is in both areas, and else 0
+abbrev pub PairByAreas : Type 0
+PairByAreas =
+    (one other room room' : List ℕ) → areaInto one room .says % 256 ≡ 0 → areaInto other room' .says % 256 ≡ 0
+    → pairAnswer one other ≡ cond (eqb (bitAnd (readArea (areaInto one room .leaves)) (readArea (areaInto other room' .leaves))) 0) Taken (Overlap 1)

@@ -9,6 +9,7 @@ ghost use Rattle.rules.specs.Verdicts.{movedOf};
 ghost use Rattle.garage.specs.Held.{crosses};
 ghost use Rattle.garage.specs.Station.{startOf};
 ghost use Rattle.garage.specs.Calls.{taken, event, result, takeImage};
+ghost use Rattle.version.specs.Version.{version};
 ghost use Rattle.station_c.specs.Private.{bytesAsked};
 ghost use Rattle.station_c.specs.Entries.{stationSize, stationBytes, stationOf, lentStation, imageBytes, returned, Leaves, writes, entry, requestOf, asking, returnedOf, Exchanges, exchange, moved, answerTo, judgement, recordIn, nexting, carsOr255};
 use answers::Answer;
@@ -23,6 +24,8 @@ use rules::Instruction;
 use rules::Moved;
 use rules::Reading;
 use wire::What;
+
+pub mod sets;
 
 // The bytes of a lent station, of a record, of a record and what is set apart, and of an instruction.
 const STATION: usize = 60;
@@ -313,6 +316,16 @@ pub extern "C" fn station_message(room: &mut [u8], message: &[u8], reply: &mut [
     let b = station_bytes(s);
     bytes::copy(&b, room);
     r
+}
+
+// ---- the version
+
+// The version of what is built here: 65536 times its first number, 256 times its second, and its third.
+#[no_mangle]
+pub extern "C" fn station_version() -> u32
+    ensures { λ n. ⌜ n ≡ version ⌝ }
+{
+    version::number()
 }
 
 // ---- questions on a record
