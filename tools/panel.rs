@@ -130,6 +130,18 @@ fn instruction_in(line: &[u8]) -> Result<Option<[u8; 5]>, Wrong> {
     Ok(Some(five))
 }
 
+/// Tells the version on standard output.
+fn told_version() -> ExitCode {
+    let [third, second, first, _] = panel_entries::version().to_le_bytes();
+    match writeln!(io::stdout(), "panel {first}.{second}.{third}") {
+        Ok(()) => ExitCode::SUCCESS,
+        Err(why) => {
+            eprintln!("panel: {}", failed("output", why));
+            ExitCode::FAILURE
+        }
+    }
+}
+
 /// The whole session; gives whether every line said something, or why a stream failed.
 fn session(input: impl BufRead, out: &mut impl Write) -> Result<bool, Wrong> {
     let mut lines = Lines { input, number: 0 };
@@ -159,6 +171,12 @@ fn session(input: impl BufRead, out: &mut impl Write) -> Result<bool, Wrong> {
 }
 
 fn main() -> ExitCode {
+    let words: Vec<_> = std::env::args_os().skip(1).collect();
+    if words.len() == 1 && words[0] == "--version" { return told_version(); }
+    if !words.is_empty() {
+        eprintln!("panel: usage: panel < FLOOR-AND-INSTRUCTIONS");
+        return ExitCode::from(2);
+    }
     match session(io::stdin().lock(), &mut io::BufWriter::new(io::stdout().lock())) {
         Ok(true) => ExitCode::SUCCESS,
         Ok(false) => ExitCode::FAILURE,

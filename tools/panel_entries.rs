@@ -24,6 +24,9 @@ pub enum Unread {
 
 const BAD_LINE: u8 = 41;
 
+/// The version: 65536 times its first number, 256 times its second, and its third.
+pub fn version() -> u32 { 65536 }
+
 /// An answer's number, and its upper half.
 fn parts_of(answer: u32) -> (u8, usize) { (answer as u8, (answer >> 16) as usize) }
 
