@@ -1,7 +1,11 @@
 //! Runs the worked examples of a page: `sessions PROGRAM PAGE`. In each block marked `session`, the bytes of the `>` lines are given
-//! to the program and its output must be the bytes of the `<` lines; in each one marked `report`, it must be all the other lines. At a
-//! line `!` the program is ended and started again: a session with one is held on a journal.
+//! to the program and its output must be the bytes of the `<` lines; in each one marked `report`, it must be all the other lines. A block
+//! marked `session on` goes on with the session before it. At a line `!` the program is ended and started again: a session with one is held
+//! on a journal.
 
+mod page;
+
+use page::blocks;
 use std::io::Write;
 use std::process::{exit, Command, Stdio};
 
@@ -32,26 +36,29 @@ fn main() {
     let words: Vec<String> = std::env::args().collect();
     let [_, program, page] = &words[..] else { panic!("usage: sessions PROGRAM PAGE") };
     let text = std::fs::read_to_string(page).expect("the page is there");
-    let (mut inside, mut inputs, mut expected, mut run, mut failed) = ("", Vec::new(), Vec::new(), 0, 0);
-    for (at, line) in text.lines().enumerate() {
-        match (inside, line) {
-            ("", "```session" | "```report") => { inside = &line[3..]; inputs = vec![Vec::new()]; expected.clear(); }
-            ("session" | "report", "```") => {
-                inside = "";
-                run += 1;
-                let got = all_answers(program, &inputs);
-                if got != expected {
-                    failed += 1;
-                    eprintln!("{page}:{}: expected {expected:02X?}, got {got:02X?}", at + 1);
-                }
+    let mut all: Vec<(usize, Vec<Vec<u8>>, Vec<u8>)> = Vec::new();
+    for (at, mark, block) in blocks(&text, &["session", "session on", "report"]) {
+        if mark != "session on" { all.push((at, vec![Vec::new()], Vec::new())); }
+        let (end, inputs, expected) = all.last_mut().expect("a session to go on with");
+        *end = at;
+        for line in block.lines() {
+            match (mark, line.as_bytes().first()) {
+                (_, Some(b'>')) => inputs.last_mut().expect("an input").extend(bytes(line)),
+                ("report", _) => expected.extend([line.as_bytes(), b"\n"].concat()),
+                (_, Some(b'<')) => expected.extend(bytes(line)),
+                (_, Some(b'!')) => inputs.push(Vec::new()),
+                _ => panic!("{page}:{at}: {line:?} is no line of a session"),
             }
-            ("session" | "report", _) if line.starts_with('>') => inputs.last_mut().expect("an input").extend(bytes(line)),
-            ("session", "!") => inputs.push(Vec::new()),
-            ("session", _) if line.starts_with('<') => expected.extend(bytes(line)),
-            ("report", _) => expected.extend([line.as_bytes(), b"\n"].concat()),
-            _ => {}
         }
     }
-    println!("sessions: {run} of {page}, {failed} wrong");
-    if run == 0 || failed > 0 { exit(1); }
+    let mut failed = 0;
+    for (at, inputs, expected) in &all {
+        let got = all_answers(program, inputs);
+        if got != *expected {
+            failed += 1;
+            eprintln!("{page}:{at}: expected {expected:02X?}, got {got:02X?}");
+        }
+    }
+    println!("sessions: {} of {page}, {failed} wrong", all.len());
+    if all.is_empty() || failed > 0 { exit(1); }
 }
