@@ -38,7 +38,8 @@ class Plan:
         sets = [set_of(one) for one in self.sets]
         if max([len(sets), *(count for count, _ in sets)]) > COUNT_MOST:
             raise ValueError("a plan's bytes can count 255 sets, and 255 instructions in each")
-        return bytes(self.record) + bytes(8) + bytes([self.with_a_car, len(sets)]) + b"".join(bytes([count]) + fives for count, fives in sets)
+        head = bytes(self.record) + bytes(8) + bytes([self.with_a_car, len(sets)])
+        return head + b"".join(bytes([count]) + fives for count, fives in sets)
 
 
 def judge(plan: Union[Plan, bytes]) -> Verdict:

@@ -4,7 +4,7 @@ import re
 import unittest
 
 from station import START, Answer, Desk, Event, Held, Number, Outcome, Plan, Record, Refused, Station, Totals, entries, judge, messages
-from tree import HEADERS, drawn, text
+from tree import ALL, HEADERS, drawn, text
 
 ROW_1, ROW = "....................", ".........."
 HALF_OFF = drawn("..........##........", ROW, ROW, "LLT", "LLT", "basement")
@@ -32,7 +32,8 @@ class Table(unittest.TestCase):
     def test_the_words_are_those_of_the_wrappers(self):
         words = {int(number): said for number, said in re.findall(r'= (\d+) "([^"]*)",', text("tests/host/numbers.rs"))}
         words.update({int(number): said for number, said in re.findall(r'"(3[789]) \(([^)]*)\)"', text("tests/host/desk_wrapper.rs"))})
-        self.assertEqual(words, {one.value: one.words for one in Number if one.name not in ("TOO_MANY_SETS", "WISH_NOT_MET", "FULL", "BAD_LINE")})
+        neither = (Number.TOO_MANY_SETS, Number.WISH_NOT_MET, Number.FULL, Number.BAD_LINE)
+        self.assertEqual(words, {one.value: one.words for one in Number if one not in neither})
         self.assertEqual(len({one.words for one in Number}), len(Number))
 
     def test_events_and_results_are_those_of_the_headers(self):
@@ -150,9 +151,9 @@ class EveryNumber(unittest.TestCase):
         held = [(one.number.value, one.holds) for one in HALF_OFF.conditions("lift street")]
         self.assertEqual(held, [(26, True), (24, False)])
         for record in (START, HALF_OFF, ALL_LOWERED, FULL_GARAGE):
-            for words in ("belts row 1 left lift, lower, full", "shuttles left rows 1 2 lowered higher", "tilt left row 3 tilted", "rotate"):
-                failed = [one.number for one in record.conditions(words) if not one.holds]
-                self.assertEqual(record.reason(words), failed[0] if failed else None)
+            for one in ALL:
+                failed = [condition.number for condition in record.conditions(one) if not condition.holds]
+                self.assertEqual(record.reason(one), failed[0] if failed else None)
 
 
 class Messages(unittest.TestCase):

@@ -1,5 +1,6 @@
 """The declarations against the headers, wrong ones too; where the library is looked for."""
 
+import ast
 import copy
 import ctypes
 import os
@@ -17,8 +18,8 @@ from station import calls, entries, messages, record, report
 from tree import HEADERS, ROOT, text
 
 TYPES = {
-    "uint8_t": ctypes.c_uint8, "uint16_t": ctypes.c_uint16, "uint32_t": ctypes.c_uint32, "uint64_t": ctypes.c_uint64, "size_t": ctypes.c_size_t,
-    "bool": ctypes.c_bool, "uint8_t *": ctypes.POINTER(ctypes.c_uint8), "const uint8_t *": ctypes.c_char_p,
+    "uint8_t": ctypes.c_uint8, "uint16_t": ctypes.c_uint16, "uint32_t": ctypes.c_uint32, "uint64_t": ctypes.c_uint64, "bool": ctypes.c_bool,
+    "size_t": ctypes.c_size_t, "uint8_t *": ctypes.POINTER(ctypes.c_uint8), "const uint8_t *": ctypes.c_char_p,
 }
 # the plain station, which answers the same and is slower, and what it says of a record
 NOT_DECLARED = {"plain_request", "plain_event", "plain_result", "panel_next"}
@@ -125,12 +126,21 @@ class Crossing(unittest.TestCase):
             self.assertEqual(entries.call(name, *values) & 255, station.Number.NO_ROOM)
 
 
+class Sources(unittest.TestCase):
+    def test_they_are_python_3_9(self):
+        sources = sorted((ROOT / "hosts/python/station").glob("*.py"))
+        self.assertGreater(len(sources), 8)
+        for source in sources:
+            ast.parse(source.read_text(), source.name, feature_version=(3, 9))
+
+
 class Library(unittest.TestCase):
     def tried(self, shelf: Path, **environment: str) -> subprocess.CompletedProcess:
         words = [sys.executable, "-B", "-c", "import station; print(station.Station().record)"]
         with mock.patch.dict(os.environ):
             os.environ.pop("STATION_LIBRARY", None)
-            return subprocess.run(words, env={**os.environ, "PYTHONPATH": str(shelf), **environment}, capture_output=True, text=True, check=False)
+            os.environ.update(environment, PYTHONPATH=str(shelf))
+            return subprocess.run(words, capture_output=True, text=True, check=False)
 
     def test_it_is_found_where_it_is_said_to_be(self):
         built, begun = ROOT / "target/library/libstation.so", "00 00 00 00 00 1B 09 00\n"

@@ -36,7 +36,8 @@ class Sessions(unittest.TestCase):
             self.assertEqual(answers, [given for mark, given in session if mark == "<"])
 
     def test_the_power_cut_and_the_jam_by_the_program(self):
-        chosen = [session for session in self.lines() if ("!", b"") in session or session[0][1].hex() == "1200040080010000001b09000000000000000000"]
+        jammed = messages.image(Record(0x00091B0000000180))
+        chosen = [session for session in self.lines() if ("!", b"") in session or session[0] == (">", jammed)]
         self.assertEqual(len(chosen), 3)
         for session in chosen:
             with tempfile.TemporaryDirectory() as folder:
@@ -97,7 +98,7 @@ class Desks(unittest.TestCase):
                     said, calls = self.answer(desk, words[0], [self.value(word) for word in words[1:]]), calls + 1
                     self.assertEqual(Desk.from_bytes(bytes(desk)), desk)
                 else:
-                    expected = [word if word in ("at", "set", "card", "image", "apart", "last", "known") else str(self.value(word)) for word in words]
+                    expected = [word if word.islower() and word.isalpha() else str(self.value(word)) for word in words]
                     self.assertEqual(said, " ".join(expected), line)
         self.assertGreater(calls, 80)
 
@@ -139,11 +140,12 @@ class Plans(unittest.TestCase):
         given = text("docs/plans/park-and-fetch.plan")
         bare = [line for line in given.splitlines() if not line.startswith("#")]
         sets = [set.splitlines() for set in "\n".join(bare[2:]).strip().split("\n\n")]
-        plan = station.Plan(Record.from_bytes(bytes.fromhex(bare[0].replace("image", ""))), True, [[one for one in set if one] for set in sets])
+        plan = station.Plan(Record.from_bytes(bytes.fromhex(bare[0].replace("image", ""))), True, sets)
         self.assertEqual(bytes(plan), run("tools/plan-text", given=given.encode()).stdout)
         self.assertEqual(str(judge(plan)), "accepted")
         self.assertEqual(str(judge(station.Plan(plan.record, False, plan.sets))), "36 (wish not met)")
-        self.assertEqual(str(judge(station.Plan(plan.record, True, [*plan.sets, ["rotate"]]))), f"27 (not at rotation height), set {len(sets)}")
+        longer = station.Plan(plan.record, True, [*plan.sets, ["rotate"]])
+        self.assertEqual(str(judge(longer)), f"27 (not at rotation height), set {len(sets)}")
         self.assertEqual(judge(bytes(plan)[:-1]).number, Number.TOO_FEW_BYTES)
         with self.assertRaises(ValueError):
             bytes(station.Plan(plan.record, True, [["rotate"]] * 256))

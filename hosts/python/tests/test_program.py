@@ -19,7 +19,8 @@ class Pipe(unittest.TestCase):
 
     def test_a_journal_and_a_restart(self):
         with Program(STATION, "--new", self.journal) as program:
-            for message in (messages.event(Event.BEGIN_IN), messages.event(Event.END_DONE), messages.request(["lift basement", "tilt left row 3 tilted"])):
+            down = messages.request(["lift basement", "tilt left row 3 tilted"])
+            for message in (messages.event(Event.BEGIN_IN), messages.event(Event.END_DONE), down):
                 self.assertTrue(messages.read(program.send(message)).taken)
             self.assertTrue(messages.read(program.send(messages.result(0, 1, Outcome.DONE))).taken)
         with Program(STATION, self.journal) as program:

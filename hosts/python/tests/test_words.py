@@ -27,8 +27,9 @@ class Words(unittest.TestCase):
 
     def test_wrong_words_are_told_as_in_plans(self):
         wrong = [
-            "lift cellar", "lift", "belts row 2 left, higher, full", "belts row 4 left, higher, full", "belts row 1 left left, higher, full",
-            "belts row 1 left lift, higher, full now", "belts row 1 left", "rotate twice", "turn", "shuttles left rows 1 2 lowered",
+            "lift cellar", "lift", "belts row 2 left, higher, full", "belts row 4 left, higher, full",
+            "belts row 1 left left, higher, full", "belts row 1 left lift, higher, full now", "belts row 1 left", "rotate twice", "turn",
+            "shuttles left rows 1 2 lowered",
             "shuttles up rows 1 lowered lower", "shuttles left row 2 2 lowered lower", "tilt left row 3", "tilt left rows 3 lowered",
             "belts column 1", "belts row 1 lift, lower, whole",
         ]
@@ -50,7 +51,8 @@ class Words(unittest.TestCase):
         self.assertEqual(str(shuttles("left", [1, 2], "lowered", "higher")), "shuttles left rows 1 2 lowered higher")
         self.assertEqual(str(shuttles("right", [3], "tilted", "lower")), "shuttles right row 3 tilted lower")
         self.assertEqual(str(tilt("left", 3, "tilted")), "tilt left row 3 tilted")
-        self.assertEqual([str(lift(height)) for height in ("street", "rotation", "basement")], ["lift street", "lift rotation", "lift basement"])
+        for height in ("street", "rotation", "basement"):
+            self.assertEqual(str(lift(height)), f"lift {height}")
         self.assertEqual(str(rotate()), "rotate")
         for wrong, expected in (
             (lambda: belts(2, ["lift"], "higher", "full"), "expected `left-shuttle`, `middle` or `right-shuttle`, found `lift`"),
