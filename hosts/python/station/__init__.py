@@ -1,0 +1,20 @@
+"""A garage's station, proved: the entries of its library (include/*.h) and its program, for a host in Python. docs/PYTHON.md explains it.
+
+One thread at a time calls on one Station, Desk or Totals. No call waits but a Program's, and none prints.
+"""
+
+from . import messages
+from .answers import Answer, Event, Number, Outcome, Refused
+from .calls import Desk, Station, Whereabouts
+from .messages import Held
+from .plans import Plan, Verdict, judge
+from .program import Ended, Program
+from .record import RAISED, START, Condition, Record, parts_of
+from .report import Totals
+from .words import Instruction, belts, instruction, lift, rotate, shuttles, tilt
+
+__all__ = [
+    "Answer", "Condition", "Desk", "Ended", "Event", "Held", "Instruction", "Number", "Outcome", "Plan", "Program", "RAISED", "Record",
+    "Refused", "START", "Station", "Totals", "Verdict", "Whereabouts", "belts", "instruction", "judge", "lift", "messages", "parts_of",
+    "rotate", "shuttles", "tilt",
+]
