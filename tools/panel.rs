@@ -10,13 +10,7 @@ mod words;
 use panel_entries::Unread;
 use std::io::{self, BufRead, Write};
 use std::process::ExitCode;
-use words::{Words, Wrong};
-
-/// Why a stream failed, in words.
-fn failed(stream: &str, why: io::Error) -> Wrong {
-    let words = why.to_string();
-    format!("standard {stream}: {}", words.split(" (os error").next().unwrap_or(&words))
-}
+use words::{failed, Words, Wrong};
 
 /// Reads the input line by line, with each line's end, and counts them.
 struct Lines<R> {
