@@ -2,6 +2,7 @@
 //! words, one a line. Out come the floor drawn, each condition of each instruction with yes or no and where, the verdict, and the floor after
 //! it, on which the next line is tried. A line that says nothing is told on standard error with its number, and the status is then 1.
 
+mod numbers;
 mod panel_entries;
 mod panel_words;
 mod words;
@@ -9,13 +10,7 @@ mod words;
 use panel_entries::Unread;
 use std::io::{self, BufRead, Write};
 use std::process::ExitCode;
-use words::{Words, Wrong};
-
-/// Why a stream failed, in words.
-fn failed(stream: &str, why: io::Error) -> Wrong {
-    let words = why.to_string();
-    format!("standard {stream}: {}", words.split(" (os error").next().unwrap_or(&words))
-}
+use words::{failed, Words, Wrong};
 
 /// Reads the input line by line, with each line's end, and counts them.
 struct Lines<R> {
@@ -101,11 +96,7 @@ fn show_floor(out: &mut impl Write, image: u64) -> io::Result<()> {
 /// An instruction on a floor: its conditions, the verdict, and the floor after it, which is given; where it is refused, the same floor.
 fn explain(out: &mut impl Write, image: u64, five: [u8; 5]) -> io::Result<u64> {
     writeln!(out, "\n{}", words::line_of(five))?;
-    for (c, asked) in (0..).zip(panel_words::conditions(five)) {
-        let Some(condition) = panel_entries::condition(image, five, c) else { break };
-        writeln!(out, "  {} {}  {}", condition.number, if condition.holds { "yes" } else { "no " }, asked.words)?;
-        for line in panel_words::decided(&asked, &condition, image) { writeln!(out, "          {line}")?; }
-    }
+    for line in panel_words::explained(image, five).iter().flat_map(|condition| &condition.lines) { writeln!(out, "{line}")?; }
     match panel_entries::next(image, five) {
         Ok(next) => {
             writeln!(out, "verdict 0: {}\n", panel_words::told(0))?;

@@ -1,4 +1,5 @@
 //! The entries that the panel asks (include/panel.h, include/drawing.h), with slices for their addresses and lengths.
+#![allow(dead_code)] // each program uses its own part of this module
 
 extern "C" {
     fn panel_condition(image: u64, five: *const u8, five_length: usize, c: u8, room: *mut u8, room_length: usize) -> u32;

@@ -1,24 +1,17 @@
 //! Conditions in words: what each asks, in the paper's words, and where it is decided: what the cells, slots or lift are that decide it, and
 //! which of them are at fault where it fails.
+#![allow(dead_code)] // each program uses its own part of this module
 
-use crate::panel_entries::Condition;
+use crate::numbers::Number;
+use crate::panel_entries::{self, Condition};
 use crate::words::{belts_of, named, word, HEIGHTS, ORIENTATIONS, ROWS, SIDES, SIZES, WAYS};
 
-/// What a number says.
+/// What a verdict says: of an instruction alone 0 and 31 say more than the table has for every call.
 pub fn told(number: u8) -> &'static str {
     match number {
         0 => "allowed",
-        20 => "nothing named",
-        21 => "gap",
-        22 => "not available",
-        23 => "end, next row or slot below not free or not there",
-        24 => "odd count",
-        25 => "half move in row 2 or 3",
-        26 => "same height",
-        27 => "not at rotation height",
-        28 => "cells not free for tilt or rotation",
         31 => "the lift in an area while a drive is under way",
-        _ => "not a number of the panel's",
+        other => Number::try_from(other).map_or("not a number of the table", Number::words),
     }
 }
 
@@ -38,8 +31,8 @@ enum Asks {
 }
 
 /// A condition as the paper has it; and what is said where no part of the floor decides it, but the instruction alone.
-pub struct Asked {
-    pub words: String,
+struct Asked {
+    words: String,
     asks: Asks,
     alone: String,
 }
@@ -97,7 +90,7 @@ fn shuttles(side: u8, mask: u8, orientation: u8, toward: u8) -> Vec<Asked> {
 }
 
 /// The conditions of an instruction in the paper's order.
-pub fn conditions([op, a, b, c, d]: [u8; 5]) -> Vec<Asked> {
+fn conditions([op, a, b, c, d]: [u8; 5]) -> Vec<Asked> {
     match op {
         1 => belts(a, b, c, d),
         2 => shuttles(a, b, c, d),
@@ -113,11 +106,11 @@ pub fn conditions([op, a, b, c, d]: [u8; 5]) -> Vec<Asked> {
 
 // ---- where
 
-const CELLS: u8 = 40;
-const SLOTS: std::ops::Range<u8> = 40..52;
-const LIFT: u8 = 52;
+pub const CELLS: u8 = 40;
+pub const SLOTS: std::ops::Range<u8> = 40..52;
+pub const LIFT: u8 = 52;
 
-fn has(image: u64, at: u8) -> bool { image >> at & 1 == 1 }
+pub fn has(image: u64, at: u8) -> bool { image >> at & 1 == 1 }
 
 /// Some numbers, from three that follow each other on as a range.
 fn numbers(all: &[u8]) -> String {
@@ -128,7 +121,8 @@ fn numbers(all: &[u8]) -> String {
     all.chunk_by(|one, next| one + 1 == *next).map(run).collect::<Vec<_>>().join(", ")
 }
 
-fn cells(all: &[u8]) -> String { format!("{} {}", if all.len() == 1 { "cell" } else { "cells" }, numbers(all)) }
+/// Some cells by their numbers.
+pub fn cells(all: &[u8]) -> String { format!("{} {}", if all.len() == 1 { "cell" } else { "cells" }, numbers(all)) }
 
 /// What some cells are, where they should be free, or an even number of them occupied; and whether they are not.
 fn of_cells(image: u64, all: &[u8], even: bool) -> (String, bool) {
@@ -142,16 +136,20 @@ fn of_cells(image: u64, all: &[u8], even: bool) -> (String, bool) {
     }
 }
 
+/// The words of a slot: its side, its row, and how a shuttle stands in it.
+pub fn slot_words(slot: u8) -> [&'static str; 3] {
+    let at = slot - SLOTS.start;
+    [word(&SIDES, at / 3 % 2), word(&ROWS, at % 3), word(&ORIENTATIONS, at / 6)]
+}
+
 /// What a slot has, where a shuttle should be there or none; and whether that isn't so.
 fn of_slot(image: u64, slot: u8, wanted: bool) -> (String, bool) {
-    let (tilted, side, row) = ((slot - SLOTS.start) / 6, (slot - SLOTS.start) / 3 % 2, (slot - SLOTS.start) % 3);
-    let there = has(image, slot);
-    let some = if there { "a" } else { "no" };
-    (format!("{} row {}: {some} {} shuttle", word(&SIDES, side), word(&ROWS, row), word(&ORIENTATIONS, tilted)), there != wanted)
+    let (there, [side, row, tilted]) = (has(image, slot), slot_words(slot));
+    (format!("{side} row {row}: {} {tilted} shuttle", if there { "a" } else { "no" }), there != wanted)
 }
 
 /// Where the lift is.
-fn of_lift(image: u64) -> String { format!("lift at {}", word(&HEIGHTS, (image >> 53 & 3) as u8)) }
+pub fn of_lift(image: u64) -> String { format!("lift at {}", word(&HEIGHTS, (image >> 53 & 3) as u8)) }
 
 /// Cells in groups: those that follow each other; of a lift that leaves the basement its own two and those on either side.
 fn groups(parts: u64, asks: Asks) -> Vec<Vec<u8>> {
@@ -163,8 +161,25 @@ fn groups(parts: u64, asks: Asks) -> Vec<Vec<u8>> {
     }
 }
 
+/// A condition of an instruction on a record: whether it holds, and its lines: what it asks, and what decides it.
+pub struct Explained {
+    pub holds: bool,
+    pub lines: Vec<String>,
+}
+
+/// The conditions of an instruction on a sound record, in the paper's order.
+pub fn explained(image: u64, five: [u8; 5]) -> Vec<Explained> {
+    let one = |(c, asked): (u8, Asked)| {
+        let condition = panel_entries::condition(image, five, c)?;
+        let first = format!("  {} {}  {}", condition.number, if condition.holds { "yes" } else { "no " }, asked.words);
+        let decided = decided(&asked, &condition, image).into_iter().map(|line| format!("          {line}"));
+        Some(Explained { holds: condition.holds, lines: std::iter::once(first).chain(decided).collect() })
+    };
+    (0..).zip(conditions(five)).map_while(one).collect()
+}
+
 /// What decides a condition on a record: a line for each part, or for some that belong together.
-pub fn decided(asked: &Asked, condition: &Condition, image: u64) -> Vec<String> {
+fn decided(asked: &Asked, condition: &Condition, image: u64) -> Vec<String> {
     let mut lines = Vec::new();
     let mut line = |(what, amiss): (String, bool)| lines.push(if amiss && !condition.holds { format!("{what}, at fault") } else { what });
     if condition.parts == 0 {

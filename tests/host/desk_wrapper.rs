@@ -4,6 +4,7 @@
 //! keeps two threads from one desk. These are all the duties that the header names.
 
 mod desk_raw;
+#[path = "../../tools/numbers.rs"]
 mod numbers;
 
 pub use numbers::Number;

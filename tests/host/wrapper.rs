@@ -3,6 +3,7 @@
 //! A slice crosses as a pointer and a length, so its pointer is valid for that length; `&mut` slices overlap nothing; `&mut self`
 //! keeps two threads from one station. These are all the duties that the header names.
 
+#[path = "../../tools/numbers.rs"]
 mod numbers;
 mod raw;
 

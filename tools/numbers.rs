@@ -1,4 +1,5 @@
-//! The table of the numbers that the station answers with, in words, for the wrapper.
+//! The table of the numbers that the station answers with, in words: the one of the hosts in Rust and of their tests.
+#![allow(dead_code)] // each program uses its own part of this module
 
 use std::fmt;
 
@@ -81,7 +82,7 @@ mod tests {
     /// The table is the header's: each enumerator of the one is a case of the other.
     #[test]
     fn the_numbers_are_those_of_the_header() {
-        let header = include_str!("../../include/station.h");
+        let header = include_str!("../include/station.h");
         let (_, table) = header.split_once("/* What the numbers mean").expect("the header has the table");
         let (table, _) = table.split_once("};").expect("the table ends");
         let listed: Vec<(u8, String)> = table.lines().filter_map(|line| {

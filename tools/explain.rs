@@ -1,0 +1,124 @@
+//! Recorded messages of either direction in words (docs/EXPLAIN.md): what each says, what the station answers to it and why, and the floor
+//! after it. The answers are the station's own: the messages are given to it, one after the other, and the floors are its record's.
+
+mod explain_entries;
+mod explain_floor;
+mod explain_follow;
+mod explain_input;
+mod explain_message;
+mod explain_sound;
+mod explain_text;
+mod explain_why;
+mod numbers;
+mod panel_entries;
+mod panel_words;
+mod words;
+
+use explain_follow::{named_cars, Cards, Follower};
+use explain_input::{bytes_in, cards, Bytes, Hex, Item, Placed};
+use explain_text::{Explainer, Said, Shows};
+use std::io::{self, Write};
+use std::process::ExitCode;
+use words::{failed, Wrong};
+
+const USAGE: &str = "usage: explain [--quiet] [--floor] [--from IMAGE] [--issue N] [--cards LIST] [--hex < LOG | HEX.. | < LOG]";
+
+/// The words of the command.
+#[derive(Default)]
+struct Given {
+    shows: Shows,
+    hex: bool,
+    from: Option<(u64, u64)>,
+    issue: u16,
+    cards: Option<Cards>,
+    /// The bytes of a log that is given in words.
+    digits: Vec<u8>,
+}
+
+/// A record, and what is set apart there if it stands behind it: 16 or 32 digits.
+fn image_in(word: &str) -> Option<(u64, u64)> {
+    let bytes = bytes_in(word).ok().filter(|bytes| matches!(bytes.len(), 8 | 16))?;
+    let eight = |bytes: &[u8]| bytes.iter().rev().fold(0, |number, &byte| number << 8 | u64::from(byte));
+    Some((eight(&bytes[..8]), eight(&bytes[8..])))
+}
+
+fn given(mut words: impl Iterator<Item = String>) -> Option<Given> {
+    let mut given = Given::default();
+    while let Some(word) = words.next() {
+        match word.as_str() {
+            "--quiet" => given.shows.quiet = true,
+            "--floor" => given.shows.floors = true,
+            "--hex" => given.hex = true,
+            "--from" => given.from = Some(image_in(&words.next()?)?),
+            "--issue" => given.issue = words.next()?.parse().ok()?,
+            "--cards" => given.cards = Some(cards(&words.next()?, false).ok()?),
+            digits => given.digits.extend(bytes_in(digits).ok().filter(|bytes| !bytes.is_empty())?),
+        }
+    }
+    // a list of cards is that of a record's cars, and digits are all of the input
+    let fits = (given.cards.is_none() || given.from.is_some()) && !(given.hex && !given.digits.is_empty());
+    fits.then_some(given)
+}
+
+/// Where the log begins: the start, or the record that is given.
+fn begin(given: &Given) -> Result<Follower, Wrong> {
+    const LIFT: u32 = 52;
+    let (image, apart) = given.from.unwrap_or((Follower::start().record(), 0));
+    if !explain_entries::sound(image) { return Err(format!("--from: not sound: {}", explain_sound::hints(image).join("; "))); }
+    if apart >> (LIFT + 1) != 0 { return Err("--from: what is set apart has a bit above 52".to_string()); }
+    let (cars, listed) = (named_cars(image), given.cards.as_ref().map(Vec::len));
+    if listed.is_some_and(|listed| listed != cars) {
+        return Err(format!("--cards: expected {cars}, as many as the record has cars, found {}", listed.unwrap_or(0)));
+    }
+    Ok(Follower::from(image, apart, given.issue, given.cards.as_ref()))
+}
+
+/// The next item of a log, nothing at its end, or why the input failed.
+type Read = Result<Option<Placed>, Wrong>;
+
+/// The whole log, or what comes before the first that can't be read; gives whether all of it could be read and agrees, or why a stream failed.
+fn explained(mut next: impl FnMut() -> Read, mut explainer: Explainer, out: &mut impl Write) -> Result<bool, Wrong> {
+    let unwritten = |why| failed("output", why);
+    let mut right = true;
+    let mut tell = |said: Said| -> Result<(), Wrong> {
+        out.write_all(said.text.as_bytes()).and_then(|()| out.flush()).map_err(unwritten)?;
+        if let Some(why) = said.wrong {
+            eprintln!("explain: {why}");
+            right = false;
+        }
+        Ok(())
+    };
+    while let Some(placed) = next()? {
+        let last = matches!(placed.item, Item::Damaged { .. });
+        tell(explainer.item(placed))?;
+        if last { break; }
+    }
+    tell(explainer.end())?;
+    Ok(right)
+}
+
+fn main() -> ExitCode {
+    let told = |why: &str, status: u8| {
+        eprintln!("explain: {why}");
+        ExitCode::from(status)
+    };
+    let Some(given) = given(std::env::args().skip(1)) else { return told(USAGE, 2) };
+    let follower = match begin(&given) { Ok(follower) => follower, Err(why) => return told(&why, 2) };
+    let explainer = Explainer::new(follower, given.shows);
+    let out = &mut io::BufWriter::new(io::stdout().lock());
+    let done = if !given.digits.is_empty() {
+        let mut input = Bytes::mixed(io::Cursor::new(&given.digits));
+        explained(|| input.next(), explainer, out)
+    } else if given.hex {
+        let mut input = Hex::new(io::stdin().lock());
+        explained(|| input.next(), explainer, out)
+    } else {
+        let mut input = Bytes::recorded(io::BufReader::new(io::stdin().lock()));
+        explained(|| input.next(), explainer, out)
+    };
+    match done {
+        Ok(true) => ExitCode::SUCCESS,
+        Ok(false) => ExitCode::from(1),
+        Err(why) => told(&why, 1),
+    }
+}

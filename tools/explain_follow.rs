@@ -1,0 +1,143 @@
+//! The station that the messages of a log make, followed one by one: a desk, which has the station inside. Each car has a number of its own
+//! there that is never shown; of some of them the card is known, and only those are told.
+
+use crate::explain_entries::{self as entries, Answer, Desk, Station, APART, STATION_SIZE};
+use crate::explain_message::{Message, BEGIN_IN};
+use std::collections::BTreeMap;
+
+/// Bit 55 of a record: a drive-in is under way. Bit 56: a drive-out.
+pub const DRIVE_IN: u64 = 1 << 55;
+pub const DRIVE_OUT: u64 = 1 << 56;
+/// Where a desk has the number of a drive-in under way, of its four-byte places behind the station.
+const WAITS: usize = 41;
+/// Places of numbers in a desk.
+const PLACES: usize = 42;
+
+/// A card's place in the garage: the cell, in row 1 the lower, or 52 for the raised lift; and whether that is only its last known one.
+#[derive(Clone, Copy)]
+pub struct Whereabouts {
+    pub card: u32,
+    pub place: u8,
+    pub last_known: bool,
+}
+
+/// The floor that is drawn: a record, what is set apart, and the cards that are known.
+pub struct Floor {
+    pub record: u64,
+    pub apart: u64,
+    pub cards: Vec<Whereabouts>,
+}
+
+/// An instruction of the outstanding set, and how it ended, where it is answered.
+pub struct Held {
+    pub five: [u8; 5],
+    pub ending: Option<u8>,
+}
+
+/// Cards as somebody gives them for cars in their order: some may not be known.
+pub type Cards = Vec<Option<u32>>;
+
+pub struct Follower {
+    desk: Desk,
+    /// How the instructions of the outstanding set ended; the station keeps only whether they did.
+    endings: [Option<u8>; 8],
+    /// The cards by the numbers inside.
+    cards: BTreeMap<u32, u32>,
+    last: u32,
+}
+
+/// The cars that an image's list of cards has to name: those of the record, and one whose drive-in is under way.
+pub fn named_cars(image: u64) -> usize { entries::cars(image) + usize::from(image & DRIVE_IN != 0) }
+
+fn eight(bytes: &[u8]) -> u64 { bytes.iter().rev().fold(0, |number, &byte| number << 8 | u64::from(byte)) }
+
+impl Follower {
+    pub fn start() -> Self { Follower { desk: entries::start(), endings: [None; 8], cards: BTreeMap::new(), last: 0 } }
+
+    /// From a sound record on, with what is set apart there, the issue that the next set will have, and the cards of its cars.
+    pub fn from(image: u64, apart: u64, issue: u16, cards: Option<&Cards>) -> Self {
+        let mut follower = Follower::start();
+        follower.take_image(image, cards);
+        follower.desk[APART].copy_from_slice(&apart.to_le_bytes());
+        follower.desk[50..52].copy_from_slice(&issue.to_le_bytes());
+        follower
+    }
+
+    fn station(&self) -> Station { std::array::from_fn(|at| self.desk[at]) }
+
+    pub fn record(&self) -> u64 { eight(&self.desk[..8]) }
+
+    pub fn apart(&self) -> u64 { eight(&self.desk[APART]) }
+
+    /// The outstanding set's issue; where none is, that of the last one.
+    pub fn present_issue(&self) -> u16 { u16::from_le_bytes([self.desk[50], self.desk[51]]).wrapping_sub(1) }
+
+    /// The outstanding set; empty where there is none.
+    pub fn set(&self) -> Vec<Held> {
+        let five = |at: usize| std::array::from_fn(|byte| self.desk[10 + 5 * at + byte]);
+        (0..usize::from(self.desk[8])).map(|at| Held { five: five(at), ending: self.endings[at] }).collect()
+    }
+
+    fn number_at(&self, place: usize) -> u32 { eight(&self.desk[STATION_SIZE + 4 * place..][..4]) as u32 }
+
+    /// The cards that are known, in the order of the cells.
+    pub fn cards(&self) -> Vec<Whereabouts> {
+        let one = |(&number, &card): (&u32, &u32)| {
+            let (place, last_known) = entries::place(&self.desk, number)?;
+            Some(Whereabouts { card, place, last_known })
+        };
+        let mut all: Vec<Whereabouts> = self.cards.iter().filter_map(one).collect();
+        all.sort_by_key(|one| one.place);
+        all
+    }
+
+    /// The card of a drive-in under way, where it is known.
+    pub fn coming(&self) -> Option<u32> { self.cards.get(&self.number_at(WAITS)).copied() }
+
+    pub fn floor(&self) -> Floor { Floor { record: self.record(), apart: self.apart(), cards: self.cards() } }
+
+    /// What a message is answered with, and the message that answers it. Cards go with a begin in or an image, if it is taken.
+    pub fn take(&mut self, bytes: &[u8], message: &Message, cards: Option<&Cards>) -> (Answer, Vec<u8>) {
+        let mut station = self.station();
+        let (answer, reply) = entries::message(&mut station, bytes);
+        if answer.number == 0 { self.took(message, cards); }
+        assert!(self.station() == station, "the desk's station is the station");
+        (answer, reply)
+    }
+
+    fn took(&mut self, message: &Message, cards: Option<&Cards>) {
+        match *message {
+            Message::Request(ref fives) => {
+                entries::request(&mut self.desk, &fives.concat());
+                self.endings = [None; 8];
+            }
+            Message::Event(way) => {
+                let number = self.new_number(cards.and_then(|cards| *cards.first()?).filter(|_| way == BEGIN_IN));
+                entries::event(&mut self.desk, way, number);
+            }
+            Message::Result { issue, number, ending } => {
+                entries::result(&mut self.desk, issue, number, ending);
+                self.endings[usize::from(number)] = Some(ending);
+            }
+            Message::Image { image, .. } => self.take_image(image, cards),
+            _ => {}
+        }
+        // who has left takes the card along
+        let here: Vec<u32> = (0..PLACES).map(|place| self.number_at(place)).collect();
+        self.cards.retain(|number, _| here.contains(number));
+    }
+
+    fn take_image(&mut self, image: u64, cards: Option<&Cards>) {
+        self.cards.clear();
+        let known = |at: usize| cards.and_then(|cards| *cards.get(at)?);
+        let numbers: Vec<u32> = (0..named_cars(image)).map(|at| self.new_number(known(at))).collect();
+        entries::image(&mut self.desk, image, &numbers);
+    }
+
+    /// A number that no car has had, for the card if it is known. There are more of them than messages in any log.
+    fn new_number(&mut self, card: Option<u32>) -> u32 {
+        self.last += 1;
+        if let Some(card) = card { self.cards.insert(self.last, card); }
+        self.last
+    }
+}
