@@ -66,11 +66,11 @@ def told(station, lines):
         return False
     for line in lines:
         try:
-            message = bytes.fromhex(line)
+            message = bytes.fromhex(line.decode("ascii"))
         except ValueError:
             message = b""
         if not whole(message):
-            print(f"owner: not sent, since it is no whole message: {line.strip()}", file=sys.stderr, flush=True)
+            print(f"owner: not sent, since it is no whole message: {line.strip()!r}", file=sys.stderr, flush=True)
         elif not exchanged(station, message):
             return False
     return True
@@ -80,11 +80,15 @@ def main():
     if len(sys.argv) != 3:
         print("usage: owner.py STATION JOURNAL", file=sys.stderr)
         return 2
-    station = subprocess.Popen(sys.argv[1:], stdin=subprocess.PIPE, stdout=subprocess.PIPE)
+    try:
+        station = subprocess.Popen(sys.argv[1:], stdin=subprocess.PIPE, stdout=subprocess.PIPE)
+    except OSError as why:
+        print(f"owner: the station can't be started: {why}", file=sys.stderr)
+        return 2
     for ending in (signal.SIGTERM, signal.SIGINT):
         signal.signal(ending, asked)
     try:
-        there = told(station, sys.stdin)
+        there = told(station, sys.stdin.buffer)
     except Asked:
         there = True
     try:
