@@ -4,12 +4,11 @@
 
 mod child;
 mod page;
+mod planned;
 
 use page::blocks;
+use planned::SETS;
 use std::fs::read_to_string;
-
-/// Where a plan's sets begin: behind its record, what is set apart, the wish and how many sets there are.
-const SETS: usize = 18;
 
 fn bytes(line: &str) -> Vec<u8> {
     line[1..].split_whitespace().map(|byte| u8::from_str_radix(byte, 16).expect("a byte in hexadecimal")).collect()
@@ -27,11 +26,11 @@ fn main() {
     let given: Vec<String> = std::env::args().collect();
     let [_, draw, plan_text, plan, page] = &given[..] else { panic!("usage: steps DRAW PLAN_TEXT PLAN PAGE") };
     let (plan, text) = (read_to_string(plan).expect("the plan"), read_to_string(page).expect("the page"));
-    let planned = child::run(plan_text, std::iter::once(plan.as_bytes())).0;
+    let planned = planned::planned(plan_text, &plan);
     let (mut image, mut first, mut sets, mut drawings) = (Vec::new(), None, Vec::<u8>::new(), 0);
     for (at, mark, block) in blocks(&text, &["session", "session on", "drawing"]) {
         if mark == "drawing" {
-            let drawn = child::run(draw, std::iter::once(hex(&image).as_bytes())).0;
+            let drawn = child::run_on(draw, hex(&image).as_bytes()).0;
             assert_eq!(String::from_utf8_lossy(&drawn), block, "{page}:{at}: the image before it is drawn otherwise");
             drawings += 1;
             continue;
