@@ -1,4 +1,4 @@
-/* What the toolchain's library os has in C, which the toolchain builds for x86-64 alone: for programs that are built for another processor. */
+/* What the toolchain's library os has in C, which the toolchain builds for x86-64 alone: for programs on another processor. */
 #define _GNU_SOURCE
 #include <errno.h>
 #include <fcntl.h>

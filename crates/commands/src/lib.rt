@@ -27,7 +27,7 @@ fn is_version(word: &[u8]) -> bool
     is_text(word, b"--version")
 }
 
-// Whether the first argument is --version: one that has no room counts as empty.
+// Whether the first argument is --version; one that is longer than the room comes as an empty one.
 fn asks_version() -> bool {
     let mut room = [0u8; 16];
     let n = os::arg(1, &mut room);
@@ -70,8 +70,8 @@ fn say_version(name: &[u8], output: &[u8]) {
     }
 }
 
-// Whether --version is the one word, which is then answered with the program's name and version. Where the output fails it is told under
-// its own name.
+// Whether --version is the one word; it is then answered with the program's name and its version. `output` is what a write that fails is
+// told as.
 pub fn told_version(name: &[u8], output: &[u8]) -> bool {
     if os::arg_count() != 2 {
         return false;

@@ -38,10 +38,13 @@ loop-less c = omega arith
 loop-again : tie.Need-loop-again Inv-loop μ-loop
 loop-again c =
     let x = c .before .before .before .before .before .before .args in
-    alike-turns (x .word .now) (x .text .now) (c .before .before .before .before .loop .inv) (c .before .before .before .loop-test .taken) (c .if2 .left)
+    let so-far = c .before .before .before .before .loop .inv in
+    alike-turns (x .word .now) (x .text .now) so-far (c .before .before .before .loop-test .taken) (c .if2 .left)
 
 returns-3 : tie.Need-returns-3 Inv-loop μ-loop
-returns-3 c = let x = c .before .before .before .args in alike-ends (x .word .now) (x .text .now) (c .before .loop .inv) (c .loop-test .left)
+returns-3 c =
+    let x = c .before .before .before .args in
+    alike-ends (x .word .now) (x .text .now) (c .before .loop .inv) (c .loop-test .left)
 
 pub is-text-spec : {M : Type 1} → statement M
 is-text-spec =
