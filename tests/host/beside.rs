@@ -1,8 +1,8 @@
-//! How much can go beside what, by the station's own archive: `beside RECORDS`. Every two of the 272 well-formed instructions are asked for in
+//! How much can go beside what, by the station's own archive: `beside RECORDS PAGE`. Every two of the 272 well-formed instructions are asked for in
 //! one set, in either order: they must be told 8 at the second exactly if the reference's areas share a part. Counted are those that overlap,
 //! and those that would if a lift run had all of row 1 in its area, as it had once. Then the same on so many sound records, of the two that
 //! each allows: they must be taken exactly if their areas share nothing; and with a lift run, their results in either order must be, and leave
-//! the same station.
+//! the same station. And the page's table of which kinds go together must say what the archive does (together.rs).
 use reference::{Instruction, Parts, Station, DONE};
 use sound_records::{every_five, SoundRecords};
 use traffic::Numbers;
@@ -12,6 +12,7 @@ mod floor;
 mod raw;
 mod reference;
 mod sound_records;
+mod together;
 mod traffic;
 
 /// How many pairs overlap, and how many would with all of row 1 in a lift run's area: of all, and of those with a lift run.
@@ -69,7 +70,7 @@ fn told(what: &str, [all, all_once]: [usize; 2], [lift, lift_once]: [usize; 2]) 
 
 fn main() {
     let words: Vec<String> = std::env::args().collect();
-    let [_, records] = &words[..] else { panic!("usage: beside RECORDS") };
+    let [_, records, page] = &words[..] else { panic!("usage: beside RECORDS PAGE") };
     let known = instructions();
     let (mut pairs, mut overlapping, mut with_lift) = (0, [0; 2], [0; 2]);
     for (at, first) in known.iter().enumerate() {
@@ -110,4 +111,8 @@ fn main() {
         }
     }
     told(&format!("beside: on {records} sound records so many pairs of allowed ones go together"), together, with_lift);
+
+    let fives: Vec<together::Five> = known.iter().map(|known| known.five).collect();
+    let asked = together::held(&std::fs::read_to_string(page).expect("the page is there"), &fives);
+    println!("beside: the table of {page} says of {asked} pairs, in either order, whether they overlap as garage_overlap and the areas do");
 }

@@ -5,3 +5,4 @@ pub mod Sent
 pub mod Lent
 pub mod Places
 pub mod Questions
+pub mod Pairs

@@ -9,11 +9,11 @@ use lib.ListN.{length, drop}
 use Rattle.bits.specs.Bits.{bit}
 use Rattle.bits.specs.Places.{join}
 use Rattle.floor.specs.Sound.{Sound, sound}
-use Rattle.answers.specs.declared.Answer.the-variants.{Taken}
+use Rattle.answers.specs.declared.Answer.the-variants.{Taken, BadField, Overlap}
 use Rattle.answers.specs.Answers.{numberOf, nowhere}
 use Rattle.garage.specs.declared.Station.{Station}
 use Rattle.garage.specs.Station.{closed, startOf, fit}
-use Rattle.garage_laws.specs.Runs.{Call, request, said, calls, Reached}
+use Rattle.garage_laws.specs.Runs.{Call, request, said, placed, calls, Reached}
 use Rattle.garage_laws.specs.Jams.{stuck, applied, Chosen}
 use Rattle.wire.specs.declared.What.{What}
 use Rattle.wire.specs.declared.Message.{Message}
@@ -23,6 +23,7 @@ use Rattle.wire_laws.specs.Statements.{Bytes, Typed}
 use Rattle.service.specs.Service.{respond, answerBytes, answersOn}
 use Rattle.service.specs.Runs.{run, fed}
 use Rattle.station_c.specs.Entries.{stationSize, stationOf, asking, returnedOf, exchange, judgement}
+use Rattle.station_c.specs.Sets.{pairAnswer}
 use Rattle.boundary.specs.Calls.{heardAs, heard, reply, heardIn, callsIn, repliesTo, inBytes, fedStation, Sized}
 use Rattle.boundary.specs.Uses.{Use, used, uses, meant, AsPassed, AllPassed, Roomy, Begun}
 
@@ -59,6 +60,15 @@ WrittenIsHeard =
 abbrev pub QuestionIsRequest : Type 0
 QuestionIsRequest =
     (r next : ℕ) (five : List ℕ) → sound r ≡ true → 5 ≤ length five → numberOf (judgement r five) ≡ said (closed r next 0) (request 1 five)
+
+-- where a request of two, on any station, is told 4 or 8 or is taken, the question for the two says the same, with the same place
+abbrev pub PairIsRequest : Type 0
+PairIsRequest =
+    (s : Station) (one other : List ℕ) → length one ≡ 5 → 5 ≤ length other
+    → let c = request 2 (one ++ other) in
+    (said s c ≡ 4 → pairAnswer one other ≡ BadField (placed s c))
+    × (said s c ≡ 8 → pairAnswer one other ≡ Overlap (placed s c))
+    × (said s c ≡ 0 → pairAnswer one other ≡ Taken)
 
 -- an entry leaves in the room the station that its call leaves, and returns that call's number and place
 abbrev pub EntryIsCall : Type 0

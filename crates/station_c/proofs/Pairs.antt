@@ -35,7 +35,7 @@ use Rattle.station_c.specs.Promises.{readArea, PairEitherWay, PairByArea
 
 -- ---- in either order
 
-share-either : (ks js : List ℕ) → share ks js ≡ share js ks
+pub share-either : (ks js : List ℕ) → share ks js ≡ share js ks
 share-either ks js = alike (share ks js) (share js ks)
     (λ e. let (k, p, q) = share-at ks js e in share-is js ks k q p)
     (λ e. let (k, p, q) = share-at js ks e in share-is ks js k q p)
