@@ -3,8 +3,11 @@
 //! answer with all of the input as the journal. Of each the least of five runs. The journals are made in the directory: what is measured is
 //! its disk.
 
+mod one_by_one;
+
+use one_by_one::{answered, messages, ASK};
 use std::fs::{self, File, OpenOptions};
-use std::io::{Read, Write};
+use std::io::Write;
 use std::path::Path;
 use std::process::{Child, Command, Stdio};
 use std::time::Instant;
@@ -13,17 +16,6 @@ const RUNS: usize = 5;
 /// So many messages one by one, without a journal and with one.
 const QUICK: usize = 20_000;
 const SLOW: usize = 200;
-
-/// The message that some bytes begin with, and the rest.
-fn split(bytes: &[u8]) -> Option<(&[u8], &[u8])> { bytes.split_at_checked(2 + usize::from(*bytes.first()?)) }
-
-fn messages(mut bytes: &[u8]) -> impl Iterator<Item = &[u8]> {
-    std::iter::from_fn(move || {
-        let (message, rest) = split(bytes)?;
-        bytes = rest;
-        Some(message)
-    })
-}
 
 fn seconds(run: impl FnOnce()) -> f64 {
     let begun = Instant::now();
@@ -62,7 +54,7 @@ impl Bench {
     fn one_by_one(&self, words: &[&str], count: usize) -> f64 {
         self.without();
         let mut station = self.started(words);
-        answered(&mut station, &[2, 0, 5, 0]);
+        answered(&mut station, &ASK);
         let all = seconds(|| messages(&self.bytes).take(count).for_each(|message| answered(&mut station, message)));
         drop(station.stdin.take());
         assert!(station.wait().expect("it ends").success());
@@ -81,21 +73,11 @@ impl Bench {
     fn first_answer(&self, words: &[&str]) -> f64 {
         seconds(|| {
             let mut station = self.started(words);
-            answered(&mut station, &[2, 0, 5, 0]);
+            answered(&mut station, &ASK);
             drop(station.stdin.take());
             assert!(station.wait().expect("it ends").success());
         })
     }
-}
-
-/// Sends a message and reads its answer.
-fn answered(station: &mut Child, message: &[u8]) {
-    let mut room = [0; 20];
-    station.stdin.as_mut().expect("a pipe").write_all(message).expect("it reads");
-    let from = station.stdout.as_mut().expect("a pipe");
-    from.read_exact(&mut room[..2]).expect("it answers");
-    let end = 2 + usize::from(room[0]);
-    from.read_exact(&mut room[2..end]).expect("it answers");
 }
 
 /// The least times of some runs, taken in turns.

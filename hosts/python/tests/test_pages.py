@@ -109,6 +109,9 @@ class Desks(unittest.TestCase):
         self.assertEqual(desk.record.places(), list(desk.cards))
         for place, card in desk.cards.items():
             self.assertEqual(desk.where(card), (place, False))
+        self.assertIsNone(desk.leaving())
+        desk.event(Event.BEGIN_OUT)
+        self.assertEqual(desk.leaving(), 7004)
         waiting = Desk()
         waiting.event(Event.BEGIN_IN, 0xFFFFFFFF)
         self.assertEqual(waiting.cards, {55: 0xFFFFFFFF})

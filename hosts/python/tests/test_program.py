@@ -70,7 +70,7 @@ class Pipe(unittest.TestCase):
 class LongRun(unittest.TestCase):
     def test_the_library_and_the_program_answer_the_same(self):
         came, taken = set(), 0
-        for seed, (count, ending) in enumerate([(4000, b""), (4000, b"\x00\x00"), (1000, b"\x08\x00\x01")]):
+        for seed, (count, ending) in enumerate([(3000, b""), (2000, b"\x00\x00"), (500, b"\x08\x00\x01")]):
             planner, totals = Planner(random.Random(seed)), Totals()
             sent, answers = [], []
             for message, answer in planner.messages(count):
@@ -96,20 +96,20 @@ class LongRun(unittest.TestCase):
         # from the program 16 and 17 never come
         never = {Number.UNFIT, Number.NO_ROOM, *(one for one in Number if one > Number.KEPT_OPEN)}
         self.assertEqual(came, {Held, *Number} - never)
-        self.assertGreater(taken, 4000)
+        self.assertGreater(taken, 2500)
 
     def test_one_by_one(self):
         with Program(STATION) as program:
-            for message, answer in Planner(random.Random(7)).messages(2000):
+            for message, answer in Planner(random.Random(7)).messages(1500):
                 self.assertEqual(program.send(message), answer)
 
 
 class Drawings(unittest.TestCase):
     def test_every_record_of_a_run_is_drawn_and_read(self):
         planner, records = Planner(random.Random(11)), set()
-        for _ in planner.messages(2000):
+        for _ in planner.messages(1000):
             records.add(planner.station.record)
-        self.assertGreater(len(records), 300)
+        self.assertGreater(len(records), 150)
         for record in records:
             self.assertTrue(record.sound())
             self.assertEqual(Record.from_drawing(record.drawing()), record)
