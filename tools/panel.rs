@@ -4,6 +4,7 @@
 
 mod panel_entries;
 mod panel_words;
+#[path = "../hosts/rust/src/words.rs"]
 mod words;
 
 use panel_entries::Unread;
