@@ -1,6 +1,7 @@
 //! The words that instructions, events and results are made of, each with its byte.
 
 use crate::{Number, Refusal};
+use std::fmt;
 
 /// A case for each byte of a field.
 macro_rules! field {
@@ -121,6 +122,27 @@ field! {
         Done = 1,
         /// It got stuck on the way, and what is in its area is not known.
         Stuck = 2,
+    }
+}
+
+impl fmt::Display for Event {
+    fn fmt(&self, f: &mut fmt::Formatter) -> fmt::Result {
+        f.write_str(match self {
+            Event::BeginIn => "begin in",
+            Event::BeginOut => "begin out",
+            Event::EndedDone => "ended and done",
+            Event::EndedNotDone => "ended and not done",
+        })
+    }
+}
+
+impl fmt::Display for Outcome {
+    fn fmt(&self, f: &mut fmt::Formatter) -> fmt::Result {
+        f.write_str(match self {
+            Outcome::Failed => "failed",
+            Outcome::Done => "done",
+            Outcome::Stuck => "stuck",
+        })
     }
 }
 

@@ -38,6 +38,16 @@ pub enum Whereabouts {
     NotHere,
 }
 
+impl fmt::Display for Whereabouts {
+    fn fmt(&self, f: &mut fmt::Formatter) -> fmt::Result {
+        match self {
+            Whereabouts::At(place) => write!(f, "at {place}"),
+            Whereabouts::LastKnown(place) => write!(f, "last known at {place}"),
+            Whereabouts::NotHere => write!(f, "not here"),
+        }
+    }
+}
+
 /// Parts of the floor, a bit for each: 0 to 39 the cells, 40 to 51 the shuttles' slots as in the record, 52 the lift.
 #[derive(Clone, Copy, Debug, Default, PartialEq, Eq, Hash)]
 pub struct Parts(pub u64);

@@ -222,6 +222,8 @@ fn cards_by_their_places() {
 
 #[test]
 fn answers_in_words() {
+    let places = [At(Cell(11)), LastKnown(Raised), NotHere].map(|place| place.to_string());
+    assert_eq!(places, ["at cell 11", "last known at the raised lift", "not here"]);
     assert_eq!(refusal(ZeroNumber).to_string(), "37 (number zero)");
     assert_eq!(refusal(KnownNumber).to_string(), "38 (number already in the garage, or given twice)");
     assert_eq!(refusal(WrongCount).to_string(), "39 (not that many numbers)");

@@ -4,7 +4,7 @@ mod handed;
 use handed::{allowed, cars, next, refusal, refusal_at, shown, sound, taken_as, told, Station, START, TAKEN};
 use station::raw::station as raw;
 use station::Number::*;
-use station::{lent, Answer};
+use station::{lent, Answer, Event, Outcome};
 
 const SIZE: usize = station::Station::SIZE;
 const REPLY_MOST: usize = 20;
@@ -204,6 +204,10 @@ fn the_session_of_the_rules() {
 
 #[test]
 fn answers_in_words() {
+    let said = |all: &[&dyn ToString]| all.iter().map(|one| one.to_string()).collect::<Vec<_>>();
+    assert_eq!(said(&[&Outcome::Failed, &Outcome::Done, &Outcome::Stuck]), ["failed", "done", "stuck"]);
+    let events = said(&[&Event::BeginIn, &Event::BeginOut, &Event::EndedDone, &Event::EndedNotDone]);
+    assert_eq!(events, ["begin in", "begin out", "ended and done", "ended and not done"]);
     assert_eq!(TAKEN.to_string(), "0 (taken)");
     assert_eq!(refusal_at(OddCount, 2).to_string(), "24 (odd count: a car would be torn) at 2");
     assert_eq!(refusal(Late).to_string(), "29 (late: of a set before the present one)");
