@@ -5,6 +5,8 @@
 mod plan_reference;
 #[path = "../tests/host/plan_traffic.rs"]
 mod plan_traffic;
+#[path = "../hosts/rust/src/raw/plan.rs"]
+mod raw;
 #[path = "../tests/host/reference.rs"]
 mod reference;
 #[path = "../tests/host/traffic.rs"]
@@ -17,14 +19,10 @@ use std::hint::black_box;
 use std::time::Instant;
 use traffic::{allowed_set, Numbers};
 
-extern "C" {
-    fn plan_judge(plan: *const u8, plan_length: usize) -> u32;
-}
-
 const PLANS: usize = 16;
 const AGAIN: usize = 40;
 
-fn by_station(plan: &[u8]) -> u32 { unsafe { plan_judge(plan.as_ptr(), plan.len()) } }
+fn by_station(plan: &[u8]) -> u32 { unsafe { raw::plan_judge(plan.as_ptr(), plan.len()) } }
 
 fn by_reference(plan: &[u8]) -> u32 {
     let told = plan_reference::judge(plan);

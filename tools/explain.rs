@@ -9,9 +9,12 @@ mod explain_message;
 mod explain_sound;
 mod explain_text;
 mod explain_why;
+#[allow(dead_code)] // the crate uses more of it
+#[path = "../hosts/rust/src/numbers.rs"]
 mod numbers;
 mod panel_entries;
 mod panel_words;
+#[path = "../hosts/rust/src/words.rs"]
 mod words;
 
 use explain_follow::{named_cars, Cards, Follower};

@@ -2,9 +2,12 @@
 //! words, one a line. Out come the floor drawn, each condition of each instruction with yes or no and where, the verdict, and the floor after
 //! it, on which the next line is tried. A line that says nothing is told on standard error with its number, and the status is then 1.
 
+#[allow(dead_code)] // the crate uses more of it
+#[path = "../hosts/rust/src/numbers.rs"]
 mod numbers;
 mod panel_entries;
 mod panel_words;
+#[path = "../hosts/rust/src/words.rs"]
 mod words;
 
 use panel_entries::Unread;

@@ -1,13 +1,13 @@
 //! The entries that the panel asks (include/panel.h, include/drawing.h), with slices for their addresses and lengths.
 #![allow(dead_code)] // each program uses its own part of this module
 
-extern "C" {
-    fn panel_condition(image: u64, five: *const u8, five_length: usize, c: u8, room: *mut u8, room_length: usize) -> u32;
-    fn panel_next(image: u64, five: *const u8, five_length: usize, next: *mut u8, next_length: usize) -> u32;
-    fn panel_cars(image: u64, room: *mut u8, room_length: usize) -> u32;
-    fn drawing_write(image: u64, text: *mut u8, text_length: usize) -> u32;
-    fn drawing_read(text: *const u8, text_length: usize, image: *mut u8, image_length: usize) -> u32;
-}
+#[path = "../hosts/rust/src/raw/drawing.rs"]
+mod drawing;
+#[path = "../hosts/rust/src/raw/panel.rs"]
+mod panel;
+
+use drawing::{drawing_read, drawing_write};
+use panel::{panel_cars, panel_condition, panel_next};
 
 /// A condition of an instruction on a record: whether it holds, the number that is told where it is the first to fail, and the parts that
 /// decide it, a bit for each: 0 to 39 the cells, 40 to 51 the shuttles' slots, 52 the lift.

@@ -2,6 +2,7 @@
 //! nothing are told on standard error, each with its number, and then nothing is written and the status is 1. Whether the plan is a good
 //! one is not looked at: what can be said in bytes can be written, and the judge tells the rest.
 
+#[path = "../hosts/rust/src/words.rs"]
 mod words;
 
 use std::io::{self, Read, Write};

@@ -9,6 +9,7 @@ use traffic::Numbers;
 
 #[allow(dead_code)] // only row 1 is asked for
 mod floor;
+#[path = "../../hosts/rust/src/raw/station.rs"]
 mod raw;
 mod reference;
 mod sound_records;

@@ -8,7 +8,9 @@ use std::ops::Range;
 
 #[allow(dead_code)] // only the rows are counted over
 mod floor;
+#[path = "../../hosts/rust/src/raw/panel.rs"]
 mod panel_raw;
+#[path = "../../hosts/rust/src/raw/station.rs"]
 mod raw;
 #[allow(dead_code)]
 mod reduced;

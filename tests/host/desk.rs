@@ -10,6 +10,7 @@ mod command;
 mod desk_command;
 mod desk_handed;
 mod desk_met;
+#[path = "../../hosts/rust/src/raw/desk.rs"]
 mod desk_raw;
 mod desk_reference;
 mod desk_traffic;

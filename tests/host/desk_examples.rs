@@ -1,6 +1,7 @@
 //! Runs the worked examples of a page on the desk's entries: `desk_examples PAGE`. In each block marked `desk` a line with `>` is a call on
 //! one desk, and the next line, with `<`, what it must answer; names in both are those of the headers.
 
+#[path = "../../hosts/rust/src/raw/desk.rs"]
 mod desk_raw;
 
 use std::collections::HashMap;

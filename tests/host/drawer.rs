@@ -1,7 +1,7 @@
 //! Whoever writes and reads drawings: the entries, the reference, and with `--cfg wrong` references with a fault each.
 #![allow(dead_code)] // each driver uses its own part of this module
 
-#[path = "drawing_raw.rs"]
+#[path = "../../hosts/rust/src/raw/drawing.rs"]
 mod raw;
 // as tests/host/wrong makes it from the edits: WRONG is the list of them
 #[cfg(wrong)]

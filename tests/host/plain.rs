@@ -16,8 +16,10 @@ mod jams;
 mod lifts;
 mod panel_calls;
 mod panel_command;
+#[path = "../../hosts/rust/src/raw/panel.rs"]
 mod panel_raw;
 mod pipes;
+#[path = "../../hosts/rust/src/raw/station.rs"]
 mod raw;
 mod reference;
 mod sound_records;

@@ -7,6 +7,8 @@ mod pipes;
 mod plan_examples;
 mod plan_reference;
 mod plan_traffic;
+#[path = "../../hosts/rust/src/raw/plan.rs"]
+mod raw;
 mod reference;
 mod traffic;
 // references with a fault each, as tests/host/wrong makes them from the edits: WRONG is the list of them
@@ -19,13 +21,6 @@ use reference::START;
 use std::collections::{BTreeMap, BTreeSet};
 use std::process::exit;
 use traffic::Numbers;
-
-/// The entry as its archive has it.
-mod raw {
-    extern "C" {
-        pub fn plan_judge(plan: *const u8, plan_length: usize) -> u32;
-    }
-}
 
 fn plan_judge(plan: &[u8]) -> u32 { unsafe { raw::plan_judge(plan.as_ptr(), plan.len()) } }
 

@@ -51,7 +51,7 @@ fn source_parameter(kind: &str, name: &str) -> Vec<(String, String)> {
 }
 
 /// A parameter of a host's.
-fn wrapper_parameter(kind: &str, name: &str) -> Vec<(String, String)> {
+fn host_parameter(kind: &str, name: &str) -> Vec<(String, String)> {
     let kind = match kind {
         "*mut u8" => "uint8_t *",
         "*const u8" => "const uint8_t *",
@@ -128,7 +128,7 @@ fn main() {
             let other_c = differences(in_c, &source, &header(&read(in_c)));
             let text = read(in_rust);
             let block = text.split_once("extern \"C\" {").and_then(|(_, rest)| rest.split_once('}')).expect("a block of entries").0;
-            let other_rust = differences(in_rust, &source, &functions(block, "pub fn ", wrapper_parameter));
+            let other_rust = differences(in_rust, &source, &functions(block, "pub fn ", host_parameter));
             if other_c || other_rust { exit(1); }
             println!("signatures: {} entries, as the source has them in {in_c} and {in_rust}", source.len());
         }

@@ -5,8 +5,11 @@
 
 mod pipes;
 mod places;
+#[path = "../../hosts/rust/src/raw/station.rs"]
 mod raw;
 mod reference;
+#[path = "../../hosts/rust/src/raw/report.rs"]
+mod report;
 mod traffic;
 mod week;
 
@@ -16,22 +19,6 @@ use std::collections::BTreeSet;
 use std::process::exit;
 use traffic::{any_bytes, any_message, damaged_station, Numbers};
 use week::{full, happened, totals, Happened, Total, Week};
-
-/// The report's entries as their archive has them.
-mod report {
-    extern "C" {
-        pub fn report_start(totals: *mut u8, totals_length: usize) -> u32;
-        pub fn report_message(
-            totals: *mut u8,
-            totals_length: usize,
-            station: *const u8,
-            station_length: usize,
-            message: *const u8,
-            message_length: usize,
-        ) -> u32;
-        pub fn report_lines(totals: *const u8, totals_length: usize, full: u8, out: *mut u8, out_length: usize) -> u32;
-    }
-}
 
 fn report_start(room: &mut [u8]) -> u32 { unsafe { report::report_start(room.as_mut_ptr(), room.len()) } }
 

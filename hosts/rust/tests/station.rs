@@ -1,26 +1,15 @@
-//! The wrapper's tests, by the papers' words.
-use super::Number::*;
-use super::*;
+//! The station's calls, by the papers' words, on stations as they come and as they are handed in.
+mod handed;
 
-const LIFT_DOWN: Five = [4, 2, 0, 0, 0];
-const TO_THE_LEFT: Five = [1, 1, 6, 0, 0];
+use handed::{allowed, cars, next, refusal, refusal_at, shown, sound, taken_as, told, Station, START, TAKEN};
+use station::raw::station as raw;
+use station::Number::*;
+use station::{lent, Answer, Event, Outcome};
 
-fn refusal(number: Number) -> Answer {
-    refusal_at(number, NOWHERE)
-}
-
-fn refusal_at(number: Number, place: u8) -> Answer {
-    Answer { number, place, issue: 0 }
-}
-
-fn taken_as(issue: u16) -> Answer {
-    Answer { issue, ..TAKEN }
-}
-
-/// What an ask is told where nothing is set apart.
-fn shown(record: u64) -> Result<(u64, u64), Answer> {
-    Ok((record, 0))
-}
+const SIZE: usize = station::Station::SIZE;
+const REPLY_MOST: usize = 20;
+const LIFT_DOWN: [u8; 5] = [4, 2, 0, 0, 0];
+const TO_THE_LEFT: [u8; 5] = [1, 1, 6, 0, 0];
 
 #[test]
 fn a_car_goes_down_and_to_the_left() {
@@ -48,10 +37,10 @@ fn refusals_come_in_order_and_change_nothing() {
     assert_eq!((s.result(0, 0, 1), s.result(0, 0, 3), s.event(5)), (refusal(NoSet), refusal(BadField), refusal(BadField)));
     assert_eq!(s.image(1, 0), refusal(Unsound));
     assert_eq!(s, Station::start());
-    let mut damaged = Station::from_bytes([0xEE; SIZE]);
-    assert_eq!((damaged.event(1), damaged.ask()), (refusal(Unfit), Err(refusal(Unfit))));
+    let mut damaged = Station([0xEE; SIZE]);
+    assert_eq!((damaged.event(1), damaged.ask()), (refusal(Unfit), Err(told(Unfit))));
     assert_eq!(damaged.request(1, &[]), refusal(TooFewBytes), "before 16");
-    assert_eq!(damaged.bytes(), &[0xEE; SIZE]);
+    assert_eq!(damaged.0, [0xEE; SIZE]);
 }
 
 /// While a driver is in the lift nothing moves it, and a driver who gives up has changed nothing.
@@ -64,7 +53,7 @@ fn drivers_take_their_time() {
     // by a request at any place, and by the questions, whose room is left as it was
     let belt = [1, 1, 2, 0, 1];
     assert_eq!((s.request(1, &LIFT_DOWN), s.request(2, &[belt, [5, 0, 0, 0, 0]].concat())), (refusal(OutOfTurn), refusal(OutOfTurn)));
-    assert_eq!((allowed(coming, &LIFT_DOWN), next(coming, &LIFT_DOWN)), (refusal(OutOfTurn), Err(refusal(OutOfTurn))));
+    assert_eq!((allowed(coming, &LIFT_DOWN), next(coming, &LIFT_DOWN)), (refusal(OutOfTurn), Err(told(OutOfTurn))));
     assert_eq!((allowed(coming, &belt), next(coming, &belt)), (TAKEN, Ok(coming)));
     // a belt beside the driver, who gives up before it is done
     assert_eq!((s.request(1, &belt), s.event(4), s.result(0, 0, 1), s.ask()), (taken_as(0), TAKEN, TAKEN, shown(START)));
@@ -72,10 +61,10 @@ fn drivers_take_their_time() {
     assert_eq!((s.image(parked, 0), s.event(4), s.event(2), s.event(3), s.ask()), (TAKEN, refusal(OutOfTurn), TAKEN, TAKEN, shown(START)));
     // a lift on its way keeps drivers out; a station that has both is none
     assert_eq!((s.request(1, &LIFT_DOWN), s.event(1), s.event(3)), (taken_as(1), refusal(SetOutstanding), refusal(SetOutstanding)));
-    let mut room = *s.bytes();
+    let mut room = s.0;
     room[6] |= 0x80;
-    let mut both = Station::from_bytes(room);
-    assert_eq!((both.result(1, 0, 1), both.event(3), both.ask()), (refusal(Unfit), refusal(Unfit), Err(refusal(Unfit))));
+    let mut both = Station(room);
+    assert_eq!((both.result(1, 0, 1), both.event(3), both.ask()), (refusal(Unfit), refusal(Unfit), Err(told(Unfit))));
     assert_eq!([coming, leaving, parked | 1 << 55, START | 3 << 55, coming | 1 << 53].map(sound), [true, true, false, false, false]);
 }
 
@@ -83,12 +72,12 @@ fn drivers_take_their_time() {
 /// waits is allowed on the record.
 #[test]
 fn the_set_of_a_handed_in_station() {
-    let holding = |record: u64, set: &[Five], answered| {
-        let mut room = *Station::start().bytes();
+    let holding = |record: u64, set: &[[u8; 5]], answered| {
+        let mut room = Station::start().0;
         room[..8].copy_from_slice(&record.to_le_bytes());
         room[8..10].copy_from_slice(&[set.len() as u8, answered]);
         room[10..10 + 5 * set.len()].copy_from_slice(&set.concat());
-        Station::from_bytes(room)
+        Station(room)
     };
     let (tilt, belt, turn) = ([3, 0, 3, 1, 0], [1, 1, 2, 0, 1], [5, 0, 0, 0, 0]);
     let overlapping = [(vec![tilt, tilt], 0), (vec![tilt, tilt], 1), (vec![tilt, belt, tilt], 4), (vec![tilt, belt, tilt], 5)];
@@ -98,7 +87,7 @@ fn the_set_of_a_handed_in_station() {
         let before = s.clone();
         // a result that failed and one that comes twice, an event that doesn't touch the set, an ask
         assert_eq!((s.result(65535, 1, 0), s.result(65535, 0, 1), s.event(1)), (refusal(Unfit), refusal(Unfit), refusal(Unfit)), "{set:?}");
-        assert_eq!((s.ask(), s.image(START, 0), s.request(1, &belt)), (Err(refusal(Unfit)), refusal(Unfit), refusal(Unfit)));
+        assert_eq!((s.ask(), s.image(START, 0), s.request(1, &belt)), (Err(told(Unfit)), refusal(Unfit), refusal(Unfit)));
         assert_eq!((s.message(&[2, 0, 5, 0]).0, s), (refusal(Unfit), before));
     }
     // the lift is down: that it may not go down again counts no more, since it is answered
@@ -125,9 +114,9 @@ fn results_of_another_set_are_told() {
 
 #[test]
 fn the_count_starts_over() {
-    let mut room = *Station::start().bytes();
+    let mut room = Station::start().0;
     room[50..52].copy_from_slice(&[0xFF, 0xFF]);
-    let mut s = Station::from_bytes(room);
+    let mut s = Station(room);
     assert_eq!((s.request(1, &LIFT_DOWN), s.result(65535, 0, 0)), (taken_as(65535), TAKEN));
     assert_eq!(s, Station::start());
     assert_eq!(s.request(1, &LIFT_DOWN), taken_as(0));
@@ -141,13 +130,13 @@ fn the_count_starts_over() {
 #[test]
 fn short_rooms_are_refused_and_long_ones_keep_their_rest() {
     let mut room = [0xEE; SIZE + 2];
-    let said = |room: &mut [u8]| Answer::of(unsafe { raw::station_start(room.as_mut_ptr(), room.len()) });
+    let said = |room: &mut [u8]| lent::station_start(room);
     assert_eq!(said(&mut room[..SIZE - 1]), refusal(NoRoom));
     assert_eq!(room, [0xEE; SIZE + 2]);
     assert_eq!(said(&mut room), TAKEN);
-    assert_eq!((&room[..SIZE], &room[SIZE..]), (&Station::start().bytes()[..], &[0xEE; 2][..]));
+    assert_eq!((&room[..SIZE], &room[SIZE..]), (&Station::start().0[..], &[0xEE; 2][..]));
     let mut image = [0xEE; 17];
-    let said = |image: &mut [u8]| Answer::of(unsafe { raw::station_ask(room.as_ptr(), room.len(), image.as_mut_ptr(), image.len()) });
+    let said = |image: &mut [u8]| lent::station_ask(&room, image);
     assert_eq!((said(&mut image[..15]), image), (refusal(NoRoom), [0xEE; 17]));
     assert_eq!((said(&mut image), image), (TAKEN, [0, 0, 0, 0, 0, 0x1B, 9, 0, 0, 0, 0, 0, 0, 0, 0, 0, 0xEE]));
 }
@@ -156,7 +145,7 @@ fn short_rooms_are_refused_and_long_ones_keep_their_rest() {
 fn no_bytes_may_be_at_null() {
     use std::ptr::{null, null_mut};
     let start = Station::start();
-    let mut room = *start.bytes();
+    let mut room = start.0;
     let (station, length, mut reply, mut eight) = (room.as_mut_ptr(), room.len(), [0xEE; REPLY_MOST], [0xEE; 8]);
     let five = [4, 2, 0, 0, 0];
     let (to, answer) = (eight.as_mut_ptr(), reply.as_mut_ptr());
@@ -187,7 +176,7 @@ fn no_bytes_may_be_at_null() {
         ]
     };
     assert_eq!(no_input.map(Answer::of), [EmptySet, TooMany, TooFewBytes, TooFewBytes, TooFewBytes, TooFewBytes].map(refusal));
-    assert_eq!((&room, eight, &reply[..9]), (start.bytes(), [0xEE; 8], &[6, 0, 128, 0, 1, 255, 0, 0, 0xEE][..]));
+    assert_eq!((&room, eight, &reply[..9]), (&start.0, [0xEE; 8], &[6, 0, 128, 0, 1, 255, 0, 0, 0xEE][..]));
 }
 
 #[test]
@@ -197,7 +186,7 @@ fn questions_on_a_record() {
     assert_eq!(cars(0x0049_1B00_0000_3C00), Some(2));
     assert_eq!(allowed(0x0049_1B00_0000_3C00, &[4, 0, 0, 0, 0]), refusal(OddCount));
     assert_eq!(allowed(START, &[4, 0, 1, 0, 0]), refusal(BadField));
-    assert_eq!((next(START, &[6, 0, 0, 0, 0]), next(START, &[4, 0, 0, 0, 0])), (Err(refusal(BadField)), Err(refusal(SameHeight))));
+    assert_eq!((next(START, &[6, 0, 0, 0, 0]), next(START, &[4, 0, 0, 0, 0])), (Err(told(BadField)), Err(told(SameHeight))));
     assert_eq!((allowed(START | 3, &[2, 0, 3, 0, 1]), next(START | 3, &[2, 0, 3, 0, 1])), (TAKEN, Ok(0x0009_1E00_0010_0000)));
 }
 
@@ -214,13 +203,11 @@ fn the_session_of_the_rules() {
 }
 
 #[test]
-#[should_panic(expected = "a number of the table")]
-fn an_answer_outside_the_table_is_none() {
-    Answer::of(14);
-}
-
-#[test]
 fn answers_in_words() {
+    let said = |all: &[&dyn ToString]| all.iter().map(|one| one.to_string()).collect::<Vec<_>>();
+    assert_eq!(said(&[&Outcome::Failed, &Outcome::Done, &Outcome::Stuck]), ["failed", "done", "stuck"]);
+    let events = said(&[&Event::BeginIn, &Event::BeginOut, &Event::EndedDone, &Event::EndedNotDone]);
+    assert_eq!(events, ["begin in", "begin out", "ended and done", "ended and not done"]);
     assert_eq!(TAKEN.to_string(), "0 (taken)");
     assert_eq!(refusal_at(OddCount, 2).to_string(), "24 (odd count: a car would be torn) at 2");
     assert_eq!(refusal(Late).to_string(), "29 (late: of a set before the present one)");
@@ -270,7 +257,7 @@ fn jams_are_set_apart() {
     assert_eq!((s.result(2, 0, 2), s.ask()), (TAKEN, Ok((tilted | 1 << 53, middle | 1 << 52 | 0xE700))));
     assert_eq!((s.event(1), s.event(2), s.event(3)), (refusal(SetApart), refusal(SetApart), refusal(OutOfTurn)));
     // in bytes too, and by a message
-    assert_eq!(s.bytes()[52..], (middle | 1 << 52 | 0xE700u64).to_le_bytes());
+    assert_eq!(s.0[52..], (middle | 1 << 52 | 0xE700u64).to_le_bytes());
     assert_eq!(s.message(&[3, 0, 2, 0, 1]), (refusal(SetApart), vec![6, 0, 128, 0, 32, 255, 0, 0]));
     // an image with a second number is refused, whatever it is; one without clears it
     let before = s.clone();
@@ -304,14 +291,14 @@ fn the_row_goes_on_beside_the_lift() {
 #[test]
 fn what_is_set_apart_in_a_handed_in_station() {
     let apart = |number: u64| {
-        let mut room = *Station::start().bytes();
+        let mut room = Station::start().0;
         room[52..].copy_from_slice(&number.to_le_bytes());
-        Station::from_bytes(room)
+        Station(room)
     };
     assert_eq!(apart((1 << 53) - 1).ask(), Ok((START, (1 << 53) - 1)));
     for bit in 53..64 {
         let mut s = apart(1 << bit);
-        assert_eq!((s.ask(), s.event(1), s.image(START, 0)), (Err(refusal(Unfit)), refusal(Unfit), refusal(Unfit)), "bit {bit}");
+        assert_eq!((s.ask(), s.event(1), s.image(START, 0)), (Err(told(Unfit)), refusal(Unfit), refusal(Unfit)), "bit {bit}");
     }
 }
 
@@ -321,7 +308,7 @@ fn each_reason_is_told() {
     let (basement, rotation) = (START | 2 << 53, START | 1 << 53);
     // on the left side: all three lowered; in row 3 a tilted one above a lowered one
     let (lowered, above) = (START ^ 1 << 42 ^ 1 << 48, START ^ 1 << 42 ^ 1 << 40);
-    let told = [
+    let reasons = [
         (START, [1, 2, 0, 0, 0], HalfMove),
         (START, [1, 3, 5, 0, 0], HalfMove),
         (START, [1, 3, 0, 0, 1], NothingNamed),
@@ -343,8 +330,8 @@ fn each_reason_is_told() {
         (START, [5, 0, 0, 0, 0], NotAtRotation),
         (rotation | 0b11 << 7, [5, 0, 0, 0, 0], CellsNotFree),
     ];
-    for (record, five, reason) in told {
+    for (record, five, reason) in reasons {
         assert!(sound(record));
-        assert_eq!((allowed(record, &five), next(record, &five)), (refusal(reason), Err(refusal(reason))), "{five:?}");
+        assert_eq!((allowed(record, &five), next(record, &five)), (refusal(reason), Err(told(reason))), "{five:?}");
     }
 }

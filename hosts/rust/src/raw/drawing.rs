@@ -1,6 +1,9 @@
 //! The entries for drawings as the archive has them (include/drawing.h).
+#![allow(dead_code)] // each program uses its own part of this module
 
-extern "C" {
+unsafe extern "C" {
+    /// Writes the drawing of a record.
     pub fn drawing_write(image: u64, text: *mut u8, text_length: usize) -> u32;
+    /// Reads a drawing, and writes its record.
     pub fn drawing_read(text: *const u8, text_length: usize, room: *mut u8, room_length: usize) -> u32;
 }

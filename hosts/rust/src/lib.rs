@@ -1,0 +1,56 @@
+//! A garage's station, proved: its calls and questions for a planner in Rust.
+//!
+//! A [`Station`] stands between an automated garage's planner and its motors. It keeps the [`Record`] of the garage, judges sets of
+//! [`Instruction`]s, takes the motors' results and the drivers' comings and goings, and changes its record only when a motor reports success
+//! or a driver begins or ends a drive. A [`Desk`] is a station that knows cars by their cards. [`plan::judge`] tries a whole plan before the
+//! day, [`Totals`] count what a station was sent, and [`message`] has the bytes for the program `bin/station`. What is called here is the
+//! proved code itself, linked statically; what the numbers of a [`Refusal`] mean, and what a planner does about them, is said in
+//! docs/PROTOCOL.md.
+//!
+//! # A planner takes it by path
+//!
+//! ```toml
+//! [dependencies]
+//! station = { path = "../vargsnida/hosts/rust" }
+//! ```
+//!
+//! The first build proves and builds the project, which takes some minutes and needs its toolchain (`rt`). With the environment variable
+//! STATION_LIB_DIR set to a folder with libstation.a, that archive is linked and no toolchain is needed.
+//!
+//! # A refusal, in words
+//!
+//! ```
+//! use station::{Event, Instruction, Number, Station};
+//! let mut station = Station::new();
+//! station.event(Event::BeginIn)?; // a driver is in the lift
+//! let down: Instruction = "lift basement".parse().unwrap();
+//! let refusal = station.request(&[down]).unwrap_err();
+//! assert_eq!(refusal.number, Number::OutOfTurn);
+//! assert_eq!(format!("{down}: {refusal}"), "lift basement: 31 (out of turn)");
+//! # Ok::<(), station::Refusal>(())
+//! ```
+
+mod answers;
+mod desk;
+mod fields;
+mod instruction;
+pub mod lent;
+pub mod message;
+mod numbers;
+mod places;
+pub mod plan;
+pub mod raw;
+mod record;
+mod station;
+mod totals;
+mod words;
+
+pub use answers::{Answer, Issue, Refusal};
+pub use desk::{Card, Desk};
+pub use fields::{Belt, Belts, Event, Height, Kind, Op, Orientation, Outcome, Row, Rows, Side, Size, Toward};
+pub use instruction::{Instruction, NoInstruction};
+pub use numbers::Number;
+pub use places::{Parts, Place, Whereabouts};
+pub use record::{Condition, Record};
+pub use station::Station;
+pub use totals::Totals;

@@ -1,0 +1,70 @@
+//! Places of the floor, and parts of it.
+
+use std::fmt;
+
+/// The bit of the lift, and of a car on it while it is raised.
+const LIFT: u8 = 52;
+
+/// Where a car is: over a cell, in row 1 over this one and the next; or on the raised lift.
+#[derive(Clone, Copy, Debug, PartialEq, Eq, Hash)]
+pub enum Place {
+    /// The cell where the car begins, 0 to 39 as in the record.
+    Cell(u8),
+    /// On the raised lift.
+    Raised,
+}
+
+impl Place {
+    pub(crate) fn of(bit: u8) -> Place { if bit == LIFT { Place::Raised } else { Place::Cell(bit) } }
+}
+
+impl fmt::Display for Place {
+    fn fmt(&self, f: &mut fmt::Formatter) -> fmt::Result {
+        match self {
+            Place::Cell(cell) => write!(f, "cell {cell}"),
+            Place::Raised => write!(f, "the raised lift"),
+        }
+    }
+}
+
+/// Where a card's car is.
+#[derive(Clone, Copy, Debug, PartialEq, Eq, Hash)]
+pub enum Whereabouts {
+    /// There, for sure.
+    At(Place),
+    /// Its last known place: since a jam a part of it is set apart, and somebody has to look.
+    LastKnown(Place),
+    /// No car in the garage has the number.
+    NotHere,
+}
+
+impl fmt::Display for Whereabouts {
+    fn fmt(&self, f: &mut fmt::Formatter) -> fmt::Result {
+        match self {
+            Whereabouts::At(place) => write!(f, "at {place}"),
+            Whereabouts::LastKnown(place) => write!(f, "last known at {place}"),
+            Whereabouts::NotHere => write!(f, "not here"),
+        }
+    }
+}
+
+/// Parts of the floor, a bit for each: 0 to 39 the cells, 40 to 51 the shuttles' slots as in the record, 52 the lift.
+#[derive(Clone, Copy, Debug, Default, PartialEq, Eq, Hash)]
+pub struct Parts(pub u64);
+
+impl Parts {
+    /// No part.
+    pub const NONE: Parts = Parts(0);
+
+    /// Whether there is none.
+    pub fn is_empty(self) -> bool { self == Parts::NONE }
+
+    /// Whether the part with this bit is one of them.
+    pub fn has(self, bit: u8) -> bool { bit < 64 && self.0 >> bit & 1 == 1 }
+
+    /// Whether the lift is one of them.
+    pub fn lift(self) -> bool { self.has(LIFT) }
+
+    /// The bits of all of them, from the lowest.
+    pub fn bits(self) -> impl Iterator<Item = u8> { (0..64).filter(move |&bit| self.has(bit)) }
+}
