@@ -6,6 +6,7 @@ One thread at a time calls on one Station, Desk or Totals. No call waits but a P
 from . import messages
 from .answers import Answer, Event, Number, Outcome, Refused
 from .calls import Desk, Station, Whereabouts
+from .entries import version
 from .messages import Held
 from .plans import Plan, Verdict, judge
 from .program import Ended, Program
@@ -16,5 +17,5 @@ from .words import Instruction, belts, instruction, lift, rotate, shuttles, tilt
 __all__ = [
     "Answer", "Condition", "Desk", "Ended", "Event", "Held", "Instruction", "Number", "Outcome", "Plan", "Program", "RAISED", "Record",
     "Refused", "START", "Station", "Totals", "Verdict", "Whereabouts", "belts", "instruction", "judge", "lift", "messages", "parts_of",
-    "rotate", "shuttles", "tilt",
+    "rotate", "shuttles", "tilt", "version",
 ]

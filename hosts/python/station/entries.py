@@ -5,7 +5,7 @@ import functools
 import operator
 import os
 from pathlib import Path
-from typing import List
+from typing import List, Tuple
 
 U8, U16, U32, U64, BOOL = ctypes.c_uint8, ctypes.c_uint16, ctypes.c_uint32, ctypes.c_uint64, ctypes.c_bool
 ROOM = (ctypes.POINTER(ctypes.c_uint8), ctypes.c_size_t)
@@ -14,6 +14,7 @@ BYTES = (ctypes.c_char_p, ctypes.c_size_t)
 """Bytes that are only read. Bytes are handed in, which nothing can write to meanwhile."""
 
 ENTRIES = {
+    "station_version": (U32, {}),
     "station_start": (U32, {"room": ROOM}),
     "station_request": (U32, {"room": ROOM, "count": U8, "set": BYTES}),
     "station_event": (U32, {"room": ROOM, "way": U8}),
@@ -25,6 +26,8 @@ ENTRIES = {
     "garage_cars": (U32, {"image": U64}),
     "garage_allowed": (U32, {"image": U64, "five": BYTES}),
     "garage_next": (U32, {"image": U64, "five": BYTES, "next": ROOM}),
+    "garage_area": (U32, {"five": BYTES, "area": ROOM}),
+    "garage_overlap": (U32, {"one": BYTES, "other": BYTES}),
     "desk_start": (U32, {"room": ROOM}),
     "desk_request": (U32, {"room": ROOM, "count": U8, "set": BYTES}),
     "desk_event": (U32, {"room": ROOM, "way": U8, "card": U32}),
@@ -96,3 +99,9 @@ def call(name: str, *values):
     if len(values) != len(parameters):
         raise TypeError(f"{name} takes {len(parameters)} values")
     return entry(name)(*(part for value, (at, kind) in zip(values, parameters.items()) for part in crossing(value, kind, at)))
+
+
+def version() -> Tuple[int, int, int]:
+    """The library's version. The first number moves where a caller must change something, the second where something was added."""
+    number = call("station_version")
+    return number >> 16, number >> 8 & 255, number & 255

@@ -3,6 +3,9 @@
 from dataclasses import dataclass
 from typing import Iterable, Optional, Sequence, Tuple, Union
 
+from .answers import Number, answer_of, taken
+from .entries import call
+
 # Numbers as the messages have them, by the places of their words.
 ROWS = ("1", "2", "3")
 BELTS_OF_ROW_1 = ("left-shuttle", "left", "lift", "right", "right-shuttle")
@@ -82,6 +85,20 @@ class Instruction:
         if op == 3:
             return f"tilt {SIDES[a]} row {b} {ORIENTATIONS[c]}"
         return f"lift {HEIGHTS[a]}" if op == 4 else "rotate"
+
+    def area(self) -> int:
+        """The places that it may read or write, whatever the record, a bit for each; `parts_of` lists them."""
+        room = bytearray(8)
+        taken("garage_area", self.five, room)
+        return int.from_bytes(room, "little")
+
+    def overlaps(self, other: "Said") -> bool:
+        """Whether the two have a place in common, and so can't stand in one set."""
+        answer = answer_of(call("garage_overlap", self.five, five_of(other)))
+        if answer.number is Number.OVERLAP:
+            return True
+        answer.checked()
+        return False
 
 
 def row_of(row: int) -> int:
