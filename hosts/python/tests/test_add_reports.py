@@ -69,6 +69,11 @@ class Added(unittest.TestCase):
             self.assertEqual(self.added(report), report)
             self.assertEqual(self.added(report, EMPTY), report)
 
+    def test_the_most_cars_are_the_largest(self):
+        for most in ((9, 30), (30, 9), (0, 7), (30, 30)):
+            reports = [EMPTY.replace("most-cars 0", f"most-cars {cars}") for cars in most]
+            self.assertEqual(self.added(*reports), EMPTY.replace("most-cars 0", f"most-cars {max(most)}"))
+
     def test_sums_pass_what_a_report_can_count(self):
         full = "".join(f"{name} 4294967295\n" for name in named(EMPTY))
         lines = named(self.added(full, full, full))
@@ -82,6 +87,7 @@ class Added(unittest.TestCase):
         for length in range(len(EMPTY)):
             if length % 25 == 0 or length > len(EMPTY) - 3:
                 self.assertIn("=report: not a report", self.refused(EMPTY[:length]))
+        self.assertIn("its last line has no end", self.refused(EMPTY[:-1]))
         lines = EMPTY.splitlines(keepends=True)
         wrong = [
             "".join(lines[:7] + lines[8:]), "".join([lines[1], lines[0], *lines[2:]]), EMPTY + "kind-1 0\n", EMPTY + "\n", EMPTY + EMPTY,
