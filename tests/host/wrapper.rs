@@ -142,6 +142,24 @@ pub fn next(image: u64, five: &Five) -> Result<u64, Answer> {
     if_taken(said, u64::from_le_bytes(after))
 }
 
+/// The bits of the record that an instruction may read or write: two overlap exactly if they share one.
+pub fn area(five: &Five) -> Result<u64, Answer> {
+    let mut area = [0; 8];
+    let said = unsafe { raw::garage_area(five.as_ptr(), five.len(), area.as_mut_ptr(), area.len()) };
+    if_taken(said, u64::from_le_bytes(area))
+}
+
+/// What a set of these two is told so far as they alone decide.
+pub fn overlap(one: &Five, other: &Five) -> Answer {
+    Answer::of(unsafe { raw::garage_overlap(one.as_ptr(), one.len(), other.as_ptr(), other.len()) })
+}
+
+/// The archive's version, its three numbers.
+pub fn version() -> [u8; 3] {
+    let [third, second, first, _] = unsafe { raw::station_version() }.to_le_bytes();
+    [first, second, third]
+}
+
 #[cfg(test)]
 #[path = "wrapper_tests.rs"]
 mod tests;
