@@ -224,8 +224,8 @@ fn questions_for_building_sets() {
 #[test]
 fn the_archive_is_of_the_headers_version() {
     let header = include_str!("../../include/station.h");
-    let number = |name: &str| header.lines().find_map(|line| line.strip_prefix("#define STATION_VERSION_")?.strip_prefix(name)?.trim().parse().ok());
-    assert_eq!(version().map(Some), ["FIRST", "SECOND", "THIRD"].map(number));
+    let number = |name: &str| header.lines().find_map(|line| line.strip_prefix("#define STATION_VERSION_")?.strip_prefix(name)?.parse().ok());
+    assert_eq!(version().map(Some), ["FIRST ", "SECOND ", "THIRD "].map(number));
 }
 
 #[test]

@@ -89,4 +89,5 @@ readArea room = fromLittleEndian 8 0 room
 abbrev pub PairByAreas : Type 0
 PairByAreas =
     (one other room room' : List ℕ) → areaInto one room .says % 256 ≡ 0 → areaInto other room' .says % 256 ≡ 0
-    → pairAnswer one other ≡ cond (eqb (bitAnd (readArea (areaInto one room .leaves)) (readArea (areaInto other room' .leaves))) 0) Taken (Overlap 1)
+    → let shared = bitAnd (readArea (areaInto one room .leaves)) (readArea (areaInto other room' .leaves)) in
+    pairAnswer one other ≡ cond (eqb shared 0) Taken (Overlap 1)
