@@ -250,8 +250,8 @@ uint32_t garage_next(uint64_t image, const uint8_t *five, size_t five_length, ui
 /* ---- questions for building sets: areas are the same on every record, so none is given. What stands past five bytes is not looked at */
 
 /* Writes the eight bytes of the instruction's area to `area`, the lowest first, in the record's own bits; the lift is bits 52 to 54. Two
- * instructions overlap exactly if their areas share a bit, and one touches what is set apart exactly if its area and the number that shows it
- * do. 17 where `area` is too short, then 1, 4, with STATION_NOWHERE as the place. */
+ * instructions overlap exactly if their areas share a bit, and one touches what is set apart exactly if its area shares a bit with the number
+ * that shows it. 17 where `area` is too short, then 1, 4, with STATION_NOWHERE as the place. */
 uint32_t garage_area(const uint8_t *five, size_t five_length, uint8_t *area, size_t area_length);
 
 /* Whether the two may not stand in one set, as a request of these two in this order would be told so far as the instructions alone decide:
