@@ -9,7 +9,8 @@
  * sends it sets of up to eight instructions; the station accepts a set or says why not, and changes its record only when an
  * instruction is reported done. It is told when a driver begins to drive in or out and how that ended; in between nothing may move the
  * lift. What is reported stuck is set apart: nothing may be run into it until somebody has looked. The entries below are proved to answer
- * what the definitions in crates/station_c/specs (Entries.antt and Sets.antt) say, on every input; nothing proves this header or its caller right, so:
+ * what the definitions in crates/station_c/specs (Entries.antt, Sets.antt) say, on every input; nothing proves this header or its caller
+ * right, so:
  *
  * What the caller must see to
  *   - Each pointer goes with the length that follows it, and is valid for that many bytes: to read where it is `const`, to read and
@@ -253,9 +254,9 @@ uint32_t garage_next(uint64_t image, const uint8_t *five, size_t five_length, ui
 
 /* ---- questions for building sets: areas are the same on every record, so none is given. What stands past five bytes is not looked at */
 
-/* Writes the eight bytes of the instruction's area to `area`, the lowest first: the bits of the record that it may read or write. The lift is
- * bits 52 to 54. Two instructions overlap exactly if their areas share a bit. 17 where `area` is too short, then 1, 4, with STATION_NOWHERE as
- * the place. */
+/* Writes the eight bytes of the instruction's area to `area`, the lowest first, in the record's own bits; the lift is bits 52 to 54. Two
+ * instructions overlap exactly if their areas share a bit, and one touches what is set apart exactly if its area shares a bit with the number
+ * that shows it. 17 where `area` is too short, then 1, 4, with STATION_NOWHERE as the place. */
 uint32_t garage_area(const uint8_t *five, size_t five_length, uint8_t *area, size_t area_length);
 
 /* Whether the two may not stand in one set, as a request of these two in this order would be told so far as the instructions alone decide:
@@ -265,7 +266,8 @@ uint32_t garage_overlap(const uint8_t *one, size_t one_length, const uint8_t *ot
 
 /* ---- the version */
 
-/* The archive's version: 65536 times its first number, 256 times its second, and its third. A caller may hold it against STATION_VERSION. */
+/* The archive's version: 65536 times its first number, 256 times its second, and its third. A caller may hold it against
+ * STATION_VERSION. */
 uint32_t station_version(void);
 
 #ifdef __cplusplus

@@ -154,8 +154,8 @@ static void compare_plain(const struct command *command, unsigned places) {
 
 /* ---- questions for building sets */
 
-/* They are asked beside other calls, on the same bytes: beside a question on an instruction for its area; beside a request whether its first
- * instruction and what stands behind it may stand in one set; beside a start for the version. */
+/* They are asked beside other calls, on the same bytes: beside a question on an instruction for its area; beside a request whether its
+ * first instruction and what stands behind it may stand in one set; beside a start for the version. */
 static void compare_sets(const struct command *command, unsigned places) {
     uint8_t other[RUN_MOST], out[RUN_MOST];
     struct command asked = *command;

@@ -1,5 +1,5 @@
-//! How much can go beside what, by the station's own archive: `beside RECORDS PAGE`. Every two of the 272 well-formed instructions are asked for in
-//! one set, in either order: they must be told 8 at the second exactly if the reference's areas share a part. Counted are those that overlap,
+//! How much can go beside what, by the station's own archive: `beside RECORDS PAGE`. Every two of the 272 well-formed instructions are
+//! asked for in one set, in either order: they must be told 8 at the second exactly if the reference's areas share a part. Counted are those that overlap,
 //! and those that would if a lift run had all of row 1 in its area, as it had once. Then the same on so many sound records, of the two that
 //! each allows: they must be taken exactly if their areas share nothing; and with a lift run, their results in either order must be, and leave
 //! the same station. And the page's table of which kinds go together must say what the archive does (together.rs).

@@ -7,7 +7,8 @@ pub type Five = [u8; 5];
 
 /// The kinds as the table names them, its rows and its first columns; the last column is for two that have different sides.
 const KINDS: [&str; 10] = [
-    "belts 1", "belts 1, lift's too", "belts 2", "belts 3", "shuttles lowered", "shuttles tilted", "tilt from lowered", "tilt from tilted", "lift", "rotate",
+    "belts 1", "belts 1, lift's too", "belts 2", "belts 3",
+    "shuttles lowered", "shuttles tilted", "tilt from lowered", "tilt from tilted", "lift", "rotate",
 ];
 const OTHER_SIDE: &str = "of the other side";
 
@@ -25,8 +26,8 @@ fn kind(five: &Five) -> Option<usize> {
 
 fn side(five: &Five) -> Option<u8> { matches!(five[0], 2 | 3).then_some(five[1]) }
 
-/// The rows that an instruction takes at a side: belts their row, where they name that side's shuttle belt; shuttles the rows that they name
-/// and those one on; a tilt its row.
+/// The rows that an instruction takes at a side: belts their row, where they name that side's shuttle belt; shuttles the rows that they
+/// name and those one on; a tilt its row.
 fn rows(five: &Five, at: u8) -> u8 {
     match *five {
         [1, row, mask, ..] => (mask >> if at == 0 { 0 } else if row == 1 { 4 } else { 2 } & 1) << (row - 1),
@@ -75,12 +76,12 @@ fn table(page: &str) -> BTreeMap<(String, String), String> {
     let mut lines = page.lines().skip_while(|line| !line.starts_with("| goes with |"));
     let columns = cells(lines.next().expect("the page has a table of what goes with what"));
     let rows = lines.skip(1).take_while(|line| line.starts_with('|')).map(cells);
-    rows.flat_map(|row| {
+    let mut told = BTreeMap::new();
+    for row in rows {
         assert_eq!(row.len(), columns.len(), "{row:?}");
-        let named: Vec<_> = columns[1..].iter().zip(&row[1..]).map(|(column, cell)| ((row[0].clone(), column.clone()), cell.clone())).collect();
-        named
-    })
-    .collect()
+        told.extend(columns[1..].iter().zip(&row[1..]).map(|(column, cell)| ((row[0].clone(), column.clone()), cell.clone())));
+    }
+    told
 }
 
 /// Holds the page's table against the answers; says how many pairs were asked for.

@@ -41,8 +41,8 @@ shared i j true wi wj e = rw (wi, wj, share-either (areaOf i) (areaOf j), e)
 shared i j false wi wj e = rw (wi, wj, share-either (areaOf i) (areaOf j), e)
 
 -- the least bad one
-four : (f : ℕ → Bool) (p : ℕ) (g h : Reading) → IsLeast 2 f p → f 0 ≡ not (onCode (λ i. true) false g) → f 1 ≡ not (onCode (λ i. true) false h)
-    → told g h ≡ BadField p
+four : (f : ℕ → Bool) (p : ℕ) (g h : Reading) → IsLeast 2 f p → f 0 ≡ not (onCode (λ i. true) false g)
+    → f 1 ≡ not (onCode (λ i. true) false h) → told g h ≡ BadField p
 four f zero Bad h l a b = refl
 four f zero (Good i) h l a b = clash (l .passes) a
 four f (suc zero) Bad h l a b = clash a (l .none 0 (omega arith))
@@ -103,7 +103,8 @@ module _ (one other : List ℕ) (h : length one ≡ 5) (k : 5 ≤ length other) 
   unfolding heldArea
   sharing = ap₂ (λ (y x : Code). share (onCode areaOf [] (readCode y)) (onCode areaOf [] (readCode x))) second first
 
-  overlapping : overlapsEarlier (one ++ other) 1 ≡ share (onCode areaOf [] (readCode (codeFrom other))) (onCode areaOf [] (readCode (codeFrom one)))
+  overlapping : overlapsEarlier (one ++ other) 1
+      ≡ share (onCode areaOf [] (readCode (codeFrom other))) (onCode areaOf [] (readCode (codeFrom one)))
   unfolding overlapsEarlier some
   overlapping = or-false (share (heldArea (codeAt (one ++ other) 1)) (heldArea (codeAt (one ++ other) 0))) ∙ sharing
 
@@ -111,7 +112,8 @@ module _ (one other : List ℕ) (h : length one ≡ 5) (k : 5 ≤ length other) 
   unfolding overlapsEarlier some
   none-before = refl
 
-  good-at : (i : ℕ) (x : Code) → codeAt (one ++ other) i ≡ x → isGood (codeAt (one ++ other) i) ≡ true → onCode (λ i. true) false (readCode x) ≡ true
+  good-at : (i : ℕ) (x : Code) → codeAt (one ++ other) i ≡ x → isGood (codeAt (one ++ other) i) ≡ true
+      → onCode (λ i. true) false (readCode x) ≡ true
   unfolding isGood
   good-at i x e g = ap (λ (c : Code). onCode (λ i. true) false (readCode c)) (sym e) ∙ g
 
@@ -125,9 +127,11 @@ pair-is-request s one other h k =
     let at-0 = first one other h k in
     let at-1 = second one other h k in (
       λ e. said-so
-          ∙ four (bad (one ++ other)) p (readCode x) (readCode y) (right .0 e) (bad-at one other h k 0 x at-0) (bad-at one other h k 1 y at-1),
+          ∙ four (bad (one ++ other)) p (readCode x) (readCode y) (right .0 e) (bad-at one other h k 0 x at-0)
+          (bad-at one other h k 1 y at-1),
       λ e. said-so
-          ∙ eight x y (overlapsEarlier (one ++ other)) p (readCode x) (readCode y) refl refl (right .2 e) (none-before one other h k) (overlapping one other h k),
+          ∙ eight x y (overlapsEarlier (one ++ other)) p (readCode x) (readCode y) refl refl (right .2 e) (none-before one other h k)
+          (overlapping one other h k),
       λ e. let a = accepted-exactly s 2 (one ++ other) .0 .0 e in
           said-so
           ∙ zero-said x y (readCode x) (readCode y) refl refl

@@ -1,11 +1,11 @@
 -- The promises of the questions for building sets: which of two stands first makes no difference to the number, and two overlap exactly if
--- the areas that are written share a bit. Assumes nothing.
+-- the areas that are written share a bit; and what is set apart is touched by the area. Assumes nothing.
 use mathlib.Core.Path.{_≡_, refl, sym, ap, ap₂, _∙_}
 use mathlib.Core.Bool.{Bool, true, false, not, cond, _||_, and-comm}
-use mathlib.Core.List.{List}
-use Prim.Native.Nat.{ℕ, _%_}
+use mathlib.Core.List.{List, []}
+use Prim.Native.Nat.{ℕ, _%_, _^_, _<_}
 use native.Mathlib.Omega.{arith}
-use lib.Bits.{bitAnd}
+use lib.Bits.{bitAnd, and-mask, and-mod, and-le-r}
 use lib.Dec.{eqb, ltb}
 use lib.ListN.{length, drop}
 use Rattle.bits.specs.Bits.{image}
@@ -28,10 +28,13 @@ use Rattle.rules.specs.Codes.{readCode, readBytes, codeFrom}
 use Rattle.rules.specs.Verdicts.{onCode, maskOf, sharingOf}
 use Rattle.rules.proofs.CodeLaws.{one-form}
 use Rattle.rules.proofs.Frame.{area-small}
+use Rattle.garage.specs.Held.{codeAt, heldArea}
+use Rattle.garage.specs.Private.{heldMask}
+use Rattle.garage.proofs.Areas.{partsMask, touching}
 use Rattle.wire_laws.proofs.Numbers.{image-reads-back}
 use Rattle.station_c.specs.Entries.{writes}
 use Rattle.station_c.specs.Sets.{areaIn, areaAnswer, areaInto, sharingSaid, pairAnswer}
-use Rattle.station_c.specs.Promises.{readArea, PairEitherWay, PairByAreas}
+use Rattle.station_c.specs.Promises.{readArea, PairEitherWay, PairByAreas, TouchesByArea}
 
 -- ---- in either order
 
@@ -122,3 +125,25 @@ pair-by-areas one other room room' h k =
     let v = written one room h in
     let w = written other room' k in
     rw (v .enough, w .enough, v .says, w .says, v .number, w .number) (shared (v .one) (w .one) (v .formed) (w .formed))
+
+-- ---- what is set apart
+
+-- a number with no bit above the lift's sees the parts of a mask only
+below : (m apart : ℕ) → apart < 2 ^ 53 → bitAnd (bitAnd m partsMask) apart ≡ bitAnd m apart
+below m apart h =
+    let low : apart ≡ apart % 2 ^ 53 = omega arith in
+    let all : bitAnd m apart % 2 ^ 53 ≡ bitAnd m apart = omega (arith, and-le-r m apart) in
+    ap (λ (y : ℕ). bitAnd y apart) (and-mask m 53) ∙ ap (bitAnd (m % 2 ^ 53)) low ∙ sym (and-mod m apart 53) ∙ all
+
+-- the mask that the station has of an instruction is its area
+held-so : (five : List ℕ) (i : Instruction) → readCode (codeFrom five) ≡ Good i → image (area i) ≡ heldMask (codeFrom five)
+unfolding heldMask heldArea area
+held-so five i e = ap (λ (g : Reading). image (λ k. elem k (onCode areaOf [] g))) (sym e)
+
+pub touches-by-area : TouchesByArea
+unfolding codeAt
+touches-by-area five room apart low h =
+    let v = written five room h in
+    touching five apart 0 {m = image (area (v .one))} {x = codeFrom five} refl (held-so five (v .one) (read-code five (v .enough) (v .says)))
+    ∙ ap (λ (y : ℕ). not (eqb y 0)) (below (image (area (v .one))) apart low)
+    ∙ ap (λ (y : ℕ). not (eqb (bitAnd y apart) 0)) (sym (v .number))

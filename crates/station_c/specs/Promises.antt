@@ -1,6 +1,6 @@
 -- What is promised of lent stations, and of answers as numbers. Proved in proofs/Promises.antt. Assumes nothing.
 use mathlib.Core.Path.{_≡_}
-use mathlib.Core.Bool.{cond}
+use mathlib.Core.Bool.{not, cond}
 use mathlib.Core.List.{List, _++_}
 use Prim.Native.Nat.{ℕ, _/_, _%_, _^_, _≤_, _<_}
 use lib.Bits.{bitAnd}
@@ -11,6 +11,7 @@ use Rattle.answers.specs.declared.Answer.the-variants.{Taken, Overlap}
 use Rattle.answers.specs.Answers.{numberOf, OfTable, placeOf, issueOf}
 use Rattle.garage.specs.declared.Station.{Station}
 use Rattle.garage.specs.declared.Outcome.{Outcome}
+use Rattle.garage.specs.Held.{touches}
 use Rattle.wire.specs.Kinds.{fromLittleEndian}
 use Rattle.wire_laws.specs.Statements.{Bytes}
 use Rattle.station_c.specs.Entries.{stationSize, stationBytes, stationOf, returned, entry, asking, exchange, judgement, nexting}
@@ -89,4 +90,12 @@ readArea room = fromLittleEndian 8 0 room
 abbrev pub PairByAreas : Type 0
 PairByAreas =
     (one other room room' : List ℕ) → areaInto one room .says % 256 ≡ 0 → areaInto other room' .says % 256 ≡ 0
-    → pairAnswer one other ≡ cond (eqb (bitAnd (readArea (areaInto one room .leaves)) (readArea (areaInto other room' .leaves))) 0) Taken (Overlap 1)
+    → let shared = bitAnd (readArea (areaInto one room .leaves)) (readArea (areaInto other room' .leaves)) in
+    pairAnswer one other ≡ cond (eqb shared 0) Taken (Overlap 1)
+
+-- and an instruction touches a part that is set apart exactly if its area and the number that shows these share a bit; no fit station's
+-- number has one above the lift's
+abbrev pub TouchesByArea : Type 0
+TouchesByArea =
+    (five room : List ℕ) (apart : ℕ) → apart < 2 ^ 53 → areaInto five room .says % 256 ≡ 0
+    → touches five apart 0 ≡ not (eqb (bitAnd (readArea (areaInto five room .leaves)) apart) 0)

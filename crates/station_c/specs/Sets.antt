@@ -49,8 +49,8 @@ sharingSaid Sharing.Overlap = Overlap 1
 sharingSaid Apart = Taken
 sharingSaid Sharing.IllFormed = BadField 0
 
--- what a request of these two, in this order, is told so far as they alone decide: 1 where either has too few bytes, 4 with the place of the
--- first that says no instruction, 8 where they overlap
+-- what a request of these two, in this order, is told so far as they alone decide: 1 where either has too few bytes, 4 with the place of
+-- the first that says no instruction, 8 where they overlap
 unfoldable pub pairAnswer : List ℕ → List ℕ → Answer
 pairAnswer one other =
     cond (ltb (length one) 5 || ltb (length other) 5) TooFewBytes

@@ -162,9 +162,11 @@ fn no_bytes_may_be_at_null() {
             raw::station_message(station, length, null(), 0, null_mut(), 0),
             raw::garage_next(START, null(), 0, null_mut(), 0),
             raw::garage_next(START, five.as_ptr(), five.len(), null_mut(), 0),
+            raw::garage_area(null(), 0, null_mut(), 0),
+            raw::garage_area(five.as_ptr(), five.len(), null_mut(), 0),
         ]
     };
-    assert_eq!(no_station.map(Answer::of), [refusal(NoRoom); 11]);
+    assert_eq!(no_station.map(Answer::of), [refusal(NoRoom); 13]);
     let no_input = unsafe {
         [
             raw::station_request(station, length, 0, null(), 0),
@@ -173,9 +175,13 @@ fn no_bytes_may_be_at_null() {
             raw::station_message(station, length, null(), 0, answer, REPLY_MOST),
             raw::garage_allowed(START, null(), 0),
             raw::garage_next(START, null(), 0, to, 8),
+            raw::garage_area(null(), 0, to, 8),
+            raw::garage_overlap(null(), 0, five.as_ptr(), five.len()),
+            raw::garage_overlap(five.as_ptr(), five.len(), null(), 0),
         ]
     };
-    assert_eq!(no_input.map(Answer::of), [EmptySet, TooMany, TooFewBytes, TooFewBytes, TooFewBytes, TooFewBytes].map(refusal));
+    let [empty, many, few @ ..] = no_input.map(Answer::of);
+    assert_eq!((empty, many, few), (refusal(EmptySet), refusal(TooMany), [refusal(TooFewBytes); 7]));
     assert_eq!((&room, eight, &reply[..9]), (&start.0, [0xEE; 8], &[6, 0, 128, 0, 1, 255, 0, 0, 0xEE][..]));
 }
 
@@ -188,6 +194,27 @@ fn questions_on_a_record() {
     assert_eq!(allowed(START, &[4, 0, 1, 0, 0]), refusal(BadField));
     assert_eq!((next(START, &[6, 0, 0, 0, 0]), next(START, &[4, 0, 0, 0, 0])), (Err(told(BadField)), Err(told(SameHeight))));
     assert_eq!((allowed(START | 3, &[2, 0, 3, 0, 1]), next(START | 3, &[2, 0, 3, 0, 1])), (TAKEN, Ok(0x0009_1E00_0010_0000)));
+}
+
+/// Areas are in the record's own bits, the lift is 52 to 54; of two that can't stand in one set the second is told.
+#[test]
+fn questions_for_building_sets() {
+    const BAD: Five = [4, 3, 0, 0, 0];
+    assert_eq!(area(&LIFT_DOWN), Ok(7 << 52 | 3 << 11));
+    assert_eq!(area(&[2, 1, 1, 1, 1]), Ok(3 << 49), "the tilted slots of rows 1 and 2, on the right");
+    assert_eq!(area(&[1, 2, 0, 0, 1]), Ok(0), "no belt is named");
+    assert_eq!(area(&BAD), Err(refusal(BadField)));
+    assert_eq!(overlap(&LIFT_DOWN, &TO_THE_LEFT), refusal_at(Overlap, 1));
+    assert_eq!(overlap(&LIFT_DOWN, &[1, 1, 2, 0, 0]), TAKEN);
+    assert_eq!((overlap(&BAD, &LIFT_DOWN), overlap(&LIFT_DOWN, &BAD)), (refusal_at(BadField, 0), refusal_at(BadField, 1)));
+    assert_eq!(overlap(&BAD, &BAD), refusal_at(BadField, 0));
+}
+
+#[test]
+fn the_archive_is_of_the_headers_version() {
+    let header = include_str!("../../../include/station.h");
+    let number = |name: &str| header.lines().find_map(|line| line.strip_prefix("#define STATION_VERSION_")?.strip_prefix(name)?.parse().ok());
+    assert_eq!(version().map(Some), ["FIRST ", "SECOND ", "THIRD "].map(number));
 }
 
 #[test]
