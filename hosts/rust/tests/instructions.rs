@@ -56,6 +56,25 @@ fn instructions_in_words() {
     for (line, why) in wrong { assert_eq!(line.parse::<Instruction>().expect_err(line).to_string(), why); }
 }
 
+/// Each belt by its own word, in the rows that have it.
+#[test]
+fn belts_by_their_words() {
+    let row_1 = [
+        ("left-shuttle", Belt::LeftShuttle),
+        ("left", Belt::Left),
+        ("lift", Belt::Lift),
+        ("right", Belt::Right),
+        ("right-shuttle", Belt::RightShuttle),
+    ];
+    let others = [("left-shuttle", Belt::LeftShuttle), ("middle", Belt::Middle), ("right-shuttle", Belt::RightShuttle)];
+    for (row, belts) in [(Row::One, &row_1[..]), (Row::Two, &others), (Row::Three, &others)] {
+        for &(word, belt) in belts {
+            let line = format!("belts row {} {word}, higher, half", row.byte());
+            assert_eq!(line.parse(), Ok(Instruction::Belts { row, belts: belt.into(), toward: Toward::Higher, size: Size::Half }), "{line}");
+        }
+    }
+}
+
 /// A belt that the row doesn't have: the station says so, and there are no words for it.
 #[test]
 fn a_belt_of_another_row() {
