@@ -8,6 +8,8 @@ use std::{env, fs};
 
 const ARCHIVE: &str = "libstation.a";
 const FOLDER: &str = "STATION_LIB_DIR";
+/// What to do where the project's own archive can't be had.
+const INSTEAD: &str = "set STATION_LIB_DIR to a folder with libstation.a";
 
 fn main() {
     println!("cargo:rerun-if-changed=build.rs");
@@ -35,9 +37,9 @@ fn lent(folder: &Path) -> PathBuf {
 fn built() -> PathBuf {
     let root = PathBuf::from(env::var_os("CARGO_MANIFEST_DIR").expect("cargo says where this stands")).join("../..");
     let script = root.join("tools/library");
-    assert!(script.is_file(), "{} isn't there: take the crate within its project, or set {FOLDER} to a folder with {ARCHIVE}", script.display());
+    assert!(script.is_file(), "{} isn't there: take the crate within its project, or {INSTEAD}", script.display());
     let machine = env::var("CARGO_CFG_TARGET_ARCH").expect("cargo says for which machine");
-    assert!(machine == env::consts::ARCH, "tools/library builds for this machine, not for {machine}: set {FOLDER} to a folder with {ARCHIVE}");
+    assert!(machine == env::consts::ARCH, "tools/library builds for this machine, not for {machine}: {INSTEAD}");
     for source in ["crates", "crates.txt", "tools/library", "tools/native"] {
         println!("cargo:rerun-if-changed={}", root.join(source).display());
     }
@@ -46,10 +48,10 @@ fn built() -> PathBuf {
     let before = written(&archive);
     let ran = Command::new(&script).arg(&folder).output().unwrap_or_else(|why| panic!("tools/library can't be run: {why}"));
     if !ran.status.success() {
-        let told = String::from_utf8_lossy(&ran.stderr);
-        let rt = Command::new("rt").arg("doc").output().is_ok();
-        let missing = if rt { "" } else { " The Rattle toolchain's command rt is not on the path, and without it nothing can be proved or built." };
-        panic!("tools/library failed.{missing} With {FOLDER} set to a folder with {ARCHIVE} neither is needed. It told:\n{}", told.trim_end());
+        if Command::new("rt").arg("doc").output().is_err() {
+            panic!("the station is to be built, and the Rattle toolchain's command rt is not on the path: put it there, or {INSTEAD}");
+        }
+        panic!("tools/library failed: mend what it tells, or {INSTEAD}\n{}", String::from_utf8_lossy(&ran.stderr).trim_end());
     }
     if written(&archive) != before {
         println!("cargo:warning=the station was proved and built first, which takes minutes; from now on this is quick");

@@ -1,5 +1,5 @@
-//! Talks to the program over a pipe: `cargo run --example pipe -- ../../bin/station`. A driver comes in, and the record is asked for; what is
-//! sent and what is answered is printed.
+//! Talks to the program over a pipe: `cargo run --example pipe -- ../../bin/station`. A driver comes in, and the record is asked for; what
+//! is sent and what is answered is printed.
 
 use station::message::{Message, Reply};
 use station::{Event, Instruction};

@@ -55,7 +55,8 @@ fn main() -> Result<(), Box<dyn Error>> {
     desk.event(Event::EndedDone, None)?;
 
     let plan = Plan { start: desk.record(), wish: Wish::WithACar, sets: [park.clone(), fetch.clone()].concat() };
-    println!("a plan of {} sets: {}", plan.sets.len(), judge(&plan).map_or_else(|refusal| refusal.to_string(), |()| "accepted".to_string()));
+    judge(&plan)?;
+    println!("a plan of {} sets is accepted", plan.sets.len());
 
     let (last, before) = park.split_last().expect("there are sets");
     for set in before { run(&mut desk, set, Outcome::Done)?; }

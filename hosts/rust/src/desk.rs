@@ -60,8 +60,8 @@ impl Desk {
         lent::desk_request(&mut self.0, count_of(set), &bytes_of(set)).issued()
     }
 
-    /// A drive begins or ends, as [`Station::event`]; a begin of a drive-in brings its card, and is told 37 where there is none or its number
-    /// is 0, 38 where a car in the garage has it. With any other event the card isn't looked at.
+    /// A drive begins or ends, as [`Station::event`]; a begin of a drive-in brings its card, and is told 37 where there is none or its
+    /// number is 0, 38 where a car in the garage has it. With any other event the card isn't looked at.
     pub fn event(&mut self, event: Event, card: Option<Card>) -> Result<(), Refusal> {
         lent::desk_event(&mut self.0, event.byte(), card.map_or(0, |card| card.0)).into_result()
     }
@@ -71,8 +71,8 @@ impl Desk {
         lent::desk_result(&mut self.0, issue.0, number, outcome.byte()).into_result()
     }
 
-    /// An image as the record, as [`Station::image`], with the cards of its cars in the order of [`Record::places`], and after them that of a
-    /// drive-in under way: 6, 15, then 39, 37, 38.
+    /// An image as the record, as [`Station::image`], with the cards of its cars in the order of [`Record::places`], and after them that of
+    /// a drive-in under way: 6, 15, then 39, 37, 38.
     pub fn image(&mut self, image: Record, cards: &[Card]) -> Result<(), Refusal> {
         let bytes: Vec<u8> = cards.iter().flat_map(|card| card.0.to_le_bytes()).collect();
         lent::desk_image(&mut self.0, image.0, 0, count_of(cards), &bytes).into_result()

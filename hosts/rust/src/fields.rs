@@ -221,7 +221,9 @@ macro_rules! set {
         }
 
         impl FromIterator<$case> for $name {
-            fn from_iter<I: IntoIterator<Item = $case>>(all: I) -> $name { $name(all.into_iter().fold(0, |bits, one| bits | 1 << one as u8)) }
+            fn from_iter<I: IntoIterator<Item = $case>>(all: I) -> $name {
+                $name(all.into_iter().fold(0, |bits, one| bits | 1 << one as u8))
+            }
         }
 
         impl<const N: usize> From<[$case; N]> for $name {

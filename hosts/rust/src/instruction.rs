@@ -9,12 +9,14 @@ use std::str::FromStr;
 /// What a planner asks of the motors. In words as the texts of plans and of the panel have it:
 ///
 /// ```
-/// use station::{Belt, Instruction, Row, Size, Toward};
+/// use station::{Belt, Belts, Instruction, Row, Size, Toward};
 /// let right: Instruction = "belts row 1 left lift, higher, full".parse()?;
-/// assert_eq!(right, Instruction::Belts { row: Row::One, belts: [Belt::Left, Belt::Lift].into(), toward: Toward::Higher, size: Size::Full });
+/// let belts = Belts::from([Belt::Left, Belt::Lift]);
+/// assert_eq!(right, Instruction::Belts { row: Row::One, belts, toward: Toward::Higher, size: Size::Full });
 /// assert_eq!(right.five(), [1, 1, 6, 1, 1]);
 /// assert_eq!(right.to_string(), "belts row 1 left lift, higher, full");
-/// assert_eq!("lift cellar".parse::<Instruction>().unwrap_err().to_string(), "expected `street`, `rotation` or `basement`, found `cellar`");
+/// let wrong = "lift cellar".parse::<Instruction>().unwrap_err();
+/// assert_eq!(wrong.to_string(), "expected `street`, `rotation` or `basement`, found `cellar`");
 /// # Ok::<(), station::NoInstruction>(())
 /// ```
 #[derive(Clone, Copy, Debug, PartialEq, Eq, Hash)]

@@ -1,11 +1,11 @@
 //! A garage's station, proved: its calls and questions for a planner in Rust.
 //!
 //! A [`Station`] stands between an automated garage's planner and its motors. It keeps the [`Record`] of the garage, judges sets of
-//! [`Instruction`]s, takes the motors' results and the drivers' comings and goings, and changes its record only when a motor reports success
-//! or a driver begins or ends a drive. A [`Desk`] is a station that knows cars by their cards. [`plan::judge`] tries a whole plan before the
-//! day, [`Totals`] count what a station was sent, and [`message`] has the bytes for the program `bin/station`. What is called here is the
-//! proved code itself, linked statically; what the numbers of a [`Refusal`] mean, and what a planner does about them, is said in
-//! docs/PROTOCOL.md.
+//! [`Instruction`]s, takes the motors' results and the drivers' comings and goings, and changes its record only when a motor reports
+//! success or a driver begins or ends a drive. A [`Desk`] is a station that knows cars by their cards. [`plan::judge`] tries a whole plan
+//! before the day, [`Totals`] count what a station was sent, and [`message`] has the bytes for the program `bin/station`. What is called
+//! here is the proved code itself, linked statically; what the numbers of a [`Refusal`] mean, and what a planner does about them, is said
+//! in docs/PROTOCOL.md.
 //!
 //! # A planner takes it by path
 //!

@@ -1,5 +1,5 @@
-//! Messages for those who talk to the program `bin/station` over a pipe (docs/PROTOCOL.md): those that a station reads, kinds 1 to 5, and the
-//! two that it answers with, 128 and 129. Each meaning has one form in bytes.
+//! Messages for those who talk to the program `bin/station` over a pipe (docs/PROTOCOL.md): those that a station reads, kinds 1 to 5, and
+//! the two that it answers with, 128 and 129. Each meaning has one form in bytes.
 //!
 //! ```
 //! use station::message::{Message, Reply};
@@ -186,8 +186,8 @@ impl Reply {
         }
     }
 
-    /// The first of some bytes, and how many it has: 1, 2, 3, and 4 where an answer's number is none that a message is answered with, or its
-    /// place none of a set.
+    /// The first of some bytes, and how many it has: 1, 2, 3, and 4 where an answer's number is none that a message is answered with, or
+    /// its place none of a set.
     pub fn read(bytes: &[u8]) -> Result<(Reply, usize), Refusal> {
         let (kind, body, took) = frame(bytes)?;
         let reply = match (kind, body) {

@@ -11,8 +11,8 @@ const DRAWING_MOST: usize = 66;
 const CONDITION: usize = 11;
 const CARS: usize = 31;
 
-/// The record of a garage, a number of 64 bits: which cells are occupied, where the shuttles stand, the lift, and a drive under way. As text
-/// it is its drawing:
+/// The record of a garage, a number of 64 bits: which cells are occupied, where the shuttles stand, the lift, and a drive under way. As
+/// text it is its drawing:
 ///
 /// ```
 /// use station::{Height, Instruction, Number, Record};
@@ -44,7 +44,9 @@ impl Record {
 
     /// Whether a request of the one instruction would be taken here: 4 where it names a belt that its row doesn't have, 31 where a drive is
     /// under way and the lift is in its area, then the reason, 20 to 28. What is set apart a record doesn't know.
-    pub fn allowed(self, instruction: Instruction) -> Result<(), Refusal> { lent::garage_allowed(self.0, &instruction.five()).into_result() }
+    pub fn allowed(self, instruction: Instruction) -> Result<(), Refusal> {
+        lent::garage_allowed(self.0, &instruction.five()).into_result()
+    }
 
     /// The record after an instruction, or why it isn't allowed.
     pub fn next(self, instruction: Instruction) -> Result<Record, Refusal> {
@@ -112,8 +114,8 @@ impl fmt::Display for Record {
     }
 }
 
-/// The record of a drawing: 41 with the first line that isn't of its form as the place, from 0, and 6 where text follows the last; 15 where a
-/// garage is drawn that can't be.
+/// The record of a drawing: 41 with the first line that isn't of its form as the place, from 0, and 6 where text follows the last; 15 where
+/// a garage is drawn that can't be.
 impl FromStr for Record {
     type Err = Refusal;
 

@@ -102,8 +102,8 @@ impl Station {
         both_of(both)
     }
 
-    /// Answers the first message of `message`, as the program does: what is answered, and the message that answers. A message that is refused
-    /// is answered too. The [`message`](crate::message) module makes and reads messages.
+    /// Answers the first message of `message`, as the program does: what is answered, and the message that answers. A message that is
+    /// refused is answered too. The [`message`](crate::message) module makes and reads messages.
     pub fn message(&mut self, message: &[u8]) -> (Answer, Vec<u8>) {
         let mut reply = vec![0; REPLY_MOST];
         let answer = lent::station_message(&mut self.0, message, &mut reply);

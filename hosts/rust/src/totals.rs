@@ -46,8 +46,8 @@ impl Totals {
     /// Their bytes, to be kept and put back as they are.
     pub fn bytes(&self) -> &[u8; Totals::SIZE] { &self.0 }
 
-    /// Counts the first message of `message`, before the station is sent it: 40 where a total would pass 4,294,967,295, with the place of the
-    /// first that would; then all stay as they were.
+    /// Counts the first message of `message`, before the station is sent it: 40 where a total would pass 4,294,967,295, with the place of
+    /// the first that would; then all stay as they were.
     pub fn count(&mut self, station: &Station, message: &[u8]) -> Result<(), Refusal> {
         lent::report_message(&mut self.0, station.bytes(), message).into_result()
     }

@@ -56,6 +56,26 @@ fn instructions_in_words() {
     for (line, why) in wrong { assert_eq!(line.parse::<Instruction>().expect_err(line).to_string(), why); }
 }
 
+/// Each belt by its own word, in the rows that have it.
+#[test]
+fn belts_by_their_words() {
+    let row_1 = [
+        ("left-shuttle", Belt::LeftShuttle),
+        ("left", Belt::Left),
+        ("lift", Belt::Lift),
+        ("right", Belt::Right),
+        ("right-shuttle", Belt::RightShuttle),
+    ];
+    let others = [("left-shuttle", Belt::LeftShuttle), ("middle", Belt::Middle), ("right-shuttle", Belt::RightShuttle)];
+    for (row, belts) in [(Row::One, &row_1[..]), (Row::Two, &others), (Row::Three, &others)] {
+        for &(word, belt) in belts {
+            let line = format!("belts row {} {word}, higher, half", row.byte());
+            let instruction = Instruction::Belts { row, belts: belt.into(), toward: Toward::Higher, size: Size::Half };
+            assert_eq!(line.parse(), Ok(instruction), "{line}");
+        }
+    }
+}
+
 /// A belt that the row doesn't have: the station says so, and there are no words for it.
 #[test]
 fn a_belt_of_another_row() {
@@ -93,9 +113,9 @@ fn small_sets() {
 #[test]
 fn conditions_are_the_reasons() {
     let rotation = 1 << 53;
-    let records = [0, 1 << 21, 2 << 53 | 0b11 << 10, rotation, rotation | 0b11 << 7, 0b11 << 1 | 1 << 28].map(|bits| Record(Record::START.0 | bits));
+    let records = [0, 1 << 21, 2 << 53 | 0b11 << 10, rotation, rotation | 0b11 << 7, 0b11 << 1 | 1 << 28];
     let mut reasons = HashSet::new();
-    for record in records {
+    for record in records.map(|bits| Record(Record::START.0 | bits)) {
         for instruction in fives().filter_map(|five| Instruction::try_from(five).ok()) {
             let conditions = record.conditions(instruction).expect("a sound record");
             assert!((2..=6).contains(&conditions.len()));

@@ -76,7 +76,8 @@ fn the_bytes_of_fields_are_those_of_the_header() {
     held!(Orientation: Lowered "GARAGE_LOWERED", Tilted "GARAGE_TILTED");
     held!(Height: Street "GARAGE_STREET", Rotation "GARAGE_ROTATION", Basement "GARAGE_BASEMENT");
     held!(Op: Belts "GARAGE_BELTS", Shuttles "GARAGE_SHUTTLES", Tilt "GARAGE_TILT", Lift "GARAGE_LIFT", Rotate "GARAGE_ROTATE");
-    held!(Event: BeginIn "STATION_BEGIN_IN", BeginOut "STATION_BEGIN_OUT", EndedDone "STATION_END_DONE", EndedNotDone "STATION_END_NOT_DONE");
+    held!(Event: BeginIn "STATION_BEGIN_IN", BeginOut "STATION_BEGIN_OUT", EndedDone "STATION_END_DONE",
+        EndedNotDone "STATION_END_NOT_DONE");
     held!(Outcome: Failed "STATION_FAILED", Done "STATION_DONE", Stuck "STATION_STUCK");
     held!(Kind: Request "STATION_KIND_REQUEST", Event "STATION_KIND_EVENT", Result "STATION_KIND_RESULT", Image "STATION_KIND_IMAGE",
         Ask "STATION_KIND_ASK");

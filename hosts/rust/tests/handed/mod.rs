@@ -1,8 +1,11 @@
-//! Stations and desks as lent bytes, whatever they are, and calls on them with any numbers. Where the crate's types can say a call, it is made
-//! by them too, on a copy: what they tell and leave must be the same.
+//! Stations and desks as lent bytes, whatever they are, and calls on them with any numbers. Where the crate's types can say a call, it is
+//! made by them too, on a copy: what they tell and leave must be the same.
 #![allow(dead_code)] // each test uses its own part of this module
 
 use station::{lent, Answer, Card, Desk, Instruction, Issue, Number, Record, Refusal, Whereabouts};
+
+/// What a call by the types tells, where they can say it.
+type Told = Option<Result<Issue, Refusal>>;
 
 pub const START: u64 = Record::START.0;
 pub const TAKEN: Answer = Answer::TAKEN;
@@ -54,7 +57,7 @@ impl Station {
     }
 
     /// A call, on the bytes and by the types.
-    fn call(&mut self, lent: impl Fn(&mut [u8]) -> Answer, typed: impl Fn(&mut station::Station) -> Option<Result<Issue, Refusal>>) -> Answer {
+    fn call(&mut self, lent: impl Fn(&mut [u8]) -> Answer, typed: impl Fn(&mut station::Station) -> Told) -> Answer {
         let mut copy = self.typed();
         let told = copy.as_mut().and_then(typed);
         let answer = lent(&mut self.0);
@@ -133,7 +136,7 @@ impl LentDesk {
     }
 
     /// A call, on the bytes and by the types.
-    fn call(&mut self, lent: impl Fn(&mut [u8]) -> Answer, typed: impl Fn(&mut Desk) -> Option<Result<Issue, Refusal>>) -> Answer {
+    fn call(&mut self, lent: impl Fn(&mut [u8]) -> Answer, typed: impl Fn(&mut Desk) -> Told) -> Answer {
         let mut copy = self.typed();
         let told = copy.as_mut().and_then(typed);
         let answer = lent(&mut self.0);
