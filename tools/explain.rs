@@ -76,7 +76,7 @@ fn begin(given: &Given) -> Result<Follower, Wrong> {
 /// The next item of a log, nothing at its end, or why the input failed.
 type Read = Result<Option<Placed>, Wrong>;
 
-/// The whole log, or what comes before the first that can't be read; gives whether all of it could be read and agrees, or why a stream failed.
+/// The whole log, or what comes before the first that can't be read; gives whether all of it was read and agrees, or why a stream failed.
 fn explained(mut next: impl FnMut() -> Read, mut explainer: Explainer, out: &mut impl Write) -> Result<bool, Wrong> {
     let unwritten = |why| failed("output", why);
     let mut right = true;

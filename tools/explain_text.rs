@@ -159,8 +159,10 @@ impl Explainer {
             }
             Message::Image { image, apart } => vec![format!("image to take {}", image_line(image, apart))],
             Message::Ask => vec!["ask for the image".to_string()],
-            Message::Answer { number, place, issue } => vec![answer_line(Answer { number, place, issue }, &[])],
-            Message::Held { image, apart } => vec![format!("image {}", image_line(image, apart))],
+            Message::Answer { number, place, issue } => {
+                vec![format!("kind 128 = 0x0080, {}", answer_line(Answer { number, place, issue }, &[]))]
+            }
+            Message::Held { image, apart } => vec![format!("kind 129 = 0x0081, image {}", image_line(image, apart))],
             Message::Unread(ref what) => vec![what.clone()],
         }
     }

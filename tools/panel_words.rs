@@ -171,8 +171,8 @@ pub struct Explained {
 pub fn explained(image: u64, five: [u8; 5]) -> Vec<Explained> {
     let one = |(c, asked): (u8, Asked)| {
         let condition = panel_entries::condition(image, five, c)?;
-        let first = format!("  {} {}  {}", condition.number, if condition.holds { "yes" } else { "no " }, asked.words);
-        let decided = decided(&asked, &condition, image).into_iter().map(|line| format!("          {line}"));
+        let first = format!("{} {}  {}", condition.number, if condition.holds { "yes" } else { "no " }, asked.words);
+        let decided = decided(&asked, &condition, image).into_iter().map(|line| format!("        {line}"));
         Some(Explained { holds: condition.holds, lines: std::iter::once(first).chain(decided).collect() })
     };
     (0..).zip(conditions(five)).map_while(one).collect()

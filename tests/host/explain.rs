@@ -1,8 +1,8 @@
-//! The explainer: `explain EXPLAIN PAGE PROTOCOL MESSAGES`. Long traffic as bytes and as hexadecimal text: what is shown is read back and held
-//! against the reference, answer by answer with place and issue, each reason, and the floors; each number that a program can give must come.
-//! Inputs that are damaged, logs with an answer changed or a message left out, wrong words, cards followed beside a reference desk. And the
-//! page's examples: in a block marked `explain` the first line is the command and the others are its input; of the blocks behind it one marked
-//! `shown` is all that is written, one marked `told` what is told on standard error.
+//! The explainer: `explain EXPLAIN PAGE PROTOCOL MESSAGES`. Long traffic as bytes and as hexadecimal text: what is shown is read back and
+//! held against the reference, answer by answer with place and issue, each reason, and the floors; each number that a program can give
+//! must come. Inputs that are damaged, logs with an answer changed or a message left out, wrong words, cards followed beside a reference
+//! desk. And the page's examples: in a block marked `explain` the first line is the command and the others are its input; of the blocks
+//! behind it one marked `shown` is all that is written, one marked `told` what is told on standard error.
 
 mod child;
 mod desk_reference;

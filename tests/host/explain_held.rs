@@ -2,7 +2,7 @@
 
 use crate::drawing_reference::drawn;
 use crate::explain_shown::{floor, paragraphs, parts_in, Floor, Told};
-use crate::reference::{cars, drive_under_way, read_call, sound, Call, Instruction, Station, Parts};
+use crate::reference::{cars, drive_under_way, read_call, sound, Call, Instruction, Parts, Station};
 use crate::texts::words;
 use std::collections::BTreeSet;
 
@@ -37,8 +37,8 @@ impl Beside {
     fn floor(&mut self, shown: &Floor, place: &str) {
         let (record, apart) = (self.station.record, self.station.apart_number());
         let drawing = drawn(record);
-        let sides: Vec<&str> = drawing.lines().skip(3).take(2).collect();
-        assert_eq!((&shown.drawing, &shown.letters[..]), (&drawing, &sides.iter().map(|side| side.to_string()).collect::<Vec<_>>()[..]), "{place}");
+        let sides: Vec<String> = drawing.lines().skip(3).take(2).map(str::to_string).collect();
+        assert_eq!((&shown.drawing, &shown.letters[..]), (&drawing, &sides[..]), "{place}");
         assert_eq!((shown.occupied, shown.apart), (record & 0xFF_FFFF_FFFF, slots_as_one(apart)), "{place}: {:?}", shown.below);
         let [lift, drive, set_apart, count, set @ ..] = &shown.below[..] else { panic!("{place}: {:?}", shown.below) };
         let height = ["street", "rotation", "basement"][(record >> 53 & 3) as usize];
@@ -69,8 +69,8 @@ impl Beside {
             31 => {
                 assert!(drive_under_way(self.station.record) && lines.iter().any(|line| line.ends_with("is under way")), "{lines:?}");
                 let lift: Vec<usize> = fives.iter().zip(0..).filter(|(five, _)| area(five) >> 52 == 1).map(|(_, at)| at).collect();
-                let named: Vec<usize> = told("with the lift in its area: ").iter().filter_map(|line| line.split(':').next()?.parse().ok()).collect();
-                assert_eq!(named, lift);
+                let named = told("with the lift in its area: ").into_iter().filter_map(|line| line.split(':').next()?.parse().ok());
+                assert_eq!(named.collect::<Vec<usize>>(), lift);
             }
             32 => {
                 let apart = self.station.apart_number();
@@ -78,8 +78,8 @@ impl Beside {
                 assert_eq!((parts("set apart: "), parts("of that it touches: ")), (vec![apart], vec![apart & area(&fives[at])]));
             }
             20..=28 => {
-                let failing = |one: Instruction| one.conditions(self.station.record).iter().filter(|one| !one.holds).map(|one| one.number).collect();
-                let expected: Vec<u8> = read(&fives[at]).map_or(Vec::new(), failing);
+                let conditions = read(&fives[at]).map_or(Vec::new(), |one| one.conditions(self.station.record));
+                let expected: Vec<u8> = conditions.iter().filter(|one| !one.holds).map(|one| one.number).collect();
                 let shown: Vec<u8> = lines.iter().filter_map(|line| {
                     let (number, rest) = line.trim().split_once(' ')?;
                     rest.starts_with("no  ").then(|| number.parse().ok())?

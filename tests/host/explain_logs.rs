@@ -25,7 +25,10 @@ fn log(sent: &[&[u8]], answers: &[&[u8]]) -> String {
     sent.iter().zip(answers).map(|(sent, answer)| format!("> {}\n< {}\n", hexadecimal(sent), hexadecimal(answer))).collect()
 }
 
-fn replies(told: &[Told]) -> Vec<u8> { told.iter().filter(|told| told.sent).flat_map(|told| told.reply.clone().unwrap_or_default()).collect() }
+/// The answers that are told of what was sent.
+fn replies(told: &[Told]) -> Vec<u8> {
+    told.iter().filter(|told| told.sent).flat_map(|told| told.reply.clone().unwrap_or_default()).collect()
+}
 
 fn has(told: &Told, words: &str) -> bool { told.lines.iter().any(|line| line.trim().starts_with(words)) }
 
@@ -61,8 +64,9 @@ fn forms(explain: &str) {
         let found = paragraphs(&shown);
         assert!(well && told.is_empty() && replies(&found) == answers, "seed {seed}: {told}");
         for (told, number) in found.iter().zip(1..) {
-            let agrees = has(told, &format!("as the station answers message {}", number - 1)) && told.reply.as_ref() == Some(&told.bytes);
-            assert!(told.sent == (number % 2 == 1) && (told.sent || agrees), "seed {seed}: {:?}", told.lines);
+            let agrees = told.lines.contains(&format!("as the station answers message {}", number - 1));
+            let right = told.sent || agrees && told.reply.as_ref() == Some(&told.bytes);
+            assert!(told.sent == (number % 2 == 1) && right, "seed {seed}: {:?}", told.lines);
         }
         // all that is sent before all answers, as two recordings one behind the other
         let (shown, told, well) = text(&hex, format!("> {}\n< {}\n", hexadecimal(&bytes), hexadecimal(&answers)).as_bytes());
@@ -83,10 +87,10 @@ fn forms(explain: &str) {
         // a request that was taken is left out with its answer: its results are told otherwise
         let taken = |at: &usize| matches!(read_call(sent[*at]), Ok((Call::Request { .. }, _))) && answered[*at][4] == 0;
         for left_out in (0..sent.len() - 50).filter(taken).step_by(9) {
-            let without = |all: &[&[u8]]| all.iter().enumerate().filter(|(at, _)| *at != left_out).map(|(_, one)| one.to_vec()).collect::<Vec<_>>();
-            let (sent, answered) = (without(&sent), without(&answered));
-            let as_slices = |all: &[Vec<u8>]| log(&sent.iter().map(|one| &one[..]).collect::<Vec<_>>(), &all.iter().map(|one| &one[..]).collect::<Vec<_>>());
-            let (shown, _, well) = text(&hex, as_slices(&answered).as_bytes());
+            let (mut sent, mut answered) = (sent.clone(), answered.clone());
+            sent.remove(left_out);
+            answered.remove(left_out);
+            let (shown, _, well) = text(&hex, log(&sent, &answered).as_bytes());
             assert!(!well && shown.contains("it differs: "), "seed {seed}: without message {left_out}");
         }
 
@@ -154,7 +158,7 @@ fn wrong_words() -> Vec<(Vec<&'static str>, &'static str)> {
         &["--issue", "x"], &["--cards", "1"], &["--cards"], &["03 00 02 00 0"], &["0x03"], &[""], &["--hex", "03"], &["log.txt"],
         &["--from", "00000000001B0900", "--cards", "0"],
     ].map(|words| (words.to_vec(), usage)).into();
-    all.push((vec!["--from", "01 00 00 00 00 1B 09 00"], "--from: not sound: cell 0 of row 1 is half a car: neither neighbour is occupied"));
+    all.push((vec!["--from", "01 00 00 00 00 1B 09 00"], "--from: not sound: cell 0 of row 1 is half a car"));
     all.push((vec!["--from", "00000000001B09000000000000002000"], "--from: what is set apart has a bit above 52"));
     all.push((vec!["--from", "00000000001B0900", "--cards", "1"], "--cards: expected 0, as many as the record has cars, found 1"));
     all
@@ -186,6 +190,7 @@ pub fn all(explain: &str, protocol: &str) {
     assert!(one == several && one.2 == Some(0) && replies(&paragraphs(&one.0)) == [6, 0, 128, 0, 0, 255, 0, 0]);
     let from = ["--from", "00000000001B4900 FC1F000000001000", "--issue", "65535"];
     let (shown, _, status) = words(explain, &[&from[..], &["08 00 01 00 01 01 01 02 01 01", "08 00 01 00 01 01 01 08 01 01"]].concat());
-    assert_eq!((replies(&paragraphs(&shown)), status), (vec![6, 0, 128, 0, 32, 0, 0, 0, 6, 0, 128, 0, 0, 255, 255, 255], Some(0)), "{shown}");
-    println!("explain: logs of both directions; {sessions} sessions of {protocol}; {} wrong texts, {} wrong words", texts.len(), given.len());
+    let (set_apart, taken) = ([6, 0, 128, 0, 32, 0, 0, 0], [6, 0, 128, 0, 0, 255, 255, 255]);
+    assert_eq!((replies(&paragraphs(&shown)), status), ([set_apart, taken].concat(), Some(0)), "{shown}");
+    println!("explain: logs of both ways; {sessions} sessions of {protocol}; {} wrong texts, {} wrong words", texts.len(), given.len());
 }

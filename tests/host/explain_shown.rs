@@ -92,8 +92,8 @@ pub fn parts_in(words: &str) -> u64 {
     words.split("; ").map(one).fold(0, |all, part| all | part)
 }
 
-/// A floor as it is shown: its drawing, what the wider view has (occupied cells, parts set apart with both slots of a shuttle as one, letters
-/// of the shuttles), and the lines below it.
+/// A floor as it is shown: its drawing, what the wider view has (occupied cells, parts set apart with both slots of a shuttle as one,
+/// letters of the shuttles), and the lines below it.
 pub struct Floor {
     pub drawing: String,
     pub occupied: u64,
