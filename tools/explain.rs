@@ -104,7 +104,8 @@ fn main() -> ExitCode {
     };
     let Some(given) = given(std::env::args().skip(1)) else { return told(USAGE, 2) };
     let follower = match begin(&given) { Ok(follower) => follower, Err(why) => return told(&why, 2) };
-    let explainer = Explainer::new(follower, given.shows);
+    let both_ways = given.hex || !given.digits.is_empty();
+    let explainer = Explainer::new(follower, given.shows, both_ways);
     let out = &mut io::BufWriter::new(io::stdout().lock());
     let done = if !given.digits.is_empty() {
         let mut input = Bytes::mixed(io::Cursor::new(&given.digits));

@@ -122,13 +122,12 @@ impl Follower {
             Message::Image { image, .. } => self.take_image(image, cards),
             _ => {}
         }
-        // who has left takes the card along
+        // who has left takes the card along, and so do all whom an image replaces
         let here: Vec<u32> = (0..PLACES).map(|place| self.number_at(place)).collect();
         self.cards.retain(|number, _| here.contains(number));
     }
 
     fn take_image(&mut self, image: u64, cards: Option<&Cards>) {
-        self.cards.clear();
         let known = |at: usize| cards.and_then(|cards| *cards.get(at)?);
         let numbers: Vec<u32> = (0..named_cars(image)).map(|at| self.new_number(known(at))).collect();
         entries::image(&mut self.desk, image, &numbers);

@@ -15,15 +15,19 @@ mod explain_shown;
 mod explain_sound;
 mod page;
 mod reference;
+mod sound_records;
 mod texts;
 mod traffic;
 
 use child::run_on as run;
-use explain_held::{held, Beside};
+use explain_held::{held, plain, views, Beside};
+use explain_shown::paragraphs;
 use page::blocks;
 use reference::{serve, serve_on, sound, Station};
+use sound_records::every_five;
 use std::process::exit;
-use traffic::{damaged_input, input, near_record, Numbers};
+use texts::words;
+use traffic::{damaged_input, input, near_record, request, Numbers};
 
 /// Messages of one long input.
 const LONG: usize = 20_000;
@@ -62,12 +66,28 @@ fn damaged(explain: &str, inputs: u64, beside: &mut Beside) -> usize {
     found
 }
 
+/// Every instruction in its words, each in a request of its own; gives how many there are.
+fn instructions(explain: &str) -> usize {
+    let fives = every_five();
+    let (shown, _, well) = text(explain, &fives.iter().flat_map(|five| request(five)).collect::<Vec<u8>>());
+    let found = paragraphs(&shown);
+    assert!(well && found.len() == fives.len());
+    for (told, five) in found.iter().zip(&fives) {
+        let line = words(*five).map(|words| format!("  0: {}", plain(&words)));
+        assert!(told.lines.iter().any(|told| Some(plain(told)) == line), "{five:?}: {:?}", told.lines);
+    }
+    fives.len()
+}
+
 /// The hints of an image that is not sound, on so many records and those next to them.
 fn hints(records: usize) -> [usize; 2] {
     let (mut numbers, mut record, mut count) = (Numbers(3), reference::START, [0; 2]);
     for _ in 0..records {
         record = Some(near_record(&mut numbers, record)).filter(|&record| sound(record)).unwrap_or(record);
-        for image in (0..64).map(|bit| record ^ 1 << bit).chain([record, numbers.next(), numbers.next() & 0xFF_FFFF_FFFF | record]) {
+        // one bit changed; others in the cells, the shuttles' slots, the lift and the drives; any number
+        let mut other = |bits: u64| record & !bits | numbers.next() & bits;
+        let changed = [0, 0xFF_FFFF_FFFF, 0xFFF << 40, 0x1F << 52, u64::MAX].map(&mut other);
+        for image in (0..64).map(|bit| record ^ 1 << bit).chain(changed) {
             let hints = explain_sound::hints(image);
             assert_eq!(hints.is_empty(), sound(image), "{image:016X}: {hints:?}");
             count[usize::from(hints.is_empty())] += 1;
@@ -113,8 +133,9 @@ fn main() {
     let expected: Vec<u8> = (0..=33).filter(|number| !matches!(number, 9 | 14 | 16..=19)).collect();
     assert_eq!(beside.came.iter().copied().collect::<Vec<_>>(), expected, "every number that a program can give comes");
     println!("explain: {messages} messages and {} floors as the reference has them, {found} damaged inputs told", beside.floors);
-    let [unsound, fine] = hints(4000);
-    println!("explain: {unsound} images that are not sound with hints, {fine} sound ones without");
+    let ([unsound, fine], all) = (hints(4000), instructions(explain));
+    println!("explain: {all} instructions in words; {unsound} images that are not sound with hints, {fine} sound ones without");
+    views(explain, 4000);
     explain_logs::all(explain, protocol);
     explain_cards::followed(explain, 8, 4000);
     println!("explain: {} examples of {page}", examples(explain, page));

@@ -3,7 +3,10 @@
 use crate::drawing_reference::drawn;
 use crate::explain_shown::{floor, paragraphs, parts_in, Floor, Told};
 use crate::reference::{cars, drive_under_way, read_call, sound, Call, Instruction, Parts, Station};
+use crate::sound_records::SoundRecords;
+use crate::text;
 use crate::texts::words;
+use crate::traffic::Numbers;
 use std::collections::BTreeSet;
 
 /// The reference station beside a text, with how the outstanding set's instructions ended, and which numbers came.
@@ -15,10 +18,43 @@ pub struct Beside {
 }
 
 /// Words that mean the same read the same.
-fn plain(words: &str) -> String { words.replace(',', "").replace(" row ", " rows ") }
+pub fn plain(words: &str) -> String { words.replace(',', "").replace(" row ", " rows ") }
 
 /// Both slots of a shuttle as one, as the view marks them.
 fn slots_as_one(apart: u64) -> u64 { (apart | (apart >> 6 & 0x3F << 40)) & 0x3F_FFFF_FFFF_FFFF & !(0x3F << 46) & !(1 << 52) }
+
+/// A floor that is shown is that of a record and what is set apart; gives the lines behind it.
+fn view<'a>(shown: &'a Floor, record: u64, apart: u64, place: &str) -> &'a [String] {
+    let drawing = drawn(record);
+    let sides: Vec<String> = drawing.lines().skip(3).take(2).map(str::to_string).collect();
+    assert_eq!((&shown.drawing, &shown.letters[..]), (&drawing, &sides[..]), "{place}");
+    assert_eq!((shown.occupied, shown.apart), (record & 0xFF_FFFF_FFFF, slots_as_one(apart)), "{place}: {:?}", shown.below);
+    let [lift, drive, set_apart, count, behind @ ..] = &shown.below[..] else { panic!("{place}: {:?}", shown.below) };
+    let height = ["street", "rotation", "basement"][(record >> 53 & 3) as usize];
+    assert!(lift.starts_with(&format!("lift at {height}")) && lift.ends_with(", set apart") == (apart >> 52 == 1), "{place}: {lift}");
+    let under_way = ["no drive", "a drive-in", "a drive-out"][(record >> 55 & 3) as usize];
+    assert!(drive.starts_with(&format!("{under_way} is under way")), "{place}: {drive}");
+    assert_eq!(parts_in(set_apart.strip_prefix("set apart: ").expect("parts")), apart, "{place}");
+    assert_eq!(count.split("; ").next().map(str::to_string), cars(record).map(|cars| format!("cars: {cars}")), "{place}");
+    behind
+}
+
+/// So many floors with any parts set apart, as a recording of images that were answered.
+pub fn views(explain: &str, count: usize) {
+    let (records, mut numbers) = (SoundRecords::new(), Numbers(7));
+    let apart = |numbers: &mut Numbers| numbers.next() >> 11 & if numbers.one_in(2) { u64::MAX } else { numbers.next() };
+    let images: Vec<(u64, u64)> = (0..count).map(|_| (records.any(&mut numbers), apart(&mut numbers))).collect();
+    let message = |&(image, apart): &(u64, u64)| [vec![18, 0, 129, 0], image.to_le_bytes().to_vec(), apart.to_le_bytes().to_vec()].concat();
+    let (shown, told, well) = text(explain, &images.iter().flat_map(message).collect::<Vec<u8>>());
+    assert_eq!((told.as_str(), well), ("", true));
+    let found = paragraphs(&shown);
+    assert_eq!(found.len(), count);
+    for (told, (image, apart)) in found.iter().zip(images) {
+        let floor = floor(&told.lines, "its floor:").unwrap_or_else(|| panic!("{:?}", told.lines));
+        assert!(!told.sent && view(&floor, image, apart, &told.at).is_empty(), "{:?}", told.lines);
+    }
+    println!("explain: {count} floors with any parts set apart, each mark as the record has it");
+}
 
 impl Beside {
     pub fn new() -> Self { Beside { station: Station::start(), endings: [None; 8], came: BTreeSet::new(), floors: 0 } }
@@ -35,18 +71,7 @@ impl Beside {
     }
 
     fn floor(&mut self, shown: &Floor, place: &str) {
-        let (record, apart) = (self.station.record, self.station.apart_number());
-        let drawing = drawn(record);
-        let sides: Vec<String> = drawing.lines().skip(3).take(2).map(str::to_string).collect();
-        assert_eq!((&shown.drawing, &shown.letters[..]), (&drawing, &sides[..]), "{place}");
-        assert_eq!((shown.occupied, shown.apart), (record & 0xFF_FFFF_FFFF, slots_as_one(apart)), "{place}: {:?}", shown.below);
-        let [lift, drive, set_apart, count, set @ ..] = &shown.below[..] else { panic!("{place}: {:?}", shown.below) };
-        let height = ["street", "rotation", "basement"][(record >> 53 & 3) as usize];
-        assert!(lift.starts_with(&format!("lift at {height}")) && lift.ends_with(", set apart") == (apart >> 52 == 1), "{place}: {lift}");
-        let under_way = ["no drive", "a drive-in", "a drive-out"][(record >> 55 & 3) as usize];
-        assert!(drive.starts_with(&format!("{under_way} is under way")), "{place}: {drive}");
-        assert_eq!(parts_in(set_apart.strip_prefix("set apart: ").expect("parts")), apart, "{place}");
-        assert_eq!(count.split("; ").next().map(str::to_string), cars(record).map(|cars| format!("cars: {cars}")), "{place}");
+        let set = view(shown, self.station.record, self.station.apart_number(), place);
         assert_eq!(set.iter().map(|line| plain(line)).collect::<Vec<_>>(), self.set_lines(), "{place}");
         self.floors += 1;
     }

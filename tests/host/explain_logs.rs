@@ -81,6 +81,10 @@ fn forms(explain: &str) {
             wrong[changed] = &other;
             let (shown, told, well) = text(&hex, log(&sent, &wrong).as_bytes());
             let differ: Vec<usize> = paragraphs(&shown).iter().filter(|told| has(told, "it differs: ")).map(|told| told.number).collect();
+            // an image that differs can be gone on from
+            let digits = hexadecimal(&other[4..]).replace(' ', "");
+            let from = format!("to go on from the log's image, cut the log behind it: --from {digits}\n");
+            assert_eq!(shown.contains(&from), other[2] == 129, "seed {seed}");
             let line = format!("explain: line {0}: the answer of message {0} is not the station's\n", 2 * changed + 2);
             assert_eq!((differ, told, well), (vec![2 * changed + 2], line, false), "seed {seed}");
         }
@@ -98,6 +102,8 @@ fn forms(explain: &str) {
         let (shown, told, well) = text(explain, &answers);
         let found = paragraphs(&shown);
         let all = found.iter().all(|told| !told.sent && told.reply.as_ref() == Some(&told.bytes));
+        let refusals = answered.iter().filter(|answer| answer[2] == 128 && answer[4] != 0).count();
+        assert!(shown.ends_with(&format!("\n{} answers, {refusals} of a refusal\n", answered.len())), "seed {seed}");
         assert!(well && told.is_empty() && all && found.iter().flat_map(|told| told.bytes.clone()).collect::<Vec<_>>() == answers);
     }
 }
