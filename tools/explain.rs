@@ -16,6 +16,7 @@ mod words;
 
 use explain_follow::{named_cars, Cards, Follower};
 use explain_input::{bytes_in, cards, Bytes, Hex, Item, Placed};
+use explain_message::two_numbers;
 use explain_text::{Explainer, Said, Shows};
 use std::io::{self, Write};
 use std::process::ExitCode;
@@ -37,9 +38,7 @@ struct Given {
 
 /// A record, and what is set apart there if it stands behind it: 16 or 32 digits.
 fn image_in(word: &str) -> Option<(u64, u64)> {
-    let bytes = bytes_in(word).ok().filter(|bytes| matches!(bytes.len(), 8 | 16))?;
-    let eight = |bytes: &[u8]| bytes.iter().rev().fold(0, |number, &byte| number << 8 | u64::from(byte));
-    Some((eight(&bytes[..8]), eight(&bytes[8..])))
+    bytes_in(word).ok().filter(|bytes| matches!(bytes.len(), 8 | 16)).map(|bytes| two_numbers(&bytes))
 }
 
 fn given(mut words: impl Iterator<Item = String>) -> Option<Given> {

@@ -5,7 +5,8 @@ use crate::explain_floor::{lines as floor_lines, outstanding, parts};
 use crate::explain_follow::{named_cars, Cards, Floor, Follower};
 use crate::explain_input::{Item, Placed};
 use crate::explain_message::{both, both_wide, hexadecimal, instruction, read, word, Message, BEGIN_IN, ENDINGS, EVENTS};
-use crate::explain_why::{against, to_do, told};
+use crate::explain_why::{against, to_do};
+use crate::numbers::told;
 use crate::words::Wrong;
 use std::collections::VecDeque;
 

@@ -68,6 +68,9 @@ table! {
     KeptOpen = 33 "places are kept open",
 }
 
+/// What a number says, whether the table has it or not.
+pub fn told(number: u8) -> &'static str { Number::try_from(number).map_or("not a number of the table", Number::words) }
+
 impl fmt::Display for Number {
     fn fmt(&self, f: &mut fmt::Formatter) -> fmt::Result {
         write!(f, "{} ({})", *self as u8, self.words())

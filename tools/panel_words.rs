@@ -2,7 +2,6 @@
 //! which of them are at fault where it fails.
 #![allow(dead_code)] // each program uses its own part of this module
 
-use crate::numbers::Number;
 use crate::panel_entries::{self, Condition};
 use crate::words::{belts_of, named, word, HEIGHTS, ORIENTATIONS, ROWS, SIDES, SIZES, WAYS};
 
@@ -11,7 +10,7 @@ pub fn told(number: u8) -> &'static str {
     match number {
         0 => "allowed",
         31 => "the lift in an area while a drive is under way",
-        other => Number::try_from(other).map_or("not a number of the table", Number::words),
+        other => crate::numbers::told(other),
     }
 }
 
