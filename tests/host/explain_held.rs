@@ -118,7 +118,6 @@ impl Beside {
 
     /// What stands against any message that is refused.
     fn refused(&self, call: &Call, number: u8, place: u8, lines: &[String]) {
-        assert!(lines.iter().any(|line| line.starts_with("to do: ") && !line.ends_with("never answers so")), "{number}: {lines:?}");
         let outstanding = || {
             let set = self.set_lines();
             let lines: Vec<String> = lines.iter().map(|line| plain(line.strip_prefix("  ").unwrap_or(line))).collect();
@@ -150,6 +149,11 @@ impl Beside {
         let reply = told.reply.as_ref().unwrap_or_else(|| panic!("{place}: {:?}", told.lines));
         let number = if reply[2] == 128 { reply[4] } else { 0 };
         self.came.insert(number);
+        let said = |words: &str| told.lines.iter().any(|line| line.contains(words));
+        assert_eq!(said("to do: ") && !said("never answers so"), number != 0, "{place}: {:?}", told.lines);
+        // which field is wrong
+        const FIELDS: [&str; 4] = [", and should be ", " is no instruction: there are ", "an event is 1 to 4", "a result ends with "];
+        assert_eq!(FIELDS.into_iter().any(said), number == 4, "{place}: {:?}", told.lines);
         let Ok((call, _)) = read_call(&told.bytes) else { return };
         if number != 0 {
             self.refused(&call, number, reply[5], &told.lines);
