@@ -19,6 +19,7 @@ mod words;
 
 use explain_follow::{named_cars, Cards, Follower};
 use explain_input::{bytes_in, cards, Bytes, Hex, Item, Placed};
+use explain_message::two_numbers;
 use explain_text::{Explainer, Said, Shows};
 use std::io::{self, Write};
 use std::process::ExitCode;
@@ -40,9 +41,7 @@ struct Given {
 
 /// A record, and what is set apart there if it stands behind it: 16 or 32 digits.
 fn image_in(word: &str) -> Option<(u64, u64)> {
-    let bytes = bytes_in(word).ok().filter(|bytes| matches!(bytes.len(), 8 | 16))?;
-    let eight = |bytes: &[u8]| bytes.iter().rev().fold(0, |number, &byte| number << 8 | u64::from(byte));
-    Some((eight(&bytes[..8]), eight(&bytes[8..])))
+    bytes_in(word).ok().filter(|bytes| matches!(bytes.len(), 8 | 16)).map(|bytes| two_numbers(&bytes))
 }
 
 fn given(mut words: impl Iterator<Item = String>) -> Option<Given> {
@@ -79,7 +78,7 @@ fn begin(given: &Given) -> Result<Follower, Wrong> {
 /// The next item of a log, nothing at its end, or why the input failed.
 type Read = Result<Option<Placed>, Wrong>;
 
-/// The whole log, or what comes before the first that can't be read; gives whether all of it could be read and agrees, or why a stream failed.
+/// The whole log, or what comes before the first that can't be read; gives whether all of it was read and agrees, or why a stream failed.
 fn explained(mut next: impl FnMut() -> Read, mut explainer: Explainer, out: &mut impl Write) -> Result<bool, Wrong> {
     let unwritten = |why| failed("output", why);
     let mut right = true;
@@ -107,7 +106,8 @@ fn main() -> ExitCode {
     };
     let Some(given) = given(std::env::args().skip(1)) else { return told(USAGE, 2) };
     let follower = match begin(&given) { Ok(follower) => follower, Err(why) => return told(&why, 2) };
-    let explainer = Explainer::new(follower, given.shows);
+    let both_ways = given.hex || !given.digits.is_empty();
+    let explainer = Explainer::new(follower, given.shows, both_ways);
     let out = &mut io::BufWriter::new(io::stdout().lock());
     let done = if !given.digits.is_empty() {
         let mut input = Bytes::mixed(io::Cursor::new(&given.digits));

@@ -1,5 +1,6 @@
-//! A floor for the terminal: the drawing proper, and below it a wider view with the cells' numbers, the shuttles at both ends, the cars with
-//! their cards where these are known, and `!` where a part is set apart; then the lift, the drive, what is set apart and the cars in words.
+//! A floor for the terminal: the drawing proper, and below it a wider view with the cells' numbers, the shuttles at both ends, the cars
+//! with their cards where these are known, and `!` where a part is set apart; then the lift, the drive, what is set apart and the cars in
+//! words.
 
 use crate::explain_entries::RAISED;
 use crate::explain_follow::{Floor, Held, DRIVE_IN, DRIVE_OUT};

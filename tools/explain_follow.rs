@@ -2,7 +2,7 @@
 //! there that is never shown; of some of them the card is known, and only those are told.
 
 use crate::explain_entries::{self as entries, Answer, Desk, Station, APART, STATION_SIZE};
-use crate::explain_message::{Message, BEGIN_IN};
+use crate::explain_message::{number_in, Message, BEGIN_IN};
 use std::collections::BTreeMap;
 
 /// Bit 55 of a record: a drive-in is under way. Bit 56: a drive-out.
@@ -49,8 +49,6 @@ pub struct Follower {
 /// The cars that an image's list of cards has to name: those of the record, and one whose drive-in is under way.
 pub fn named_cars(image: u64) -> usize { entries::cars(image) + usize::from(image & DRIVE_IN != 0) }
 
-fn eight(bytes: &[u8]) -> u64 { bytes.iter().rev().fold(0, |number, &byte| number << 8 | u64::from(byte)) }
-
 impl Follower {
     pub fn start() -> Self { Follower { desk: entries::start(), endings: [None; 8], cards: BTreeMap::new(), last: 0 } }
 
@@ -65,9 +63,9 @@ impl Follower {
 
     fn station(&self) -> Station { std::array::from_fn(|at| self.desk[at]) }
 
-    pub fn record(&self) -> u64 { eight(&self.desk[..8]) }
+    pub fn record(&self) -> u64 { number_in(&self.desk[..8]) }
 
-    pub fn apart(&self) -> u64 { eight(&self.desk[APART]) }
+    pub fn apart(&self) -> u64 { number_in(&self.desk[APART]) }
 
     /// The outstanding set's issue; where none is, that of the last one.
     pub fn present_issue(&self) -> u16 { u16::from_le_bytes([self.desk[50], self.desk[51]]).wrapping_sub(1) }
@@ -78,7 +76,7 @@ impl Follower {
         (0..usize::from(self.desk[8])).map(|at| Held { five: five(at), ending: self.endings[at] }).collect()
     }
 
-    fn number_at(&self, place: usize) -> u32 { eight(&self.desk[STATION_SIZE + 4 * place..][..4]) as u32 }
+    fn number_at(&self, place: usize) -> u32 { number_in(&self.desk[STATION_SIZE + 4 * place..][..4]) as u32 }
 
     /// The cards that are known, in the order of the cells.
     pub fn cards(&self) -> Vec<Whereabouts> {
@@ -122,13 +120,12 @@ impl Follower {
             Message::Image { image, .. } => self.take_image(image, cards),
             _ => {}
         }
-        // who has left takes the card along
+        // who has left takes the card along, and so do all whom an image replaces
         let here: Vec<u32> = (0..PLACES).map(|place| self.number_at(place)).collect();
         self.cards.retain(|number, _| here.contains(number));
     }
 
     fn take_image(&mut self, image: u64, cards: Option<&Cards>) {
-        self.cards.clear();
         let known = |at: usize| cards.and_then(|cards| *cards.get(at)?);
         let numbers: Vec<u32> = (0..named_cars(image)).map(|at| self.new_number(known(at))).collect();
         entries::image(&mut self.desk, image, &numbers);

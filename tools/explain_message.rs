@@ -44,10 +44,11 @@ pub fn kind(bytes: &[u8]) -> u16 { u16::from_le_bytes([bytes[2], bytes[3]]) }
 /// Whether a whole message is of a kind that a station answers with.
 pub fn is_answer(bytes: &[u8]) -> bool { matches!(kind(bytes), ANSWER | HELD) }
 
-fn two_numbers(body: &[u8]) -> (u64, u64) {
-    let number = |bytes: &[u8]| bytes.iter().rev().fold(0, |number, &byte| number << 8 | u64::from(byte));
-    (number(&body[..8]), number(&body[8..]))
-}
+/// The number that up to eight bytes say, the lowest first.
+pub fn number_in(bytes: &[u8]) -> u64 { bytes.iter().rev().fold(0, |number, &byte| number << 8 | u64::from(byte)) }
+
+/// A record, and what is set apart behind it.
+pub fn two_numbers(bytes: &[u8]) -> (u64, u64) { (number_in(&bytes[..8]), number_in(&bytes[8..])) }
 
 fn unread(what: impl Into<String>) -> Message { Message::Unread(what.into()) }
 

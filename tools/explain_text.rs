@@ -5,7 +5,8 @@ use crate::explain_floor::{lines as floor_lines, outstanding, parts};
 use crate::explain_follow::{named_cars, Cards, Floor, Follower};
 use crate::explain_input::{Item, Placed};
 use crate::explain_message::{both, both_wide, hexadecimal, instruction, read, word, Message, BEGIN_IN, ENDINGS, EVENTS};
-use crate::explain_why::{against, to_do, told};
+use crate::explain_why::{against, to_do};
+use crate::numbers::told;
 use crate::words::Wrong;
 use std::collections::VecDeque;
 
@@ -38,10 +39,14 @@ struct Waiting {
 pub struct Explainer {
     station: Follower,
     shows: Shows,
-    /// Messages of the log so far, and of these the ones that were sent, were refused, and are answers that differ.
+    /// Whether answers may stand in the log beside what was sent.
+    both_ways: bool,
+    /// Messages of the log so far; of these the ones that were sent, and that were refused; and the answers that tell of a refusal, and
+    /// that differ.
     messages: usize,
     sent: usize,
     refused: usize,
+    refusals: usize,
     differ: usize,
     cards: Option<GivenCards>,
     /// Those whose answer has not come in the log.
@@ -94,9 +99,9 @@ fn unused(given: &GivenCards) -> Wrong {
 }
 
 impl Explainer {
-    pub fn new(station: Follower, shows: Shows) -> Self {
+    pub fn new(station: Follower, shows: Shows, both_ways: bool) -> Self {
         let (cards, waiting, shown) = (None, VecDeque::new(), Vec::new());
-        Explainer { station, shows, messages: 0, sent: 0, refused: 0, differ: 0, cards, waiting, shown }
+        Explainer { station, shows, both_ways, messages: 0, sent: 0, refused: 0, refusals: 0, differ: 0, cards, waiting, shown }
     }
 
     pub fn item(&mut self, Placed { at, item }: Placed) -> Said {
@@ -159,8 +164,10 @@ impl Explainer {
             }
             Message::Image { image, apart } => vec![format!("image to take {}", image_line(image, apart))],
             Message::Ask => vec!["ask for the image".to_string()],
-            Message::Answer { number, place, issue } => vec![answer_line(Answer { number, place, issue }, &[])],
-            Message::Held { image, apart } => vec![format!("image {}", image_line(image, apart))],
+            Message::Answer { number, place, issue } => {
+                vec![format!("kind 128 = 0x0080, {}", answer_line(Answer { number, place, issue }, &[]))]
+            }
+            Message::Held { image, apart } => vec![format!("kind 129 = 0x0081, image {}", image_line(image, apart))],
             Message::Unread(ref what) => vec![what.clone()],
         }
     }
@@ -207,7 +214,7 @@ impl Explainer {
                 self.shown.clear();
             }
         }
-        self.waiting.push_back(Waiting { number: self.messages, reply });
+        if self.both_ways { self.waiting.push_back(Waiting { number: self.messages, reply }); }
         if !text.is_empty() { text.push('\n'); }
         Said { text, wrong }
     }
@@ -221,7 +228,12 @@ impl Explainer {
                 return (vec!["it differs: every message before it is answered".to_string(), MISSING.to_string()], true);
             };
             let expected = format!("it differs: to message {} the station's is {}", first.number, hexadecimal(&first.reply));
-            return (vec![expected, format!("  {}", reply_line(&first.reply, &[])), MISSING.to_string()], true);
+            let mut lines = vec![expected, format!("  {}", reply_line(&first.reply, &[])), MISSING.to_string()];
+            if let Message::Held { .. } = read(bytes) {
+                let digits = hexadecimal(&bytes[4..]).replace(' ', "");
+                lines.push(format!("to go on from the log's image, cut the log behind it: --from {digits}"));
+            }
+            return (lines, true);
         };
         let passed: Vec<String> = self.waiting.drain(..at).map(|waiting| waiting.number.to_string()).collect();
         let own = self.waiting.pop_front().map_or(0, |waiting| waiting.number);
@@ -234,8 +246,9 @@ impl Explainer {
         let (lines, differs) = self.held_against(bytes);
         self.differ += usize::from(differs);
         let wrong = differs.then(|| format!("{at}: the answer of message {} is not the station's", self.messages));
-        let refused = matches!(read(bytes), Message::Answer { number, .. } if number != 0) && self.sent == 0;
-        if self.shows.quiet && !differs && !refused { return Said { text: String::new(), wrong }; }
+        let refusal = matches!(read(bytes), Message::Answer { number, .. } if number != 0);
+        self.refusals += usize::from(refusal);
+        if self.shows.quiet && !differs && !(refusal && self.sent == 0) { return Said { text: String::new(), wrong }; }
         let mut text = format!("message {}, {at}, answered\n", self.messages);
         text += &below(2, [byte_lines(bytes), vec![reply_line(bytes, &[])], lines].concat());
         // the floor of an image that isn't the station's own
@@ -253,8 +266,13 @@ impl Explainer {
     pub fn end(mut self) -> Said {
         let wrong = self.unused_cards();
         let answers = self.messages - self.sent;
+        let answered = some(answers, "answer");
         let mut words = vec![format!("{} to the station, {} refused", some(self.sent, "message"), self.refused)];
-        if answers > 0 { words.push(format!("{} in the log, {} of them not the station's", some(answers, "answer"), self.differ)); }
+        match (self.sent, answers) {
+            (_, 0) => {}
+            (0, _) => words = vec![format!("{answered}, {} of a refusal", self.refusals)],
+            _ => words.push(format!("{answered} in the log, {} of them not the station's", self.differ)),
+        }
         if answers > 0 && !self.waiting.is_empty() { words.push(format!("{} without answer there", some(self.waiting.len(), "message"))); }
         Said { text: words.join("; ") + "\n", wrong }
     }

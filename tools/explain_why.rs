@@ -5,7 +5,6 @@ use crate::explain_floor::{drive, outstanding, parts};
 use crate::explain_follow::Follower;
 use crate::explain_message::{bad_fields, both_wide, instruction, Message, BEGIN_IN, BEGIN_OUT};
 use crate::explain_sound::hints;
-use crate::numbers::Number;
 use crate::panel_words::{explained, has, of_lift, LIFT};
 
 /// The instructions that have the lift in their areas, in words.
@@ -152,6 +151,3 @@ pub fn to_do(message: &Message, answer: Answer) -> &'static str {
         _ => "the program never answers so",
     }
 }
-
-/// The words of a number.
-pub fn told(number: u8) -> &'static str { Number::try_from(number).map_or("not a number of the table", Number::words) }

@@ -99,7 +99,7 @@ fn show_floor(out: &mut impl Write, image: u64) -> io::Result<()> {
 /// An instruction on a floor: its conditions, the verdict, and the floor after it, which is given; where it is refused, the same floor.
 fn explain(out: &mut impl Write, image: u64, five: [u8; 5]) -> io::Result<u64> {
     writeln!(out, "\n{}", words::line_of(five))?;
-    for line in panel_words::explained(image, five).iter().flat_map(|condition| &condition.lines) { writeln!(out, "{line}")?; }
+    for line in panel_words::explained(image, five).iter().flat_map(|condition| &condition.lines) { writeln!(out, "  {line}")?; }
     match panel_entries::next(image, five) {
         Ok(next) => {
             writeln!(out, "verdict 0: {}\n", panel_words::told(0))?;

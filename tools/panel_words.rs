@@ -2,7 +2,6 @@
 //! which of them are at fault where it fails.
 #![allow(dead_code)] // each program uses its own part of this module
 
-use crate::numbers::Number;
 use crate::panel_entries::{self, Condition};
 use crate::words::{belts_of, named, word, HEIGHTS, ORIENTATIONS, ROWS, SIDES, SIZES, WAYS};
 
@@ -11,7 +10,7 @@ pub fn told(number: u8) -> &'static str {
     match number {
         0 => "allowed",
         31 => "the lift in an area while a drive is under way",
-        other => Number::try_from(other).map_or("not a number of the table", Number::words),
+        other => crate::numbers::told(other),
     }
 }
 
@@ -171,8 +170,8 @@ pub struct Explained {
 pub fn explained(image: u64, five: [u8; 5]) -> Vec<Explained> {
     let one = |(c, asked): (u8, Asked)| {
         let condition = panel_entries::condition(image, five, c)?;
-        let first = format!("  {} {}  {}", condition.number, if condition.holds { "yes" } else { "no " }, asked.words);
-        let decided = decided(&asked, &condition, image).into_iter().map(|line| format!("          {line}"));
+        let first = format!("{} {}  {}", condition.number, if condition.holds { "yes" } else { "no " }, asked.words);
+        let decided = decided(&asked, &condition, image).into_iter().map(|line| format!("        {line}"));
         Some(Explained { holds: condition.holds, lines: std::iter::once(first).chain(decided).collect() })
     };
     (0..).zip(conditions(five)).map_while(one).collect()

@@ -17,7 +17,7 @@ use reference::{cars, Instruction, REASON_NUMBERS, START};
 use sound_records::{every_five, SoundRecords};
 use std::collections::BTreeSet;
 use std::process::exit;
-use texts::words;
+use texts::{listed, words};
 use traffic::Numbers;
 
 fn hexadecimal(image: u64) -> String { image.to_le_bytes().map(|byte| format!("{byte:02X}")).join(" ") }
@@ -40,19 +40,10 @@ fn floor<'a>(lines: &mut impl Iterator<Item = &'a str>) -> Option<Floor> {
     Some(Floor { drawing, image: u64::from_le_bytes(*bytes.first_chunk()?), cars: count }).filter(|_| listed == count as usize)
 }
 
-/// The numbers that a list such as `2 to 10, 13` names.
-fn numbers(list: &str) -> Option<Vec<u32>> {
-    let one = |item: &str| match item.split_once(" to ") {
-        Some((first, last)) => Some((first.parse().ok()?..=last.parse().ok()?).collect()),
-        None => Some(vec![item.parse().ok()?]),
-    };
-    list.split(", ").map(one).collect::<Option<Vec<Vec<u32>>>>().map(|all| all.concat())
-}
-
 /// The parts that a line names, as a number; none where the instruction's words are told.
 fn parts_in(line: &str) -> u64 {
     let cells = line.strip_prefix("cells ").or(line.strip_prefix("cell "));
-    if let Some(cells) = cells.and_then(|rest| numbers(rest.split_once(": ")?.0)) { return cells.iter().fold(0, |all, cell| all | 1 << cell); }
+    if let Some(cells) = cells.and_then(|rest| listed(rest.split_once(": ")?.0)) { return cells.iter().fold(0, |all, cell| all | 1 << cell); }
     if line.starts_with("lift at ") { return 1 << 52; }
     let Some((place, what)) = line.split_once(": ") else { return 0 };
     let Some((side, row)) = place.split_once(" row ") else { return 0 };

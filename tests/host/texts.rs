@@ -1,4 +1,5 @@
-//! Instructions in words, as the page of plans has them.
+//! Instructions in words, as the page of plans has them, and lists of numbers.
+#![allow(dead_code)] // each driver uses its own part of this module
 
 fn name(names: &[&'static str], at: u8) -> &'static str { names[usize::from(at)] }
 
@@ -28,4 +29,13 @@ pub fn words([op, a, b, c, d]: [u8; 5]) -> Option<String> {
         (5, 0, 0, 0, 0) => "rotate".to_string(),
         _ => return None,
     })
+}
+
+/// The numbers that a list such as `2 to 10, 13` names.
+pub fn listed(list: &str) -> Option<Vec<u32>> {
+    let one = |item: &str| match item.split_once(" to ") {
+        Some((first, last)) => Some((first.parse().ok()?..=last.parse().ok()?).collect()),
+        None => Some(vec![item.parse().ok()?]),
+    };
+    list.split(", ").map(one).collect::<Option<Vec<Vec<u32>>>>().map(|all| all.concat())
 }
