@@ -14,6 +14,7 @@ mod explain_why;
 mod numbers;
 mod panel_entries;
 mod panel_words;
+mod told;
 #[path = "../hosts/rust/src/words.rs"]
 mod words;
 
@@ -23,7 +24,8 @@ use explain_message::two_numbers;
 use explain_text::{Explainer, Said, Shows};
 use std::io::{self, Write};
 use std::process::ExitCode;
-use words::{failed, Wrong};
+use told::failed;
+use words::Wrong;
 
 const USAGE: &str = "usage: explain [--quiet] [--floor] [--from IMAGE] [--issue N] [--cards LIST] [--hex < LOG | HEX.. | < LOG]";
 
@@ -104,7 +106,9 @@ fn main() -> ExitCode {
         eprintln!("explain: {why}");
         ExitCode::from(status)
     };
-    let Some(given) = given(std::env::args().skip(1)) else { return told(USAGE, 2) };
+    let words: Vec<String> = std::env::args().skip(1).collect();
+    if words == ["--version"] { return told::told_version("explain"); }
+    let Some(given) = given(words.into_iter()) else { return told(USAGE, 2) };
     let follower = match begin(&given) { Ok(follower) => follower, Err(why) => return told(&why, 2) };
     let both_ways = given.hex || !given.digits.is_empty();
     let explainer = Explainer::new(follower, given.shows, both_ways);

@@ -1,22 +1,10 @@
 //! The entries that the explainer asks (include/station.h, include/desk.h), with slices for their addresses and lengths.
 
-extern "C" {
-    fn station_start(room: *mut u8, room_length: usize) -> u32;
-    fn station_request(room: *mut u8, room_length: usize, count: u8, set: *const u8, set_length: usize) -> u32;
-    fn station_message(
-        room: *mut u8, room_length: usize, message: *const u8, message_length: usize, reply: *mut u8, reply_length: usize,
-    ) -> u32;
-    fn garage_sound(image: u64) -> bool;
-    fn garage_cars(image: u64) -> u32;
-    fn desk_start(room: *mut u8, room_length: usize) -> u32;
-    fn desk_request(room: *mut u8, room_length: usize, count: u8, set: *const u8, set_length: usize) -> u32;
-    fn desk_event(room: *mut u8, room_length: usize, way: u8, card: u32) -> u32;
-    fn desk_result(room: *mut u8, room_length: usize, issue: u16, number: u8, ending: u8) -> u32;
-    fn desk_image(
-        room: *mut u8, room_length: usize, image: u64, apart: u64, count: u8, cards: *const u8, cards_length: usize,
-    ) -> u32;
-    fn desk_where(room: *const u8, room_length: usize, card: u32) -> u32;
-}
+#[path = "../hosts/rust/src/raw/desk.rs"]
+mod desk;
+
+use crate::panel_entries::station::{garage_area, garage_cars, garage_sound, station_message};
+use desk::{desk_event, desk_image, desk_request, desk_result, desk_start, desk_where};
 
 pub const STATION_SIZE: usize = 60;
 pub const DESK_SIZE: usize = 228;
@@ -58,16 +46,12 @@ pub fn sound(image: u64) -> bool { unsafe { garage_sound(image) } }
 /// How many cars a sound record has.
 pub fn cars(image: u64) -> usize { unsafe { garage_cars(image) as usize } }
 
-/// An instruction's area, a bit for each part. An idle station tells it: with one part set apart, 32 is told exactly of what touches it.
+/// An instruction's area, a bit for each part as what is set apart has them: the lift is 52 alone. The five bytes are an instruction.
 pub fn area(five: [u8; 5]) -> u64 {
-    let touches = |part: &u8| {
-        let mut room = [0; STATION_SIZE];
-        unsafe { station_start(room.as_mut_ptr(), room.len()) };
-        room[APART].copy_from_slice(&(1u64 << part).to_le_bytes());
-        let said = unsafe { station_request(room.as_mut_ptr(), room.len(), 1, five.as_ptr(), five.len()) };
-        answer(said).number == SET_APART
-    };
-    (0..=RAISED).filter(touches).fold(0, |area, part| area | 1 << part)
+    let mut room = [0; 8];
+    let said = answer(unsafe { garage_area(five.as_ptr(), five.len(), room.as_mut_ptr(), room.len()) });
+    assert_eq!(said.number, 0, "an instruction");
+    u64::from_le_bytes(room) & ((1 << (RAISED + 1)) - 1)
 }
 
 // ---- the desk; what a station takes its desk takes too, with numbers that are new

@@ -2,7 +2,8 @@
 
 use crate::explain_follow::Cards;
 use crate::explain_message::{is_answer, length, LENGTHS};
-use crate::words::{failed, Wrong};
+use crate::told::failed;
+use crate::words::Wrong;
 use std::collections::VecDeque;
 use std::io::{BufRead, Read};
 

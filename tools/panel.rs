@@ -7,13 +7,15 @@
 mod numbers;
 mod panel_entries;
 mod panel_words;
+mod told;
 #[path = "../hosts/rust/src/words.rs"]
 mod words;
 
 use panel_entries::Unread;
 use std::io::{self, BufRead, Write};
 use std::process::ExitCode;
-use words::{failed, Words, Wrong};
+use told::failed;
+use words::{Words, Wrong};
 
 /// Reads the input line by line, with each line's end, and counts them.
 struct Lines<R> {
@@ -124,18 +126,6 @@ fn instruction_in(line: &[u8]) -> Result<Option<[u8; 5]>, Wrong> {
     Ok(Some(five))
 }
 
-/// Tells the version on standard output.
-fn told_version() -> ExitCode {
-    let [third, second, first, _] = panel_entries::version().to_le_bytes();
-    match writeln!(io::stdout(), "panel {first}.{second}.{third}") {
-        Ok(()) => ExitCode::SUCCESS,
-        Err(why) => {
-            eprintln!("panel: {}", failed("output", why));
-            ExitCode::FAILURE
-        }
-    }
-}
-
 /// The whole session; gives whether every line said something, or why a stream failed.
 fn session(input: impl BufRead, out: &mut impl Write) -> Result<bool, Wrong> {
     let mut lines = Lines { input, number: 0 };
@@ -166,7 +156,7 @@ fn session(input: impl BufRead, out: &mut impl Write) -> Result<bool, Wrong> {
 
 fn main() -> ExitCode {
     let words: Vec<_> = std::env::args_os().skip(1).collect();
-    if words.len() == 1 && words[0] == "--version" { return told_version(); }
+    if words.len() == 1 && words[0] == "--version" { return told::told_version("panel"); }
     if !words.is_empty() {
         eprintln!("panel: usage: panel < FLOOR-AND-INSTRUCTIONS");
         return ExitCode::from(2);

@@ -5,9 +5,12 @@
 mod drawing;
 #[path = "../hosts/rust/src/raw/panel.rs"]
 mod panel;
+#[path = "../hosts/rust/src/raw/station.rs"]
+pub mod station;
 
 use drawing::{drawing_read, drawing_write};
 use panel::{panel_cars, panel_condition, panel_next};
+use station::station_version;
 
 /// A condition of an instruction on a record: whether it holds, the number that is told where it is the first to fail, and the parts that
 /// decide it, a bit for each: 0 to 39 the cells, 40 to 51 the shuttles' slots, 52 the lift.
@@ -26,7 +29,7 @@ pub enum Unread {
 const BAD_LINE: u8 = 41;
 
 /// The version: 65536 times its first number, 256 times its second, and its third.
-pub fn version() -> u32 { 65536 }
+pub fn version() -> u32 { unsafe { station_version() } }
 
 /// An answer's number, and its upper half.
 fn parts_of(answer: u32) -> (u8, usize) { (answer as u8, (answer >> 16) as usize) }

@@ -1,5 +1,5 @@
 //! The words for people: instructions as the texts of plans and of the panel have them (docs/PLANS.md, docs/PANEL.md), read and written, and
-//! records in hexadecimal; and why a stream failed.
+//! records in hexadecimal.
 #![allow(dead_code)] // each program uses its own part of this module
 
 // Numbers as the messages have them, by the places of their words.
@@ -15,12 +15,6 @@ const INSTRUCTIONS: [&str; 5] = ["belts", "shuttles", "tilt", "lift", "rotate"];
 
 /// What is wrong with a line, in words.
 pub type Wrong = String;
-
-/// Why a stream failed, in words.
-pub fn failed(stream: &str, why: std::io::Error) -> Wrong {
-    let words = why.to_string();
-    format!("standard {stream}: {}", words.split(" (os error").next().unwrap_or(&words))
-}
 
 fn listed(names: &[&str]) -> String {
     match names {

@@ -1,0 +1,24 @@
+//! What the hosts of the terminal tell of themselves: their version, and why a stream failed.
+
+use crate::panel_entries::version;
+use crate::words::Wrong;
+use std::io::{self, Write};
+use std::process::ExitCode;
+
+/// Why a stream failed, in words.
+pub fn failed(stream: &str, why: io::Error) -> Wrong {
+    let words = why.to_string();
+    format!("standard {stream}: {}", words.split(" (os error").next().unwrap_or(&words))
+}
+
+/// Tells the program's name and the version of the entries on standard output.
+pub fn told_version(name: &str) -> ExitCode {
+    let [third, second, first, _] = version().to_le_bytes();
+    match writeln!(io::stdout(), "{name} {first}.{second}.{third}") {
+        Ok(()) => ExitCode::SUCCESS,
+        Err(why) => {
+            eprintln!("{name}: {}", failed("output", why));
+            ExitCode::FAILURE
+        }
+    }
+}
