@@ -1,4 +1,4 @@
-//! The explainer: `explain EXPLAIN PAGE PROTOCOL MESSAGES`. Long traffic as bytes and as hexadecimal text: what is shown is read back and
+//! The explainer: `explain EXPLAIN PAGE EXAMPLES MESSAGES`. Long traffic as bytes and as hexadecimal text: what is shown is read back and
 //! held against the reference, answer by answer with place and issue, each reason, and the floors; each number that a program can give
 //! must come. Inputs that are damaged, logs with an answer changed or a message left out, wrong words, cards followed beside a reference
 //! desk. And the page's examples: in a block marked `explain` the first line is the command and the others are its input; of the blocks
@@ -125,7 +125,7 @@ fn examples(explain: &str, page: &str) -> usize {
 
 fn main() {
     let given: Vec<String> = std::env::args().collect();
-    let [_, explain, page, protocol, messages] = &given[..] else { panic!("usage: explain EXPLAIN PAGE PROTOCOL MESSAGES") };
+    let [_, explain, page, sessions, messages] = &given[..] else { panic!("usage: explain EXPLAIN PAGE EXAMPLES MESSAGES") };
     let messages: usize = messages.parse().expect("a number of messages");
     let mut beside = Beside::new();
     long(explain, messages, &mut beside);
@@ -136,7 +136,7 @@ fn main() {
     let ([unsound, fine], all) = (hints(4000), instructions(explain));
     println!("explain: {all} instructions in words; {unsound} images that are not sound with hints, {fine} sound ones without");
     views(explain, 4000);
-    explain_logs::all(explain, protocol);
+    explain_logs::all(explain, sessions);
     explain_cards::followed(explain, 8, 4000);
     println!("explain: {} examples of {page}", examples(explain, page));
 }

@@ -16,10 +16,10 @@ def of_mark(page, *marks):
 
 
 class Sessions(unittest.TestCase):
-    """docs/PROTOCOL.md, through the library and through the program on a journal."""
+    """docs/EXAMPLES.md, through the library and through the program on a journal."""
 
     def lines(self):
-        sessions = of_mark("docs/PROTOCOL.md", "session")
+        sessions = of_mark("docs/EXAMPLES.md", "session")
         self.assertGreater(len(sessions), 15)
         for _, session in sessions:
             yield [(line[0], bytes.fromhex(line[1:])) for line in session.splitlines()]
