@@ -65,6 +65,19 @@ pub fn garage_next(image: u64, five: &[u8], next: &mut [u8]) -> Answer {
     Answer::of(unsafe { station::garage_next(image, five.as_ptr(), five.len(), next.as_mut_ptr(), next.len()) })
 }
 
+/// Writes an instruction's area: eight bytes.
+pub fn garage_area(five: &[u8], area: &mut [u8]) -> Answer {
+    Answer::of(unsafe { station::garage_area(five.as_ptr(), five.len(), area.as_mut_ptr(), area.len()) })
+}
+
+/// Whether two instructions may not stand in one set.
+pub fn garage_overlap(one: &[u8], other: &[u8]) -> Answer {
+    Answer::of(unsafe { station::garage_overlap(one.as_ptr(), one.len(), other.as_ptr(), other.len()) })
+}
+
+/// The archive's version: 65536 times its first number, 256 times its second, and its third.
+pub fn station_version() -> u32 { unsafe { station::station_version() } }
+
 // ---- include/desk.h
 
 /// Writes the start desk.

@@ -31,6 +31,7 @@
 //! ```
 
 mod answers;
+mod building;
 mod desk;
 mod fields;
 mod instruction;
@@ -46,6 +47,7 @@ mod totals;
 mod words;
 
 pub use answers::{Answer, Issue, Refusal};
+pub use building::version;
 pub use desk::{Card, Desk};
 pub use fields::{Belt, Belts, Event, Height, Kind, Op, Orientation, Outcome, Row, Rows, Side, Size, Toward};
 pub use instruction::{Instruction, NoInstruction};

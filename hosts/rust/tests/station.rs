@@ -196,27 +196,6 @@ fn questions_on_a_record() {
     assert_eq!((allowed(START | 3, &[2, 0, 3, 0, 1]), next(START | 3, &[2, 0, 3, 0, 1])), (TAKEN, Ok(0x0009_1E00_0010_0000)));
 }
 
-/// Areas are in the record's own bits, the lift is 52 to 54; of two that can't stand in one set the second is told.
-#[test]
-fn questions_for_building_sets() {
-    const BAD: Five = [4, 3, 0, 0, 0];
-    assert_eq!(area(&LIFT_DOWN), Ok(7 << 52 | 3 << 11));
-    assert_eq!(area(&[2, 1, 1, 1, 1]), Ok(3 << 49), "the tilted slots of rows 1 and 2, on the right");
-    assert_eq!(area(&[1, 2, 0, 0, 1]), Ok(0), "no belt is named");
-    assert_eq!(area(&BAD), Err(refusal(BadField)));
-    assert_eq!(overlap(&LIFT_DOWN, &TO_THE_LEFT), refusal_at(Overlap, 1));
-    assert_eq!(overlap(&LIFT_DOWN, &[1, 1, 2, 0, 0]), TAKEN);
-    assert_eq!((overlap(&BAD, &LIFT_DOWN), overlap(&LIFT_DOWN, &BAD)), (refusal_at(BadField, 0), refusal_at(BadField, 1)));
-    assert_eq!(overlap(&BAD, &BAD), refusal_at(BadField, 0));
-}
-
-#[test]
-fn the_archive_is_of_the_headers_version() {
-    let header = include_str!("../../../include/station.h");
-    let number = |name: &str| header.lines().find_map(|line| line.strip_prefix("#define STATION_VERSION_")?.strip_prefix(name)?.parse().ok());
-    assert_eq!(version().map(Some), ["FIRST ", "SECOND ", "THIRD "].map(number));
-}
-
 #[test]
 fn the_session_of_the_rules() {
     let mut s = Station::start();

@@ -31,7 +31,10 @@ unsafe extern "C" {
     pub fn garage_allowed(image: u64, five: *const u8, five_length: usize) -> u32;
     /// The record after an instruction.
     pub fn garage_next(image: u64, five: *const u8, five_length: usize, next: *mut u8, next_length: usize) -> u32;
+    /// Writes an instruction's area.
     pub fn garage_area(five: *const u8, five_length: usize, area: *mut u8, area_length: usize) -> u32;
+    /// Whether two instructions may not stand in one set.
     pub fn garage_overlap(one: *const u8, one_length: usize, other: *const u8, other_length: usize) -> u32;
+    /// The archive's version, as one number.
     pub fn station_version() -> u32;
 }
