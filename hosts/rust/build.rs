@@ -40,7 +40,7 @@ fn built() -> PathBuf {
     assert!(script.is_file(), "{} isn't there: take the crate within its project, or {INSTEAD}", script.display());
     let machine = env::var("CARGO_CFG_TARGET_ARCH").expect("cargo says for which machine");
     assert!(machine == env::consts::ARCH, "tools/library builds for this machine, not for {machine}: {INSTEAD}");
-    for source in ["crates", "crates.txt", "tools/library", "tools/native"] {
+    for source in ["crates", "crates.txt", "tools/library", "tools/module", "tools/native"] {
         println!("cargo:rerun-if-changed={}", root.join(source).display());
     }
     let folder = root.join("target/library");
