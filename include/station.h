@@ -40,10 +40,10 @@
  * what stands past those bytes keeps its value.
  *
  * Answers. An entry that returns uint32_t answers with a number of the table below, a place and an issue: STATION_NUMBER,
- * STATION_PLACE and STATION_SET take them apart. The place is the instruction at fault, counted from 0, in a request for
- * STATION_BAD_FIELD, STATION_SET_APART, STATION_OVERLAP and the reasons, 20 to 28; else it is STATION_NOWHERE. The issue is that of the
- * set where a request was taken, else 0. A call that isn't taken writes nothing; of a message that isn't, only the refusal is written, as
- * the message that answers it (station_message).
+ * STATION_PLACE and STATION_SET take them apart. The place is the instruction at fault, counted from 0, in a request (or of
+ * garage_overlap's two) for STATION_BAD_FIELD, STATION_SET_APART, STATION_OVERLAP and the reasons, 20 to 28; else it is STATION_NOWHERE.
+ * The issue is that of the set where a request was taken, else 0. A call that isn't taken writes nothing; of a message that isn't, only
+ * the refusal is written, as the message that answers it (station_message).
  *
  * Issues. Each accepted set has a number of 16 bits, its issue: 0 for the first set since station_start, then one more for each set,
  * and 0 again after 65535. A request that is refused takes none, and an event or an image leaves the count as it is. A result says of
@@ -255,8 +255,8 @@ uint32_t garage_next(uint64_t image, const uint8_t *five, size_t five_length, ui
 /* ---- questions for building sets: areas are the same on every record, so none is given. What stands past five bytes is not looked at */
 
 /* Writes the eight bytes of the instruction's area to `area`, the lowest first, in the record's own bits; the lift is bits 52 to 54. Two
- * instructions overlap exactly if their areas share a bit, and one touches what is set apart exactly if its area shares a bit with the number
- * that shows it. 17 where `area` is too short, then 1, 4, with STATION_NOWHERE as the place. */
+ * instructions overlap exactly if their areas share a bit, and one touches what is set apart exactly if its area shares a bit with the
+ * number that shows it. 17 where `area` is too short, then 1, 4, with STATION_NOWHERE as the place. */
 uint32_t garage_area(const uint8_t *five, size_t five_length, uint8_t *area, size_t area_length);
 
 /* Whether the two may not stand in one set, as a request of these two in this order would be told so far as the instructions alone decide:
