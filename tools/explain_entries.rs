@@ -12,7 +12,6 @@ pub const DESK_SIZE: usize = 228;
 pub const APART: std::ops::Range<usize> = 52..60;
 /// The place where an answer names no instruction.
 pub const NOWHERE: u8 = 255;
-pub const SET_APART: u8 = 32;
 /// The places that a desk tells: on the raised lift, and not in the garage.
 pub const RAISED: u8 = 52;
 const NOT_HERE: u8 = 255;
