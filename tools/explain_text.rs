@@ -6,7 +6,7 @@ use crate::explain_follow::{named_cars, Cards, Floor, Follower};
 use crate::explain_input::{Item, Placed};
 use crate::explain_message::{both, both_wide, hexadecimal, instruction, read, word, Message, BEGIN_IN, ENDINGS, EVENTS};
 use crate::explain_why::{against, to_do};
-use crate::numbers::told;
+use crate::told::number_in_words;
 use crate::words::Wrong;
 use std::collections::VecDeque;
 
@@ -81,7 +81,7 @@ fn answer_line(Answer { number, place, issue }: Answer, fives: &[[u8; 5]]) -> St
         None if place == NOWHERE => "none".to_string(),
         None => format!("instruction {place}"),
     };
-    format!("answer {}: {}; place {}: {what}; issue {}", both(number), told(number), both(place), both_wide(issue))
+    format!("answer {}: {}; place {}: {what}; issue {}", both(number), number_in_words(number), both(place), both_wide(issue))
 }
 
 /// The message that answers, in words.

@@ -10,7 +10,7 @@ pub fn told(number: u8) -> &'static str {
     match number {
         0 => "allowed",
         31 => "the lift in an area while a drive is under way",
-        other => crate::numbers::told(other),
+        other => crate::told::number_in_words(other),
     }
 }
 

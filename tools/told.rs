@@ -1,9 +1,13 @@
-//! What the hosts of the terminal tell of themselves: their version, and why a stream failed.
+//! What the hosts of the terminal tell: their version, why a stream failed, and what a number says.
 
+use crate::numbers::Number;
 use crate::panel_entries::version;
 use crate::words::Wrong;
 use std::io::{self, Write};
 use std::process::ExitCode;
+
+/// What a number says, whether the table has it or not.
+pub fn number_in_words(number: u8) -> &'static str { Number::try_from(number).map_or("not a number of the table", Number::words) }
 
 /// Why a stream failed, in words.
 pub fn failed(stream: &str, why: io::Error) -> Wrong {

@@ -60,7 +60,7 @@ class Number(Worded):
     KNOWN_NUMBER = 38, "number already in the garage, or given twice"
     WRONG_COUNT = 39, "not that many numbers"
     FULL = 40, "a total is full"
-    BAD_LINE = 41, "not a drawing: a line isn't of its form"
+    BAD_LINE = 41, "not a drawing"
 
 
 class Event(Worded):

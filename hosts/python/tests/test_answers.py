@@ -29,11 +29,9 @@ class Table(unittest.TestCase):
             theirs[name.split("_", 1)[1]] = named[name]
         self.assertEqual(theirs, {one.name: one.value for one in Number})
 
-    def test_the_words_are_those_of_the_wrappers(self):
+    def test_the_words_are_those_of_the_crate_for_rust(self):
         words = {int(number): said for number, said in re.findall(r'= (\d+) "([^"]*)",', text("hosts/rust/src/numbers.rs"))}
-        words.update({int(number): said for number, said in re.findall(r'"(3[789]) \(([^)]*)\)"', text("tests/host/desk_wrapper.rs"))})
-        neither = (Number.TOO_MANY_SETS, Number.WISH_NOT_MET, Number.FULL, Number.BAD_LINE)
-        self.assertEqual(words, {one.value: one.words for one in Number if one not in neither})
+        self.assertEqual(words, {one.value: one.words for one in Number})
         self.assertEqual(len({one.words for one in Number}), len(Number))
 
     def test_events_and_results_are_those_of_the_headers(self):

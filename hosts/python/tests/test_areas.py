@@ -35,7 +35,8 @@ class Areas(unittest.TestCase):
                     station.result(station.request([one]), 0, Outcome.STUCK)
                     stuck[one] = station.apart
         self.assertGreater(len(stuck), 100)
-        self.assertEqual({one: one.area() for one in stuck}, stuck)
+        # what is set apart has one bit for the lift, an area all three
+        self.assertEqual({one: one.area() & ~(0b11 << 53) for one in stuck}, stuck)
 
     def test_bytes_that_are_no_instruction(self):
         with self.assertRaises(Refused) as caught:

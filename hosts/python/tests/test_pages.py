@@ -19,10 +19,14 @@ class Sessions(unittest.TestCase):
     """docs/EXAMPLES.md, through the library and through the program on a journal."""
 
     def lines(self):
-        sessions = of_mark("docs/EXAMPLES.md", "session")
-        self.assertGreater(len(sessions), 15)
-        for _, session in sessions:
-            yield [(line[0], bytes.fromhex(line[1:])) for line in session.splitlines()]
+        found = 0
+        for _, session in of_mark("docs/EXAMPLES.md", "session"):
+            lines = [(line[0], bytes.fromhex(line[1:])) for line in session.splitlines()]
+            # those out of step have lines that are no message, and are the program's alone
+            if all(mark != ">" or len(given) == 2 + given[0] or not 2 <= given[0] <= 43 for mark, given in lines):
+                found += 1
+                yield lines
+        self.assertGreater(found, 15)
 
     def test_by_the_library(self):
         for session in self.lines():

@@ -80,9 +80,6 @@ impl Number {
     pub(crate) fn of(number: u8) -> Number { Number::try_from(number).expect("a number of the table") }
 }
 
-/// What a number says, whether the table has it or not.
-pub fn told(number: u8) -> &'static str { Number::try_from(number).map_or("not a number of the table", Number::words) }
-
 impl fmt::Display for Number {
     fn fmt(&self, f: &mut fmt::Formatter) -> fmt::Result { write!(f, "{} ({})", *self as u8, self.words()) }
 }
