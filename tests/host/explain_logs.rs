@@ -108,16 +108,25 @@ fn forms(explain: &str) {
     }
 }
 
-/// The sessions of the protocol's page: their answers are the station's, as far as it reads.
-fn sessions(explain: &str, protocol: &str) -> usize {
-    let content = std::fs::read_to_string(protocol).expect("the page is there");
-    let sessions = blocks(&content, &["session"]);
+/// Whether a line of a session is one whole message, or answered, or has a length out of range: those out of step are the program's alone.
+fn in_step(line: &str) -> bool {
+    let bytes: Vec<&str> = line.split_whitespace().collect();
+    let length = bytes.get(1).and_then(|byte| usize::from_str_radix(byte, 16).ok()).unwrap_or(0);
+    bytes[0] != ">" || bytes.len() == 3 + length || !(2..=43).contains(&length)
+}
+
+/// The sessions of a page that are in step: their answers are the station's, as far as it reads.
+fn sessions(explain: &str, page: &str) -> usize {
+    let content = std::fs::read_to_string(page).expect("the page is there");
+    let all = blocks(&content, &["session"]);
+    let sessions: Vec<_> = all.iter().filter(|(_, _, session)| session.lines().all(in_step)).collect();
     for (line, _, session) in &sessions {
         let (shown, told, well) = text(&format!("{explain} --hex"), session.as_bytes());
         let stops = told.starts_with("explain: line ") && told.contains("expected a length from 2 to 43");
         let answers = paragraphs(&shown).iter().filter(|told| !told.sent).count();
-        assert!((well || stops) && !shown.contains("it differs") && answers > 0, "{protocol}:{line}: {told}{shown}");
+        assert!((well || stops) && !shown.contains("it differs") && answers > 0, "{page}:{line}: {told}{shown}");
     }
+    assert!(sessions.len() > 15, "{page} has {} sessions in step", sessions.len());
     sessions.len()
 }
 
@@ -177,9 +186,9 @@ fn words(explain: &str, words: &[&str]) -> (String, String, Option<i32>) {
     (text(&output.stdout), text(&output.stderr), output.status.code())
 }
 
-pub fn all(explain: &str, protocol: &str) {
+pub fn all(explain: &str, page: &str) {
     forms(explain);
-    let sessions = sessions(explain, protocol);
+    let sessions = sessions(explain, page);
     let (texts, given) = (wrong_texts(), wrong_words());
     for (input, expected) in &texts {
         let (shown, told, well) = text(&format!("{explain} --hex"), input.as_bytes());
@@ -198,5 +207,5 @@ pub fn all(explain: &str, protocol: &str) {
     let (shown, _, status) = words(explain, &[&from[..], &["08 00 01 00 01 01 01 02 01 01", "08 00 01 00 01 01 01 08 01 01"]].concat());
     let (set_apart, taken) = ([6, 0, 128, 0, 32, 0, 0, 0], [6, 0, 128, 0, 0, 255, 255, 255]);
     assert_eq!((replies(&paragraphs(&shown)), status), ([set_apart, taken].concat(), Some(0)), "{shown}");
-    println!("explain: logs of both ways; {sessions} sessions of {protocol}; {} wrong texts, {} wrong words", texts.len(), given.len());
+    println!("explain: logs of both ways; {sessions} sessions of {page}; {} wrong texts, {} wrong words", texts.len(), given.len());
 }
