@@ -27,10 +27,10 @@ module _ (word text : List ℕ) where
   pub alike-turns : {i : ℕ} → Alike word text i → i < length text → getD word i 0 ≡ getD text i 0 → Alike word text (i + 1)
   unfolding every
   alike-turns {i} v h e = record {
-      long = v .long;
-      within = omega arith;
-      so-far = rw (add-one, eq-eqb (getD word i 0) (getD text i 0) e) (v .so-far);
-    }
+    long = v .long;
+    within = omega arith;
+    so-far = rw (add-one, eq-eqb (getD word i 0) (getD text i 0) e) (v .so-far);
+  }
 
   pub alike-ends : {i : ℕ} → Alike word text i → length text ≤ i → true ≡ isText text word
   alike-ends {i} v h =

@@ -134,10 +134,11 @@ one-drawing s r e = cases s
     (λ t w. other w e (λ z. omega arith))
     (λ t u w. other w e (λ z. omega arith))
     (λ t u w.
-    let z : image (bitsIn s) ≡ r = ap bits (sym w ∙ e) in
-    (text-drawn s t (bit r) (λ k h. ap (λ (n : ℕ). bit n k) (sym z) ∙ bit-image (bitsIn s) k (omega arith)),
-    ap sound (sym z) ∙ u,
-    subst (λ (n : ℕ). n < 2 ^ 64) z (packed-lt 64 0 (bitsIn s))))
+    let z : image (bitsIn s) ≡ r = ap bits (sym w ∙ e) in (
+      text-drawn s t (bit r) (λ k h. ap (λ (n : ℕ). bit n k) (sym z) ∙ bit-image (bitsIn s) k (omega arith)),
+      ap sound (sym z) ∙ u,
+      subst (λ (n : ℕ). n < 2 ^ 64) z (packed-lt 64 0 (bitsIn s)),
+    ))
   where
     bits : Found → ℕ
     bits x = x .bits
@@ -184,12 +185,12 @@ module _ (s : List ℕ) (t : ltb (firstBad s) 7 ≡ true) where
     stands = stands s here;
     many = firsts-length s here;
     good = λ j h.
-    let l : j < 6 = omega (arith, ltb-true here 7 t) in
-    subst (Formed j) (sym (firsts-at s here j h)) (line-formed s j l (line-is s j l (is-least .none j h)));
+        let l : j < 6 = omega (arith, ltb-true here 7 t) in
+        subst (Formed j) (sym (firsts-at s here j h)) (line-formed s j l (line-is s j l (is-least .none j h)));
     bad = split (ltb here 6)
-    (λ e. inl (ltb-true here 6 e, no-line (ltb-true here 6 e)))
-    (λ e. let z : here ≡ 6 = omega (arith, ltb-true here 7 t, ltb-false here 6 e) in
-    inr (z, subst (λ (n : ℕ). 0 < length (fromLine n s)) (sym z) (rest-there s (subst (λ (n : ℕ). badLine s n ≡ true) z (is-least .passes)))));
+        (λ e. inl (ltb-true here 6 e, no-line (ltb-true here 6 e)))
+        (λ e. let z : here ≡ 6 = omega (arith, ltb-true here 7 t, ltb-false here 6 e) in
+        inr (z, subst (λ (n : ℕ). 0 < length (fromLine n s)) (sym z) (rest-there s (subst (λ (n : ℕ). badLine s n ≡ true) z (is-least .passes)))));
   }
     where
       no-line : here < 6 → (l x : List ℕ) → fromLine here s ≡ l ++ x → Formed here l → ⊥

@@ -36,11 +36,13 @@ read-back p T =
 
 pub plan-reads-back : PlanReadsBack
 plan-reads-back p T =
-    let e = read-back p T in
-    (record {
-      whole = (let l : length (planBytes p) ≡ planSize p = omega (arith, sets-size (p .sets) (T .sets)) in l ∙ ap planSize (sym e));
-      wish = T .wish;
-    }, e)
+    let e = read-back p T in (
+      record {
+        whole = (let l : length (planBytes p) ≡ planSize p = omega (arith, sets-size (p .sets) (T .sets)) in l ∙ ap planSize (sym e));
+        wish = T .wish;
+      },
+      e,
+    )
 
 -- ---- one form
 
