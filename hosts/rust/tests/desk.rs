@@ -45,6 +45,18 @@ fn a_number_goes_with_its_car() {
     assert_eq!((d.event(1, 7002), d.event(3, 0), d.whereabouts(7002)), (TAKEN, TAKEN, Ok(At(Raised))), "it comes again");
 }
 
+/// All instructions of a set are asked for, and each number goes with its own car's result, in whatever order these come.
+#[test]
+fn a_set_of_several() {
+    let (row_2, row_3) = ([1, 2, 2, 1, 1], [1, 3, 2, 1, 1]);
+    let mut d = with_cars(START | 1 << 21 | 1 << 31, &[7001, 7002]);
+    assert_eq!((d.request(2, &[row_2, row_2].concat()), d.request(9, &row_2.repeat(9))), (refusal_at(Overlap, 1), refusal(TooMany)));
+    assert_eq!((d.request(2, &[row_2, row_3].concat()), d.result(0, 1, 1)), (taken_as(0), TAKEN));
+    assert_eq!((d.whereabouts(7001), d.whereabouts(7002)), (Ok(At(Cell(21))), Ok(At(Cell(32)))));
+    assert_eq!((d.result(0, 0, 1), d.whereabouts(7001)), (TAKEN, Ok(At(Cell(22)))));
+    assert_eq!((d.result(0, 0, 1), d.request(0, &[])), (refusal(NoSet), refusal(EmptySet)));
+}
+
 /// Numbers move on success and not otherwise.
 #[test]
 fn acceptance_failure_and_a_jam_move_no_number() {

@@ -37,6 +37,20 @@ fn set_of(count: u8, set: &[u8]) -> Option<Vec<Instruction>> {
     set.chunks(5).map(|five| Instruction::try_from(<[u8; 5]>::try_from(five).ok()?).ok()).collect()
 }
 
+/// A call on lent bytes, and by the types on a copy, if the bytes are one and the types can say it: both tell and leave the same.
+fn called<T, const N: usize>(
+    room: &mut [u8; N],
+    lent: impl Fn(&mut [u8]) -> Answer,
+    mut copy: Option<T>,
+    typed: impl Fn(&mut T) -> Told,
+    bytes: impl Fn(&T) -> &[u8; N],
+) -> Answer {
+    let told = copy.as_mut().and_then(typed);
+    let answer = lent(room);
+    if let (Some(copy), Some(told)) = (&copy, told) { assert_eq!((told, bytes(copy)), (answer.issued(), &*room)); }
+    answer
+}
+
 /// Lent bytes of a station.
 #[derive(Clone, Debug, PartialEq, Eq)]
 pub struct Station(pub [u8; station::Station::SIZE]);
@@ -56,13 +70,9 @@ impl Station {
         typed.ok()
     }
 
-    /// A call, on the bytes and by the types.
     fn call(&mut self, lent: impl Fn(&mut [u8]) -> Answer, typed: impl Fn(&mut station::Station) -> Told) -> Answer {
-        let mut copy = self.typed();
-        let told = copy.as_mut().and_then(typed);
-        let answer = lent(&mut self.0);
-        if let (Some(copy), Some(told)) = (copy, told) { assert_eq!((told, copy.bytes()), (answer.issued(), &self.0)); }
-        answer
+        let copy = self.typed();
+        called(&mut self.0, lent, copy, typed, station::Station::bytes)
     }
 
     pub fn request(&mut self, count: u8, set: &[u8]) -> Answer {
@@ -135,13 +145,9 @@ impl LentDesk {
         typed.ok()
     }
 
-    /// A call, on the bytes and by the types.
     fn call(&mut self, lent: impl Fn(&mut [u8]) -> Answer, typed: impl Fn(&mut Desk) -> Told) -> Answer {
-        let mut copy = self.typed();
-        let told = copy.as_mut().and_then(typed);
-        let answer = lent(&mut self.0);
-        if let (Some(copy), Some(told)) = (copy, told) { assert_eq!((told, copy.bytes()), (answer.issued(), &self.0)); }
-        answer
+        let copy = self.typed();
+        called(&mut self.0, lent, copy, typed, Desk::bytes)
     }
 
     pub fn request(&mut self, count: u8, set: &[u8]) -> Answer {
