@@ -21,8 +21,9 @@
  * them. No entry allocates, prints, or waits; none takes more stack than STATION_STACK_MOST.
  *
  * What may stand in a station's room: any bytes.
- *   - Bytes that are no station are refused with STATION_UNFIT, by every call but station_start: the record must be sound and what
- *     stands beside it well formed. A drive under way and a set with the lift in an area are no station together; nor is a set of which
+ *   - Bytes that are no station are rejected with STATION_UNFIT by every call but station_start, unless a check that comes before it
+ *     fails: a room that is too short, fewer bytes than a count says, or a message that can't be read (STATION_NO_ROOM, and
+ *     STATION_TOO_FEW_BYTES to STATION_TOO_MANY). In a station the record must be sound and what stands beside it well formed. A drive under way and a set with the lift in an area are no station together; nor is a set of which
  *     two instructions overlap, answered or not, or of which one that still waits for its result is not allowed on the record. One that
  *     is answered need not be. What is set apart may be anything, but has no bit above 52.
  *   - Bytes that station_start wrote, and after it these entries alone, are a station with all that is promised: each call answers by
@@ -66,7 +67,8 @@
  * Jams. A motor may leave its load between two places: its instruction is reported stuck (STATION_STUCK). That answers it, and no other
  * result of it is taken. The record stays, but what is in fact there is not known, so everything in the instruction's area is set apart:
  * cells, shuttles' slots, and the lift. A number of 64 bits shows it, bits 0 to 51 as in the record and bit 52 for the lift. It grows by
- * each such result, outlives the set, and is cleared by an image that is taken and by nothing else (station_image). Until then a set that
+ * each such result, outlives the set, and is cleared by an accepted image (station_image, or a message of kind 4). Of the entries only
+ * station_start, which begins another garage, clears it too. Until then a set that
  * touches a part set apart is refused with STATION_SET_APART and the least such instruction as its place, whether it would be allowed or
  * not, and an event is while the lift is one. Everything else goes on meanwhile. The questions on a record know nothing of it.
  *
