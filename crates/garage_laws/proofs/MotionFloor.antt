@@ -162,7 +162,8 @@ module _ (t : Station) (js : List Code) (G : Sane js t) where
 
   -- ---- what each place then holds: in the area of one that has finished what that one makes, elsewhere what was there
 
-  moved-out : (p : List Moving) (r : ℕ) → Choice p r → (k : ℕ) → k < 64 → ((n : Moving) → isAmong p n ≡ true → rules .area (code n) k ≡ false)
+  moved-out : (p : List Moving) (r : ℕ) → Choice p r → (k : ℕ) → k < 64
+      → ((n : Moving) → isAmong p n ≡ true → rules .area (code n) k ≡ false)
       → bit (movedOn (t .set) js p r) k ≡ bit r k
   moved-out [] r c k h none = refl
   moved-out (m ∷ p) r c k h none =
@@ -190,7 +191,8 @@ module _ (t : Station) (js : List Code) (G : Sane js t) where
 
   -- some one of them has a place in its area, or none has
   whose : (p : List Moving) (k : ℕ)
-      → ((n : Moving) × (isAmong p n ≡ true) × (rules .area (code n) k ≡ true)) ⊎ ((n : Moving) → isAmong p n ≡ true → rules .area (code n) k ≡ false)
+      → ((n : Moving) × (isAmong p n ≡ true) × (rules .area (code n) k ≡ true))
+      ⊎ ((n : Moving) → isAmong p n ≡ true → rules .area (code n) k ≡ false)
   whose [] k = inr (λ n e. clash e (among-none n))
   whose (m ∷ p) k = split (rules .area (code m) k)
       (λ u. inl (m, among-first m p, u))

@@ -1,14 +1,15 @@
--- The results of instructions that wait, told as it happened: each is taken, and the record at the end is that with those applied that have
--- finished, in the order of their results. Assumes nothing.
+-- The results of the instructions that wait, as it happened: each is accepted, and at the end the record is the one with those applied that
+-- have finished, in the order of their results. Assumes nothing.
 use mathlib.Core.Path.{_≡_, refl, sym, ap, subst, _∙_}
-use mathlib.Core.Bool.{Bool, true, false, cond, _&&_, _||_, or-true, and-true, and-false}
+use mathlib.Core.Bool.{Bool, true, false, not, cond, _&&_, _||_, or-true, and-true, and-false}
 use mathlib.Core.List.{List, [], _∷_, map}
-use Prim.Native.Nat.{ℕ}
-use lib.Dec.{eqb}
-use borrow.Author.Tests.{eqb-true, eq-eqb}
+use Prim.Native.Nat.{ℕ, zero, suc, _≤_, _<_}
+use native.Mathlib.Omega.{arith}
+use lib.Dec.{eqb, ltb}
+use borrow.Author.Tests.{lt-ltb, le-ltb, ltb-true, eqb-true, eqb-false, eq-eqb}
 use Rattle.bits.specs.Bits.{bit, image}
 use Rattle.bits.specs.Search.{every}
-use Rattle.bits.proofs.Cases.{split, clash, off}
+use Rattle.bits.proofs.Cases.{split, clash, off, alike}
 use Rattle.bits.proofs.Search.{every-at}
 use Rattle.rules.specs.declared.Code.{Code}
 use Rattle.sets.proofs.Marks.{marks}
@@ -22,7 +23,7 @@ use Rattle.garage_laws.specs.Runs.{Call, call, left, calls}
 use Rattle.garage_laws.specs.Orders.{Fair}
 use Rattle.garage_laws.specs.Jams.{jamAt, has, Picks, applied}
 use Rattle.garage_laws.specs.Demands.{Waiting}
-use Rattle.garage_laws.specs.Motion.{Moving, ofSet, ofStuck, setNumbers, stuckNumbers, isAmong, movedOn, asItHappened}
+use Rattle.garage_laws.specs.Motion.{Moving, ofSet, ofStuck, setNumbers, stuckNumbers, isAmong, movedOn, asItHappened, WaitingListed}
 use Rattle.garage_laws.proofs.Fits.{marksWith, noted, after-result, waits-allowed}
 use Rattle.garage_laws.proofs.Calls.{following, success-is, failure-is, answering-bits}
 use Rattle.garage_laws.proofs.Always.{fit-kept}
@@ -90,13 +91,17 @@ module _ (t : Station) (f : fit t ≡ true) (k : ℕ) (e : k ≡ present t) (i :
 
   ahead : (x : Bool) → Ahead t (now x) q
   ahead x = after-result (λ u. Ahead t u q) t i (record-then x) (t .apart)
-      (λ a. subst (Ahead t _) (sym (none-left q (w .once .2) still-open a)) (record { owing = record { once = tt; waiting = λ j h. clash h refl }; issue = refl; bytes = λ js p y r. moved-stuck _ js y r ∙ sym (moved-stuck (t .set) js y r) }))
+      (λ a. subst (Ahead t _) (sym (none-left q (w .once .2) still-open a)) (record {
+        owing = record { once = tt; waiting = λ j h. clash h refl };
+        issue = refl;
+        bytes = λ js p y r. moved-stuck _ js y r ∙ sym (moved-stuck (t .set) js y r);
+      }))
       (λ a. record { owing = record { once = w .once .2; waiting = still-open }; issue = refl; bytes = λ js p y r. refl })
 
 -- ---- all of them
 
 module _ (js : List Code) (k : ℕ) (p : List Moving) (x : List ℕ) where
-  pub record Told (t : Station) (q : List ℕ) : Type 0 where
+  pub record Arrived (t : Station) (q : List ℕ) : Type 0 where
     pub fair : Fair t (asItHappened k p q)
     pub ends : applied js x (calls t (asItHappened k p q) .bits) ≡ movedOn (t .set) js (done p x q) (t .bits)
 
@@ -106,13 +111,13 @@ module _ (js : List Code) (k : ℕ) (p : List Moving) (x : List ℕ) where
   first-done t i true rest = refl
   first-done t i false rest = refl
 
-  pub told : (q : List ℕ) (t : Station) → fit t ≡ true → k ≡ present t → Owing t q → Told t q
-  told [] t f e w = record { fair = tt; ends = sym (moved-stuck (t .set) js x (t .bits)) }
-  told (i ∷ q) t f e w =
+  pub results-arrive : (q : List ℕ) (t : Station) → fit t ≡ true → k ≡ present t → Owing t q → Arrived t q
+  results-arrive [] t f e w = record { fair = tt; ends = sym (moved-stuck (t .set) js x (t .bits)) }
+  results-arrive (i ∷ q) t f e w =
       let b = isAmong p (ofSet i) in
       let u = now t f k e i q w b in
       let A = ahead t f k e i q w b in
-      let T = told q u (now-fit t f k e i q w b) (e ∙ sym (A .issue)) (A .owing) in
+      let T = results-arrive q u (now-fit t f k e i q w b) (e ∙ sym (A .issue)) (A .owing) in
       let there = now-is t f k e i q w b in
       record {
         fair = (
@@ -143,7 +148,8 @@ more-stuck : (b : Bool) (i : ℕ) (rest : List Moving) → stuckNumbers (cond b 
 more-stuck true i rest = refl
 more-stuck false i rest = refl
 
-more-set : (b : Bool) (i : ℕ) (rest : List Moving) (j : ℕ) → isAmong (cond b (ofSet i ∷ rest) rest) (ofSet j) ≡ (eqb i j && b) || isAmong rest (ofSet j)
+more-set : (b : Bool) (i : ℕ) (rest : List Moving) (j : ℕ)
+    → isAmong (cond b (ofSet i ∷ rest) rest) (ofSet j) ≡ (eqb i j && b) || isAmong rest (ofSet j)
 more-set true i rest j = ap (λ (c : Bool). c || isAmong rest (ofSet j)) (sym (and-true (eqb i j)))
 more-set false i rest j = ap (λ (c : Bool). c || isAmong rest (ofSet j)) (sym (and-false (eqb i j)))
 
@@ -178,5 +184,60 @@ done-once p n m x (i ∷ q) h g = more-once (isAmong p (ofSet i)) i (done p x q)
 -- where all that wait are in the list, they are those of the choice
 pub done-same : (p : List Moving) (q : List ℕ) → ((i : ℕ) → isAmong p (ofSet i) ≡ true → has q i ≡ true)
     → (m : Moving) → isAmong (done p (stuckNumbers p) q) m ≡ isAmong p m
-done-same p q all (ofSet i) = done-set p (stuckNumbers p) q i ∙ split (isAmong p (ofSet i)) (λ u. rw (u, all i u)) (λ u. rw u (and-false (has q i)))
+done-same p q all (ofSet i) =
+    done-set p (stuckNumbers p) q i
+    ∙ split (isAmong p (ofSet i)) (λ u. rw (u, all i u)) (λ u. rw u (and-false (has q i)))
 done-same p q all (ofStuck j) = ap (λ (y : List ℕ). has y j) (done-stuck p (stuckNumbers p) q)
+
+-- ---- all that wait, in an order
+
+module _ (t : Station) where
+  -- those below n, the last first
+  abbrev listed : ℕ → List ℕ
+  listed zero = []
+  listed (suc n) = let rest = listed n in cond (marked t n) rest (n ∷ rest)
+
+  -- one more, or not
+  has-more : (b : Bool) (n : ℕ) (rest : List ℕ) (i : ℕ) → has (cond b rest (n ∷ rest)) i ≡ (not b && eqb n i) || has rest i
+  has-more true n rest i = refl
+  has-more false n rest i = refl
+
+  picks-more : (b : Bool) (n : ℕ) (rest : List ℕ) → n < t .count → has rest n ≡ false → Picks (t .count) rest
+      → Picks (t .count) (cond b rest (n ∷ rest))
+  picks-more true n rest h e p = p
+  picks-more false n rest h e p = (h, e, p)
+
+  -- a list has those that wait and are below n, and no other
+  has-listed : (n i : ℕ) → has (listed n) i ≡ ltb i n && not (marked t i)
+  has-listed zero i = rw (le-ltb i 0 (omega arith))
+  has-listed (suc n) i =
+      has-more (marked t n) n (listed n) i
+      ∙ ap (λ (c : Bool). (not (marked t n) && eqb n i) || c) (has-listed n i)
+      ∙ split (eqb n i) here (λ e. rw (e, and-false (not (marked t n)), beside e))
+    where
+      or-none : (c : Bool) → (c && true) || false ≡ c
+      or-none true = refl
+      or-none false = refl
+
+      here : eqb n i ≡ true → (not (marked t n) && eqb n i) || (ltb i n && not (marked t i)) ≡ ltb i (suc n) && not (marked t i)
+      here e = rw (e, ← eqb-true n i e, le-ltb n n (omega arith), lt-ltb n (suc n) (omega arith)) (or-none (not (marked t n)))
+
+      -- another is below n exactly if it is below the next
+      beside : eqb n i ≡ false → ltb i n ≡ ltb i (suc n)
+      beside e = let ne = eqb-false n i e in alike _ _
+          (λ h. let l = ltb-true i n h in lt-ltb i (suc n) (omega arith))
+          (λ h. let l = ltb-true i (suc n) h in lt-ltb i n (omega arith))
+
+  listed-picks : (n : ℕ) → n ≤ t .count → Picks (t .count) (listed n)
+  listed-picks zero h = tt
+  listed-picks (suc n) h =
+      picks-more (marked t n) n (listed n) (omega arith) (has-listed n n ∙ rw (le-ltb n n (omega arith))) (listed-picks n (omega arith))
+
+pub waiting-listed : WaitingListed
+waiting-listed t = (
+  listed t (t .count),
+  record {
+    once = listed-picks t (t .count) (omega arith);
+    all = λ i h. has-listed t (t .count) i ∙ rw (lt-ltb i (t .count) h);
+  },
+)
