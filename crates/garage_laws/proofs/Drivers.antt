@@ -2,16 +2,16 @@
 -- Assumes nothing.
 use mathlib.Core.Path.{_≡_, refl, sym, ap, subst, _∙_}
 use mathlib.Core.Logic.{_⊎_, inl, inr, ⊎-elim}
-use mathlib.Core.Bool.{Bool, true, false, cond, not, _&&_, or-false}
+use mathlib.Core.Bool.{Bool, true, false, cond, or-false}
 use mathlib.Core.List.{List, [], _∷_}
-use Prim.Native.Nat.{ℕ, _+_, _≤_, _<_}
+use Prim.Native.Nat.{ℕ, _≤_, _<_}
 use native.Mathlib.Omega.{arith}
 use lib.Dec.{eqb, ltb}
 use borrow.Author.Tests.{ltb-false, eqb-true, eqb-false, le-ltb, ne-eqb}
-use Rattle.bits.specs.Bits.{Bits, bit, image, digit}
+use Rattle.bits.specs.Bits.{Bits, bit, image}
 use Rattle.bits.specs.Places.{elem, share}
 use Rattle.bits.specs.Search.{least}
-use Rattle.bits.proofs.Cases.{split, clash, both, off, true→T}
+use Rattle.bits.proofs.Cases.{split, clash, both, off}
 use Rattle.bits.proofs.Digits.{bit-image, bit-none}
 use Rattle.bits.proofs.Operations.{bit-or}
 use Rattle.bits.proofs.Sharing.{are-small, share-is}
@@ -39,7 +39,7 @@ use Rattle.garage_laws.proofs.Apart.{part-lift}
 use Rattle.garage_laws.proofs.Instance.{possibleAs, heldAs, replyAs, afterAs}
 use Rattle.garage_laws.proofs.Fits.{fit-has}
 use Rattle.garage_laws.proofs.Reasons.{why-number, least-fault}
-use Rattle.garage_laws.proofs.Calls.{either, faultless, no-fault, drivenAs, event-as, possible-turn, following, Drivable, answering-bits, answering-apart, event-has, event-is, event-number, image-has, image-is}
+use Rattle.garage_laws.proofs.Calls.{either, faultless, no-fault, possible-turn, following, Drivable, answering-bits, answering-apart, event-has, event-is, event-number, image-has, image-is}
 use Rattle.garage_laws.proofs.EachCall.{unfit-is, untouched}
 use Rattle.garage_laws.proofs.Steps.{Step, refuses, opens, fails, succeeds, sticks, drives, tells, steps, parts}
 use Rattle.garage_laws.proofs.Always.{begins-has, fit-kept, fit-always}
@@ -311,7 +311,8 @@ module _ (before : Station) (along : holds underWay (bit (before .bits)) ≡ tru
             ∙ held-outside x (s .bits) k (drive-outside x k m) ∙ S .driving k m;
       }
 
-  still-step : (s t : Station) (c : Call) → Step s c t → ((c ≡ run.event 3) ⊎ (c ≡ run.event 4) → said s c ≡ 0 → ⊥) → Still (s .bits) → Still (t .bits)
+  still-step : (s t : Station) (c : Call) → Step s c t → ((c ≡ run.event 3) ⊎ (c ≡ run.event 4) → said s c ≡ 0 → ⊥)
+      → Still (s .bits) → Still (t .bits)
   unfolding inTurn crosses
   still-step s t c (refuses x) q S = S
   still-step s t c (opens A) q S = S
@@ -363,7 +364,8 @@ lift-beside j k o m = off (eqb j k) (λ e. clash (rw (← eqb-true j k e) at m) 
 
 -- a begin leaves the lift's bits, and sets its own
 begin-still : (s : Station) (way : ℕ) → (way ≡ 1) ⊎ (way ≡ 2) → said s (run.event way) ≡ 0
-    → ((k : ℕ) → elem k lift ≡ true → bit (left s (run.event way) .bits) k ≡ bit (s .bits) k) × (bit (left s (run.event way) .bits) (driveAt way) ≡ true)
+    → ((k : ℕ) → elem k lift ≡ true → bit (left s (run.event way) .bits) k ≡ bit (s .bits) k)
+    × (bit (left s (run.event way) .bits) (driveAt way) ≡ true)
 unfolding after
 begin-still s way (inl w) z =
     let e : left s (run.event way) ≡ holding s (image (after BeginIn (bit (s .bits)))) = rw w (event-record s BeginIn .1 (rw w at z)) in

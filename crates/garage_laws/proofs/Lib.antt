@@ -21,3 +21,6 @@ pub mod Follow
 pub mod AnyOrder
 pub mod Amid
 pub mod Demands
+pub mod RecoveryLists
+pub mod Recovery
+pub mod RecoveryApart

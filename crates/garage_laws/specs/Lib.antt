@@ -3,3 +3,4 @@ pub mod Orders
 pub mod Jams
 pub mod Demands
 pub mod Filling
+pub mod Recovery
