@@ -24,3 +24,4 @@ pub mod Demands
 pub mod RecoveryLists
 pub mod Recovery
 pub mod RecoveryApart
+pub mod Rejections

@@ -33,7 +33,7 @@ use Rattle.garage_laws.specs.Runs.{Call, call, said, left, calls, Begins
 use Rattle.garage_laws.specs.Orders.{Fate, fails, succeeds, sticks, told}
 use Rattle.garage_laws.specs.Jams.{has, Picks}
 use Rattle.garage_laws.specs.Demands.{Waiting}
-use Rattle.garage_laws.specs.Recovery.{AllAccepted, EachThatWaits, resultsFor, SaidOfDrive, nothing, done, notDone, LeadBack, NeverLocksUp, TenAreReached}
+use Rattle.garage_laws.specs.Recovery.{AllAccepted, EachThatWaits, resultsFor, SaidOfDrive, nothing, done, notDone, mostCalls, LeadBack, NeverLocksUp, TenAreReached}
 use Rattle.garage_laws.proofs.Reach.{under-way-kept}
 use Rattle.garage_laws.proofs.Fits.{fit-has, marksWith, after-result}
 use Rattle.garage_laws.proofs.Calls.{following, answering-bits, success-is, failure-is, stuck-is}
@@ -161,6 +161,26 @@ said-once before drive (notDone u) = omega arith
 
 -- ---- the way back
 
+-- how many calls it is
+few-back : (s : Station) (issue : ℕ) (fate : ℕ → Fate) (first rest : List ℕ) (drive : List Call) (r : ℕ)
+    → fit s ≡ true → EachThatWaits s (first ++ rest) → SaidOfDrive s drive
+    → length ((resultsFor issue fate first ++ (drive ++ resultsFor issue fate rest)) ++ (run.image r 0 ∷ [])) ≤ mostCalls
+few-back s issue fate first rest drive r f W S =
+    let before = resultsFor issue fate first in
+    let after = resultsFor issue fate rest in
+    omega (
+      arith,
+      length-append (before ++ (drive ++ after)) (run.image r 0 ∷ []),
+      length-append before (drive ++ after),
+      length-append drive after,
+      results-length issue fate first,
+      results-length issue fate rest,
+      length-append first rest,
+      picked-few (s .count) (first ++ rest) (W .once),
+      fit-has s f .few,
+      said-once s drive S,
+    )
+
 module _ (s : Station) (b : Begins s) (l : List Call) where
   abbrev here : Station
   here = calls s l
@@ -220,18 +240,7 @@ module _ (s : Station) (b : Begins s) (l : List Call) where
 
     lead-back : LeadBack here ends r
     lead-back = record {
-      few = omega (
-        arith,
-        length-append ends (run.image r 0 ∷ []),
-        length-append before (drive ++ after),
-        length-append drive after,
-        results-length (present here) fate first,
-        results-length (present here) fate rest,
-        length-append first rest,
-        picked-few (here .count) (first ++ rest) (W .once),
-        fit-has here here-fits .few,
-        said-once here drive S,
-      );
+      few = few-back here (present here) fate first rest drive r here-fits W S;
       accepted = accepted-append ends (run.image r 0 ∷ []) here ends-accepted (image-accepted, tt);
       closed = ends-closed;
       seen = ap (λ (t : Station). t .bits) image-leaves;

@@ -4,3 +4,4 @@ pub mod Jams
 pub mod Demands
 pub mod Filling
 pub mod Recovery
+pub mod Rejections

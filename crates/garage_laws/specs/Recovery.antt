@@ -43,11 +43,15 @@ pub data SaidOfDrive (s : Station) : List Call → Type 0 where
   done : holds underWay (bit (s .bits)) ≡ true → SaidOfDrive s (event (eventCode EndDone) ∷ [])
   notDone : holds underWay (bit (s .bits)) ≡ true → SaidOfDrive s (event (eventCode EndNotDone) ∷ [])
 
+-- the most calls that lead back: the results of eight instructions, the end of a drive, an image
+abbrev pub mostCalls : ℕ
+mostCalls = 10
+
 -- these calls, and then an image with this record and nothing set apart, lead back to a garage that is known: they are at most ten, each is
 -- accepted at its turn, no set is outstanding when the image comes, and after it the record is the image's, no set is outstanding and
 -- nothing is set apart
 pub record LeadBack (s : Station) (l : List Call) (r : ℕ) : Type 0 where
-  pub few : length (l ++ (image r 0 ∷ [])) ≤ 10
+  pub few : length (l ++ (image r 0 ∷ [])) ≤ mostCalls
   pub accepted : AllAccepted s (l ++ (image r 0 ∷ []))
   pub closed : calls s l .count ≡ 0
   pub seen : calls s (l ++ (image r 0 ∷ [])) .bits ≡ r
