@@ -7,7 +7,7 @@ use Rattle.garage.specs.declared.Station.{Station}
 use Rattle.garage.specs.declared.Outcome.{Outcome}
 use Rattle.garage_laws.specs.Runs as run
 use Rattle.garage_laws.specs.Runs.{call}
-use Rattle.garage_laws.specs.Demands.{RefusedUntouched, CallsInTable, AcceptedExactly, ReasonExactly, ResultRecord, FailureKeeps, StuckSetsApart, LateExactly, IssuesInTurn, FirstIsZero, ImageKeepsCount, BehindCounts, EventRecord, ImageTaken, AskKeeps, ResultTaken, EventTaken, EventRefused, LiftRefused, ApartRefused, EndTaken, NobodyMovesTheLift, OnlySuccessChanges, OnlyStuckSetsApart, PlacesRight, PlacesElse, PlacesInRange, AlwaysLaidOut, CarsCounted, AnyOrder, OrdersExist, AnyOrderAmid, AmidUnmoved, AmidExists, AmidCovers, FinishedAnyOrder, WaitsAnyway, NothingMeetsAJam, StillAllowed, FitStays, NeverUnfit}
+use Rattle.garage_laws.specs.Demands.{RefusedUntouched, CallsInTable, AcceptedExactly, ReasonExactly, ResultRecord, FailureKeeps, StuckSetsApart, LateExactly, IssuesInTurn, FirstIsZero, ImageKeepsCount, BehindCounts, EventRecord, ImageTaken, AskKeeps, ResultTaken, EventTaken, EventRefused, LiftRefused, ApartRefused, EndTaken, NobodyMovesTheLift, LiftHeldSinceBegin, OnlySuccessChanges, OnlyStuckSetsApart, PlacesRight, PlacesElse, PlacesInRange, AlwaysLaidOut, CarsCounted, AnyOrder, OrdersExist, AnyOrderAmid, AmidUnmoved, AmidExists, AmidCovers, FinishedAnyOrder, WaitsAnyway, NothingMeetsAJam, StillAllowed, FitStays, NeverUnfit}
 use Rattle.garage_laws.proofs.EachCall as each
 use Rattle.garage_laws.proofs.Calls.{request-has, request-is, success-has, success-is, failure-has, failure-is, stuck-has, stuck-is, answering-bits, answering-apart, image-has, image-is, ask-has, ask-is}
 use Rattle.garage_laws.proofs.Places as places
@@ -97,6 +97,9 @@ end-taken = drivers.end-taken
 
 pub nobody-moves-the-lift : NobodyMovesTheLift
 nobody-moves-the-lift = drivers.nobody-moves-the-lift
+
+pub lift-held-since-begin : LiftHeldSinceBegin
+lift-held-since-begin = drivers.lift-held-since-begin
 
 pub image-taken : ImageTaken
 image-taken s r apart = (

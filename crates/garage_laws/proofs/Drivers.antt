@@ -2,20 +2,20 @@
 -- Assumes nothing.
 use mathlib.Core.Path.{_≡_, refl, sym, ap, subst, _∙_}
 use mathlib.Core.Logic.{_⊎_, inl, inr, ⊎-elim}
-use mathlib.Core.Bool.{Bool, true, false, cond, not, _&&_, or-false}
+use mathlib.Core.Bool.{Bool, true, false, cond, or-false}
 use mathlib.Core.List.{List, [], _∷_}
-use Prim.Native.Nat.{ℕ, _+_, _≤_, _<_}
+use Prim.Native.Nat.{ℕ, _≤_, _<_}
 use native.Mathlib.Omega.{arith}
 use lib.Dec.{eqb, ltb}
 use borrow.Author.Tests.{ltb-false, eqb-true, eqb-false, le-ltb, ne-eqb}
-use Rattle.bits.specs.Bits.{Bits, bit, image, digit}
+use Rattle.bits.specs.Bits.{Bits, bit, image}
 use Rattle.bits.specs.Places.{elem, share}
 use Rattle.bits.specs.Search.{least}
-use Rattle.bits.proofs.Cases.{split, clash, both, off, true→T}
+use Rattle.bits.proofs.Cases.{split, clash, both, off}
 use Rattle.bits.proofs.Digits.{bit-image, bit-none}
 use Rattle.bits.proofs.Operations.{bit-or}
 use Rattle.bits.proofs.Sharing.{are-small, share-is}
-use Rattle.floor.specs.Floor.{lift, driveIn, driveOut}
+use Rattle.floor.specs.Floor.{lift, driveIn, driveOut, drives as drivePlaces}
 use Rattle.floor.specs.Tests.{holds, underWay}
 use Rattle.rules.specs.declared.Event.{Event}
 use Rattle.rules.specs.declared.Event.the-variants.{BeginIn, BeginOut, EndDone, EndNotDone}
@@ -33,13 +33,13 @@ use Rattle.garage.specs.Station.{fit, holding, apartWith}
 use Rattle.garage.specs.Calls as station
 use Rattle.garage_laws.specs.Runs as run
 use Rattle.garage_laws.specs.Runs.{Call, said, left, calls, Begins, atStart, byImage, NoImages, driveAt}
-use Rattle.garage_laws.specs.Demands.{EventRecord, EventRefused, Readable, LiftRefused, EndTaken, Unended, NobodyMovesTheLift}
+use Rattle.garage_laws.specs.Demands.{EventRecord, EventRefused, Readable, LiftRefused, EndTaken, Unended, NobodyMovesTheLift, LiftHeldSinceBegin}
 use Rattle.garage_laws.proofs.Reach.{drive-outside, held-outside, under-way-kept, crosses-none}
 use Rattle.garage_laws.proofs.Apart.{part-lift}
 use Rattle.garage_laws.proofs.Instance.{possibleAs, heldAs, replyAs, afterAs}
 use Rattle.garage_laws.proofs.Fits.{fit-has}
 use Rattle.garage_laws.proofs.Reasons.{why-number, least-fault}
-use Rattle.garage_laws.proofs.Calls.{either, faultless, no-fault, drivenAs, event-as, possible-turn, following, Drivable, answering-bits, answering-apart, event-has, event-is, event-number, image-has, image-is}
+use Rattle.garage_laws.proofs.Calls.{either, faultless, no-fault, possible-turn, following, Drivable, answering-bits, answering-apart, event-has, event-is, event-number, image-has, image-is}
 use Rattle.garage_laws.proofs.EachCall.{unfit-is, untouched}
 use Rattle.garage_laws.proofs.Steps.{Step, refuses, opens, fails, succeeds, sticks, drives, tells, steps, parts}
 use Rattle.garage_laws.proofs.Always.{begins-has, fit-kept, fit-always}
@@ -285,74 +285,87 @@ end-taken s b l u =
 
 -- ---- nobody moves the lift
 
--- a drive whose bit is set is under way
-under-way-in : (f : Bits) (way : ℕ) → (way ≡ 1) ⊎ (way ≡ 2) → f (driveAt way) ≡ true → holds underWay f ≡ true
-under-way-in f way (inl w) e = let h : f driveIn ≡ true = rw w at e in split (f driveOut) (λ t. rw (h, t)) (λ t. rw (h, t))
-under-way-in f way (inr w) e = let h : f driveOut ≡ true = rw w at e in split (f driveIn) (λ t. rw (t, h)) (λ t. rw (t, h))
+-- two records that agree on the drives agree on whether one is under way
+same-drives : (f g : Bits) → ((k : ℕ) → elem k drivePlaces ≡ true → f k ≡ g k) → holds underWay f ≡ holds underWay g
+same-drives f g e = rw (e driveIn refl, e driveOut refl)
 
--- as it was before: the lift's bits, and the drive
-module _ (before : Station) (way : ℕ) (w : (way ≡ 1) ⊎ (way ≡ 2)) where
-  abbrev Still : Station → Type 0
-  Still s = ((k : ℕ) → elem k lift ≡ true → bit (s .bits) k ≡ bit (before .bits) k) × (bit (s .bits) (driveAt way) ≡ true)
+-- as it was before: the lift's bits, and the drive's; one is under way
+module _ (before : Station) (along : holds underWay (bit (before .bits)) ≡ true) where
+  record Still (r : ℕ) : Type 0 where
+    lifted : (k : ℕ) → elem k lift ≡ true → bit r k ≡ bit (before .bits) k
+    driving : (k : ℕ) → elem k drivePlaces ≡ true → bit r k ≡ bit (before .bits) k
 
-  drive-place : elem (driveAt way) (driveIn ∷ driveOut ∷ []) ≡ true
-  drive-place = ⊎-elim (λ e. rw e) (λ e. rw e) w
+  still-under-way : {r : ℕ} → Still r → holds underWay (bit r) ≡ true
+  still-under-way {r} S = same-drives (bit r) (bit (before .bits)) (S .driving) ∙ along
 
-  -- another record that agrees on these bits
-  agrees : (s : Station) (r : ℕ) → ((k : ℕ) → elem k lift ≡ true → bit r k ≡ bit (s .bits) k) → bit r (driveAt way) ≡ bit (s .bits) (driveAt way)
-      → Still s → ((k : ℕ) → elem k lift ≡ true → bit r k ≡ bit (before .bits) k) × (bit r (driveAt way) ≡ true)
-  agrees s r a d S = ((λ k m. a k m ∙ S .0 k m), d ∙ S .1)
+  -- a success beside it touches neither
+  still-following : (s : Station) (i : ℕ) → share (heldArea (codeAt (s .set) i)) lift ≡ false → Still (s .bits) → Still (following s i)
+  still-following s i o S =
+      let x = codeAt (s .set) i in
+      record {
+        lifted = λ k m.
+            bit-image (heldNext x (bit (s .bits))) k (are-small lift tt k m)
+            ∙ held-outside x (s .bits) k (off _ (λ e. clash (share-is (heldArea x) lift k e m) o)) ∙ S .lifted k m;
+        driving = λ k m.
+            bit-image (heldNext x (bit (s .bits))) k (are-small drivePlaces tt k m)
+            ∙ held-outside x (s .bits) k (drive-outside x k m) ∙ S .driving k m;
+      }
 
-  still-step : (s t : Station) (c : Call) → Step s c t → ((c ≡ run.event 3) ⊎ (c ≡ run.event 4) → said s c ≡ 0 → ⊥) → Still s → Still t
+  still-step : (s t : Station) (c : Call) → Step s c t → ((c ≡ run.event 3) ⊎ (c ≡ run.event 4) → said s c ≡ 0 → ⊥)
+      → Still (s .bits) → Still (t .bits)
   unfolding inTurn crosses
   still-step s t c (refuses x) q S = S
   still-step s t c (opens A) q S = S
   still-step s t c (fails {i} x) q S = rw (answering-bits s i (s .bits) (s .apart)) S
   still-step s t c (succeeds {i} p x a) q S =
-      let u = under-way-in (bit (s .bits)) way w (S .1) in
-      let o : share (heldArea (codeAt (s .set) i)) lift ≡ false = rw u at (crosses-none (s .bits) (s .set) (s .count) (fit-has s (x .0) .clear) i (x .1)) in
-      rw (answering-bits s i (following s i) (s .apart)) (agrees s (following s i) (away s i o) (driving s i) S)
-    where
-      away : (s : Station) (i : ℕ) → share (heldArea (codeAt (s .set) i)) lift ≡ false → (k : ℕ) → elem k lift ≡ true → bit (following s i) k ≡ bit (s .bits) k
-      away s i o k m =
-          let x = codeAt (s .set) i in
-          bit-image (heldNext x (bit (s .bits))) k (are-small lift tt k m)
-          ∙ held-outside x (s .bits) k (off _ (λ e. clash (share-is (heldArea x) lift k e m) o))
-
-      driving : (s : Station) (i : ℕ) → bit (following s i) (driveAt way) ≡ bit (s .bits) (driveAt way)
-      driving s i =
-          let x = codeAt (s .set) i in
-          bit-image (heldNext x (bit (s .bits))) (driveAt way) (are-small (driveIn ∷ driveOut ∷ []) tt (driveAt way) drive-place)
-          ∙ held-outside x (s .bits) (driveAt way) (drive-outside x (driveAt way) drive-place)
+      let o : share (heldArea (codeAt (s .set) i)) lift ≡ false =
+      rw (still-under-way S) at (crosses-none (s .bits) (s .set) (s .count) (fit-has s (x .0) .clear) i (x .1)) in
+      rw (answering-bits s i (following s i) (s .apart)) (still-following s i o S)
   still-step s t c (sticks {i} p x) q S = rw (answering-bits s i (s .bits) (apartWith s i)) S
   still-step s t c (drives {e} d) q S = absurd (unending (readEvent e) refl (d .3))
     where
-      u : holds underWay (bit (s .bits)) ≡ true
-      u = under-way-in (bit (s .bits)) way w (S .1)
-
       zero : said s (run.event e) ≡ 0
       zero = rw (event-is s e d)
 
       -- a begin does not come in turn, an end is one that was ruled out
       unending : (v : EventReading) → readEvent e ≡ v → possibleAs v (s .bits) ≡ true → ⊥
-      unending (Told BeginIn) p t = clash (possible-turn BeginIn (bit (s .bits)) t) (rw u)
-      unending (Told BeginOut) p t = clash (possible-turn BeginOut (bit (s .bits)) t) (rw u)
+      unending (Told BeginIn) p t = clash (possible-turn BeginIn (bit (s .bits)) t) (rw (still-under-way S))
+      unending (Told BeginOut) p t = clash (possible-turn BeginOut (bit (s .bits)) t) (rw (still-under-way S))
       unending (Told EndDone) p t = q (inl (ap run.event (event-one-form e EndDone p))) zero
       unending (Told EndNotDone) p t = q (inr (ap run.event (event-one-form e EndNotDone p))) zero
       unending Untold p t = clash t refl
   still-step s t c tells q S = S
 
-  still-along : (l : List Call) (s : Station) → NoImages l → Unended s l → Still s → Still (calls s l)
+  still-along : (l : List Call) (s : Station) → NoImages l → Unended s l → Still (s .bits) → Still (calls s l .bits)
   still-along [] s p q S = S
   still-along (c ∷ l) s p q S =
       let (a, b) = parts c l p in
       still-along l (left s c) b (q .1) (still-step s (left s c) c (steps s c a) (q .0) S)
 
--- the lift's bits after a begin
+  still-here : Still (before .bits)
+  still-here = record { lifted = λ k m. refl; driving = λ k m. refl }
+
+pub nobody-moves-the-lift : NobodyMovesTheLift
+nobody-moves-the-lift s u l p q = let S = still-along s u l s p q (still-here s u) in (S .lifted, S .driving, still-under-way s u S)
+
+-- ---- from a begin on
+
+-- a drive whose bit is set is under way
+under-way-in : (f : Bits) (way : ℕ) → (way ≡ 1) ⊎ (way ≡ 2) → f (driveAt way) ≡ true → holds underWay f ≡ true
+under-way-in f way (inl w) e = let h : f driveIn ≡ true = rw w at e in split (f driveOut) (λ t. rw (h, t)) (λ t. rw (h, t))
+under-way-in f way (inr w) e = let h : f driveOut ≡ true = rw w at e in split (f driveIn) (λ t. rw (t, h)) (λ t. rw (t, h))
+
+-- its bit is one of the drives'
+drive-place : (way : ℕ) → (way ≡ 1) ⊎ (way ≡ 2) → elem (driveAt way) drivePlaces ≡ true
+drive-place way = ⊎-elim (λ e. rw e) (λ e. rw e)
+
 lift-beside : (j k : ℕ) → elem j lift ≡ false → elem k lift ≡ true → eqb j k ≡ false
 lift-beside j k o m = off (eqb j k) (λ e. clash (rw (← eqb-true j k e) at m) o)
 
-begin-still : (s : Station) (way : ℕ) (w : (way ≡ 1) ⊎ (way ≡ 2)) → said s (run.event way) ≡ 0 → Still s way w (left s (run.event way))
+-- a begin leaves the lift's bits, and sets its own
+begin-still : (s : Station) (way : ℕ) → (way ≡ 1) ⊎ (way ≡ 2) → said s (run.event way) ≡ 0
+    → ((k : ℕ) → elem k lift ≡ true → bit (left s (run.event way) .bits) k ≡ bit (s .bits) k)
+    × (bit (left s (run.event way) .bits) (driveAt way) ≡ true)
 unfolding after
 begin-still s way (inl w) z =
     let e : left s (run.event way) ≡ holding s (image (after BeginIn (bit (s .bits)))) = rw w (event-record s BeginIn .1 (rw w at z)) in
@@ -361,5 +374,9 @@ begin-still s way (inr w) z =
     let e : left s (run.event way) ≡ holding s (image (after BeginOut (bit (s .bits)))) = rw w (event-record s BeginOut .1 (rw w at z)) in
     rw (e, w) ((λ k m. bit-image (after BeginOut (bit (s .bits))) k (are-small lift tt k m) ∙ rw (lift-beside driveOut k refl m)), bit-image (after BeginOut (bit (s .bits))) driveOut (omega arith))
 
-pub nobody-moves-the-lift : NobodyMovesTheLift
-nobody-moves-the-lift s way w z l p q = still-along s way w l (left s (run.event way)) p q (begin-still s way w z)
+pub lift-held-since-begin : LiftHeldSinceBegin
+lift-held-since-begin s way w z l p q =
+    let t = left s (run.event way) in
+    let (a, b) = begin-still s way w z in
+    let (c, d, e) = nobody-moves-the-lift t (under-way-in (bit (t .bits)) way w b) l p q in
+    ((λ k m. c k m ∙ a k m), d (driveAt way) (drive-place way w) ∙ b)

@@ -24,3 +24,7 @@ pub mod Demands
 pub mod MotionFloor
 pub mod MotionHeard
 pub mod Motion
+pub mod RecoveryLists
+pub mod Recovery
+pub mod RecoveryApart
+pub mod Rejections

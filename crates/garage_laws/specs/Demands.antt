@@ -9,7 +9,7 @@ use lib.ListN.{length}
 use Rattle.bits.specs.Bits.{Bits, bit, image}
 use Rattle.bits.specs.Places.{elem, share}
 use Rattle.bits.specs.Search.{IsLeast}
-use Rattle.floor.specs.Floor.{lift}
+use Rattle.floor.specs.Floor.{lift, drives}
 use Rattle.floor.specs.Tests.{holds, underWay}
 use Rattle.floor.specs.Cars.{Car, Layout}
 use Rattle.floor.specs.Sound.{Sound}
@@ -230,10 +230,19 @@ abbrev pub Unended : Station → List Call → Type 0
 Unended s [] = Unit {0}
 Unended s (c ∷ l) = ((c ≡ run.event 3) ⊎ (c ≡ run.event 4) → said s c ≡ 0 → ⊥) × Unended (left s c) l
 
--- from a begin that is taken to its end that is, over any calls but an image, nobody moves the lift: its height and the car on it stay
--- what they were before the begin, and the drive is under way
+-- while a drive is under way, begun here or brought by an image, nobody moves the lift: over any calls but an image, and until an end is
+-- accepted, its height and the car on it stay what they are, and that drive stays under way
 abbrev pub NobodyMovesTheLift : Type 0
 NobodyMovesTheLift =
+    (s : Station) → holds underWay (bit (s .bits)) ≡ true
+    → (l : List Call) → NoImages l → Unended s l
+    → ((k : ℕ) → elem k lift ≡ true → bit (calls s l .bits) k ≡ bit (s .bits) k)
+    × ((k : ℕ) → elem k drives ≡ true → bit (calls s l .bits) k ≡ bit (s .bits) k)
+    × (holds underWay (bit (calls s l .bits)) ≡ true)
+
+-- so from a begin that is accepted: the lift's height and the car on it stay what they were before the begin, and the drive is under way
+abbrev pub LiftHeldSinceBegin : Type 0
+LiftHeldSinceBegin =
     (s : Station) (way : ℕ) → (way ≡ 1) ⊎ (way ≡ 2) → said s (run.event way) ≡ 0
     → (l : List Call) → NoImages l → Unended (left s (run.event way)) l
     → ((k : ℕ) → elem k lift ≡ true → bit (calls (left s (run.event way)) l .bits) k ≡ bit (s .bits) k)

@@ -4,3 +4,5 @@ pub mod Jams
 pub mod Demands
 pub mod Filling
 pub mod Motion
+pub mod Recovery
+pub mod Rejections
