@@ -82,7 +82,7 @@ rooms-any-order room b l p u n set m e z fate events x y px py nx ny O P =
     let opened = used before u .leaves in
     let M = lent-used before L u m in
     let alike = subst (λ (s : Station).
-            Order (present s) n fate events (callsBy opened x) → Order (present s) n fate events (callsBy opened y)
-            → Alike s (callsBy opened x) (callsBy opened y)) (sym (A .holds))
-            (any-order (stationOf before) (L .reached) n set (A .accepted) fate events (callsBy opened x) (callsBy opened y)) O P in
+    Order (present s) n fate events (callsBy opened x) → Order (present s) n fate events (callsBy opened y)
+    → Alike s (callsBy opened x) (callsBy opened y)) (sym (A .holds))
+    (any-order (stationOf before) (L .reached) n set (A .accepted) fate events (callsBy opened x) (callsBy opened y)) O P in
     (alike, by-all opened M x px nx ∙ alike .same ∙ sym (by-all opened M y py ny))
