@@ -5,14 +5,14 @@ use mathlib.Core.Bool.{Bool, true, false, _&&_}
 use mathlib.Core.List.{List, [], _∷_, _++_}
 use Prim.Native.Nat.{ℕ, _+_, _*_, _%_, _≤_}
 use native.Mathlib.Omega.{arith}
-use borrow.Author.Tests.{le-leb, le-ltb, ltb-false, eqb-false, eq-eqb}
+use borrow.Author.Tests.{le-leb, lt-ltb, le-ltb, leb-true, leb-false, ltb-false, eqb-false, eq-eqb}
 use lib.Dec.{eqb, leb, ltb}
 use lib.ListN.{length, take, drop, length-append, length-drop}
 use lib.Seq.{length-take-le}
 use Rattle.bits.proofs.Cases.{split, clash}
 use Rattle.rules.specs.Codes.{most}
 use Rattle.answers.specs.declared.Answer.{Answer}
-use Rattle.answers.specs.declared.Answer.the-variants.{NoRoom}
+use Rattle.answers.specs.declared.Answer.the-variants.{NoRoom, TooFewBytes}
 use Rattle.answers.specs.Answers.{numberOf}
 use Rattle.answers.proofs.Promises.{number-byte}
 use Rattle.garage.specs.declared.Station.{Station}
@@ -20,7 +20,7 @@ use Rattle.garage.specs.declared.Outcome.{Outcome}
 use Rattle.garage.specs.Station.{startOf, fit}
 use Rattle.garage.specs.Calls as station
 use Rattle.garage_laws.specs.Runs as run
-use Rattle.garage_laws.specs.Runs.{Call, call, left, Reached, byImage}
+use Rattle.garage_laws.specs.Runs.{Call, call, said, left, calls, Begins, atStart, byImage, Reached}
 use Rattle.garage_laws.proofs.EachCall.{untouched}
 use Rattle.wire.specs.declared.What.{What}
 use Rattle.wire.specs.declared.What.the-variants.{Request, Event, Result, Image, Ask, Held}
@@ -28,17 +28,17 @@ use Rattle.wire_laws.specs.Statements.{Bytes}
 use Rattle.service.specs.declared.Reply.{Reply}
 use Rattle.service.specs.Service.{respond, answerBytes}
 use Rattle.service.specs.Statements.{Answers}
-use Rattle.service.proofs.Replies.{answer-bytes-length}
 use Rattle.service.proofs.Readings.{ways}
 use Rattle.service.proofs.Ranges.{always-answered, refused-keeps}
 use Rattle.station_c.specs.Entries.{stationBytes, stationOf, returned, Entry, writes, entry, requestOf, asking, returnedOf, exchange}
 use Rattle.station_c.specs.Promises.{Typed}
 use Rattle.station_c.proofs.Promises.{station-fits, station-reads-back, returned-reads-back}
-use Rattle.boundary.specs.Calls.{Heard, makes, heard, reply}
-use Rattle.boundary.specs.Uses.{Use, start, request, event, result, image, ask, message, used, uses, heardRequest, meant, AsPassed, AllPassed, Roomy, Begun, started, imaged}
+use Rattle.boundary.specs.Calls.{Heard, makes, refuses, heard, reply, callsIn}
+use Rattle.boundary.specs.Uses.{Use, start, request, event, result, image, ask, message, used, uses, heardRequest, meant, AsPassed, AllPassed}
+use Rattle.boundary.specs.Uses.{roomy, callBy, NoStarts, Begun, started, imaged}
 use Rattle.boundary.specs.Statements.{EntryIsCall, AskWrites, MessageWrites, LentSound, LentNever}
-use Rattle.boundary.proofs.Messages.{message-is-call, below, Fine, heard-fine}
-use Rattle.boundary.proofs.Reaching.{reached-reply, start-reached, reached-fit, reached-sound, returned-reply, never-so, typed-reply}
+use Rattle.boundary.proofs.Messages.{message-is-call, below, AsMade, Fine, heard-fine}
+use Rattle.boundary.proofs.Reaching.{reached-reply, start-reached, reached-fit, reached-sound, returned-reply, never-so, typed-call, typed-reply}
 
 -- ---- what an entry stands for
 
@@ -79,10 +79,10 @@ meant-typed s T = by-meaning (λ (x : Reply). Typed (x .station)) s start-typed 
 
 -- ---- what it leaves and returns
 
-record Done (e : Entry) (x : Reply) : Type 0 where
-  long : 60 ≤ length (e .leaves)
-  holds : stationOf (e .leaves) ≡ x .station
-  returns : e .says ≡ returnedOf (x .answer)
+pub record Done (e : Entry) (x : Reply) : Type 0 where
+  pub long : 60 ≤ length (e .leaves)
+  pub holds : stationOf (e .leaves) ≡ x .station
+  pub returns : e .says ≡ returnedOf (x .answer)
 
 -- a station written over the first bytes of a room
 written-long : (s : Station) (past : List ℕ) → Typed s → 60 ≤ length (stationBytes s ++ past)
@@ -179,7 +179,7 @@ by-message room m out h l T =
     })
 
 -- the room for an image or a reply is too short
-abbrev short : List ℕ → Use → Bool
+abbrev pub short : List ℕ → Use → Bool
 short room start = false
 short room (request n set) = false
 short room (event e) = false
@@ -188,7 +188,7 @@ short room (image r apart) = false
 short room (ask out) = ltb (length out) 16
 short room (message m out) = ltb (length out) (length (answerBytes (respond (stationOf room) m .answer)))
 
-done : (room : List ℕ) → 60 ≤ length room → Typed (stationOf room) → (u : Use) → AsPassed u → short room u ≡ false → Done (used room u) (meant (stationOf room) u)
+pub done : (room : List ℕ) → 60 ≤ length room → Typed (stationOf room) → (u : Use) → AsPassed u → short room u ≡ false → Done (used room u) (meant (stationOf room) u)
 done room h T start p l = entered (λ s. station.taken startOf) room (meant (stationOf room) start) h start-typed refl refl (λ n. absurd (n refl))
 done room h T (request n set) p l = by-request n set room h (meant-typed (stationOf room) T (request n set) p)
 done room h T (event e) p l = by-call (run.event e) room h (meant-typed (stationOf room) T (event e) p)
@@ -198,7 +198,7 @@ done room h T (ask out) p l = by-ask room out h l
 done room h T (message m out) p l = by-message room m out h l (meant-typed (stationOf room) T (message m out) p)
 
 -- then nothing is done
-skipped : (room : List ℕ) → 60 ≤ length room → (u : Use) → short room u ≡ true → (used room u .leaves ≡ room) × (used room u .says ≡ returned NoRoom)
+pub skipped : (room : List ℕ) → 60 ≤ length room → (u : Use) → short room u ≡ true → (used room u .leaves ≡ room) × (used room u .says ≡ returned NoRoom)
 unfolding asking exchange
 skipped room h start l = clash l refl
 skipped room h (request n set) l = clash l refl
@@ -208,14 +208,30 @@ skipped room h (image r apart) l = clash l refl
 skipped room h (ask out) l = (refl, rw (le-ltb (length room) 60 h, l))
 skipped room h (message m out) l = rw (le-ltb (length room) 60 h, l) (refl, refl)
 
-long-enough : (room : List ℕ) (u : Use) → Roomy u → short room u ≡ false
+-- the two tests of that room
+at-least : (a b : ℕ) → leb b a ≡ true → ltb a b ≡ false
+at-least a b e = le-ltb a b (leb-true b a e)
+
+fewer : (a b : ℕ) → leb b a ≡ false → ltb a b ≡ true
+fewer a b e = lt-ltb a b (leb-false b a e)
+
+pub long-enough : (room : List ℕ) (u : Use) → roomy room u ≡ true → short room u ≡ false
 long-enough room start r = refl
 long-enough room (request n set) r = refl
 long-enough room (event e) r = refl
 long-enough room (result k i d) r = refl
 long-enough room (image x apart) r = refl
-long-enough room (ask out) r = le-ltb (length out) 16 r
-long-enough room (message m out) r = let w = respond (stationOf room) m .answer in le-ltb (length out) (length (answerBytes w)) (omega (arith, answer-bytes-length w))
+long-enough room (ask out) r = at-least (length out) 16 r
+long-enough room (message m out) r = at-least (length out) (length (answerBytes (respond (stationOf room) m .answer))) r
+
+pub too-short : (room : List ℕ) (u : Use) → roomy room u ≡ false → short room u ≡ true
+too-short room start r = clash refl r
+too-short room (request n set) r = clash refl r
+too-short room (event e) r = clash refl r
+too-short room (result k i d) r = clash refl r
+too-short room (image x apart) r = clash refl r
+too-short room (ask out) r = fewer (length out) 16 r
+too-short room (message m out) r = fewer (length out) (length (answerBytes (respond (stationOf room) m .answer))) r
 
 pub entry-is-call : EntryIsCall
 entry-is-call room b h u p r = let D = done room h (room-typed room b h) u p (long-enough room u r) in (D .holds, D .returns)
@@ -233,22 +249,21 @@ unfolding exchange
 message-writes room m out h l =
     let s = stationOf room in
     let w = respond s m .answer in
-    let k : length (answerBytes w) ≤ length out = omega (arith, answer-bytes-length w) in
-    rw (le-ltb (length room) 60 h, le-ltb (length out) (length (answerBytes w)) k)
+    rw (le-ltb (length room) 60 h, at-least (length out) (length (answerBytes w)) l)
     (ap (λ (x : Reply). answerBytes (x .answer) ++ drop (length (answerBytes (x .answer))) out) (message-is-call s m))
 
 -- ---- whatever entries follow
 
 -- a room that holds a station which was reached
-record Lent (room : List ℕ) : Type 0 where
-  long : 60 ≤ length room
-  typed : Typed (stationOf room)
-  reached : Reached (stationOf room)
+pub record Lent (room : List ℕ) : Type 0 where
+  pub long : 60 ≤ length room
+  pub typed : Typed (stationOf room)
+  pub reached : Reached (stationOf room)
 
 held : (room : List ℕ) (x : Reply) {e : Entry} → Done e x → Typed (x .station) → Reached (x .station) → Lent (e .leaves)
 held room x D T R = record { long = D .long; typed = subst Typed (sym (D .holds)) T; reached = subst Reached (sym (D .holds)) R }
 
-lent-used : (room : List ℕ) → Lent room → (u : Use) → AsPassed u → Lent (used room u .leaves)
+pub lent-used : (room : List ℕ) → Lent room → (u : Use) → AsPassed u → Lent (used room u .leaves)
 lent-used room L u p =
     let s = stationOf room in
     split (short room u)
@@ -256,22 +271,130 @@ lent-used room L u p =
     (λ t. held room (meant s u) (done room (L .long) (L .typed) u p t) (meant-typed s (L .typed) u p)
     (by-meaning (λ (x : Reply). Reached (x .station)) s start-reached (reached-reply s (L .reached)) u p))
 
-lent-uses : (room : List ℕ) → Lent room → (l : List Use) → AllPassed l → Lent (uses room l)
+pub lent-uses : (room : List ℕ) → Lent room → (l : List Use) → AllPassed l → Lent (uses room l)
 lent-uses room L [] p = L
 lent-uses room L (u ∷ l) p = lent-uses (used room u .leaves) (lent-used room L u (p .0)) l (p .1)
 
-begun : (room : List ℕ) → Begun room → Lent room
-begun room (started before h) =
+-- ---- the call that an entry makes
+
+-- what an entry makes of what it is given; station_start is given nothing, and no call is made of it
+abbrev heardBy : Use → Heard
+heardBy start = refuses TooFewBytes
+heardBy (request n set) = heardRequest n set
+heardBy (event e) = makes (run.event e)
+heardBy (result k i ending) = makes (run.result k i ending)
+heardBy (image r apart) = makes (run.image r apart)
+heardBy (ask out) = makes run.ask
+heardBy (message m out) = heard m
+
+call-heard : (u : Use) → callBy u ≡ callsIn (heardBy u ∷ [])
+call-heard start = refl
+call-heard (request n set) = refl
+call-heard (event e) = refl
+call-heard (result k i ending) = refl
+call-heard (image r apart) = refl
+call-heard (ask out) = refl
+call-heard (message m out) = refl
+
+meant-heard : (s : Station) (u : Use) → NoStarts (u ∷ []) → meant s u ≡ reply s (heardBy u)
+meant-heard s start n = absurd n
+meant-heard s (request n set) _ = refl
+meant-heard s (event e) n = refl
+meant-heard s (result k i ending) n = refl
+meant-heard s (image r apart) n = refl
+meant-heard s (ask out) n = refl
+meant-heard s (message m out) n = refl
+
+-- an entry leaves what its call does
+reply-calls : (s : Station) (h : Heard) → reply s h .station ≡ calls s (callsIn (h ∷ []))
+reply-calls s (makes c) = refl
+reply-calls s (refuses a) = refl
+
+pub meant-calls : (s : Station) (u : Use) → NoStarts (u ∷ []) → meant s u .station ≡ calls s (callBy u)
+meant-calls s u n = ap (λ (x : Reply). x .station) (meant-heard s u n) ∙ reply-calls s (heardBy u) ∙ ap (calls s) (sym (call-heard u))
+
+heard-by-fine : (u : Use) → AsPassed u → Fine (heardBy u)
+heard-by-fine start p = omega arith
+heard-by-fine (request n set) p = asked-fine n set
+heard-by-fine (event e) p = tt
+heard-by-fine (result k i ending) p = tt
+heard-by-fine (image r apart) p = p
+heard-by-fine (ask out) p = tt
+heard-by-fine (message m out) p = heard-fine m p
+
+-- the first of some calls, or an ask
+abbrev first : List Call → Call
+first [] = run.ask
+first (c ∷ l) = c
+
+only-makes : (h : Heard) (c : Call) → callsIn (h ∷ []) ≡ c ∷ [] → h ≡ makes c
+only-makes (makes d) c e = ap (λ (l : List Call). makes (first l)) e
+only-makes (refuses a) c e = let l = ap (λ (l : List Call). length l) e in absurd (omega arith)
+
+-- an entry that makes a call is no station_start
+no-start : (u : Use) (c : Call) → callBy u ≡ c ∷ [] → NoStarts (u ∷ [])
+no-start start c e = let l = ap (λ (l : List Call). length l) e in absurd (omega arith)
+no-start (request n set) c e = tt
+no-start (event x) c e = tt
+no-start (result k i ending) c e = tt
+no-start (image r apart) c e = tt
+no-start (ask out) c e = tt
+no-start (message m out) c e = tt
+
+-- one whose call is accepted: the call is as code makes it, it is accepted, and the room holds the station that it leaves
+pub record Accepted (room : List ℕ) (u : Use) (c : Call) : Type 0 where
+  pub made : AsMade c
+  pub accepted : said (stationOf room) c ≡ 0
+  pub holds : stationOf (used room u .leaves) ≡ left (stationOf room) c
+  pub long : 60 ≤ length (used room u .leaves)
+
+pub accepted-by : (room : List ℕ) → 60 ≤ length room → Typed (stationOf room) → (u : Use) (c : Call) → AsPassed u → callBy u ≡ c ∷ []
+    → used room u .says % 256 ≡ 0 → Accepted room u c
+accepted-by room h T u c p e z = split (short room u) (λ t. let k = skipped room h u t .1 in absurd (omega arith)) with-room
+  where
+    s : Station
+    s = stationOf room
+
+    is : heardBy u ≡ makes c
+    is = only-makes (heardBy u) c (sym (call-heard u) ∙ e)
+
+    says : meant s u ≡ reply s (makes c)
+    says = meant-heard s u (no-start u c e) ∙ ap (reply s) is
+
+    with-room : short room u ≡ false → Accepted room u c
+    with-room t =
+        let D = done room h T u p t in
+        let a = call s c .answer in
+        let r : used room u .says ≡ returned a = D .returns ∙ ap (λ (x : Reply). returnedOf (x .answer)) says ∙ sym (returned-reply s c) in
+        record {
+          made = subst Fine is (heard-by-fine u p);
+          accepted = sym (returned-reads-back a .0) ∙ ap (λ (k : ℕ). k % 256) (sym r) ∙ z;
+          holds = D .holds ∙ ap (λ (x : Reply). x .station) says;
+          long = D .long;
+        }
+
+begun-start : (before : List ℕ) → 60 ≤ length before → Done (used before start) (meant (stationOf before) start)
+begun-start before h = entered (λ s. station.taken startOf) before (meant (stationOf before) start) h start-typed refl refl (λ n. absurd (n refl))
+
+-- where a lent station begins, calls begin
+pub begun-begins : (room : List ℕ) → Begun room → Begins (stationOf room)
+begun-begins room (started before h) = subst Begins (sym (begun-start before h .holds)) atStart
+begun-begins room (imaged before u r apart b h p e z) =
+    let A = accepted-by before h (room-typed before b h) u (run.image r apart) p e z in
+    subst Begins (sym (A .holds)) (byImage (stationOf before) r apart (A .made) (A .accepted))
+
+pub begun : (room : List ℕ) → Begun room → Lent room
+begun room (started before h) = held before (meant (stationOf before) start) (begun-start before h) start-typed start-reached
+begun room (imaged before u r apart b h p e z) =
     let s = stationOf before in
-    held before (meant s start) (entered (λ s. station.taken startOf) before (meant s start) h start-typed refl refl (λ n. absurd (n refl))) start-typed start-reached
-begun room (imaged before r apart b h m z) =
-    let s = stationOf before in
+    let c = run.image r apart in
     let T = room-typed before b h in
-    let D = done before h T (image r apart) m refl in
-    let a = call s (run.image r apart) .answer in
-    let taken : numberOf a ≡ 0 = sym (returned-reads-back a .0) ∙ ap (λ (k : ℕ). k % 256) (sym (D .returns)) ∙ z in
-    held before (meant s (image r apart)) D (meant-typed s T (image r apart) m)
-    (record { origin = left s (run.image r apart); begins = byImage s r apart m taken; since = []; noImages = tt; here = refl })
+    let A = accepted-by before h T u c p e z in
+    record {
+      long = A .long;
+      typed = subst Typed (sym (A .holds)) (typed-call s T c (A .made));
+      reached = record { origin = stationOf room; begins = begun-begins room (imaged before u r apart b h p e z); since = []; noImages = tt; here = refl };
+    }
 
 pub lent-sound : LentSound
 lent-sound room b l p =

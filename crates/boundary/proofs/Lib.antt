@@ -3,6 +3,7 @@ pub mod Runs
 pub mod Reaching
 pub mod Sent
 pub mod Lent
+pub mod Rooms
 pub mod Places
 pub mod Questions
 pub mod Pairs

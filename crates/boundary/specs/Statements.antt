@@ -4,17 +4,19 @@ use mathlib.Core.Path.{_≡_}
 use mathlib.Core.Logic.{_⊎_}
 use mathlib.Core.Bool.{true}
 use mathlib.Core.List.{List, [], _∷_, _++_}
-use Prim.Native.Nat.{ℕ, _/_, _%_, _≤_}
+use Prim.Native.Nat.{ℕ, _+_, _/_, _%_, _≤_}
 use lib.ListN.{length, drop}
 use Rattle.bits.specs.Bits.{bit}
 use Rattle.bits.specs.Places.{join}
+use Rattle.floor.specs.Cars.{Car, Layout}
 use Rattle.floor.specs.Sound.{Sound, sound}
 use Rattle.answers.specs.declared.Answer.the-variants.{Taken, BadField, Overlap}
 use Rattle.answers.specs.Answers.{numberOf, nowhere}
 use Rattle.garage.specs.declared.Station.{Station}
-use Rattle.garage.specs.Station.{closed, startOf, fit}
-use Rattle.garage_laws.specs.Runs.{Call, request, said, placed, calls, Reached}
-use Rattle.garage_laws.specs.Jams.{stuck, applied, Chosen}
+use Rattle.garage.specs.Station.{closed, startOf, present, fit}
+use Rattle.garage_laws.specs.Runs.{Call, request, said, placed, calls, Begins, NoImages, Reached, driven}
+use Rattle.garage_laws.specs.Orders.{Fate, Order, Alike}
+use Rattle.garage_laws.specs.Jams.{stuck, applied, Picks, Chosen}
 use Rattle.wire.specs.declared.What.{What}
 use Rattle.wire.specs.declared.Message.{Message}
 use Rattle.wire.specs.Kinds.{littleEndian, kindOf}
@@ -25,7 +27,7 @@ use Rattle.service.specs.Runs.{run, fed}
 use Rattle.station_c.specs.Entries.{stationSize, stationOf, asking, returnedOf, exchange, judgement}
 use Rattle.station_c.specs.Sets.{pairAnswer}
 use Rattle.boundary.specs.Calls.{heardAs, heard, reply, heardIn, callsIn, repliesTo, inBytes, fedStation, Sized}
-use Rattle.boundary.specs.Uses.{Use, used, uses, meant, AsPassed, AllPassed, Roomy, Begun}
+use Rattle.boundary.specs.Uses.{Use, used, uses, meant, message, AsPassed, AllPassed, roomy, callBy, callsBy, NoStarts, Begun}
 
 -- ---- messages and entries are calls
 
@@ -73,7 +75,7 @@ PairIsRequest =
 -- an entry leaves in the room the station that its call leaves, and returns that call's number and place
 abbrev pub EntryIsCall : Type 0
 EntryIsCall =
-    (room : List ℕ) → Bytes room → stationSize ≤ length room → (u : Use) → AsPassed u → Roomy u
+    (room : List ℕ) → Bytes room → stationSize ≤ length room → (u : Use) → AsPassed u → roomy room u ≡ true
     → (stationOf (used room u .leaves) ≡ meant (stationOf room) u .station)
     × (used room u .says ≡ returnedOf (meant (stationOf room) u .answer))
 
@@ -87,10 +89,10 @@ AskWrites =
     (room out : List ℕ) → stationSize ≤ length room → 16 ≤ length out → asking room out .says % 256 ≡ 0
     → asking room out .leaves ≡ (littleEndian 8 (stationOf room .bits) ++ littleEndian 8 (stationOf room .apart)) ++ drop 16 out
 
--- a message writes its reply, a refusal too
+-- a message writes its reply, a refusal too, where it has room for it
 abbrev pub MessageWrites : Type 0
 MessageWrites =
-    (room m out : List ℕ) → stationSize ≤ length room → 20 ≤ length out
+    (room m out : List ℕ) → stationSize ≤ length room → roomy room (message m out) ≡ true
     → let b = answerBytes (reply (stationOf room) (heard m) .answer) in exchange room m out .reply ≡ b ++ drop (length b) out
 
 -- ---- so what is promised of calls holds of bytes
@@ -128,6 +130,44 @@ abbrev pub LentSound : Type 0
 LentSound =
     (room : List ℕ) → Begun room → (l : List Use) → AllPassed l
     → (fit (stationOf (uses room l)) ≡ true) × Sound (bit (stationOf (uses room l) .bits))
+
+-- after any entries since then, station_start not among them, the room holds the station that the calls they make lead to from the
+-- beginning; whatever entries follow, station_start too, it holds a reached station
+abbrev pub RoomsAreRuns : Type 0
+RoomsAreRuns =
+    (room : List ℕ) → Begun room → (l : List Use) → AllPassed l
+    → Begins (stationOf room)
+    × Reached (stationOf (uses room l))
+    × (NoStarts l → stationOf (uses room l) ≡ calls (stationOf room) (callsBy room l))
+
+-- so for every choice of which stuck instructions did in fact finish, the record with those applied is sound
+abbrev pub RoomsLaidOut : Type 0
+RoomsLaidOut =
+    (room : List ℕ) → Begun room → (l : List Use) → AllPassed l → NoStarts l
+    → let js = stuck (stationOf room) (callsBy room l) in
+    (p : List ℕ) → Picks (length js) p → Sound (bit (applied js p (stationOf (uses room l) .bits)))
+
+-- and has as many cars as at the beginning, plus those driven in, less those driven out, where no image came since
+abbrev pub RoomsCounted : Type 0
+RoomsCounted =
+    (room : List ℕ) → Begun room → (l : List Use) → AllPassed l → NoStarts l → NoImages (callsBy room l)
+    → let s = stationOf room in
+    let js = stuck s (callsBy room l) in
+    (p : List ℕ) → Picks (length js) p
+    → (start end : List Car) → Layout (bit (s .bits)) start → Layout (bit (applied js p (stationOf (uses room l) .bits))) end
+    → length end + driven 2 s (callsBy room l) ≡ length start + driven 1 s (callsBy room l)
+
+-- two lists of entries whose calls are two orders of an accepted set's results come to the same, and so to the same station in the room
+abbrev pub RoomsAnyOrder : Type 0
+RoomsAnyOrder =
+    (room : List ℕ) → Begun room → (l : List Use) → AllPassed l
+    → let before = uses room l in
+    (u : Use) (n : ℕ) (set : List ℕ) → AsPassed u → callBy u ≡ request n set ∷ [] → used before u .says % 256 ≡ 0
+    → let opened = used before u .leaves in
+    let s = stationOf opened in
+    (fate : ℕ → Fate) (events : List ℕ) (a b : List Use) → AllPassed a → AllPassed b → NoStarts a → NoStarts b
+    → Order (present s) n fate events (callsBy opened a) → Order (present s) n fate events (callsBy opened b)
+    → Alike s (callsBy opened a) (callsBy opened b) × (stationOf (uses opened a) ≡ stationOf (uses opened b))
 
 -- and no entry then returns 16
 abbrev pub LentNever : Type 0

@@ -1,7 +1,7 @@
 -- The entries that take a lent station, as one list of cases: what each returns and leaves, and the call that it is. Assumes nothing.
 use mathlib.Core.Path.{_≡_}
-use mathlib.Core.Bool.{cond, _&&_}
-use mathlib.Core.List.{List, [], _∷_}
+use mathlib.Core.Bool.{Bool, true, cond, _&&_}
+use mathlib.Core.List.{List, [], _∷_, _++_}
 use Prim.Native.Nat.{ℕ, _*_, _%_, _^_, _≤_, _<_}
 use lib.Dec.{leb, ltb}
 use lib.ListN.{length, take}
@@ -13,9 +13,9 @@ use Rattle.garage.specs.Calls as station
 use Rattle.garage_laws.specs.Runs as run
 use Rattle.wire_laws.specs.Statements.{Bytes}
 use Rattle.service.specs.declared.Reply.{Reply}
-use Rattle.service.specs.Service.{answerMessage}
-use Rattle.station_c.specs.Entries.{stationSize, Entry, entry, requestOf, asking, exchange}
-use Rattle.boundary.specs.Calls.{Heard, makes, refuses, heard, reply}
+use Rattle.service.specs.Service.{respond, answerBytes, answerMessage}
+use Rattle.station_c.specs.Entries.{stationSize, stationOf, Entry, entry, requestOf, asking, exchange}
+use Rattle.boundary.specs.Calls.{Heard, makes, refuses, heard, reply, callsIn}
 
 -- an entry with what it is given: a set of so many instructions; an event; a result with its issue; an image with what it says is set apart; the image's room; a message and the reply's room
 pub data Use : Type 0 where
@@ -71,18 +71,46 @@ abbrev pub AllPassed : List Use → Type 0
 AllPassed [] = Unit {0}
 AllPassed (u ∷ l) = AsPassed u × AllPassed l
 
--- the room that it writes an image or a reply to is long enough for any
-abbrev pub Roomy : Use → Type 0
-Roomy start = Unit {0}
-Roomy (request n set) = Unit {0}
-Roomy (event e) = Unit {0}
-Roomy (result k i ending) = Unit {0}
-Roomy (image r apart) = Unit {0}
-Roomy (ask out) = 16 ≤ length out
-Roomy (message m out) = 20 ≤ length out
+-- whether the room that it writes an image or a reply to is long enough: sixteen bytes for an image, for a reply as many as it has
+abbrev pub roomy : List ℕ → Use → Bool
+roomy room start = true
+roomy room (request n set) = true
+roomy room (event e) = true
+roomy room (result k i ending) = true
+roomy room (image r apart) = true
+roomy room (ask out) = leb 16 (length out)
+roomy room (message m out) = leb (length (answerBytes (respond (stationOf room) m .answer))) (length out)
 
--- a room where a lent station begins: after station_start, or after a station_image that was taken
+-- ---- the calls that entries make
+
+-- the call that an entry makes, if it makes one: station_start makes none, and neither does what can't be read
+abbrev pub callBy : Use → List run.Call
+callBy start = []
+callBy (request n set) = callsIn (heardRequest n set ∷ [])
+callBy (event e) = run.event e ∷ []
+callBy (result k i ending) = run.result k i ending ∷ []
+callBy (image r apart) = run.image r apart ∷ []
+callBy (ask out) = run.ask ∷ []
+callBy (message m out) = callsIn (heard m ∷ [])
+
+-- the calls that several make, each on the room that those before it have left; one without room for its answer makes none
+abbrev pub callsBy : List ℕ → List Use → List run.Call
+callsBy room [] = []
+callsBy room (u ∷ l) = cond (roomy room u) (callBy u) [] ++ callsBy (used room u .leaves) l
+
+-- none of them is station_start, which begins another garage
+abbrev pub NoStarts : List Use → Type 0
+NoStarts [] = Unit {0}
+NoStarts (start ∷ l) = ⊥
+NoStarts (request n set ∷ l) = NoStarts l
+NoStarts (event e ∷ l) = NoStarts l
+NoStarts (result k i ending ∷ l) = NoStarts l
+NoStarts (image r apart ∷ l) = NoStarts l
+NoStarts (ask out ∷ l) = NoStarts l
+NoStarts (message m out ∷ l) = NoStarts l
+
+-- a room where a lent station begins: after station_start, or after an entry, station_message too, whose image is accepted
 pub data Begun : List ℕ → Type 0 where
   started : (room : List ℕ) → stationSize ≤ length room → Begun (used room start .leaves)
-  imaged : (room : List ℕ) (r apart : ℕ) → Bytes room → stationSize ≤ length room → r < 2 ^ 64
-      → used room (image r apart) .says % 256 ≡ 0 → Begun (used room (image r apart) .leaves)
+  imaged : (room : List ℕ) (u : Use) (r apart : ℕ) → Bytes room → stationSize ≤ length room → AsPassed u
+      → callBy u ≡ run.image r apart ∷ [] → used room u .says % 256 ≡ 0 → Begun (used room u .leaves)

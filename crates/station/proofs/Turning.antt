@@ -18,6 +18,8 @@ use Rattle.streams.specs.Input.{Fills}
 use Rattle.turns.specs.Turns.{Holding, Holds, holding, turning}
 use Rattle.turns.proofs.Statements.{rest-is-short}
 use Rattle.journal.specs.Journal.{counted, Follows, Journaled}
+use Rattle.station.specs.declared.Between.{Between}
+use Rattle.station.specs.Keeping.{AsTurn, TurnedOver}
 use Rattle.journal.proofs.Which.{used-within, only-messages, stays-journaled}
 
 -- in room that is enough all is served
@@ -68,13 +70,28 @@ module _ (s : Station) (buf : List ℕ) (end : ℕ) (room : List ℕ) (w : Serve
 
 -- the two steps are a turn
 pub as-turn : (s : Station) (buf : List ℕ) (end : ℕ) (room : List ℕ) (w : Served) (out : List ℕ) (n : ℕ) (after : List ℕ) (station : Station)
-    → Serves (serving s (take end buf) room) w out → Holds (holding (w .used) end buf) n after → station ≡ w .station
+    → (other : Bool) → Serves (serving s (take end buf) room) w out → Holds (holding (w .used) end buf) n after → station ≡ w .station
     → let t = turning s buf end room in
-    (station ≡ t .says .station) × (n ≡ t .says .have) × (after ≡ t .buffer) × (out ≡ t .answers)
+    (station ≡ t .says .station)
+    × (n ≡ t .says .have)
+    × (w .stop || other ≡ false → t .says .stop ≡ false)
+    × (after ≡ t .buffer)
+    × (out ≡ t .answers)
 unfolding turning
-as-turn s buf end room w out n after station (says, leaves) (holds, front) e =
-    let held = ap (λ (r : Served). holding (r .used) end buf) says in
-    (e ∙ ap (λ (r : Served). r .station) says, holds ∙ ap (λ (h : Holding). h .says) held, front ∙ ap (λ (h : Holding). h .leaves) held, leaves)
+as-turn s buf end room w out n after station other (says, leaves) (holds, front) e =
+    let held = ap (λ (r : Served). holding (r .used) end buf) says in (
+      e ∙ ap (λ (r : Served). r .station) says,
+      holds ∙ ap (λ (h : Holding). h .says) held,
+      λ q. sym (ap (λ (r : Served). r .stop) says) ∙ neither (w .stop) other q .0,
+      front ∙ ap (λ (h : Holding). h .leaves) held,
+      leaves,
+    )
+
+-- what a turn over the bytes of a read leaves
+pub turned-over : (s : Station) (have : ℕ) (before room read : List ℕ) (end : ℕ) (r : Input) {t : Between} {buf out : List ℕ}
+    → Fills before have r read → r ≡ Bytes end → AsTurn (turning s read end room) t buf out → TurnedOver s have before room t buf out
+turned-over s have before room read end r f e a =
+    record { end = end; read = read; fills = subst (λ (x : Input). Fills before have x read) e f; turned = a }
 
 -- what an append that went well leaves
 pub appended : {s station next : Station} {n long : ℕ} {bytes : List ℕ} {safe : Bool} → Journaled s n → Follows s bytes next

@@ -6,8 +6,11 @@ use Prim.Native.Nat.{ℕ, _≤_, _<_}
 use lib.Dec.{ltb}
 use lib.IntN.{ℤ, pos, negsuc}
 use lib.ListN.{length}
+use Rattle.garage.specs.declared.Station.{Station}
 use Rattle.service.specs.Runs.{enough}
-use Rattle.turns.specs.Turns.{Turning}
+use Rattle.streams.specs.declared.Input.the-variants.{Bytes}
+use Rattle.streams.specs.Input.{Fills}
+use Rattle.turns.specs.Turns.{Turning, turning}
 use Rattle.journal.specs.Journal.{Journaled}
 use Rattle.station.specs.declared.keeping.Journal.{Journal}
 use Rattle.station.specs.declared.opening.Reading.{Reading}
@@ -29,11 +32,23 @@ KeptIfSafe j = j .safe ≡ true → Journaled (j .station) (j .length)
 abbrev pub Goes : Between → Type 0
 Goes t = t .stop ≡ false → (t .have < 45) × Kept (t .journal)
 
--- and where all is in the journal it was a turn: the station, what is held, the buffer and the answers are those that one leaves
+-- and where all is in the journal it was a turn: the station, what is held, the buffer and the answers are those that one leaves, and the
+-- program goes on only where the turn does, so not after a length that is out of range
 abbrev pub AsTurn : Turning → Between → List ℕ → List ℕ → Type 0
 AsTurn w t buf out =
     t .journal .safe ≡ true
-    → (t .journal .station ≡ w .says .station) × (t .have ≡ w .says .have) × (buf ≡ w .buffer) × (out ≡ w .answers)
+    → (t .journal .station ≡ w .says .station)
+    × (t .have ≡ w .says .have)
+    × (t .stop ≡ false → w .says .stop ≡ false)
+    × (buf ≡ w .buffer)
+    × (out ≡ w .answers)
+
+-- a turn over what was read: some bytes came behind those that were held, and it was a turn over all of them
+pub record TurnedOver (s : Station) (have : ℕ) (before room : List ℕ) (t : Between) (buf out : List ℕ) : Type 0 where
+  pub end : ℕ
+  pub read : List ℕ
+  pub fills : Fills before have (Bytes end) read
+  pub turned : AsTurn (turning s read end room) t buf out
 
 -- where the journal went well so far, less than a message is held and the bytes before it make the station; else there is no more of it
 abbrev pub Reads : Reading → Type 0

@@ -2,12 +2,12 @@
 // append to the journal, where one is kept. What a turn leaves stands in turns, what is tried again and what is told of a failure in
 // streams; no contract can say what is read and written.
 ghost use mathlib.Core.Path.{_≡_};
-ghost use mathlib.Core.Bool.{true};
+ghost use mathlib.Core.Bool.{true, false};
 ghost use Prim.Native.Nat.{_≤_, _<_};
 ghost use lib.ListN.{length};
 ghost use Rattle.journal.specs.Journal.{Journaled};
 ghost use Rattle.service.specs.Runs.{enough};
-ghost use Rattle.station.specs.Keeping.{Kept, Goes, AsTurn, Roomy};
+ghost use Rattle.station.specs.Keeping.{Kept, Goes, AsTurn, TurnedOver, Roomy};
 ghost use Rattle.streams.specs.Input.{Fills};
 ghost use Rattle.turns.specs.Turns.{turning};
 
@@ -82,10 +82,11 @@ fn close(j: Journal, buf: &[u8], have: usize, out: &mut [u8])
     say(j, out, w.size);
 }
 
-// Reads once, answers what came whole, and holds the rest. After a read that failed nothing more is written.
+// Reads once, answers what came whole, and holds the rest. It goes on only after a turn over what was read that goes on; after a read that
+// failed nothing more is written.
 fn one_turn(t: Between, buf: &mut [u8], out: &mut [u8]) -> Between
     requires { ⌜ (t .have < 45) × Roomy (now buf) (now out) × Kept (t .journal) ⌝ }
-    ensures { λ r. ⌜ Goes r ⌝ }
+    ensures { λ r. ⌜ Goes r × (r .stop ≡ false → TurnedOver (t .journal .station) (t .have) (now (buf .entry)) (now (out .entry)) r (now (buf .exit)) (now (out .exit))) ⌝ }
 {
     let j = t.journal;
     let have = t.have;

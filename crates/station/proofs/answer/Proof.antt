@@ -64,7 +64,7 @@ returns-2 c =
         held-short _ (args .buf .now) (args .end) (args .out .now) _ (pre .1) (serve .0) _ _ (hold .0) q,
         appended (pre .2) (taken-follows _ (args .buf .now) (args .end) (args .out .now) _ (pre .1) (serve .0)) append (c .before .before .before .before .before .before .before .if1 .left),
       ),
-      λ q. as-turn _ (args .buf .now) (args .end) (args .out .now) _ _ _ _ _ serve hold (append q .0),
+      λ q. as-turn _ (args .buf .now) (args .end) (args .out .now) _ _ _ _ _ _ serve hold (append q .0),
     )
 
 pub answer-spec : {M : Type 1} → statement M

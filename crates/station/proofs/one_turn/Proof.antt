@@ -2,7 +2,7 @@
 use borrow.Author.Needs.{needs}
 use native.Mathlib.Omega.{arith}
 use Rattle.bits.proofs.Cases.{clash}
-use Rattle.station.proofs.Turning.{filled}
+use Rattle.station.proofs.Turning.{filled, turned-over}
 use Rattle.station.proofs.one_turn.Statement.{statement}
 use Rattle.station.proofs.one_turn.Tie as tie
 
@@ -34,7 +34,9 @@ same-length-2 : tie.Need-same-length-2
 same-length-2 c = search needs
 
 returns : tie.Need-returns
-returns c = search needs
+returns c =
+    let a = c .before .before .before .before .answer .ensures in
+    (a .0, λ q. turned-over _ _ _ _ _ _ _ (c .before .before .before .before .before .before .before .before .before .before .before .before .read-on .ensures) (c .before .before .before .before .before .before .before .before .input .given .1) (a .1))
 
 same-length-3 : tie.Need-same-length-3
 same-length-3 c = search needs
@@ -43,13 +45,13 @@ same-length-4 : tie.Need-same-length-4
 same-length-4 c = search needs
 
 returns-2 : tie.Need-returns-2
-returns-2 c = λ q. clash (c .stopped .ensures .0) q
+returns-2 c = (λ q. clash (c .stopped .ensures .0) q, λ q. clash (c .stopped .ensures .0) q)
 
 same-length-5 : tie.Need-same-length-5
 same-length-5 c = search needs
 
 returns-3 : tie.Need-returns-3
-returns-3 c = λ q. clash (c .stopped2 .ensures .0) q
+returns-3 c = (λ q. clash (c .stopped2 .ensures .0) q, λ q. clash (c .stopped2 .ensures .0) q)
 
 pub one-turn-spec : {M : Type 1} → statement M
 one-turn-spec =

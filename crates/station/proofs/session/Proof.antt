@@ -35,7 +35,7 @@ loop-less : tie.Need-loop-less Inv-loop μ-loop
 loop-less c = search needs
 
 loop-again : tie.Need-loop-again Inv-loop μ-loop
-loop-again c = let g = c .before .before .before .before .before .one-turn .ensures (c .if1 .left) in (search needs, search needs, g .0, g .1)
+loop-again c = let g = c .before .before .before .before .before .one-turn .ensures .0 (c .if1 .left) in (search needs, search needs, g .0, g .1)
 
 same-length-3 : tie.Need-same-length-3 Inv-loop μ-loop
 same-length-3 c = search needs
