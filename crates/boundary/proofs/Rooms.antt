@@ -15,10 +15,13 @@ use Rattle.garage_laws.specs.Runs.{Call, left, calls}
 use Rattle.garage_laws.specs.Jams.{stuck, applied}
 use Rattle.garage_laws.specs.Orders.{Order, Alike}
 use Rattle.garage_laws.proofs.Jammed.{always-laid-out, cars-counted}
+use Rattle.garage_laws.specs.Recovery.{HasWayBack}
 use Rattle.garage_laws.proofs.Demands.{any-order}
+use Rattle.garage_laws.proofs.Motion.{however-far}
+use Rattle.garage_laws.proofs.Recovery.{never-locks-up}
 use Rattle.station_c.specs.Entries.{stationOf}
 use Rattle.boundary.specs.Uses.{Use, start, request, event, result, image, ask, message, used, uses, AsPassed, AllPassed, roomy, callBy, callsBy, NoStarts, Begun}
-use Rattle.boundary.specs.Statements.{RoomsAreRuns, RoomsLaidOut, RoomsCounted, RoomsAnyOrder}
+use Rattle.boundary.specs.Statements.{RoomsAreRuns, RoomsLaidOut, RoomsCounted, RoomsAnyOrder, RoomsHoweverFar, RoomsNeverLockUp}
 use Rattle.boundary.proofs.Lent.{Lent, done, skipped, long-enough, too-short, lent-used, lent-uses, begun, begun-begins, meant-calls, accepted-by}
 
 -- ---- one entry after the other
@@ -86,3 +89,12 @@ rooms-any-order room b l p u n set m e z fate events x y px py nx ny O P =
     → Alike s (callsBy opened x) (callsBy opened y)) (sym (A .holds))
     (any-order (stationOf before) (L .reached) n set (A .accepted) fate events (callsBy opened x) (callsBy opened y)) O P in
     (alike, by-all opened M x px nx ∙ alike .same ∙ sym (by-all opened M y py ny))
+
+pub rooms-however-far : RoomsHoweverFar
+rooms-however-far room b l p n =
+    (sym (by-all room (begun room b) l p n), λ q U. however-far (stationOf room) (begun-begins room b) (callsBy room l) q U)
+
+pub rooms-never-lock-up : RoomsNeverLockUp
+rooms-never-lock-up room b l p =
+    let R = lent-uses room (begun room b) l p .reached in
+    subst HasWayBack (sym (R .here)) (never-locks-up (R .origin) (R .begins) (R .since))

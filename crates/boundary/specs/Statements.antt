@@ -17,6 +17,8 @@ use Rattle.garage.specs.Station.{closed, startOf, present, fit}
 use Rattle.garage_laws.specs.Runs.{Call, request, said, placed, calls, Begins, NoImages, Reached, driven}
 use Rattle.garage_laws.specs.Orders.{Fate, Order, Alike}
 use Rattle.garage_laws.specs.Jams.{stuck, applied, Picks, Chosen}
+use Rattle.garage_laws.specs.Motion.{Moving, Unheard, LaidOutInFact, CarsInFact, AnyOrderInFact, AllowedInFact, HeardInFact}
+use Rattle.garage_laws.specs.Recovery.{HasWayBack}
 use Rattle.wire.specs.declared.What.{What}
 use Rattle.wire.specs.declared.Message.{Message}
 use Rattle.wire.specs.Kinds.{littleEndian, kindOf}
@@ -168,6 +170,19 @@ RoomsAnyOrder =
     (fate : ℕ → Fate) (events : List ℕ) (a b : List Use) → AllPassed a → AllPassed b → NoStarts a → NoStarts b
     → Order (present s) n fate events (callsBy opened a) → Order (present s) n fate events (callsBy opened b)
     → Alike s (callsBy opened a) (callsBy opened b) × (stationOf (uses opened a) ≡ stationOf (uses opened b))
+
+-- however far the instructions are that wait or are stuck, what HoweverFar promises of those calls holds of the station in the room
+abbrev pub RoomsHoweverFar : Type 0
+RoomsHoweverFar =
+    (room : List ℕ) → Begun room → (l : List Use) → AllPassed l → NoStarts l
+    → let s = stationOf room in
+    let c = callsBy room l in
+    (calls s c ≡ stationOf (uses room l))
+    × ((p : List Moving) → Unheard s c p → LaidOutInFact s c p × CarsInFact s c p × AnyOrderInFact s c p × AllowedInFact s c p × HeardInFact s c p)
+
+-- and whatever entries came, station_start too, there is a way back from the station in the room
+abbrev pub RoomsNeverLockUp : Type 0
+RoomsNeverLockUp = (room : List ℕ) → Begun room → (l : List Use) → AllPassed l → HasWayBack (stationOf (uses room l))
 
 -- and no entry then returns 16
 abbrev pub LentNever : Type 0

@@ -21,10 +21,10 @@ pub mod Follow
 pub mod AnyOrder
 pub mod Amid
 pub mod Demands
+pub mod RecoveryLists
 pub mod MotionFloor
 pub mod MotionHeard
 pub mod Motion
-pub mod RecoveryLists
 pub mod Recovery
 pub mod RecoveryApart
 pub mod Rejections

@@ -21,9 +21,9 @@ use Rattle.garage_laws.proofs.Always.{begins-has, fit-always}
 use Rattle.garage_laws.proofs.Jammed.{sane-calls}
 use Rattle.garage_laws.proofs.MotionFloor.{Able, Choice, choice, once-each, picked}
 use Rattle.garage_laws.proofs.MotionFloor.{moved-sound, moved-cars, moved-allowed, moved-order}
-use Rattle.garage_laws.proofs.MotionHeard as heard
 use Rattle.garage_laws.proofs.MotionHeard.{Owing, Arrived, results-arrive, done, done-once, done-same}
 use Rattle.garage_laws.proofs.MotionHeard.{moved-stuck, stuck-set, stuck-numbers}
+use Rattle.garage_laws.proofs.RecoveryLists.{unmarked, order-exists}
 
 module _ (s : Station) (b : Begins s) (l : List Call) where
   -- the station after the calls, and what is stuck
@@ -97,7 +97,7 @@ however-far s b l p U =
 
 -- the fourth part speaks of an order that exists
 pub waiting-listed : WaitingListed
-waiting-listed = heard.waiting-listed
+waiting-listed t = (unmarked (t .count) (marked t), order-exists t)
 
 -- ---- the special cases: stuck ones alone, none of the set
 

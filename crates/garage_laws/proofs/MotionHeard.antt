@@ -23,7 +23,7 @@ use Rattle.garage_laws.specs.Runs.{Call, call, left, calls}
 use Rattle.garage_laws.specs.Orders.{Fair}
 use Rattle.garage_laws.specs.Jams.{jamAt, has, Picks, applied}
 use Rattle.garage_laws.specs.Demands.{Waiting}
-use Rattle.garage_laws.specs.Motion.{Moving, ofSet, ofStuck, setNumbers, stuckNumbers, isAmong, movedOn, asItHappened, WaitingListed}
+use Rattle.garage_laws.specs.Motion.{Moving, ofSet, ofStuck, setNumbers, stuckNumbers, isAmong, movedOn, asItHappened}
 use Rattle.garage_laws.proofs.Fits.{marksWith, noted, after-result, waits-allowed}
 use Rattle.garage_laws.proofs.Calls.{following, success-is, failure-is, answering-bits}
 use Rattle.garage_laws.proofs.Always.{fit-kept}
@@ -188,56 +188,3 @@ done-same p q all (ofSet i) =
     done-set p (stuckNumbers p) q i
     ∙ split (isAmong p (ofSet i)) (λ u. rw (u, all i u)) (λ u. rw u (and-false (has q i)))
 done-same p q all (ofStuck j) = ap (λ (y : List ℕ). has y j) (done-stuck p (stuckNumbers p) q)
-
--- ---- all that wait, in an order
-
-module _ (t : Station) where
-  -- those below n, the last first
-  abbrev listed : ℕ → List ℕ
-  listed zero = []
-  listed (suc n) = let rest = listed n in cond (marked t n) rest (n ∷ rest)
-
-  -- one more, or not
-  has-more : (b : Bool) (n : ℕ) (rest : List ℕ) (i : ℕ) → has (cond b rest (n ∷ rest)) i ≡ (not b && eqb n i) || has rest i
-  has-more true n rest i = refl
-  has-more false n rest i = refl
-
-  picks-more : (b : Bool) (n : ℕ) (rest : List ℕ) → n < t .count → has rest n ≡ false → Picks (t .count) rest
-      → Picks (t .count) (cond b rest (n ∷ rest))
-  picks-more true n rest h e p = p
-  picks-more false n rest h e p = (h, e, p)
-
-  -- a list has those that wait and are below n, and no other
-  has-listed : (n i : ℕ) → has (listed n) i ≡ ltb i n && not (marked t i)
-  has-listed zero i = rw (le-ltb i 0 (omega arith))
-  has-listed (suc n) i =
-      has-more (marked t n) n (listed n) i
-      ∙ ap (λ (c : Bool). (not (marked t n) && eqb n i) || c) (has-listed n i)
-      ∙ split (eqb n i) here (λ e. rw (e, and-false (not (marked t n)), beside e))
-    where
-      or-none : (c : Bool) → (c && true) || false ≡ c
-      or-none true = refl
-      or-none false = refl
-
-      here : eqb n i ≡ true → (not (marked t n) && eqb n i) || (ltb i n && not (marked t i)) ≡ ltb i (suc n) && not (marked t i)
-      here e = rw (e, ← eqb-true n i e, le-ltb n n (omega arith), lt-ltb n (suc n) (omega arith)) (or-none (not (marked t n)))
-
-      -- another is below n exactly if it is below the next
-      beside : eqb n i ≡ false → ltb i n ≡ ltb i (suc n)
-      beside e = let ne = eqb-false n i e in alike _ _
-          (λ h. let l = ltb-true i n h in lt-ltb i (suc n) (omega arith))
-          (λ h. let l = ltb-true i (suc n) h in lt-ltb i n (omega arith))
-
-  listed-picks : (n : ℕ) → n ≤ t .count → Picks (t .count) (listed n)
-  listed-picks zero h = tt
-  listed-picks (suc n) h =
-      picks-more (marked t n) n (listed n) (omega arith) (has-listed n n ∙ rw (le-ltb n n (omega arith))) (listed-picks n (omega arith))
-
-pub waiting-listed : WaitingListed
-waiting-listed t = (
-  listed t (t .count),
-  record {
-    once = listed-picks t (t .count) (omega arith);
-    all = λ i h. has-listed t (t .count) i ∙ rw (lt-ltb i (t .count) h);
-  },
-)

@@ -32,8 +32,9 @@ use Rattle.garage_laws.specs.Runs as run
 use Rattle.garage_laws.specs.Runs.{Call, call, said, left, calls, Begins}
 use Rattle.garage_laws.specs.Orders.{Fate, fails, succeeds, sticks, told}
 use Rattle.garage_laws.specs.Jams.{has, Picks}
+use Rattle.garage_laws.specs.Motion.{AllWaiting}
 use Rattle.garage_laws.specs.Demands.{Waiting}
-use Rattle.garage_laws.specs.Recovery.{AllAccepted, EachThatWaits, resultsFor, SaidOfDrive, nothing, done, notDone, mostCalls, LeadBack, NeverLocksUp, TenAreReached}
+use Rattle.garage_laws.specs.Recovery.{AllAccepted, resultsFor, SaidOfDrive, nothing, done, notDone, mostCalls, LeadBack, NeverLocksUp, TenAreReached}
 use Rattle.garage_laws.proofs.Reach.{under-way-kept}
 use Rattle.garage_laws.proofs.Fits.{fit-has, marksWith, after-result}
 use Rattle.garage_laws.proofs.Calls.{following, answering-bits, success-is, failure-is, stuck-is}
@@ -48,22 +49,22 @@ use Rattle.garage_laws.proofs.RecoveryLists.{calls-append, accepted-app
 record Due (issue : ℕ) (order : List ℕ) (s : Station) : Type 0 where
   fits : fit s ≡ true
   issued : issue ≡ present s
-  waits : EachThatWaits s order
+  waits : AllWaiting s order
 
 module _ (s : Station) (i : ℕ) (rest : List ℕ) where
   -- the first of them waits
-  first-waits : fit s ≡ true → EachThatWaits s (i ∷ rest) → Waiting s i
+  first-waits : fit s ≡ true → AllWaiting s (i ∷ rest) → Waiting s i
   first-waits f W =
       let h = W .once .0 in
-      (f, h, not-true (marked s i) (sym (W .exactly i h) ∙ rw (eq-eqb i i refl)))
+      (f, h, not-true (marked s i) (sym (W .all i h) ∙ rw (eq-eqb i i refl)))
 
   -- after its result, whatever the record and what is set apart, the others do
-  others-wait : (r apart : ℕ) → EachThatWaits s (i ∷ rest)
-      → EachThatWaits (answering s i r apart) rest × (present (answering s i r apart) ≡ present s)
+  others-wait : (r apart : ℕ) → AllWaiting s (i ∷ rest)
+      → AllWaiting (answering s i r apart) rest × (present (answering s i r apart) ≡ present s)
   others-wait r apart W =
-      after-result (λ t. EachThatWaits t rest × (present t ≡ present s)) s i r apart
-      (λ t. (last rest (W .once .1) (W .once .2) (W .exactly) t, refl))
-      (λ t. (record { once = W .once .2; exactly = more }, refl))
+      after-result (λ t. AllWaiting t rest × (present t ≡ present s)) s i r apart
+      (λ t. (last rest (W .once .1) (W .once .2) (W .all) t, refl))
+      (λ t. (record { once = W .once .2; all = more }, refl))
     where
       marked-more : (j : ℕ) → bit (marksWith s i) j ≡ eqb i j || marked s j
       marked-more j = ap (λ (g : ℕ → Bool). g j) (marks (s .answered) i)
@@ -71,12 +72,12 @@ module _ (s : Station) (i : ℕ) (rest : List ℕ) where
       more : (j : ℕ) → j < s .count → has rest j ≡ not (bit (marksWith s i) j)
       more j h = rw (marked-more j) (split (eqb i j)
           (λ t. rw (t, ← eqb-true i j t) (W .once .1))
-          (λ t. rw t (rw t at (W .exactly j h))))
+          (λ t. rw t (rw t at (W .all j h))))
 
       -- where it was the last, none is left
       last : (l : List ℕ) → has l i ≡ false → Picks (s .count) l → ((j : ℕ) → j < s .count → has (i ∷ l) j ≡ not (marked s j))
-          → every (s .count) (bit (marksWith s i)) ≡ true → EachThatWaits (closed r (s .next) apart) l
-      last [] o p e t = record { once = tt; exactly = λ j h. absurd (omega arith) }
+          → every (s .count) (bit (marksWith s i)) ≡ true → AllWaiting (closed r (s .next) apart) l
+      last [] o p e t = record { once = tt; all = λ j h. absurd (omega arith) }
       last (j ∷ l) o p e t =
           let h = p .0 in
           let m = sym (marked-more j) ∙ every-at (s .count) (bit (marksWith s i)) t j h in
@@ -117,7 +118,7 @@ module _ (issue : ℕ) (fate : ℕ → Fate) where
       let R = reported order rest (left s c) record {
         fits = fit-kept s c (D .fits);
         issued = D .issued ∙ sym p ∙ ap (λ (t : Station). present t) (sym e);
-        waits = subst (λ (t : Station). EachThatWaits t (order ++ rest)) (sym e) w;
+        waits = subst (λ (t : Station). AllWaiting t (order ++ rest)) (sym e) w;
       } in
       record {
         accepted = (ap (λ (o : Outcome). numberOf (o .answer)) (A .is), R .accepted);
@@ -130,7 +131,7 @@ module _ (issue : ℕ) (fate : ℕ → Fate) where
 none-due : (issue : ℕ) (s : Station) → Due issue [] s → s .count ≡ 0
 none-due issue s D = split (eqb (s .count) 0)
     (λ t. eqb-true (s .count) 0 t)
-    (λ t. clash (rw t at (fit-has s (D .fits) .owed)) (none-is (s .count) (λ i. not (marked s i)) (λ i h. sym (D .waits .exactly i h))))
+    (λ t. clash (rw t at (fit-has s (D .fits) .owed)) (none-is (s .count) (λ i. not (marked s i)) (λ i h. sym (D .waits .all i h))))
 
 -- ---- what is said of a drive
 
@@ -142,7 +143,7 @@ module _ (issue : ℕ) (rest : List ℕ) (s : Station) (D : Due issue rest s) wh
       record {
         fits = fit-kept s (run.event (eventCode e)) (D .fits);
         issued = rw is (D .issued);
-        waits = rw is record { once = D .waits .once; exactly = D .waits .exactly };
+        waits = rw is record { once = D .waits .once; all = D .waits .all };
       }
 
   -- what may be said is accepted where it is, and leaves what is due
@@ -163,7 +164,7 @@ said-once before drive (notDone u) = omega arith
 
 -- how many calls it is
 few-back : (s : Station) (issue : ℕ) (fate : ℕ → Fate) (first rest : List ℕ) (drive : List Call) (r : ℕ)
-    → fit s ≡ true → EachThatWaits s (first ++ rest) → SaidOfDrive s drive
+    → fit s ≡ true → AllWaiting s (first ++ rest) → SaidOfDrive s drive
     → length ((resultsFor issue fate first ++ (drive ++ resultsFor issue fate rest)) ++ (run.image r 0 ∷ [])) ≤ mostCalls
 few-back s issue fate first rest drive r f W S =
     let before = resultsFor issue fate first in
@@ -197,7 +198,7 @@ module _ (s : Station) (b : Begins s) (l : List Call) where
       (end-taken s b (l ++ m) (subst (λ (t : Station). holds underWay (bit (t .bits)) ≡ true) (sym e) u))
 
   module _ (first rest : List ℕ) (fate : ℕ → Fate) (drive : List Call) (r : ℕ)
-      (W : EachThatWaits here (first ++ rest)) (S : SaidOfDrive here drive) (seen : Sound (bit r)) where
+      (W : AllWaiting here (first ++ rest)) (S : SaidOfDrive here drive) (seen : Sound (bit r)) where
     abbrev before : List Call
     before = resultsFor (present here) fate first
 

@@ -14,7 +14,8 @@ use Rattle.garage.specs.Station.{marked}
 use Rattle.garage_laws.specs.Runs.{Call, left, calls}
 use Rattle.garage_laws.specs.Orders.{Fate}
 use Rattle.garage_laws.specs.Jams.{has, Picks}
-use Rattle.garage_laws.specs.Recovery.{AllAccepted, EachThatWaits, resultsFor}
+use Rattle.garage_laws.specs.Motion.{AllWaiting}
+use Rattle.garage_laws.specs.Recovery.{AllAccepted, resultsFor}
 
 -- ---- lists of calls
 
@@ -117,5 +118,5 @@ unmarked-has (suc n) m j h = split (eqb n j)
     (λ u. rw u (unmarked-has n m j (omega arith)))
     (λ u. rw (u, t) (unmarked-has n m j (omega arith))))
 
-pub order-exists : (s : Station) → EachThatWaits s (unmarked (s .count) (marked s))
-order-exists s = record { once = unmarked-picks (s .count) (marked s); exactly = unmarked-has (s .count) (marked s) }
+pub order-exists : (s : Station) → AllWaiting s (unmarked (s .count) (marked s))
+order-exists s = record { once = unmarked-picks (s .count) (marked s); all = unmarked-has (s .count) (marked s) }

@@ -2,7 +2,7 @@
 -- stuck are set apart. Read from the top; it ends in NeverLocksUp and ApartExactly, proved in proofs/Recovery.antt. Assumes nothing.
 use mathlib.Core.Path.{_≡_}
 use mathlib.Core.Logic.{_↔_}
-use mathlib.Core.Bool.{true, not}
+use mathlib.Core.Bool.{true}
 use mathlib.Core.List.{List, [], _∷_, _++_}
 use Prim.Native.Nat.{ℕ, _≤_, _<_}
 use lib.ListN.{length}
@@ -15,10 +15,11 @@ use Rattle.answers.specs.declared.Answer.the-variants.{Taken}
 use Rattle.answers.specs.Answers.{numberOf}
 use Rattle.garage.specs.declared.Station.{Station}
 use Rattle.garage.specs.Held.{heldArea, partsIn}
-use Rattle.garage.specs.Station.{startOf, marked, present}
+use Rattle.garage.specs.Station.{startOf, present}
 use Rattle.garage_laws.specs.Runs.{Call, result, event, image, said, left, calls, Begins}
 use Rattle.garage_laws.specs.Orders.{Fate, told}
-use Rattle.garage_laws.specs.Jams.{stuck, jamAt, has, Picks}
+use Rattle.garage_laws.specs.Jams.{stuck, jamAt}
+use Rattle.garage_laws.specs.Motion.{AllWaiting}
 
 -- ---- the way back
 
@@ -26,11 +27,6 @@ use Rattle.garage_laws.specs.Jams.{stuck, jamAt, has, Picks}
 abbrev pub AllAccepted : Station → List Call → Type 0
 AllAccepted s [] = Unit {0}
 AllAccepted s (c ∷ l) = (said s c ≡ numberOf Taken) × AllAccepted (left s c) l
-
--- an order of what waits: the instructions of the outstanding set that have no result yet, each once, and no other
-pub record EachThatWaits (s : Station) (order : List ℕ) : Type 0 where
-  pub once : Picks (s .count) order
-  pub exactly : (i : ℕ) → i < s .count → has order i ≡ not (marked s i)
 
 -- the results of instructions in an order, under the issue of their set; each says its instruction's fate: 0 failed, 1 done, 2 stuck
 abbrev pub resultsFor : ℕ → (ℕ → Fate) → List ℕ → List Call
@@ -58,21 +54,23 @@ pub record LeadBack (s : Station) (l : List Call) (r : ℕ) : Type 0 where
   pub idle : calls s (l ++ (image r 0 ∷ [])) .count ≡ 0
   pub noneApart : calls s (l ++ (image r 0 ∷ [])) .apart ≡ 0
 
--- whatever calls came before, images too: what waits can be put in an order; and in every order, with every fate of each instruction, and a
+-- there is a way back from a station: what waits can be put in an order; and in every order, with every fate of each instruction, and a
 -- drive ended before, between or after them, done or not done, or left as it is, the results and every sound image lead back
-abbrev pub NeverLocksUp : Type 0
-NeverLocksUp =
-    (s : Station) → Begins s → (l : List Call)
-    → let t = calls s l in
-    ((order : List ℕ) × EachThatWaits t order)
+abbrev pub HasWayBack : Station → Type 0
+HasWayBack t =
+    ((order : List ℕ) × AllWaiting t order)
     × ((first rest : List ℕ) (fate : ℕ → Fate) (drive : List Call) (r : ℕ)
-    → EachThatWaits t (first ++ rest) → SaidOfDrive t drive → Sound (bit r)
+    → AllWaiting t (first ++ rest) → SaidOfDrive t drive → Sound (bit r)
     → LeadBack t (resultsFor (present t) fate first ++ (drive ++ resultsFor (present t) fate rest)) r)
+
+-- whatever calls came before, images too, there is one
+abbrev pub NeverLocksUp : Type 0
+NeverLocksUp = (s : Station) → Begins s → (l : List Call) → HasWayBack (calls s l)
 
 -- the bound is met: from the start, eight instructions can wait while a drive is under way, and then these calls are ten
 abbrev pub TenAreReached : Type 0
 TenAreReached =
-    (l : List Call) × (order : List ℕ) × EachThatWaits (calls startOf l) order × (length order ≡ most)
+    (l : List Call) × (order : List ℕ) × AllWaiting (calls startOf l) order × (length order ≡ most)
     × (holds underWay (bit (calls startOf l .bits)) ≡ true)
 
 -- ---- what is set apart
