@@ -9,7 +9,7 @@ use Rattle.floor.proofs.Promises.{layout-cars, sound-exactly}
 use Rattle.rules.specs.declared.Code.{Code}
 use Rattle.garage.specs.declared.Station.{Station}
 use Rattle.garage.specs.Held.{codeAt}
-use Rattle.garage.specs.Station.{present}
+use Rattle.garage.specs.Station.{present, marked}
 use Rattle.garage_laws.specs.Runs.{Call, calls, Begins}
 use Rattle.garage_laws.specs.Jams.{stuck, has, finished, Chosen}
 use Rattle.garage_laws.specs.Demands.{AlwaysLaidOut, FinishedAnyOrder, WaitsAnyway, StillAllowed}
