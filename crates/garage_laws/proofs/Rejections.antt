@@ -38,7 +38,7 @@ use Rattle.garage.specs.Calls as station
 use Rattle.garage.specs.Calls.{refused, unlessAny, opening}
 use Rattle.garage_laws.specs.Runs as run
 use Rattle.garage_laws.specs.Runs.{Call, call, said}
-use Rattle.garage_laws.specs.Rejections.{Line, _if_, answer, test, lineAt, FirstToHold, GoesBy, reasons, isFor, notAllowedFor, requestTable, RequestExactly, says, eventTable, EventExactly, resultTable, ResultExactly, imageTable, ImageExactly, askTable, AskExactly}
+use Rattle.garage_laws.specs.Rejections.{Line, _if_, answer, test, lineAt, FirstToHold, GoesBy, forLeast, reasons, isFor, notAllowedFor, requestTable, RequestExactly, says, eventTable, EventExactly, resultTable, ResultExactly, imageTable, ImageExactly, askTable, AskExactly}
 use Rattle.garage_laws.proofs.Fits.{fit-has}
 use Rattle.garage_laws.proofs.Reasons.{least-fault, good-refused}
 use Rattle.garage_laws.proofs.Calls.{faultless, no-fault, drivenAs, event-as}
@@ -131,32 +131,46 @@ module _ (table : List Line) (apart : distinct table ≡ true) where
 
 -- ---- a chain of tests, line by line
 
--- an outcome with this answer
-record Answers (o : Outcome) (a : Answer) : Type 0 where
-  so : o .answer ≡ a
+-- an outcome is answered by a table, or with this answer where no line's test holds
+record Answers (o : Outcome) (table : List Line) (last : Answer) : Type 0 where
+  so : o .answer ≡ first table last
+
+-- past the last line
+ends : {o : Outcome} {last : Answer} → o .answer ≡ last → Answers o [] last
+unfolding first
+ends e = record { so = e }
+
+-- at a line whose test is known
+refused-by : (s : Station) (a : Answer) {table : List Line} {last : Answer} → Answers (refused s a) (a if true ∷ table) last
+unfolding first
+refused-by s a = record { so = refl }
+
+passed-by : (a : Answer) {o : Outcome} {table : List Line} {last : Answer} → Answers o table last → Answers o (a if false ∷ table) last
+unfolding first
+passed-by a h = record { so = h .so }
 
 -- refused where a test holds, which is the line's
-line-as : (t u : Bool) → t ≡ u → (s : Station) (a : Answer) {o : Outcome} {rest : Answer} → (u ≡ false → Answers o rest)
-    → Answers (cond t (refused s a) o) (cond u a rest)
-line-as true true e s a h = record { so = refl }
+line-as : (t u : Bool) → t ≡ u → (s : Station) (a : Answer) {o : Outcome} {table : List Line} {last : Answer}
+    → (u ≡ false → Answers o table last) → Answers (cond t (refused s a) o) (a if u ∷ table) last
+line-as true true e s a h = refused-by s a
 line-as true false e s a h = clash refl e
 line-as false true e s a h = clash e refl
-line-as false false e s a h = record { so = h refl .so }
+line-as false false e s a h = passed-by a (h refl)
 
-line : (t : Bool) (s : Station) (a : Answer) {o : Outcome} {rest : Answer} → (t ≡ false → Answers o rest)
-    → Answers (cond t (refused s a) o) (cond t a rest)
+line : (t : Bool) (s : Station) (a : Answer) {o : Outcome} {table : List Line} {last : Answer}
+    → (t ≡ false → Answers o table last) → Answers (cond t (refused s a) o) (a if t ∷ table) last
 line t s a h = line-as t t refl s a h
 
 -- refused where a test fails, of which the line's is the opposite
-held-as : (t u : Bool) → not t ≡ u → (s : Station) (a : Answer) {o : Outcome} {rest : Answer} → (t ≡ true → Answers o rest)
-    → Answers (cond t o (refused s a)) (cond u a rest)
+held-as : (t u : Bool) → not t ≡ u → (s : Station) (a : Answer) {o : Outcome} {table : List Line} {last : Answer}
+    → (t ≡ true → Answers o table last) → Answers (cond t o (refused s a)) (a if u ∷ table) last
 held-as true true e s a h = clash e refl
-held-as true false e s a h = record { so = h refl .so }
-held-as false true e s a h = record { so = refl }
+held-as true false e s a h = passed-by a (h refl)
+held-as false true e s a h = refused-by s a
 held-as false false e s a h = clash refl e
 
-held : (t : Bool) (s : Station) (a : Answer) {o : Outcome} {rest : Answer} → (t ≡ true → Answers o rest)
-    → Answers (cond t o (refused s a)) (cond (not t) a rest)
+held : (t : Bool) (s : Station) (a : Answer) {o : Outcome} {table : List Line} {last : Answer}
+    → (t ≡ true → Answers o table last) → Answers (cond t o (refused s a)) (a if not t ∷ table) last
 held t s a h = held-as t (not t) refl s a h
 
 -- one is found exactly if some is at fault
@@ -165,8 +179,8 @@ found-some n fault = split (some n fault)
     (λ t. rw t (let (i, h, e) = some-is n fault t in split (ltb (least n fault) n) (λ u. u) (λ u. clash e (faultless n fault u i h))))
     (λ t. rw t (no-fault n fault (none-at n fault t)))
 
-least-line : (n : ℕ) (fault : ℕ → Bool) (s : Station) (a : ℕ → Answer) {o : Outcome} {rest : Answer}
-    → (some n fault ≡ false → Answers o rest) → Answers (unlessAny n fault s a o) (cond (some n fault) (a (least n fault)) rest)
+least-line : (n : ℕ) (fault : ℕ → Bool) (s : Station) (a : ℕ → Answer) {o : Outcome} {table : List Line} {last : Answer}
+    → (some n fault ≡ false → Answers o table last) → Answers (unlessAny n fault s a o) (forLeast a n fault ∷ table) last
 least-line n fault s a h = line-as (ltb (least n fault) n) (some n fault) (found-some n fault) s (a (least n fault)) h
 
 -- ---- a request
@@ -206,7 +220,7 @@ module _ (s : Station) (n : ℕ) (set : List ℕ) where
   judged-as e = ap (λ (b : Bool). judged b .answer) e
 
   request-judged : some n (bad set) ≡ false
-      → Answers (judged (ltb (least n lacking) n)) (first (map (notAllowedFor s n set) reasons) (Opened (s .next)))
+      → Answers (judged (ltb (least n lacking) n)) (map (notAllowedFor s n set) reasons) (Opened (s .next))
   unfolding codeVerdict
   request-judged good = split (some n lacking)
       (λ t.
@@ -217,8 +231,8 @@ module _ (s : Station) (n : ℕ) (set : List ℕ) where
       record { so = judged-as u ∙ R .told ∙ sym (by-reason (R .why) (some n lacking) verdict _ (Opened (s .next)) t v) })
       (λ t. record { so = judged-as (found-some n lacking ∙ t) ∙ sym (by-none (some n lacking) verdict _ (Opened (s .next)) t) })
 
-  request-answers : Answers (station.request s n set) (first (requestTable s n set) (Opened (s .next)))
-  unfolding first station.request station.requested station.cleared station.spared station.accepted
+  request-answers : Answers (station.request s n set) (requestTable s n set) (Opened (s .next))
+  unfolding station.request station.requested station.cleared station.spared station.accepted
   request-answers =
       held (fit s) s Unfit (λ a.
       line (ltb 0 (s .count)) s SetOutstanding (λ b.
@@ -272,22 +286,21 @@ module _ (s : Station) where
       ∷ KeptOpen if says (λ x. not (placesOpen x (bit (s .bits)))) v
       ∷ []
 
-  event-known : (x : Event) → Answers (drivenAs s (Told x)) (first (tableBy (Told x) false) Taken)
-  unfolding first station.driven station.occurred
+  event-known : (x : Event) → Answers (drivenAs s (Told x)) (tableBy (Told x) false) Taken
+  unfolding station.driven station.occurred
   event-known x =
       held (fit s) s Unfit (λ a.
-      line (liftIn (s .set) (s .count)) s SetOutstanding (λ b.
+      passed-by (BadField nowhere) (line (liftIn (s .set) (s .count)) s SetOutstanding (λ b.
       held (inTurn x (bit (s .bits))) s OutOfTurn (λ c.
       line (liftApart (s .apart)) s (SetApart nowhere) (λ d.
       held (possible x (bit (s .bits))) s EventImpossible (λ f.
       held (placesOpen x (bit (s .bits))) s KeptOpen (λ g.
-      record { so = refl }))))))
+      ends refl)))))))
 
-  event-unknown : Answers (drivenAs s Untold) (first (tableBy Untold true) Taken)
-  unfolding first
-  event-unknown = held (fit s) s Unfit (λ a. record { so = refl })
+  event-unknown : Answers (drivenAs s Untold) (tableBy Untold true) Taken
+  event-unknown = held (fit s) s Unfit (λ a. refused-by s (BadField nowhere))
 
-  event-answers : (e : ℕ) (v : EventReading) → readEvent e ≡ v → Answers (drivenAs s v) (first (tableBy v (eqb e 0 || ltb 4 e)) Taken)
+  event-answers : (e : ℕ) (v : EventReading) → readEvent e ≡ v → Answers (drivenAs s v) (tableBy v (eqb e 0 || ltb 4 e)) Taken
   event-answers e (Told x) p = rw (event-one-form e x p, known x) (event-known x)
   event-answers e Untold p = rw (unknown e p) event-unknown
 
@@ -304,8 +317,8 @@ past-set s i f = rw (le-leb (s .count) most (fit-has s f .few)) (split (ltb i (s
     (λ t. rw (t, lt-leb (s .count) i (ltb-true i (s .count) t)))
     (λ t. rw (t, le-leb (s .count) i (ltb-false i (s .count) t))))
 
-result-answers : (s : Station) (r : Report) → Answers (station.result s r) (first (resultTable s r) Taken)
-unfolding first station.result station.resulted station.timely station.numbered station.ended
+result-answers : (s : Station) (r : Report) → Answers (station.result s r) (resultTable s r) Taken
+unfolding station.result station.resulted station.timely station.numbered station.ended
 result-answers s r =
     held (fit s) s Unfit (λ a.
     line (ltb 2 (r .ending)) s (BadField nowhere) (λ b.
@@ -314,7 +327,7 @@ result-answers s r =
     held (eqb (r .issue) (present s)) s NotIssued (λ f.
     line-as (not (inSet s (r .number))) (leb (s .count) (r .number)) (past-set s (r .number) a) s NotInSet (λ g.
     line (marked s (r .number)) s AlreadyAnswered (λ h.
-    record { so = refl })))))))
+    ends refl)))))))
 
 pub result-exactly : ResultExactly
 unfolding distinct every
@@ -326,13 +339,13 @@ not-both : (a b : Bool) → not (a && b) ≡ not a || not b
 not-both true b = refl
 not-both false b = refl
 
-image-answers : (s : Station) (p : Picture) → Answers (station.takeImage s p) (first (imageTable s p) Taken)
-unfolding first station.takeImage station.imaged
+image-answers : (s : Station) (p : Picture) → Answers (station.takeImage s p) (imageTable s p) Taken
+unfolding station.takeImage station.imaged
 image-answers s p =
     held (fit s) s Unfit (λ a.
     line (ltb 0 (s .count)) s SetOutstanding (λ b.
     held-as (sound (p .bits) && eqb (p .apart) 0) _ (not-both (sound (p .bits)) (eqb (p .apart) 0)) s Unsound (λ c.
-    record { so = refl })))
+    ends refl)))
 
 pub image-exactly : ImageExactly
 unfolding distinct every
@@ -340,9 +353,9 @@ image-exactly s p = goes-by (imageTable s p) refl s (run.pictures p) Taken refl 
 
 -- ---- the record asked for
 
-ask-answers : (s : Station) → Answers (station.ask s) (first (askTable s) Taken)
-unfolding first station.ask
-ask-answers s = held (fit s) s Unfit (λ a. record { so = refl })
+ask-answers : (s : Station) → Answers (station.ask s) (askTable s) Taken
+unfolding station.ask
+ask-answers s = held (fit s) s Unfit (λ a. ends refl)
 
 pub ask-exactly : AskExactly
 unfolding distinct every
