@@ -2,11 +2,9 @@
 -- floor in fact is told in full. Assumes nothing.
 use mathlib.Core.Path.{_≡_}
 use mathlib.Core.List.{List, [], _∷_}
-use Prim.Native.Nat.{ℕ}
 use Rattle.floor.specs.Floor.{left, right, basement}
 use Rattle.rules.specs.declared.Instruction.the-variants.{Lift}
-use Rattle.garage.specs.declared.Station.{Station}
-use Rattle.garage.specs.Station.{startOf, present}
+use Rattle.garage.specs.Station.{startOf}
 use Rattle.garage_laws.specs.Runs.{Call, calls, Begins}
 use Rattle.garage_laws.specs.Motion.{Moving, ofSet, ofStuck, Unheard, inFact, AllWaiting, asItHappened}
 use Rattle.examples.specs.Table.{beginIn, endDone, asking, stuck, lowers}

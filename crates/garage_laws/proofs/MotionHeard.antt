@@ -19,12 +19,12 @@ use Rattle.garage.specs.Held.{heldNext}
 use Rattle.garage.specs.Station.{present, fit, marked, answering}
 use Rattle.garage.specs.Calls.{taken}
 use Rattle.garage_laws.specs.Runs as run
-use Rattle.garage_laws.specs.Runs.{Call, call, left, calls}
+use Rattle.garage_laws.specs.Runs.{call, left, calls}
 use Rattle.garage_laws.specs.Orders.{Fair}
 use Rattle.garage_laws.specs.Jams.{jamAt, has, Picks, applied}
 use Rattle.garage_laws.specs.Demands.{Waiting}
 use Rattle.garage_laws.specs.Motion.{Moving, ofSet, ofStuck, setNumbers, stuckNumbers, isAmong, movedOn, asItHappened}
-use Rattle.garage_laws.proofs.Fits.{marksWith, noted, after-result, waits-allowed}
+use Rattle.garage_laws.proofs.Fits.{marksWith, after-result, waits-allowed}
 use Rattle.garage_laws.proofs.Calls.{following, success-is, failure-is, answering-bits}
 use Rattle.garage_laws.proofs.Always.{fit-kept}
 use Rattle.garage_laws.proofs.MotionFloor.{Once}
