@@ -11,3 +11,4 @@ pub mod Sides
 pub mod Undoing
 pub mod Laws
 pub mod WayBack
+pub mod Locked
