@@ -54,7 +54,7 @@ weight-agree js f g e =
     (count-agree (those js singles) f g (λ k m. e k (those-in js singles k m)))
 
 -- what a count gains is what its changed places gain
-count-gain : (cs : List Change) (f : Bits) (l : List ℕ) → count l (changed cs f) + count (those (targets cs) l) f ≡ count l f + count (those (targets cs) l) (changed cs f)
+pub count-gain : (cs : List Change) (f : Bits) (l : List ℕ) → count l (changed cs f) + count (those (targets cs) l) f ≡ count l f + count (those (targets cs) l) (changed cs f)
 count-gain cs f [] = refl
 count-gain cs f (j ∷ l) = go (elem j (targets cs)) refl (count-gain cs f l)
   where

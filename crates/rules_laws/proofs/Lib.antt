@@ -2,9 +2,13 @@ pub mod Shift
 pub mod Spans
 pub mod BeltMove
 pub mod Tried
+pub mod Returning
 pub mod RulesKept
 pub mod Pair
 pub mod CarsKept
 pub mod Moves
 pub mod Sides
+pub mod Undoing
 pub mod Laws
+pub mod WayBack
+pub mod Locked

@@ -107,7 +107,7 @@ module _ (f : Bits) (w : Whole 20 f) where
   lift-even l r = let e = whole-even 20 f w in (omega arith, omega arith)
 
   -- the lift is allowed to move on one of these grounds
-  lift-whole : (height : ℕ) → T (allHold (conditions (Lift height)) f) → T (allHold soundRules f) → LiftWhole
+  pub lift-whole : (height : ℕ) → T (allHold (conditions (Lift height)) f) → T (allHold soundRules f) → LiftWhole
   lift-whole height c r =
       go (holds (free liftCells) f) refl
       (free-or-even (holds atBasement f) (holds (free liftCells) f) (holds sides f) (nth-holds f (conditions (Lift height)) c 1) (nth-holds f soundRules r 6))

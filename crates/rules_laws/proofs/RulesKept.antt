@@ -34,7 +34,7 @@ allKept more hs cs [] = true
 allKept more hs cs (t ∷ ts) = ruleKept more hs cs t && allKept more hs cs ts
 
 -- lists that share nothing
-apart-at : (js b : List ℕ) → share js b ≡ false → (k : ℕ) → T (elem k js) → elem k b ≡ false
+pub apart-at : (js b : List ℕ) → share js b ≡ false → (k : ℕ) → T (elem k js) → elem k b ≡ false
 apart-at [] b o k m = absurd m
 apart-at (j ∷ js) b o k m = split (eqb j k)
     (λ e. subst (λ (x : ℕ). elem x b ≡ false) (eqb-true j k e) (neither (elem j b) (share js b) o .0))

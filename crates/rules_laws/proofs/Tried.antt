@@ -126,7 +126,7 @@ module _ (ks js : List ℕ) (hs : List Test) (cs : List Change) (q : Bits → Bi
 -- ---- the bits that new bits rest on
 
 -- a list without repetitions
-abbrev once : List ℕ → List ℕ
+abbrev pub once : List ℕ → List ℕ
 once [] = []
 once (k ∷ ks) = let r = once ks in cond (elem k r) r (k ∷ r)
 
