@@ -16,6 +16,7 @@ use Rattle.rules.specs.declared.Event.the-variants.{BeginIn, BeginOut, EndDone,
 use Rattle.rules.specs.Rules.{wellFormed, area, allowed, next}
 use Rattle.rules.specs.Events.{possible, after}
 use Rattle.rules_laws.specs.Laws.{Agree, liftArea, Clear}
+use Rattle.rules_laws.specs.Undoing.{recordAfter}
 use Rattle.cards.specs.Cards.{Numbers, anchor, Among, Cards, Has}
 use Rattle.cards.specs.declared.Offered.the-variants.{Fine}
 use Rattle.cards.specs.Given.{bears, numbersGiven, givenAs, AllNew, Rising}
@@ -152,11 +153,7 @@ NoneTorn =
 
 -- ---- several instructions, as those of a set of which it is not known which have finished
 
--- the record and the numbers after them, one after the other
-abbrev pub recordAfter : List Instruction → Bits → Bits
-recordAfter [] f = f
-recordAfter (i ∷ is) f = recordAfter is (next i f)
-
+-- the numbers after them, one after the other
 abbrev pub numbersAfterAll : List Instruction → Bits → Numbers → Numbers
 numbersAfterAll [] f n = n
 numbersAfterAll (i ∷ is) f n = numbersAfterAll is (next i f) (numbersAfter i f n)
