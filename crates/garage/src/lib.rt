@@ -3,7 +3,7 @@
 ghost use mathlib.Core.Path.{_≡_};
 ghost use Prim.Native.Nat.{_-_, _^_, _≤_};
 ghost use Rattle.garage.specs.Held.{crosses};
-ghost use Rattle.garage.specs.Station.{startOf, fit, noting};
+ghost use Rattle.garage.specs.Station.{closed, startOf, fit, noting};
 ghost use Rattle.garage.specs.Calls.{refused, taken, imaged, takeImage, ask};
 ghost use Rattle.garage.specs.Turns.{turnOf, afterTurn};
 use answers::Answer;
@@ -66,6 +66,20 @@ fn all_marks(n: u8) -> u8
     ((1u64 << n as u64) - 1) as u8
 }
 
+// A station with this record that never had a set.
+fn closed(bits: u64) -> Station
+    ensures { λ s. ⌜ s ≡ closed bits 0 0 ⌝ }
+{
+    Station {
+        bits,
+        count: 0,
+        answered: 0,
+        set: [0; 40],
+        next: 0,
+        apart: 0,
+    }
+}
+
 fn refused(station: Station, answer: Answer) -> Outcome
     ensures { λ o. ⌜ o ≡ refused station answer ⌝ }
 {
@@ -101,14 +115,7 @@ impl Station {
     pub fn start() -> Self
         ensures { λ s. ⌜ s ≡ startOf ⌝ }
     {
-        Station {
-            bits: Station::START,
-            count: 0,
-            answered: 0,
-            set: [0; 40],
-            next: 0,
-            apart: 0,
-        }
+        closed(Station::START)
     }
 
     // Whether the station can be trusted to go on.
