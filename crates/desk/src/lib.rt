@@ -1,6 +1,7 @@
 // The street desk: a station whose cars have card numbers. Its calls and what it is asked stand in modules of their own; a desk goes in by
 // value and comes back with a reply, and a refused call hands it back as it was.
 ghost use mathlib.Core.Path.{_≡_};
+ghost use lib.ListN.{replicate};
 ghost use Rattle.cards.specs.Held.{cardsFit};
 ghost use Rattle.desk.specs.Desk.{startDesk, deskFit, replyNumber, replyPlace, replyIssue};
 use answers::Answer;
@@ -86,16 +87,23 @@ impl Reply {
     }
 }
 
+// A desk over a station, with no number.
+fn unnumbered(station: Station) -> Desk
+    ensures { λ d. ⌜ d ≡ record { station = station; numbers = replicate 42 0 } ⌝ }
+{
+    Desk {
+        station,
+        numbers: [0; 42],
+    }
+}
+
 impl Desk {
     // The start: the station's, and no number.
     pub fn start() -> Self
         ensures { λ d. ⌜ d ≡ startDesk ⌝ }
     {
         let station = Station::start();
-        Desk {
-            station,
-            numbers: [0; 42],
-        }
+        unnumbered(station)
     }
 
     // Whether the numbers are those of the record's cars.

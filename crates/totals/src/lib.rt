@@ -2,6 +2,7 @@
 ghost use mathlib.Core.Path.{_≡_};
 ghost use mathlib.Core.Bool.{false};
 ghost use Prim.Native.Nat.{_+_, _<_, _≤_, max};
+ghost use lib.ListN.{replicate};
 ghost use Rattle.totals.specs.Totals.{countedIn, nothing, totalsOf, blank, Leaves, Holds};
 ghost use Rattle.totals.specs.Private.{markOf, resultsFrom, marksOf, Within, filled, fills, fullAmong, raised, withCars, raisedAll};
 
@@ -38,12 +39,19 @@ pub struct Tally {
     pub full: u8,
 }
 
+// The numbers before anything is counted.
+fn nothing_counted() -> [u32; 52]
+    ensures { λ a. ⌜ a ≡ replicate 52 0 ⌝ }
+{
+    [0; 52]
+}
+
 impl Totals {
     // The totals before anything happened.
     pub fn blank() -> Totals
         ensures { λ t. ⌜ t ≡ blank ⌝ }
     {
-        let counts = [0u32; 52];
+        let counts = nothing_counted();
         Totals { counts }
     }
 }
