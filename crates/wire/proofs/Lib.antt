@@ -1,4 +1,5 @@
 pub mod Parts
 pub mod Frames
 pub mod Room
+pub mod Reading
 pub mod Determined

@@ -1,12 +1,13 @@
 -- Parts of a run of bytes, as code refers to them. Assumes nothing.
-use mathlib.Core.Path.{_≡_, sym, _∙_}
+use mathlib.Core.Path.{_≡_, sym, ap, _∙_}
 use mathlib.Core.List.{List, [], _∷_, _++_, append-nil}
-use Prim.Native.Nat.{ℕ, zero, suc, _+_, _*_, _-_, _≤_, _<_}
+use Prim.Native.Nat.{ℕ, zero, suc, _+_, _*_, _-_, _/_, _%_, _^_, _≤_, _<_}
 use native.Mathlib.Omega.{arith}
 use lib.ListN.{getD, length, take, drop, replicate, length-drop}
 use lib.Seq.{take-all, take-length, length-take-le, drop-drop}
-use Rattle.wire.specs.Kinds.{fromLittleEndian, setOf}
-use native.Mathlib.Nat.{sub-zero, zero-sub, suc-sub-suc}
+use lib.Pow.{shr-shr}
+use native.Mathlib.Nat.{sub-zero, zero-sub, suc-sub-suc, div-one}
+use Rattle.wire.specs.Kinds.{littleEndian, fromLittleEndian, setOf}
 
 -- what `&m[at..]` refers to
 pub from-on : (m : List ℕ) (at : ℕ) → take (length m - at) (drop at m) ≡ drop at m
@@ -16,19 +17,30 @@ from-on m at = take-all (length m - at) (drop at m) (simp length-drop (omega ari
 pub at-five : (m : List ℕ) (i : ℕ) → take (length m - (5 + 5 * i)) (drop (5 + 5 * i) m) ≡ drop (5 * i) (drop 5 m)
 at-five m i = from-on m (5 + 5 * i) ∙ sym (drop-drop (5 * i) 5 m)
 
--- eight bytes from place i on
-pub eight-at : (s : List ℕ) (i : ℕ)
-    → fromLittleEndian 8 0 (getD s i 0 ∷ getD s (i + 1) 0 ∷ getD s (i + 2) 0 ∷ getD s (i + 3) 0 ∷ getD s (i + 4) 0 ∷ getD s (i + 5) 0 ∷ getD s (i + 6) 0 ∷ getD s (i + 7) 0 ∷ [])
-    ≡ fromLittleEndian 8 i s
-eight-at s i =
-    let a : i + 1 ≡ suc i = omega arith in
-    let b : i + 2 ≡ suc (suc i) = omega arith in
-    let c : i + 3 ≡ suc (suc (suc i)) = omega arith in
-    let d : i + 4 ≡ suc (suc (suc (suc i))) = omega arith in
-    let e : i + 5 ≡ suc (suc (suc (suc (suc i)))) = omega arith in
-    let f : i + 6 ≡ suc (suc (suc (suc (suc (suc i))))) = omega arith in
-    let g : i + 7 ≡ suc (suc (suc (suc (suc (suc (suc i)))))) = omega arith in
-    rw (a, b, c, d, e, f, g)
+-- two bytes from place i on, and eight as four times two
+module _ (s : List ℕ) (i : ℕ) where
+  pub two-at : {a b : ℕ} → a ≡ getD s i 0 → b ≡ getD s (i + 1) 0 → fromLittleEndian 2 0 (a ∷ b ∷ []) ≡ fromLittleEndian 2 i s
+  two-at e f = let next : i + 1 ≡ suc i = omega arith in rw (e, f, next)
+
+  -- the two that stand k past place i
+  abbrev pub pair : ℕ → ℕ
+  pair k = fromLittleEndian 2 (i + k) s
+
+  pub eight-at : {a b c d : ℕ} → a ≡ fromLittleEndian 2 i s → b ≡ pair 2 → c ≡ pair 4 → d ≡ pair 6
+      → a + 65536 * (b + 65536 * (c + 65536 * d)) ≡ fromLittleEndian 8 i s
+  eight-at ea eb ec ed =
+      let two : i + 2 ≡ suc (suc i) = omega arith in
+      let four : i + 4 ≡ suc (suc (suc (suc i))) = omega arith in
+      let six : i + 6 ≡ suc (suc (suc (suc (suc (suc i))))) = omega arith in
+      rw (ea, eb, ec, ed, two, four, six) (omega arith)
+
+-- byte k of the n that say a number
+pub byte-at : (n x k : ℕ) → k < n → x / 2 ^ (8 * k) % 256 ≡ getD (littleEndian n x) k 0
+byte-at zero x k h = absurd (omega arith)
+byte-at (suc n) x zero h = ap (λ (y : ℕ). y % 256) (div-one x)
+byte-at (suc n) x (suc k) h =
+    let eight : 8 * suc k ≡ 8 + 8 * k = omega arith in
+    ap (λ (j : ℕ). x / 2 ^ j % 256) eight ∙ ap (λ (y : ℕ). y % 256) (sym (shr-shr x 8 (8 * k))) ∙ byte-at n (x / 256) k (omega arith)
 
 -- past its first n places an array of zeros holds zeros
 pub zeros-past : (n k : ℕ) → drop {A = ℕ} n (replicate k 0) ≡ replicate (k - n) 0
@@ -50,6 +62,14 @@ zero-filled s last e = e ∙ rw (take-length s, zeros-past (length s) 40)
 -- a whole set copied to the end of an array
 pub set-filled : (set last : List ℕ) → length set ≡ 40 → last ≡ take (length set) set ++ drop (length set) (replicate 40 0) → last ++ [] ≡ set
 set-filled set last l e = rw (append-nil, e, take-length set, l, append-nil)
+
+-- and behind five bytes at its start
+pub behind-five : {a b c d e : ℕ} (set m last : List ℕ) → length set ≡ 40 → m ≡ a ∷ b ∷ c ∷ d ∷ e ∷ replicate 40 0
+    → last ≡ take (length set) set ++ drop (length set) (take 40 (drop 5 m))
+    → take 5 m ++ (last ++ drop 40 (drop 5 m)) ≡ a ∷ b ∷ c ∷ d ∷ e ∷ set
+behind-five {a} {b} {c} {d} {e} set m last l f g =
+    let h : last ≡ take (length set) set ++ drop (length set) (replicate 40 0) = rw f at g in
+    rw f (ap (λ (s : List ℕ). a ∷ b ∷ c ∷ d ∷ e ∷ s) (set-filled set last l h))
 
 -- forty places hold a run that is no longer
 pub set-short : (s : List ℕ) → length s ≤ 40 → setOf s ≡ s ++ replicate (40 - length s) 0

@@ -1,13 +1,15 @@
 -- What writing leaves in the room, case by case of its chain of refusals. Assumes nothing.
-use mathlib.Core.Path.{_≡_, refl, _∙_, ap}
+use mathlib.Core.Path.{_≡_, refl, sym, _∙_, ap, ap₂, subst}
 use mathlib.Core.Bool.{true, false}
 use mathlib.Core.List.{List, [], _∷_, _++_}
 use Prim.Native.Nat.{ℕ, suc, _+_, _*_, _/_, _%_, _≤_, _<_}
 use native.Mathlib.Omega.{arith}
 use borrow.Author.Tests.{lt-ltb, le-ltb}
 use lib.Dec.{eqb}
-use lib.ListN.{length, take, drop}
+use lib.ListN.{getD, length, take, drop}
 use lib.Seq.{length-take-le, take-length, take-append-add}
+use denote.Enum.Declared.{tagOf}
+use types.Run.{OneOf, miss}
 use Rattle.bits.specs.Search.{least}
 use Rattle.bits.proofs.Cases.{clash}
 use Rattle.answers.specs.declared.Answer.the-variants.{BadField, TooMany, NoRoom}
@@ -15,9 +17,11 @@ use Rattle.answers.specs.Answers.{nowhere}
 use Rattle.wire.specs.declared.What.{What}
 use Rattle.wire.specs.declared.What.the-variants.{Request, Event, Result, Image, Ask, Answer, Held}
 use Rattle.wire.specs.declared.Message.{Message}
-use Rattle.wire.specs.Kinds.{kindOf, inRange, request}
+use Rattle.wire.specs.Kinds.{kindOf, inRange, request, plain}
 use Rattle.wire.specs.Reads.{badIn}
-use Rattle.wire.specs.Writes.{messageBytes, kept, put, writing}
+use Rattle.wire.specs.declared.Written.{Written}
+use Rattle.wire.specs.Writes.{messageBytes, Writing, Leaves, kept, put, writing}
+use Rattle.wire.proofs.What as what
 
 pub put-short : (src room : List ℕ) → length room < length src → put src room ≡ kept NoRoom room
 put-short src room h = simp (lt-ltb _ _ h)
@@ -49,6 +53,68 @@ pub ranged : (m : Message) (room : List ℕ) (w : What) → m .what ≡ w → eq
     → writing m room ≡ put (messageBytes (record { what = w; count = m .count; set = m .set })) room
 unfolding writing
 ranged m room w e r f = saying m room e ∙ rw (r, f)
+
+-- ---- messages that hold no instruction, in bytes
+
+-- byte by byte
+pub next : {x y : ℕ} {s t : List ℕ} → x ≡ y → s ≡ t → x ∷ s ≡ y ∷ t
+next e f = ap₂ _∷_ e f
+
+-- told of what the message says
+pub says : {w v : What} {b : List ℕ} → b ≡ messageBytes (plain v) → w ≡ v → b ≡ messageBytes (plain w)
+says e f = e ∙ ap (λ (w : What). messageBytes (plain w)) (sym f)
+
+-- a run begins with such a message, told of another name of the run: its first byte says how many come after the first two
+abbrev pub Begins : List ℕ → What → Type 0
+Begins b w = (2 + getD b 0 0 ≤ length b) × (take (2 + getD b 0 0) b ≡ messageBytes (plain w))
+
+pub begins : {b t : List ℕ} (w : What) → b ≡ t → Begins t w → Begins b w
+begins w e h = subst (λ (b : List ℕ). Begins b w) (sym e) h
+
+module _ (issue : ℕ) {l h : ℕ} (e : l ≡ issue % 256) (f : h ≡ issue / 256 % 256) where
+  pub result-says : {number ending : ℕ} → 6 ∷ 0 ∷ 3 ∷ 0 ∷ l ∷ h ∷ number ∷ ending ∷ [] ≡ messageBytes (plain (Result issue number ending))
+  result-says {number} {ending} = ap₂ (λ (l h : ℕ). 6 ∷ 0 ∷ 3 ∷ 0 ∷ l ∷ h ∷ number ∷ ending ∷ []) e f
+
+  pub answer-says : {number place : ℕ} → 6 ∷ 0 ∷ 128 ∷ 0 ∷ number ∷ place ∷ l ∷ h ∷ [] ≡ messageBytes (plain (Answer number place issue))
+  answer-says {number} {place} = ap₂ (λ (l h : ℕ). 6 ∷ 0 ∷ 128 ∷ 0 ∷ number ∷ place ∷ l ∷ h ∷ []) e f
+
+-- written in bytes, its fields in their ranges
+pub plain-written : (w : What) (room : List ℕ) {b : List ℕ} → inRange w ≡ true → b ≡ messageBytes (plain w)
+    → writing (plain w) room ≡ put b room
+unfolding writing least
+plain-written Request room f e = ap (λ (b : List ℕ). put b room) (sym e)
+plain-written (Event way) room f e = rw f (ap (λ (b : List ℕ). put b room) (sym e))
+plain-written (Result issue number ending) room f e = rw f (ap (λ (b : List ℕ). put b room) (sym e))
+plain-written (Image bits apart) room f e = ap (λ (b : List ℕ). put b room) (sym e)
+plain-written Ask room f e = ap (λ (b : List ℕ). put b room) (sym e)
+plain-written (Answer number place issue) room f e = rw f (ap (λ (b : List ℕ). put b room) (sym e))
+plain-written (Held bits apart) room f e = ap (λ (b : List ℕ). put b room) (sym e)
+
+-- what is no request is written by what it says alone
+pub as-plain : (w : What) (n : ℕ) (set room : List ℕ) → OneOf (1 ∷ 2 ∷ 3 ∷ 4 ∷ 5 ∷ 6 ∷ []) (tagOf what.the-type w)
+    → writing (record { what = w; count = n; set = set }) room ≡ writing (plain w) room
+unfolding writing
+as-plain Request n set room h = absurd (miss (1 ∷ 2 ∷ 3 ∷ 4 ∷ 5 ∷ 6 ∷ []) 0 tt h)
+as-plain (Event way) n set room h = refl
+as-plain (Result issue number ending) n set room h = refl
+as-plain (Image bits apart) n set room h = refl
+as-plain Ask n set room h = refl
+as-plain (Answer number place issue) n set room h = refl
+as-plain (Held bits apart) n set room h = refl
+
+-- a request, an image and an ask have no field with a range of its own
+pub unranged : (w : What) → OneOf (0 ∷ 3 ∷ 4 ∷ 6 ∷ []) (tagOf what.the-type w) → true ≡ inRange w
+unranged Request h = refl
+unranged (Event way) h = absurd (miss (0 ∷ 3 ∷ 4 ∷ 6 ∷ []) 1 tt h)
+unranged (Result issue number ending) h = absurd (miss (0 ∷ 3 ∷ 4 ∷ 6 ∷ []) 2 tt h)
+unranged (Image bits apart) h = refl
+unranged Ask h = refl
+unranged (Answer number place issue) h = absurd (miss (0 ∷ 3 ∷ 4 ∷ 6 ∷ []) 5 tt h)
+unranged (Held bits apart) h = refl
+
+-- what a call leaves, told by another name
+pub as-told : {v w : Writing} {r : Written} {last : List ℕ} → w ≡ v → Leaves v r last → Leaves w r last
+as-told e l = (l .0 ∙ ap (λ (w : Writing). w .says) (sym e), l .1 ∙ ap (λ (w : Writing). w .leaves) (sym e))
 
 -- ---- requests
 

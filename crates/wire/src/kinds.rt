@@ -5,17 +5,16 @@ use super::What;
 use super::byte;
 use super::held;
 use super::image_at;
-use super::issue_at;
 use super::plain;
 use super::refused;
-use super::word;
+use super::word_at;
 use answers::Answer;
 use rules::Reading;
 ghost use mathlib.Core.Path.{_≡_};
 ghost use Prim.Native.Nat.{_≤_, _+_, _*_};
 ghost use lib.ListN.{length, drop};
 ghost use Rattle.bits.specs.Search.{least};
-ghost use Rattle.wire.specs.Kinds.{first, event, result, image, answer, held, known, asked, inRange};
+ghost use Rattle.wire.specs.Kinds.{first, known, asked, inRange};
 ghost use Rattle.wire.specs.Reads.{sized, isBad, badIn, readRequest, readWhole};
 
 // Whether the fields of a message are in their ranges, a request's instructions aside.
@@ -23,21 +22,18 @@ pub fn in_range(what: What) -> bool
     ensures { λ r. ⌜ r ≡ inRange what ⌝ }
 {
     match what {
-        What::Request => true,
         What::Event { way } => (1 <= way) & (way <= 4),
         What::Result {
             issue: _,
             number: _,
             ending,
         } => ending <= 2,
-        What::Image { bits: _, apart: _ } => true,
-        What::Ask => true,
         What::Answer {
             number,
             place,
             issue: _,
         } => answers::in_table(number) & ((place <= 7) | (place == answers::NOWHERE)),
-        What::Held { bits: _, apart: _ } => true,
+        _ => true,
     }
 }
 
@@ -90,10 +86,7 @@ fn read_request(m: &[u8]) -> Received
     ensures { λ r. ⌜ r ≡ readRequest (now (m .entry)) ⌝ }
 {
     let used = m.len();
-    if used < 5 {
-        return refused(Answer::BadLength, used);
-    }
-    let count = m[4];
+    let count = byte(m, 4);
     if 8 < count {
         return refused(Answer::TooMany, used);
     }
@@ -117,67 +110,28 @@ fn read_request(m: &[u8]) -> Received
     }
 }
 
-fn read_event(m: &[u8]) -> Received
-    ensures { λ r. ⌜ r ≡ sized (now (m .entry)) (4 + event .size) (event .says (now (m .entry))) ⌝ }
-{
-    sized(m, 5, What::Event { way: byte(m, 4) })
-}
-
-fn read_result(m: &[u8]) -> Received
-    ensures { λ r. ⌜ r ≡ sized (now (m .entry)) (4 + result .size) (result .says (now (m .entry))) ⌝ }
-{
-    sized(
-        m,
-        8,
-        What::Result {
-            issue: issue_at(m, 4),
-            number: byte(m, 6),
-            ending: byte(m, 7),
-        },
-    )
-}
-
-fn read_image(m: &[u8]) -> Received
-    ensures { λ r. ⌜ r ≡ sized (now (m .entry)) (4 + image .size) (image .says (now (m .entry))) ⌝ }
-{
-    let bits = image_at(m, 4);
-    let apart = image_at(m, 12);
-    sized(m, 20, What::Image { bits, apart })
-}
-
-fn read_answer(m: &[u8]) -> Received
-    ensures { λ r. ⌜ r ≡ sized (now (m .entry)) (4 + answer .size) (answer .says (now (m .entry))) ⌝ }
-{
-    sized(
-        m,
-        8,
-        What::Answer {
-            number: byte(m, 4),
-            place: byte(m, 5),
-            issue: issue_at(m, 6),
-        },
-    )
-}
-
-fn read_held(m: &[u8]) -> Received
-    ensures { λ r. ⌜ r ≡ sized (now (m .entry)) (4 + held .size) (held .says (now (m .entry))) ⌝ }
-{
-    let bits = image_at(m, 4);
-    let apart = image_at(m, 12);
-    sized(m, 20, What::Held { bits, apart })
-}
-
 // A message whose bytes are exactly m, of a kind that a station reads.
 pub fn whole_asked(m: &[u8]) -> Received
-    requires { ⌜ 4 ≤ length (now m) ⌝ }
     ensures { λ r. ⌜ r ≡ readWhole asked (now (m .entry)) ⌝ }
 {
-    let kind = word(m[2], m[3]);
+    let kind = word_at(m, 2);
     match kind {
         1 => read_request(m),
-        2 => read_event(m),
-        3 => read_result(m),
-        4 => read_image(m),
+        2 => sized(m, 5, What::Event { way: byte(m, 4) }),
+        3 => sized(
+            m,
+            8,
+            What::Result {
+                issue: word_at(m, 4),
+                number: byte(m, 6),
+                ending: byte(m, 7),
+            },
+        ),
+        4 => {
+            let bits = image_at(m, 4);
+            let apart = image_at(m, 12);
+            sized(m, 20, What::Image { bits, apart })
+        }
         5 => sized(m, 4, What::Ask),
         _ => refused(Answer::UnknownKind, m.len()),
     }
@@ -185,13 +139,27 @@ pub fn whole_asked(m: &[u8]) -> Received
 
 // The same for any kind.
 pub fn whole(m: &[u8]) -> Received
-    requires { ⌜ 4 ≤ length (now m) ⌝ }
     ensures { λ r. ⌜ r ≡ readWhole known (now (m .entry)) ⌝ }
 {
-    let kind = word(m[2], m[3]);
+    let kind = word_at(m, 2);
     match kind {
-        128 => read_answer(m),
-        129 => read_held(m),
+        128 => sized(
+            m,
+            8,
+            What::Answer {
+                number: byte(m, 4),
+                place: byte(m, 5),
+                issue: word_at(m, 6),
+            },
+        ),
+        129 => sized(
+            m,
+            20,
+            What::Held {
+                bits: image_at(m, 4),
+                apart: image_at(m, 12),
+            },
+        ),
         _ => whole_asked(m),
     }
 }

@@ -3,7 +3,7 @@
 use answers::Answer;
 ghost use mathlib.Core.Path.{_≡_};
 ghost use mathlib.Core.List.{[], _∷_, _++_};
-ghost use Prim.Native.Nat.{_≤_, _<_, _-_, _%_};
+ghost use Prim.Native.Nat.{_≤_, _<_, _-_, _*_};
 ghost use lib.ListN.{getD, length, replicate};
 ghost use Rattle.wire.specs.Kinds.{littleEndian, fromLittleEndian, plain, setOf};
 ghost use Rattle.wire.specs.Reads.{frameOf, refused, readMessage, readAsked};
@@ -51,13 +51,6 @@ pub enum Frame {
 
 // ---- bytes and numbers
 
-// Two bytes as a number, the lower first.
-pub fn word(low: u8, high: u8) -> u16
-    ensures { λ r. ⌜ r ≡ fromLittleEndian 2 0 (low ∷ high ∷ []) ⌝ }
-{
-    low as u16 + 256 * (high as u16)
-}
-
 // A byte of a run, or zero past its end.
 pub fn byte(s: &[u8], i: usize) -> u8
     ensures { λ r. ⌜ r ≡ getD (now (s .entry)) i 0 ⌝ }
@@ -68,31 +61,40 @@ pub fn byte(s: &[u8], i: usize) -> u8
     0
 }
 
-// The issue that stands in a message from place i on; bytes that are not there count as zero.
-fn issue_at(m: &[u8], i: usize) -> u16
-    requires { ⌜ i < 45 ⌝ }
-    ensures { λ r. ⌜ r ≡ fromLittleEndian 2 i (now (m .entry)) ⌝ }
+// What the higher of two bytes counts.
+fn higher(b: u8) -> u16
+    ensures { λ r. ⌜ r ≡ 256 * b ⌝ }
 {
-    let low = byte(m, i);
-    let high = byte(m, i + 1);
+    256 * (b as u16)
+}
+
+// Two bytes as a number, the lower first.
+pub fn word(low: u8, high: u8) -> u16
+    ensures { λ r. ⌜ r ≡ fromLittleEndian 2 0 (low ∷ high ∷ []) ⌝ }
+{
+    low as u16 + higher(high)
+}
+
+// The number that two bytes say from place i on, the lower first; bytes that are not there count as zero.
+fn word_at(s: &[u8], i: usize) -> u16
+    requires { ⌜ i < 45 ⌝ }
+    ensures { λ r. ⌜ r ≡ fromLittleEndian 2 i (now (s .entry)) ⌝ }
+{
+    let low = byte(s, i);
+    let high = byte(s, i + 1);
     word(low, high)
 }
 
-// The number that eight bytes say from place i on, the lowest first; bytes that are not there count as zero.
+// The same of eight bytes, the lowest first.
 fn image_at(s: &[u8], i: usize) -> u64
-    requires { ⌜ i < 45 ⌝ }
+    requires { ⌜ i < 39 ⌝ }
     ensures { λ r. ⌜ r ≡ fromLittleEndian 8 i (now (s .entry)) ⌝ }
 {
-    joined(
-        byte(s, i),
-        byte(s, i + 1),
-        byte(s, i + 2),
-        byte(s, i + 3),
-        byte(s, i + 4),
-        byte(s, i + 5),
-        byte(s, i + 6),
-        byte(s, i + 7),
-    )
+    let a = word_at(s, i) as u64;
+    let b = word_at(s, i + 2) as u64;
+    let c = word_at(s, i + 4) as u64;
+    let d = word_at(s, i + 6) as u64;
+    a + 65536 * (b + 65536 * (c + 65536 * d))
 }
 
 // The same of the first eight.
@@ -102,55 +104,27 @@ pub fn image_of(s: &[u8]) -> u64
     image_at(s, 0)
 }
 
-fn joined(a: u8, b: u8, c: u8, d: u8, e: u8, f: u8, g: u8, h: u8) -> u64
-    ensures { λ r. ⌜ r ≡ fromLittleEndian 8 0 (a ∷ b ∷ c ∷ d ∷ e ∷ f ∷ g ∷ h ∷ []) ⌝ }
+// Byte k of a number, the lowest first.
+fn byte_in(x: u64, k: u64) -> u8
+    requires { ⌜ k < 8 ⌝ }
+    ensures { λ r. ⌜ r ≡ getD (littleEndian 8 x) k 0 ⌝ }
 {
-    a as u64
-        + 256
-            * (b as u64
-                + 256
-                    * (c as u64
-                        + 256
-                            * (d as u64
-                                + 256
-                                    * (e as u64
-                                        + 256 * (f as u64 + 256 * (g as u64 + 256 * (h as u64)))))))
-}
-
-fn low(x: u64) -> u8
-    ensures { λ r. ⌜ r ≡ x % 256 ⌝ }
-{
-    (x % 256) as u8
-}
-
-// The two bytes that say an issue, the lower first.
-fn issue_bytes(issue: u16) -> [u8; 2]
-    ensures { λ r. ⌜ r ≡ littleEndian 2 issue ⌝ }
-{
-    let wide = issue as u64;
-    [low(wide), low(wide / 256)]
+    ((x >> (8 * k)) % 256) as u8
 }
 
 // The eight bytes that say a number, the lowest first.
 pub fn image_bytes(x: u64) -> [u8; 8]
     ensures { λ r. ⌜ r ≡ littleEndian 8 x ⌝ }
 {
-    let b = x / 256;
-    let c = b / 256;
-    let d = c / 256;
-    let e = d / 256;
-    let f = e / 256;
-    let g = f / 256;
-    let h = g / 256;
     [
-        low(x),
-        low(b),
-        low(c),
-        low(d),
-        low(e),
-        low(f),
-        low(g),
-        low(h),
+        byte_in(x, 0),
+        byte_in(x, 1),
+        byte_in(x, 2),
+        byte_in(x, 3),
+        byte_in(x, 4),
+        byte_in(x, 5),
+        byte_in(x, 6),
+        byte_in(x, 7),
     ]
 }
 
@@ -183,7 +157,7 @@ pub fn framed(s: &[u8]) -> Frame
     if s.len() < 2 {
         return Frame::Cut;
     }
-    let n = word(s[0], s[1]) as usize;
+    let n = word_at(s, 0) as usize;
     if n < 2 {
         return Frame::Wrong;
     }
@@ -196,14 +170,22 @@ pub fn framed(s: &[u8]) -> Frame
     Frame::Whole(n + 2)
 }
 
+// The places of a set that holds no instruction.
+fn unused() -> [u8; 40]
+    ensures { λ r. ⌜ r ≡ replicate 40 0 ⌝ }
+{
+    [0; 40]
+}
+
 // A message that holds no instruction.
 pub fn plain(what: What) -> Message
     ensures { λ r. ⌜ r ≡ plain what ⌝ }
 {
+    let set = unused();
     Message {
         what,
         count: 0,
-        set: [0; 40],
+        set,
     }
 }
 

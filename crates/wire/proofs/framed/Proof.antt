@@ -6,47 +6,39 @@ use Rattle.wire.proofs.framed.Tie as tie
 returns : tie.Need-returns
 returns c = simp (lt-ltb _ _ (c .if1 .taken))
 
-shared-slice-read-word : tie.Need-shared-slice-read-word
-shared-slice-read-word c = search needs
-
-shared-slice-read-word-2 : tie.Need-shared-slice-read-word-2
-shared-slice-read-word-2 c = search needs
-
-word-requires : tie.Need-word-requires
-word-requires c κs = search needs
+word-at-requires : tie.Need-word-at-requires
+word-at-requires c κs = search needs
 
 cast-n : tie.Need-cast-n
 cast-n c = search needs
 
 returns-2 : tie.Need-returns-2
-returns-2 c = simp (le-ltb _ _ (c .before .before .before .before .if1 .left), lt-ltb _ _ (rw (c .before .word .ensures) at (c .if2 .taken)))
+returns-2 c = simp (le-ltb _ _ (c .before .before .if1 .left), lt-ltb _ _ (rw (c .before .word-at .ensures) at (c .if2 .taken)))
 
 returns-3 : tie.Need-returns-3
-returns-3 c = let e = c .before .before .word .ensures in
-    simp (le-ltb _ _ (c .before .before .before .before .before .if1 .left), le-ltb _ _ (rw e at (c .before .if2 .left)), lt-ltb _ _ (rw e at (c .if3 .taken)))
+returns-3 c = let e = c .before .before .word-at .ensures in
+    simp (le-ltb _ _ (c .before .before .before .if1 .left), le-ltb _ _ (rw e at (c .before .if2 .left)), lt-ltb _ _ (rw e at (c .if3 .taken)))
 
 add-if4 : tie.Need-add-if4
 add-if4 c = search needs
 
 returns-4 : tie.Need-returns-4
-returns-4 c = let e = c .before .before .before .word .ensures in
-    simp (le-ltb _ _ (c .before .before .before .before .before .before .if1 .left), le-ltb _ _ (rw e at (c .before .before .if2 .left)), le-ltb _ _ (rw e at (c .before .if3 .left)), lt-ltb _ _ (rw e at (c .if4 .taken)))
+returns-4 c = let e = c .before .before .before .word-at .ensures in
+    simp (le-ltb _ _ (c .before .before .before .before .if1 .left), le-ltb _ _ (rw e at (c .before .before .if2 .left)), le-ltb _ _ (rw e at (c .before .if3 .left)), lt-ltb _ _ (rw e at (c .if4 .taken)))
 
 add-t3 : tie.Need-add-t3
 add-t3 c = search needs
 
 returns-5 : tie.Need-returns-5
-returns-5 c = let e = c .before .before .before .word .ensures in
-    rw e (simp (le-ltb _ _ (c .before .before .before .before .before .before .if1 .left), le-ltb _ _ (rw e at (c .before .before .if2 .left)), le-ltb _ _ (rw e at (c .before .if3 .left)), le-ltb _ _ (rw e at (c .if4 .left))))
+returns-5 c = let e = c .before .before .before .word-at .ensures in
+    rw e (simp (le-ltb _ _ (c .before .before .before .before .if1 .left), le-ltb _ _ (rw e at (c .before .before .if2 .left)), le-ltb _ _ (rw e at (c .before .if3 .left)), le-ltb _ _ (rw e at (c .if4 .left))))
 
 pub framed-spec : {M : Type 1} → statement M
 framed-spec =
     tie.close
     (tie.spec
     returns
-    shared-slice-read-word
-    shared-slice-read-word-2
-    word-requires
+    word-at-requires
     cast-n
     returns-2
     returns-3

@@ -1,82 +1,84 @@
-use denote.Ref.{now}
-use mathlib.Core.Path.{_∙_}
 use Rattle.wire.proofs.Parts.{eight-at}
+use denote.Ref.{now}
 use borrow.Author.Needs.{needs}
 use Rattle.wire.proofs.image_at.Statement.{statement}
 use Rattle.wire.proofs.image_at.Tie as tie
 
-byte-requires : tie.Need-byte-requires
-byte-requires c κs = search needs
+word-at-requires : tie.Need-word-at-requires
+word-at-requires c κs = search needs
 
-add-byte : tie.Need-add-byte
-add-byte c = search needs
+cast-a : tie.Need-cast-a
+cast-a c = search needs
 
-byte-requires-2 : tie.Need-byte-requires-2
-byte-requires-2 c κs = search needs
+add-word-at : tie.Need-add-word-at
+add-word-at c = search needs
 
-add-byte-2 : tie.Need-add-byte-2
-add-byte-2 c = search needs
+word-at-requires-2 : tie.Need-word-at-requires-2
+word-at-requires-2 c κs = search needs
 
-byte-requires-3 : tie.Need-byte-requires-3
-byte-requires-3 c κs = search needs
+cast-b : tie.Need-cast-b
+cast-b c = search needs
 
-add-byte-3 : tie.Need-add-byte-3
-add-byte-3 c = search needs
+add-word-at-2 : tie.Need-add-word-at-2
+add-word-at-2 c = search needs
 
-byte-requires-4 : tie.Need-byte-requires-4
-byte-requires-4 c κs = search needs
+word-at-requires-3 : tie.Need-word-at-requires-3
+word-at-requires-3 c κs = search needs
 
-add-byte-4 : tie.Need-add-byte-4
-add-byte-4 c = search needs
+cast-c : tie.Need-cast-c
+cast-c c = search needs
 
-byte-requires-5 : tie.Need-byte-requires-5
-byte-requires-5 c κs = search needs
+add-word-at-3 : tie.Need-add-word-at-3
+add-word-at-3 c = search needs
 
-add-byte-5 : tie.Need-add-byte-5
-add-byte-5 c = search needs
+word-at-requires-4 : tie.Need-word-at-requires-4
+word-at-requires-4 c κs = search needs
 
-byte-requires-6 : tie.Need-byte-requires-6
-byte-requires-6 c κs = search needs
+cast-d : tie.Need-cast-d
+cast-d c = search needs
 
-add-byte-6 : tie.Need-add-byte-6
-add-byte-6 c = search needs
+mul-result : tie.Need-mul-result
+mul-result c = search needs
 
-byte-requires-7 : tie.Need-byte-requires-7
-byte-requires-7 c κs = search needs
+add-result : tie.Need-add-result
+add-result c = search needs
 
-add-byte-7 : tie.Need-add-byte-7
-add-byte-7 c = search needs
+mul-result-2 : tie.Need-mul-result-2
+mul-result-2 c = search needs
 
-byte-requires-8 : tie.Need-byte-requires-8
-byte-requires-8 c κs = search needs
+add-result-2 : tie.Need-add-result-2
+add-result-2 c = search needs
 
-joined-requires : tie.Need-joined-requires
-joined-requires c κs = search needs
+mul-result-3 : tie.Need-mul-result-3
+mul-result-3 c = search needs
+
+add-result-3 : tie.Need-add-result-3
+add-result-3 c = search needs
 
 returns : tie.Need-returns
-returns c = let a = c .before .before .before .before .before .before .before .before .before .before .args in
-    c .joined .ensures
-    ∙ rw (c .before .before .before .before .before .before .before .before .byte .ensures, c .before .before .before .before .before .before .before .byte2 .ensures, c .before .before .before .before .before .before .byte3 .ensures, c .before .before .before .before .before .byte4 .ensures, c .before .before .before .before .byte5 .ensures, c .before .before .before .byte6 .ensures, c .before .before .byte7 .ensures, c .before .byte8 .ensures)
-    (eight-at (now (a .s)) (a .i))
+returns c =
+    let a = c .before .before .before .before .before .args in
+    eight-at (now (a .s)) (a .i) (c .before .before .before .word-at .ensures) (c .before .before .word-at2 .ensures) (c .before .word-at3 .ensures) (c .word-at4 .ensures)
 
 pub image-at-spec : {M : Type 1} → statement M
 image-at-spec =
     tie.close
     (tie.spec
-    byte-requires
-    add-byte
-    byte-requires-2
-    add-byte-2
-    byte-requires-3
-    add-byte-3
-    byte-requires-4
-    add-byte-4
-    byte-requires-5
-    add-byte-5
-    byte-requires-6
-    add-byte-6
-    byte-requires-7
-    add-byte-7
-    byte-requires-8
-    joined-requires
+    word-at-requires
+    cast-a
+    add-word-at
+    word-at-requires-2
+    cast-b
+    add-word-at-2
+    word-at-requires-3
+    cast-c
+    add-word-at-3
+    word-at-requires-4
+    cast-d
+    mul-result
+    add-result
+    mul-result-2
+    add-result-2
+    mul-result-3
+    add-result-3
     returns)

@@ -1,54 +1,55 @@
+use mathlib.Core.Path.{refl}
+use Rattle.wire.proofs.Room.{next}
 use borrow.Author.Needs.{needs}
 use Rattle.wire.proofs.image_bytes.Statement.{statement}
 use Rattle.wire.proofs.image_bytes.Tie as tie
 
-low-requires : tie.Need-low-requires
-low-requires c κs = search needs
+byte-in-requires : tie.Need-byte-in-requires
+byte-in-requires c κs = search needs
 
-low-requires-2 : tie.Need-low-requires-2
-low-requires-2 c κs = search needs
+byte-in-requires-2 : tie.Need-byte-in-requires-2
+byte-in-requires-2 c κs = search needs
 
-low-requires-3 : tie.Need-low-requires-3
-low-requires-3 c κs = search needs
+byte-in-requires-3 : tie.Need-byte-in-requires-3
+byte-in-requires-3 c κs = search needs
 
-low-requires-4 : tie.Need-low-requires-4
-low-requires-4 c κs = search needs
+byte-in-requires-4 : tie.Need-byte-in-requires-4
+byte-in-requires-4 c κs = search needs
 
-low-requires-5 : tie.Need-low-requires-5
-low-requires-5 c κs = search needs
+byte-in-requires-5 : tie.Need-byte-in-requires-5
+byte-in-requires-5 c κs = search needs
 
-low-requires-6 : tie.Need-low-requires-6
-low-requires-6 c κs = search needs
+byte-in-requires-6 : tie.Need-byte-in-requires-6
+byte-in-requires-6 c κs = search needs
 
-low-requires-7 : tie.Need-low-requires-7
-low-requires-7 c κs = search needs
+byte-in-requires-7 : tie.Need-byte-in-requires-7
+byte-in-requires-7 c κs = search needs
 
-low-requires-8 : tie.Need-low-requires-8
-low-requires-8 c κs = search needs
+byte-in-requires-8 : tie.Need-byte-in-requires-8
+byte-in-requires-8 c κs = search needs
 
 returns : tie.Need-returns
 returns c =
-    rw (
-      c .before .before .before .before .before .before .before .low .ensures,
-      c .before .before .before .before .before .before .low2 .ensures,
-      c .before .before .before .before .before .low3 .ensures,
-      c .before .before .before .before .low4 .ensures,
-      c .before .before .before .low5 .ensures,
-      c .before .before .low6 .ensures,
-      c .before .low7 .ensures,
-      c .low8 .ensures,
-    )
+    next (c .before .before .before .before .before .before .before .byte-in .ensures)
+    (next (c .before .before .before .before .before .before .byte-in2 .ensures)
+    (next (c .before .before .before .before .before .byte-in3 .ensures)
+    (next (c .before .before .before .before .byte-in4 .ensures)
+    (next (c .before .before .before .byte-in5 .ensures)
+    (next (c .before .before .byte-in6 .ensures)
+    (next (c .before .byte-in7 .ensures)
+    (next (c .byte-in8 .ensures)
+    refl)))))))
 
 pub image-bytes-spec : {M : Type 1} → statement M
 image-bytes-spec =
     tie.close
     (tie.spec
-    low-requires
-    low-requires-2
-    low-requires-3
-    low-requires-4
-    low-requires-5
-    low-requires-6
-    low-requires-7
-    low-requires-8
+    byte-in-requires
+    byte-in-requires-2
+    byte-in-requires-3
+    byte-in-requires-4
+    byte-in-requires-5
+    byte-in-requires-6
+    byte-in-requires-7
+    byte-in-requires-8
     returns)

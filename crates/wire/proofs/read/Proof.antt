@@ -33,7 +33,7 @@ slice-aggregate-whole : tie.Need-slice-aggregate-whole
 slice-aggregate-whole c = sym (length-take-le _ _ (within (c .before .before) .within))
 
 whole-requires : tie.Need-whole-requires
-whole-requires c κs = rw (length-take-le _ _ (within (c .before .before) .within)) (within (c .before .before) .low)
+whole-requires c κs = search needs
 
 returns : tie.Need-returns
 unfolding readMessage

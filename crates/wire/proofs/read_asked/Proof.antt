@@ -33,7 +33,7 @@ slice-aggregate-whole-asked : tie.Need-slice-aggregate-whole-asked
 slice-aggregate-whole-asked c = sym (length-take-le _ _ (within (c .before .before) .within))
 
 whole-asked-requires : tie.Need-whole-asked-requires
-whole-asked-requires c κs = rw (length-take-le _ _ (within (c .before .before) .within)) (within (c .before .before) .low)
+whole-asked-requires c κs = search needs
 
 returns : tie.Need-returns
 unfolding readAsked
