@@ -70,12 +70,14 @@ one-layout f l m y z x a =
 
 pub empty-garage : EmptyGarage
 unfolding Among
-empty-garage f y idle l z = record {
-  each = λ x a. absurd (one-layout f l [] z y x a);
-  coming = (λ e. idle, λ e. refl);
-  other = λ k n o. refl;
-  once = λ j k e n. absurd (n refl);
-}
+empty-garage f y idle l z =
+    let none-comes : f driveIn ≡ false = idle in
+    record {
+      each = λ x a. absurd (one-layout f l [] z y x a);
+      coming = (λ e. none-comes, λ e. refl);
+      other = λ k n o. refl;
+      once = λ j k e n. absurd (n refl);
+    }
 
 -- ---- computed at every car
 

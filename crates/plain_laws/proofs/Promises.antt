@@ -84,7 +84,7 @@ floor-reads-back r s = ap image (shows r s) ∙ image-bit r (s .0)
 
 pub same-as-packed : SameAsPacked
 same-as-packed = record {
-  verdict = λ i r s. same-verdict r s i;
+  verdict = λ i r s. let sound : SoundRecord r = s in same-verdict r sound i;
   next = λ i r s. same-next r s i;
   areas = same-areas;
   cars = same-cars;

@@ -181,11 +181,10 @@ pub fn area(i: Instruction) -> Parts
     }
 }
 
-// The parts that a number says: what a floor with that image has, since the bits are the image's and the lift's is the raised car's.
-pub fn parts_of(n: u64) -> Parts
-    ensures { λ p. ⌜ p ≡ partsOf (bit n) ⌝ }
+// The parts that a floor has.
+fn parts_in(f: Floor) -> Parts
+    ensures { λ p. ⌜ p ≡ record { cells = f .cells; slots = f .slots; lift = f .car } ⌝ }
 {
-    let f = plain::of_image(n);
     let cells = f.cells;
     let slots = f.slots;
     Parts {
@@ -193,4 +192,11 @@ pub fn parts_of(n: u64) -> Parts
         slots,
         lift: f.car,
     }
+}
+
+// The parts that a number says: what a floor with that image has, since the bits are the image's and the lift's is the raised car's.
+pub fn parts_of(n: u64) -> Parts
+    ensures { λ p. ⌜ p ≡ partsOf (bit n) ⌝ }
+{
+    parts_in(plain::of_image(n))
 }

@@ -1,8 +1,9 @@
 // What is asked of parts and made of them, part by part: 0 to 39 the cells, 40 to 51 the slots, 52 the lift.
 ghost use mathlib.Core.Path.{_≡_};
-ghost use mathlib.Core.Bool.{_||_};
+ghost use mathlib.Core.Bool.{false, _||_};
 ghost use Prim.Native.Nat.{_+_};
 ghost use Rattle.bits.specs.Bits.{image};
+ghost use Rattle.plain.specs.declared.Height.the-variants.{Street};
 ghost use Rattle.plain.specs.Plain.{listed};
 ghost use Rattle.plain_moves.specs.Moves.{partsBits, meeting, together};
 use super::Parts;
@@ -52,20 +53,27 @@ impl Parts {
         (k == 52) & self.lift
     }
 
-    // Their number: the image of a floor that has these and nothing else, since the bits are the image's and the lift's is the raised car's.
-    pub fn number(self) -> u64
-        ensures { λ n. ⌜ n ≡ image (partsBits self) ⌝ }
+    // A floor that has these and nothing else.
+    fn floor(self) -> Floor
+        ensures { λ f. ⌜ f ≡ record { cells = self .cells; slots = self .slots; car = self .lift; height = Street; coming = false; going = false } ⌝ }
     {
         let cells = self.cells;
         let slots = self.slots;
-        let f = Floor {
+        Floor {
             cells,
             slots,
             car: self.lift,
             height: Height::Street,
             coming: false,
             going: false,
-        };
+        }
+    }
+
+    // Their number: the image of that floor, since the bits are the image's and the lift's is the raised car's.
+    pub fn number(self) -> u64
+        ensures { λ n. ⌜ n ≡ image (partsBits self) ⌝ }
+    {
+        let f = self.floor();
         f.image()
     }
 
