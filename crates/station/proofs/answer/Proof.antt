@@ -1,5 +1,5 @@
 -- `station::answer` meets its contract: what is appended is what the run took, and nothing is said before. Assumes nothing.
-use borrow.Author.Tests.{not-true}
+use borrow.Author.Tests.{not-true, not-false}
 use borrow.Author.Needs.{needs}
 use mathlib.Core.Path.{sym, ap, _∙_}
 use lib.Seq.{length-take-le}
@@ -41,8 +41,9 @@ returns c =
     let s = c .stopped .ensures in
     (λ q. clash (s .0) q, λ q. clash (sym (ap (λ (j : Journal). j .safe) (s .1)) ∙ q) (not-true _ (c .before .if1 .taken)))
 
+-- it is safe, and it is so long that it makes the station
 say-requires : tie.Need-say-requires
-say-requires c κs = appended (c .before .before .before .before .before .before .before .before .before .before .before .before .before .pre .2) (taken-follows _ (c .before .before .before .before .before .before .before .before .before .before .before .before .before .args .buf .now) (c .before .before .before .before .before .before .before .before .before .before .before .before .before .args .end) (c .before .before .before .before .before .before .before .before .before .before .before .before .before .args .out .now) _ (c .before .before .before .before .before .before .before .before .before .before .before .before .before .pre .1) (c .before .before .before .before .before .before .before .before .serve .ensures .0)) (c .before .before .before .append .ensures) (c .before .if1 .left)
+say-requires c κs = (not-false _ (c .before .if1 .left), appended (c .before .before .before .before .before .before .before .before .before .before .before .before .before .pre .2) (taken-follows _ (c .before .before .before .before .before .before .before .before .before .before .before .before .before .args .buf .now) (c .before .before .before .before .before .before .before .before .before .before .before .before .before .args .end) (c .before .before .before .before .before .before .before .before .before .before .before .before .before .args .out .now) _ (c .before .before .before .before .before .before .before .before .before .before .before .before .before .pre .1) (c .before .before .before .before .before .before .before .before .serve .ensures .0)) (c .before .before .before .append .ensures) (c .before .if1 .left) .1)
 
 hold-requires : tie.Need-hold-requires
 hold-requires c κs = search needs
