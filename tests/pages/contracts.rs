@@ -1,7 +1,7 @@
 //! The page of contracts: every public function with its contract and the wrong programs that were tried against it, taken from the
 //! sources and the must-fail edits. `contracts write PAGE` renews the page's list; `contracts check PAGE` fails if the page differs,
 //! if a contract leaves an answer open, if a function has fewer than two wrong programs, or if the prover's log of an edit shows no
-//! false fact.
+//! false fact. `contracts check PAGE CRATE..` reads the logs of these crates alone.
 use std::fs;
 use std::path::{Path, PathBuf};
 use std::process::exit;
@@ -13,10 +13,12 @@ struct Function {
     header: String,
 }
 
-/// A wrong version: the edit that makes it, the function that it spoils or the law that it makes false, and how.
+/// A wrong version: the edit that makes it, the function or law that it is a wrong version of, the one whose proof must be refused (the
+/// same, or a private part of the function), whether that is a law, and how.
 struct Wrong {
     edit: String,
     name: String,
+    spoiled: String,
     law: bool,
     how: String,
 }
@@ -124,15 +126,23 @@ fn laws(krate: &Path) -> Vec<String> {
     found
 }
 
-/// The wrong versions of a crate that are named: in an edit, a line `# FUNCTION: how` or `# LAW: how` before a replacement.
+/// What a line of an edit says before a replacement: `# FUNCTION: how`, `# LAW: how`, or `# FUNCTION by PART: how`.
+fn named(line: &str) -> Option<(&str, &str, &str)> {
+    let (names, how) = line.strip_prefix("# ")?.split_once(": ")?;
+    let (name, spoiled) = names.split_once(" by ").unwrap_or((names, names));
+    (!name.contains(' ') && !spoiled.contains(' ')).then_some((name, spoiled, how))
+}
+
+/// The wrong versions of a crate that are named.
 fn wrongs(krate: &Path, known: &[Function]) -> Vec<Wrong> {
     let (laws, mut found) = (laws(krate), Vec::new());
+    let function = |name: &str| known.iter().any(|one| one.path == name);
     for file in files(&krate.join("must-fail"), ".edit") {
         for line in read(&file).lines() {
-            let Some((name, how)) = line.strip_prefix("# ").and_then(|line| line.split_once(": ")) else { continue };
-            let law = known.iter().all(|one| one.path != name);
-            if !law || laws.iter().any(|one| one == name) {
-                found.push(Wrong { edit: name_of(&file), name: name.into(), law, how: how.into() });
+            let Some((name, spoiled, how)) = named(line) else { continue };
+            let law = !function(name);
+            if function(name) && function(spoiled) || laws.iter().any(|one| one == name) {
+                found.push(Wrong { edit: name_of(&file), name: name.into(), spoiled: spoiled.into(), law, how: how.into() });
             }
         }
     }
@@ -149,6 +159,9 @@ fn misfit(error: &str) -> bool {
         .any(|words| error.contains(words))
 }
 
+/// The declaration that an error is of: the first word of it, between backquotes.
+fn declaration(words: &str) -> &str { words.strip_prefix('`').and_then(|words| words.split('`').next()).unwrap_or_default() }
+
 /// The errors of a log, each as the file that it stands in and its words, which may go on in the next line.
 fn errors(log: &str, edit: &str) -> Vec<(String, String)> {
     let (inside, mut found) = (format!("/{edit}/"), Vec::new());
@@ -164,10 +177,11 @@ fn errors(log: &str, edit: &str) -> Vec<(String, String)> {
 
 fn main() {
     let words: Vec<_> = std::env::args().collect();
-    let (["check" | "write"], [page]) = (&[words[1].as_str()], &words[2..]) else {
-        eprintln!("contracts check|write PAGE");
+    let (Some("check" | "write"), Some(page)) = (words.get(1).map(String::as_str), words.get(2)) else {
+        eprintln!("contracts write PAGE, or contracts check PAGE [CRATE..]");
         exit(2)
     };
+    let looked_at = |name: &str| words.len() == 3 || words[3..].iter().any(|one| one == name);
     let (mut list, mut faults, mut publics, mut tried) = (String::new(), Vec::new(), 0, 0);
     for krate in files(Path::new("crates"), "") {
         let (name, known) = (name_of(&krate), functions(&krate));
@@ -194,10 +208,10 @@ fn main() {
         let edits = files(&krate.join("must-fail"), ".edit");
         if public_none && !edits.is_empty() { list += &format!("\n## `{name}`\n"); }
         let private = |wrong: &&Wrong| known.iter().any(|one| one.path == wrong.name && !one.public);
-        let named = |wrong: &Wrong| format!("`{}`: {}", wrong.name, told(&name, &wrong.how, &wrong.edit));
-        let parts: Vec<_> = wrongs.iter().filter(private).map(named).collect();
+        let listed = |wrong: &Wrong| format!("`{}`: {}", wrong.name, told(&name, &wrong.how, &wrong.edit));
+        let parts: Vec<_> = wrongs.iter().filter(private).map(listed).collect();
         if !parts.is_empty() { list += &format!("\nOf its parts: {}.\n", parts.join("; ")); }
-        let shut: Vec<_> = wrongs.iter().filter(|wrong| wrong.law).map(named).collect();
+        let shut: Vec<_> = wrongs.iter().filter(|wrong| wrong.law).map(listed).collect();
         if !shut.is_empty() { list += &format!("\nBy its laws: {}.\n", shut.join("; ")); }
         let whole: Vec<_> = edits.iter().filter(|file| !wrongs.iter().any(|wrong| wrong.edit == name_of(file))).collect();
         if !whole.is_empty() {
@@ -206,7 +220,7 @@ fn main() {
             list += &format!("\nAs a whole: {}.\n", shut.join("; "));
             tried += whole.iter().map(|file| how(file).split("; ").count()).sum::<usize>();
         }
-        for file in edits.iter().filter(|_| words[1] == "check") {
+        for file in edits.iter().filter(|_| words[1] == "check" && looked_at(&name)) {
             let edit = name_of(file);
             let Ok(log) = fs::read_to_string(format!("target/must-fail/{name}/{edit}/.log")) else {
                 faults.push(format!("{name}/{edit}: not tried"));
@@ -218,17 +232,24 @@ fn main() {
                 faults.push(format!("{name}/{edit}: its log's first error shows no false fact"));
             }
             for line in read(file).lines().filter(|_| !own.is_empty()) {
-                let Some((named, _)) = line.strip_prefix("# ").and_then(|line| line.split_once(": ")) else { continue };
-                if !named.contains(' ') && own.iter().all(|wrong| wrong.name != named) { faults.push(format!("{name}/{edit}: {named} is no function and no law")); }
+                let Some((named, spoiled, _)) = named(line) else { continue };
+                if own.iter().all(|wrong| wrong.name != named || wrong.spoiled != spoiled) { faults.push(format!("{name}/{edit}: {named} is no function and no law, or {spoiled} no part")); }
             }
-            for wrong in own {
-                let proof = format!("proofs/{}/Proof.antt", wrong.name.replace("::", "/"));
-                let by_itself = format!("fn {name}::{}: no proof: ", wrong.name);
+            // several wrong versions of one function, or by one part of it, are each refused at a declaration of its proof of their own
+            let mut spoiled: Vec<_> = own.iter().map(|wrong| (&wrong.spoiled, wrong.law)).collect();
+            spoiled.sort();
+            spoiled.dedup();
+            for (what, of_law) in spoiled {
+                let proof = format!("proofs/{}/Proof.antt", what.replace("::", "/"));
+                let by_itself = format!("fn {name}::{what}: no proof: ");
                 let searched = log.lines().any(|line| line.starts_with(&by_itself) && line.contains("`search` does not close `returns"));
-                let law = format!("`{}`: ", wrong.name);
-                let refuses = |file: &str, words: &str| if wrong.law { !file.ends_with("/Proof.antt") && words.starts_with(&law) } else { file == proof };
-                if !searched && !errors.iter().any(|(file, words)| refuses(file, words) && !misfit(words)) {
-                    faults.push(format!("{name}/{edit}: {} is not refused for a false fact of its own", wrong.name));
+                let refuses = |file: &str, words: &str| if of_law { !file.ends_with("/Proof.antt") && declaration(words) == *what } else { file == proof };
+                let mut at: Vec<_> = errors.iter().filter(|(file, words)| refuses(file, words) && !misfit(words)).map(|(_, words)| declaration(words)).collect();
+                at.sort_unstable();
+                at.dedup();
+                let versions = own.iter().filter(|wrong| wrong.spoiled == *what).count();
+                if at.len() + usize::from(searched) < versions {
+                    faults.push(format!("{name}/{edit}: of {what} {versions} wrong versions are named, and it is refused for a false fact at {} places", at.len()));
                 }
             }
         }
