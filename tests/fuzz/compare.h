@@ -17,9 +17,11 @@
 #define ASTRAY 0
 #endif
 
-/* The reference's side: the call, and the sort of what is handed in that it is made on. */
+/* The reference's side: the call, and the sort of what is handed in that it is made on. It is told of each call of an entry: what that was
+ * given, what it left and what it returned. */
 uint32_t reference_call(const struct command *command);
 uint8_t reference_handed(const struct command *command);
+void reference_told(const struct command *given, const struct command *left, uint32_t answer);
 
 /* The harness's: it makes the call, knows whether an entry may write a run at all, and is told of each call, with the sort and the
  * answer. */
@@ -109,6 +111,10 @@ static void compare(struct command *command, unsigned places) {
         abort();
     }
     under_way = NULL;
+    struct command given = *command;
+    for (int run = 0; run < RUNS; run++)
+        run_of(&given, run)->bytes = before[run];
+    reference_told(&given, command, answer);
     tell(command, sort, answer);
 }
 

@@ -1,28 +1,14 @@
 //! The reference's side of each call, for desk_harness.c.
 
-#[path = "../host/command.rs"]
-mod command;
-#[path = "../host/desk_command.rs"]
-mod desk_command;
-#[path = "../host/desk_handed.rs"]
-mod desk_handed;
-#[path = "../host/desk_reference.rs"]
-mod desk_reference;
 mod lent;
-#[path = "../host/reference.rs"]
-mod reference;
-#[path = "../host/traffic.rs"]
-mod traffic;
 
-use desk_handed::{handed, ALL};
 use lent::Command;
+use shared::desk_command::{call, ENTRIES};
+use shared::desk_handed::{handed, ALL};
 
-/// What the call must return; its rooms are left as it must leave them.
-///
-/// # Safety
-/// Each run is valid for its size, and overlaps no other.
-#[no_mangle]
-pub unsafe extern "C" fn reference_call(given: &Command) -> u32 { desk_command::call(&mut given.lent()) }
+/// The wrong references of this harness.
+#[cfg(wrong)]
+const LIST: &str = "desk";
 
 /// The sort of handed-in desk that a call is made on: its place among all, or one past them.
 ///
@@ -45,5 +31,5 @@ pub extern "C" fn reference_shows(sort: u8, number: u8) -> bool { ALL.get(usize:
 /// Whether an entry can answer with a number.
 #[no_mangle]
 pub extern "C" fn reference_gives(entry: u8, number: u8) -> bool {
-    desk_command::ENTRIES.get(usize::from(entry)).is_some_and(|(_, numbers)| numbers.contains(&number))
+    ENTRIES.get(usize::from(entry)).is_some_and(|(_, numbers)| numbers.contains(&number))
 }

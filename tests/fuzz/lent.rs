@@ -1,6 +1,12 @@
-//! A call's command as the harnesses in C have it, for the reference's side.
-use crate::command;
+//! A call's command as the harnesses in C have it, for the reference's side of each call.
+
+use crate::call;
+use shared::command;
 use std::slice::{from_raw_parts, from_raw_parts_mut};
+
+#[cfg(wrong)]
+#[path = "wrong.rs"]
+mod wrong;
 
 /// As `struct lent` of command.h.
 #[repr(C)]
@@ -43,3 +49,18 @@ impl Command {
         }
     }
 }
+
+/// What the call must return; its rooms are left as it must leave them.
+///
+/// # Safety
+/// Each run is valid for its size, and overlaps no other.
+#[no_mangle]
+pub unsafe extern "C" fn reference_call(given: &Command) -> u32 { call(&mut given.lent()) }
+
+/// Told of each call of an entry: what it was given, and what it left and returned.
+///
+/// # Safety
+/// Each run is valid for its size, and overlaps no other.
+#[no_mangle]
+#[cfg(not(wrong))]
+pub unsafe extern "C" fn reference_told(_given: &Command, _left: &Command, _answer: u32) {}

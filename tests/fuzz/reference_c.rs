@@ -1,23 +1,14 @@
 //! The reference's side of each call, for harness.c.
 
-#[path = "../host/command.rs"]
-mod command;
-#[path = "../host/handed.rs"]
-mod handed;
 mod lent;
-#[path = "../host/panel_command.rs"]
-mod panel_command;
-#[path = "../host/places.rs"]
-mod places;
-#[path = "../host/reference.rs"]
-mod reference;
-#[path = "../host/traffic.rs"]
-mod traffic;
-#[path = "../host/week.rs"]
-mod week;
 
 use lent::Command;
-use reference::{Station, REASONS};
+use shared::reference::{Station, REASONS};
+use shared::{command, handed, panel_command, places};
+
+/// The wrong references of this harness.
+#[cfg(wrong)]
+const LIST: &str = "station";
 
 /// The report's entries, and behind them the plain station's and the panel's, as harness.c numbers them.
 const REPORT_START: u8 = command::ENTRIES.len() as u8;
@@ -26,21 +17,16 @@ const REPORT_LINES: u8 = REPORT_START + 2;
 const PLAIN_AT: u8 = REPORT_START + 3;
 
 /// What the call must return; its rooms are left as it must leave them.
-///
-/// # Safety
-/// Each run is valid for its size, and overlaps no other.
-#[no_mangle]
-pub unsafe extern "C" fn reference_call(given: &Command) -> u32 {
-    let mut lent = given.lent();
-    match given.entry {
+fn call(lent: &mut command::Command) -> u32 {
+    match lent.entry {
         REPORT_START => places::start(lent.output),
         REPORT_MESSAGE => places::message(lent.output, lent.room, lent.input),
         REPORT_LINES => places::lines(lent.input, lent.first, lent.output),
         PLAIN_AT.. => {
             lent.entry -= PLAIN_AT;
-            panel_command::call(&mut lent)
+            panel_command::call(lent)
         }
-        _ => command::call(&mut lent),
+        _ => command::call(lent),
     }
 }
 

@@ -3,18 +3,15 @@
 //! and those that would if a lift run had all of row 1 in its area, as it had once. Then the same on so many sound records, of the two that
 //! each allows: they must be taken exactly if their areas share nothing; and with a lift run, their results in either order must be, and leave
 //! the same station. And the page's table of which kinds go together must say what the archive does (together.rs).
-use reference::{Instruction, Parts, Station, DONE};
-use sound_records::{every_five, SoundRecords};
-use traffic::Numbers;
+use shared::reference::{Instruction, Parts, Station, DONE};
+use shared::sound_records::{every_five, SoundRecords};
+use shared::traffic::Numbers;
 
 #[allow(dead_code)] // only row 1 is asked for
 mod floor;
 #[path = "../../hosts/rust/src/raw/station.rs"]
 mod raw;
-mod reference;
-mod sound_records;
 mod together;
-mod traffic;
 
 /// How many pairs overlap, and how many would with all of row 1 in a lift run's area: of all, and of those with a lift run.
 const OVERLAPPING: [usize; 2] = [10_448, 10_700];

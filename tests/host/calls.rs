@@ -1,5 +1,4 @@
 //! Calls of the station's entries with all that they are given, for runs that compare them: on lent stations, and questions on records.
-#![allow(dead_code)] // each driver uses its own part of this module
 
 use crate::handed;
 use crate::reference::Station;

@@ -23,5 +23,4 @@ pub fn run<'a>(program: &str, pieces: impl Iterator<Item = &'a [u8]> + Send) -> 
 }
 
 /// The same for an input that is given at once.
-#[allow(dead_code)] // some drivers give theirs in pieces
 pub fn run_on(program: &str, input: &[u8]) -> (Vec<u8>, String, bool) { run(program, std::iter::once(input)) }

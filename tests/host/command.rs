@@ -1,5 +1,4 @@
 //! What each entry for C must return and leave, by the reference. command.h makes the same calls on the entries.
-#![allow(dead_code)] // each driver uses its own part of this module
 
 use super::reference::{
     answer, answer_message, cars, lent, read_call, set_told, shown_message, sound, Answer, Call, Instruction, Station, REASON_NUMBERS,

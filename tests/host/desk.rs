@@ -6,29 +6,22 @@
 //! sure stands there in each case. Every number that each entry can give must have come, and no other, and all else that desk_met.rs and
 //! filling.rs list.
 
-mod command;
-mod desk_command;
-mod desk_handed;
 mod desk_met;
 #[path = "../../hosts/rust/src/raw/desk.rs"]
 mod desk_raw;
-mod desk_reference;
 mod desk_traffic;
-mod filling;
-mod reference;
-mod traffic;
-mod trials;
 
-use command::Command;
-use desk_command::{call, ASK, ENTRIES, IMAGE, LEAVING, RESULT, START, WHERE};
-use desk_handed::{handed, made, Handed};
 use desk_met::{every_one, Met};
-use desk_reference::Desk;
-use reference::{Call, Instruction, STUCK};
+use shared::command::{self, Command};
+use shared::desk_command::{self, call, ASK, ENTRIES, IMAGE, LEAVING, RESULT, START, WHERE};
+use shared::desk_handed::{self, handed, made, Handed};
+use shared::desk_reference::Desk;
+use shared::filling;
+use shared::reference::{Call, Instruction, STUCK};
+use shared::traffic::{damaged_station, Numbers};
+use shared::trials::{self, room_for, Given, Trial};
 use std::collections::{BTreeMap, BTreeSet};
 use std::process::exit;
-use traffic::{damaged_station, Numbers};
-use trials::{room_for, Given, Trial};
 
 /// Bytes that are no desk.
 const UNFIT: u8 = 16;

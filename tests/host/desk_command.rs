@@ -1,5 +1,4 @@
 //! What each entry of desk.h must return and leave, by the reference. desk_command.h makes the same calls on the entries.
-#![allow(dead_code)] // each driver uses its own part of this module
 
 use crate::command::{put, said, Command, CODE, SHOWN};
 use crate::desk_reference::Desk;

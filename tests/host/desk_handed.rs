@@ -1,6 +1,5 @@
 //! Desks that are handed in, not reached by calls: what their numbers have that decides whether they are fit, so that a run can say that it
 //! was called on all there is. Each has one such thing, and all else about it is as it must be.
-#![allow(dead_code)] // each driver uses its own part of this module
 
 use crate::desk_reference::{layout, Car, Desk, Stand, PLACES};
 use crate::reference::{bit, sound, Parts, Station, DRIVE_IN, LIFT_CAR, LIFT_CELLS};

@@ -1,9 +1,9 @@
 //! What a desk's calls meet of card numbers, so that a long run can say that it met all there is: begins with every sort of number, ends,
 //! images with right and wrong numbers, cars that are carried and cars that are not, places that are told.
-use crate::desk_command::{CARDS_MOST, EVENT, IMAGE, RESULT};
-use crate::desk_reference::{wanted, Desk, Stand};
-use crate::reference::{bit, BEGIN_IN, BEGIN_OUT, DONE, DRIVE_IN, END_DONE, END_NOT_DONE, FAILED, STUCK};
-use crate::trials::Given;
+use shared::desk_command::{CARDS_MOST, EVENT, IMAGE, RESULT};
+use shared::desk_reference::{wanted, Desk, Stand};
+use shared::reference::{bit, BEGIN_IN, BEGIN_OUT, DONE, DRIVE_IN, END_DONE, END_NOT_DONE, FAILED, STUCK};
+use shared::trials::Given;
 use std::collections::BTreeSet;
 
 /// A number that is handed in: 0, a car's, the one whose drive-in is under way, one that was here and has left, or another.

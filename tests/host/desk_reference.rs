@@ -1,7 +1,6 @@
 //! A reference desk, written from the change request's words alone over the reference station. Its cars are things that stand somewhere
 //! and are carried along, each with its card's number; a number has no place of its own but in the bytes that a host lends. Everything is
 //! total: no input makes a function panic.
-#![allow(dead_code)] // each driver uses its own part of this module
 
 use crate::reference::{
     answer, belt_cells, bit, position, Answer, Instruction, Parts, Station, BASEMENT, BEGIN_IN, BEGIN_OUT, DONE, DRIVE_IN, DRIVE_OUT,

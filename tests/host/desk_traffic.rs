@@ -1,11 +1,11 @@
 //! Seeded traffic for a desk: the station's, with card numbers beside drives and images, right ones and wrong ones.
 #![allow(dead_code)] // each driver uses its own part of this module
 
-use crate::desk_command::{ASK, CARDS_MOST, EVENT, IMAGE, LEAVING, REQUEST, RESULT, START, WHERE};
-use crate::desk_reference::{layout, Desk};
-use crate::reference::{bit, read_call, sound, Call, BEGIN_IN, DRIVE_IN, LIFT_CAR};
-use crate::traffic::{any_bytes, framed_message, near_image, near_record, Numbers};
-use crate::trials::Given;
+use shared::desk_command::{ASK, CARDS_MOST, EVENT, IMAGE, LEAVING, REQUEST, RESULT, START, WHERE};
+use shared::desk_reference::{layout, Desk};
+use shared::reference::{bit, read_call, sound, Call, BEGIN_IN, DRIVE_IN, LIFT_CAR};
+use shared::traffic::{any_bytes, framed_message, near_image, near_record, Numbers};
+use shared::trials::Given;
 
 /// Few enough numbers that one comes again when its car has left.
 fn from_few(numbers: &mut Numbers) -> u32 { 1 + numbers.below(60) as u32 }

@@ -1,13 +1,9 @@
-//! Whoever writes and reads drawings: the entries, the reference, and with `--cfg wrong` references with a fault each.
-#![allow(dead_code)] // each driver uses its own part of this module
+//! Whoever writes and reads drawings: the entries, the reference, and the reference with a fault that is chosen.
 
 #[path = "../../hosts/rust/src/raw/drawing.rs"]
 mod raw;
-// as tests/host/wrong makes it from the edits: WRONG is the list of them
-#[cfg(wrong)]
-include!(env!("WRONG_DRAWINGS"));
 
-use crate::drawing_reference;
+use shared::drawing_reference;
 
 /// What a call returns, with the room as it is left; and what an image in hex says.
 pub struct Drawer {
@@ -20,6 +16,13 @@ pub const REFERENCE: Drawer = Drawer {
     write: |image, room| drawing_reference::write(image, room).returned(),
     read: |text, room| drawing_reference::read(text, room).returned(),
     image_in: drawing_reference::image_in,
+};
+
+/// As tests/host/wrong makes it from the edits.
+pub const WRONG: Drawer = Drawer {
+    write: |image, room| wrong::drawing_reference::write(image, room).returned(),
+    read: |text, room| wrong::drawing_reference::read(text, room).returned(),
+    image_in: wrong::drawing_reference::image_in,
 };
 
 /// No entry reads hex, so the reference stands for it.

@@ -1,8 +1,8 @@
 //! Drawings written out by hand, with what the papers say of them, so that the reference is held against them too: records and their
 //! drawings, texts that are refused, and images in hex.
 
-use crate::drawing_reference::{NOT_A_DRAWING, UNSOUND};
-use crate::reference::{NO_PLACE, START};
+use shared::drawing_reference::{NOT_A_DRAWING, UNSOUND};
+use shared::reference::{NO_PLACE, START};
 
 /// Six lines, each without its line feed.
 type Six = [&'static str; 6];

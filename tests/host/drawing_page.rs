@@ -2,10 +2,8 @@
 //! `image` are each what the program writes for the other. One marked `refused` is what it tells of the block before it, with nothing
 //! written and another status than 0; that may also be marked `text`: in one line and as printf takes it, with `\n`, `\r` and `\t`.
 
-mod child;
-mod page;
-
-use page::blocks;
+use shared::child;
+use shared::page::blocks;
 use std::process::exit;
 
 /// A page's examples: how many were run both ways, how many were refused, how many are wrong.

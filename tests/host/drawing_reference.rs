@@ -1,6 +1,5 @@
 //! The floor on paper, by the reference, in the words of documents 01 and 02: a record written as six lines of text, and text read; and an
 //! image in hex, as the program takes and writes it.
-#![allow(dead_code)] // each driver uses its own part of this module
 
 use crate::reference::{bit, sound, DRIVE_IN, DRIVE_OUT, LIFT_CAR, NO_PLACE};
 use std::ops::Range;
@@ -42,7 +41,8 @@ const HEIGHT: u32 = 53;
 fn slot(orientation: u32, side: u32, row: u32) -> u32 { 40 + 6 * orientation + 3 * side + row }
 
 /// The cells of the three floor lines.
-const ROWS: [Range<u32>; 3] = [0..20, 20..30, 30..40];
+fn rows() -> [Range<u32>; 3] { [0..20, 20..30, 30..40] }
+
 pub const HEIGHTS: [&str; 3] = ["street", "rotation", "basement"];
 /// No drive under way, one in, one out.
 pub const DRIVES: [&str; 3] = ["", " in", " out"];
@@ -72,7 +72,7 @@ fn lift_line(image: u64) -> String {
 
 /// The drawing of a record, sound or not, whose height isn't 3, which has no two drives under way and no bit that stands for nothing.
 pub fn drawn(image: u64) -> String {
-    let [first, second, third] = ROWS.map(|cells| floor_line(image, cells));
+    let [first, second, third] = rows().map(|cells| floor_line(image, cells));
     let lines = [first, second, third, shuttle_line(image, LEFT), shuttle_line(image, RIGHT), lift_line(image)];
     lines.map(|line| line + "\n").concat()
 }
@@ -125,7 +125,7 @@ fn lift_bits(line: &[u8]) -> Option<u64> {
 /// The bits that a line draws, if it is of its form.
 fn bits_of(place: u8, line: &[u8]) -> Option<u64> {
     match place {
-        0..=2 => floor_bits(line, ROWS[usize::from(place)].clone()),
+        0..=2 => floor_bits(line, rows()[usize::from(place)].clone()),
         3 => shuttle_bits(line, LEFT),
         4 => shuttle_bits(line, RIGHT),
         _ => lift_bits(line),

@@ -1,9 +1,9 @@
 //! Seeded records and drawings: sound ones, others that can be drawn, and drawings damaged in every way of a list.
 #![allow(dead_code)] // each driver uses its own part of this module
 
-use crate::drawing_reference::{drawn, CAR, DRIVES, HEIGHTS};
-use crate::reference::sound;
-use crate::traffic::{any_bytes, near_record, Numbers};
+use shared::drawing_reference::{drawn, CAR, DRIVES, HEIGHTS};
+use shared::reference::sound;
+use shared::traffic::{any_bytes, near_record, Numbers};
 
 /// The bits of the lift and its drives, 52 to 56, for each of the eighteen lines that the lift can have.
 pub fn lift_settings() -> impl Iterator<Item = u64> {

@@ -7,20 +7,18 @@
 
 mod drawer;
 mod drawing_examples;
-mod drawing_reference;
 mod drawing_traffic;
-mod pipes;
-mod reference;
-mod traffic;
 
 use drawer::{Drawer, ENTRIES, REFERENCE, WRONG};
 use drawing_examples::{drawn_ones, refused_ones, spelled_ones};
-use drawing_reference::{begins_hex, drawn, hex_line, image_in, record_in, LINES, NOT_A_DRAWING, NO_ROOM, UNSOUND};
 use drawing_traffic::{any_record, changed_text, drawable_record, faulty_text, lift_settings, lines_of, sound_record, DAMAGES};
-use reference::{sound, NO_PLACE, START};
+use shared::drawing_reference::{begins_hex, drawn, hex_line, image_in, record_in, LINES, NOT_A_DRAWING, NO_ROOM, UNSOUND};
+use shared::pipes;
+use shared::reference::{sound, NO_PLACE, START};
+use shared::traffic::{any_bytes, Numbers};
 use std::collections::{BTreeMap, BTreeSet};
 use std::process::exit;
-use traffic::{any_bytes, Numbers};
+use wrong::fault::{all_of, Fault};
 
 /// What a call is given: a record to be written or a text to be read.
 enum Given {
@@ -108,7 +106,7 @@ struct Run {
     by_program: BTreeSet<(bool, String)>,
     programs: usize,
     ways: BTreeSet<String>,
-    found: BTreeSet<&'static str>,
+    unfound: Vec<&'static Fault>,
     wrong: usize,
     numbers: Numbers,
     /// For the host in C: one in so many.
@@ -118,8 +116,8 @@ struct Run {
 
 impl Run {
     fn new(share: u64) -> Self {
-        let (came, by_program, ways, found, kept) = Default::default();
-        Run { came, by_program, programs: 0, ways, found, wrong: 0, numbers: Numbers(13), share, kept }
+        let (came, by_program, ways, kept) = Default::default();
+        Run { came, by_program, programs: 0, ways, unfound: all_of("drawing").collect(), wrong: 0, numbers: Numbers(13), share, kept }
     }
 
     fn fault(&mut self, who: &str, given: &Given, got: String, expected: String) {
@@ -146,8 +144,7 @@ impl Run {
 
     /// Those of the wrong references that are found out by this, if they weren't before.
     fn find(&mut self, differs: impl Fn(&Drawer) -> bool) {
-        let now: Vec<_> = WRONG.iter().filter(|(name, wrong)| !self.found.contains(name) && differs(wrong)).map(|(name, _)| *name).collect();
-        self.found.extend(now);
+        self.unfound.retain(|fault| !fault.with(|| differs(&WRONG)));
     }
 
     /// Made by the entry, and by the wrong references; some are kept for the host in C. Gives what must be returned.
@@ -251,8 +248,7 @@ impl Run {
         let amiss = self.by_program.symmetric_difference(&all_lines()).map(|told| format!("{told:?}")).collect();
         same("what the program never told, or can't", amiss);
         same("ways that never came, or can't", self.ways.symmetric_difference(&all_ways()).cloned().collect());
-        let missing = WRONG.iter().map(|one| one.0).filter(|name| !self.found.contains(name)).map(str::to_string);
-        same("wrong references that were not found out", missing.collect());
+        same("wrong references that were not found out", self.unfound.iter().map(|fault| fault.name.to_string()).collect());
         right
     }
 }
@@ -339,5 +335,5 @@ fn main() {
     let (drawings, read) = (count(&|told| *told == ("a record", 0, NO_PLACE)), count(&|told| *told == ("a text", 0, NO_PLACE)));
     println!("drawings: {calls} calls of the entries ({drawings} drawings written, {read} read), {by_host} of the host in C, {} runs of the program,", run.programs);
     println!("drawings: each as the reference says; every number, every place of 41 from 0 to 6 by each, {} ways; {} wrong references found out; at most {most} bytes of stack",
-        run.ways.len(), WRONG.len());
+        run.ways.len(), all_of("drawing").count());
 }

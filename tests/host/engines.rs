@@ -1,6 +1,6 @@
 //! The two proved engines, called with what a command gives: the plain one's entries, and the packed one's that must say the same.
-use crate::panel_command::{CARS, CONDITION, EVENT, NEXT, REQUEST, RESULT};
-use crate::trials::Given;
+use shared::panel_command::{CARS, CONDITION, EVENT, NEXT, REQUEST, RESULT};
+use shared::trials::Given;
 use crate::{panel_raw, raw};
 
 /// What a call returned, and what it left of the station's room and of the room to write.

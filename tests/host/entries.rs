@@ -4,22 +4,15 @@
 //! it can give, and no other; those that say why an instruction isn't allowed, every reason of each opcode on sound records. Each call
 //! must have been made on handed-in stations of every sort that handed.rs tells apart, and calls must have met all that filling.rs lists.
 
-mod calls;
-mod command;
-mod filling;
-mod handed;
-mod reference;
-mod traffic;
-mod trials;
-
-use calls::{lent_station, message_call, record_call, sets_call, station_call};
-use command::ENTRIES;
-use handed::{handed, Handed};
-use reference::{read_call, Call, Station, REASONS};
+use shared::calls::{lent_station, message_call, record_call, sets_call, station_call};
+use shared::command::{self, ENTRIES};
+use shared::filling;
+use shared::handed::{self, handed, Handed};
+use shared::reference::{read_call, Call, Station, REASONS};
+use shared::traffic::{self, Numbers};
+use shared::trials::{self, Given, Trial};
 use std::collections::{BTreeMap, BTreeSet};
 use std::process::exit;
-use traffic::Numbers;
-use trials::{Given, Trial};
 
 /// Bytes that are no station.
 const UNFIT: u8 = 16;

@@ -4,30 +4,22 @@
 //! desk. And the page's examples: in a block marked `explain` the first line is the command and the others are its input; of the blocks
 //! behind it one marked `shown` is all that is written, one marked `told` what is told on standard error.
 
-mod child;
-mod desk_reference;
-mod drawing_reference;
 mod explain_cards;
 mod explain_held;
 mod explain_logs;
 mod explain_shown;
 #[path = "../../tools/explain_sound.rs"]
 mod explain_sound;
-mod page;
-mod reference;
-mod sound_records;
-mod texts;
-mod traffic;
 
-use child::run_on as run;
 use explain_held::{held, plain, views, Beside};
 use explain_shown::paragraphs;
-use page::blocks;
-use reference::{serve, serve_on, sound, Station};
-use sound_records::every_five;
+use shared::child::run_on as run;
+use shared::page::blocks;
+use shared::reference::{self, serve, serve_on, sound, Station};
+use shared::sound_records::every_five;
+use shared::texts::words;
+use shared::traffic::{damaged_input, input, near_record, request, Numbers};
 use std::process::exit;
-use texts::words;
-use traffic::{damaged_input, input, near_record, request, Numbers};
 
 /// Messages of one long input.
 const LONG: usize = 20_000;

@@ -1,11 +1,11 @@
 //! Cards that a log gives: where the explainer shows each beside a reference desk. Cars whose card the log does not give have numbers here
 //! that no log has, and must not be shown.
 
-use crate::desk_reference::{layout, Desk};
+use shared::desk_reference::{layout, Desk};
 use crate::explain_shown::paragraphs;
-use crate::reference::{bit, cars, read_call, Call, BEGIN_IN, DRIVE_IN};
+use shared::reference::{bit, cars, read_call, Call, BEGIN_IN, DRIVE_IN};
 use crate::text;
-use crate::traffic::{framed_message, Numbers};
+use shared::traffic::{framed_message, Numbers};
 
 /// Numbers from here on are of cars whose card is not known.
 const UNKNOWN: u32 = 1 << 31;

@@ -1,12 +1,12 @@
 //! The explainer's text held against the reference: answers, reasons, and the floors after what was taken.
 
-use crate::drawing_reference::drawn;
+use shared::drawing_reference::drawn;
 use crate::explain_shown::{floor, paragraphs, parts_in, Floor, Told};
-use crate::reference::{cars, drive_under_way, read_call, sound, Call, Instruction, Parts, Station};
-use crate::sound_records::SoundRecords;
+use shared::reference::{cars, drive_under_way, read_call, sound, Call, Instruction, Parts, Station};
+use shared::sound_records::SoundRecords;
 use crate::text;
-use crate::texts::words;
-use crate::traffic::Numbers;
+use shared::texts::words;
+use shared::traffic::Numbers;
 use std::collections::BTreeSet;
 
 /// The reference station beside a text, with how the outstanding set's instructions ended, and which numbers came.

@@ -2,10 +2,10 @@
 //! out, recordings of answers, and each wrong line and wrong word told.
 
 use crate::explain_shown::{paragraphs, Told};
-use crate::page::blocks;
-use crate::reference::{read_call, serve, Call};
+use shared::page::blocks;
+use shared::reference::{read_call, serve, Call};
 use crate::text;
-use crate::traffic::input;
+use shared::traffic::input;
 use std::process::{Command, Stdio};
 
 fn hexadecimal(bytes: &[u8]) -> String { bytes.iter().map(|byte| format!("{byte:02X}")).collect::<Vec<_>>().join(" ") }

@@ -1,6 +1,6 @@
 //! What the explainer shows, read back: the paragraphs of its text, the answers as the bytes that tell them, floors and parts.
 
-use crate::texts::listed;
+use shared::texts::listed;
 
 /// A paragraph: the message's number in the log, where it stands, which way it went, its bytes, the bytes of the answer that is told, and
 /// all its lines below the bytes.

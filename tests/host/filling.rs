@@ -1,7 +1,6 @@
 //! What calls meet of places that are kept open, so that a run can say that it met all there is: begins of drive-ins with the last number
 //! of cars that still lets one begin and with those that don't, by all that they can be told; other events with as many cars or more, which
 //! are taken; and images with as many as there can be at each height, which are taken too.
-#![allow(dead_code)] // each driver uses its own part of this module
 
 use crate::reference::{bit, cars, drive_under_way, Call, Station, BEGIN_IN, BEGIN_OUT, DRIVE_IN, END_DONE, END_NOT_DONE, LIFT_CAR};
 use std::collections::BTreeSet;

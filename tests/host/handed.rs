@@ -1,6 +1,5 @@
 //! Stations that are handed in, not reached by calls: what their sets have that decides whether they are fit, so that a run can say that
 //! it was called on all there is. Each has one such thing, and all else about it is as it must be.
-#![allow(dead_code)] // each driver uses its own part of this module
 
 use crate::reference::{drive_under_way, sound, Instruction, Parts, Station};
 use crate::traffic::{allowed_set, good_five, Numbers};

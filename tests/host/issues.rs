@@ -3,15 +3,11 @@
 //! were not issued, and any. What the program writes must be what the reference answers, and each set's issue the next one. Each of
 //! these distances must have come, before the count starts over and after.
 
-mod pipes;
-mod reference;
-mod traffic;
-
-use pipes::{answer_in, answers, messages_in};
-use reference::{read_call, Call, START};
+use shared::pipes::{answer_in, answers, messages_in};
+use shared::reference::{self, read_call, Call, START};
+use shared::traffic::{image, message, request, result, Numbers, BEHIND};
 use std::collections::BTreeSet;
 use std::process::exit;
-use traffic::{image, message, request, result, Numbers, BEHIND};
 
 const FEWEST: usize = 70_000;
 /// There are so many issues.

@@ -3,14 +3,10 @@
 //! or a second station is needed. Where the station must not start or go on, it answers nothing more, says one line on standard error, and
 //! leaves what is in the journal. At the end the time to the first answer is measured, with a journal of so many messages.
 
-mod journals;
-mod pipes;
-mod reference;
-mod traffic;
-
-use journals::{started, Call, Trouble, ASK, INPUT_OUTPUT_ERROR, NO_SPACE_LEFT};
-use pipes::messages_in;
-use reference::{serve, serve_on, Station};
+use shared::journals::{started, Call, Trouble, ASK, INPUT_OUTPUT_ERROR, NO_SPACE_LEFT};
+use shared::pipes::messages_in;
+use shared::reference::{serve, serve_on, Station};
+use shared::traffic::{input, message, Numbers};
 use std::fs;
 use std::io::{Read, Write};
 use std::os::unix::fs::PermissionsExt;
@@ -18,7 +14,6 @@ use std::path::Path;
 use std::process::{Child, Command, Output};
 use std::thread;
 use std::time::{Duration, Instant};
-use traffic::{input, message, Numbers};
 
 /// A station that is given an input to its end.
 fn run(program: &str, words: &[&str], bytes: &[u8], trouble: Trouble) -> Output {

@@ -2,12 +2,8 @@
 //! one. The runs of power cuts and of journals that fail must pass with the right one, and find out every other. Its disk is slow, so that
 //! a cut between two steps of it is not rare.
 
-mod pipes;
-mod reference;
-mod traffic;
-
-use pipes::messages_in;
-use reference::{drive_under_way, serve_on, Parts, Station};
+use shared::pipes::messages_in;
+use shared::reference::{drive_under_way, serve_on, Parts, Station};
 use std::fs::{File, OpenOptions};
 use std::io::{self, Read, Seek, SeekFrom, Write};
 use std::path::Path;

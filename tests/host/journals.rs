@@ -1,5 +1,4 @@
 //! A station that is started on a journal, in a process of its own; and what can be made to fail there, by the system's own means.
-#![allow(dead_code)] // each driver uses its own part of this module
 
 use std::io;
 use std::os::unix::process::CommandExt;

@@ -2,13 +2,8 @@
 //! accepts all of them. Then it accepts no instruction but lift runs to another height, at whichever height the lift is. Once the car that
 //! came in last has driven out, another can be fetched.
 
-mod child;
-mod reference;
-#[allow(dead_code)] // all instructions are asked for, no records
-mod sound_records;
-mod traffic;
-
-use sound_records::every_five;
+use shared::child;
+use shared::sound_records::every_five;
 
 /// Instructions, five bytes each, and drive-ins, in order.
 const FILLED: &str = "

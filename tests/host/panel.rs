@@ -2,22 +2,14 @@
 //! many commands on stations as they come, on handed-in and on damaged ones, in rooms long and short, none with more stack than STACK. Every
 //! number that each entry can give must come, and every reason of each opcode that the next record is refused for.
 
-mod calls;
-mod command;
-mod handed;
-mod panel_calls;
-mod panel_command;
-mod reference;
-mod traffic;
-mod trials;
-
-use panel_calls::{any_call, reason};
-use panel_command::{ENTRIES, NEXT};
-use reference::Station;
+use shared::command;
+use shared::panel_calls::{any_call, reason};
+use shared::panel_command::{self, ENTRIES, NEXT};
+use shared::reference::Station;
+use shared::traffic::{self, every_reason, framed_message, Numbers};
+use shared::trials::{self, Trial};
 use std::collections::BTreeSet;
 use std::process::exit;
-use traffic::{every_reason, framed_message, Numbers};
-use trials::Trial;
 
 /// How many entries the program has between the station's and these.
 const DESK_ENTRIES: u8 = 8;

@@ -1,5 +1,4 @@
 //! What each entry of panel.h must return and leave, by the reference. panel_command.h makes the same calls on the entries.
-#![allow(dead_code)] // each driver uses its own part of this module
 
 use super::command::{self, put, said, Command, CODE};
 use super::reference::{answer, bit, lent, sound, Answer, Condition, Instruction, LIFT_CAR, OTHER_ROWS, ROW_1};

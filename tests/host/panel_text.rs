@@ -4,21 +4,14 @@
 //! `panel` is an input, and of the blocks behind it one marked `shown` is all that is written, one marked `told` what is told on standard
 //! error; every reason from 20 to 28 must be a verdict there.
 
-mod child;
-mod page;
-mod reference;
-mod sound_records;
-mod texts;
-mod traffic;
-
-use child::run_on as run;
-use page::blocks;
-use reference::{cars, Instruction, REASON_NUMBERS, START};
-use sound_records::{every_five, SoundRecords};
+use shared::child::run_on as run;
+use shared::page::blocks;
+use shared::reference::{cars, Instruction, REASON_NUMBERS, START};
+use shared::sound_records::{every_five, SoundRecords};
+use shared::texts::{listed, words};
+use shared::traffic::Numbers;
 use std::collections::BTreeSet;
 use std::process::exit;
-use texts::{listed, words};
-use traffic::Numbers;
 
 fn hexadecimal(image: u64) -> String { image.to_le_bytes().map(|byte| format!("{byte:02X}")).join(" ") }
 

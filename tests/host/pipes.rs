@@ -1,9 +1,6 @@
 //! A program run over its pipes, and the messages that went through them.
-#![allow(dead_code)] // each driver uses its own part of this module
 
-#[path = "child.rs"]
-mod child;
-
+use crate::child;
 use crate::reference::{read_message, Answer, Message};
 use crate::traffic::Numbers;
 

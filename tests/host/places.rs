@@ -1,6 +1,5 @@
 //! The report's totals as bytes, as its entries for C are lent them (include/report.h): where each stands, and what each entry must return
 //! and leave, by the reference's counting.
-#![allow(dead_code)] // each driver uses its own part of this module
 
 use crate::reference::Station;
 use crate::week::{full, happened, totals, Total, Week};

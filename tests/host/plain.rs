@@ -6,39 +6,26 @@
 //! come, and no other; every reason of each opcode; each condition as one that holds and as one that fails; each sort of handed-in station
 //! that handed.rs tells apart; and all that drives.rs, jams.rs, lifts.rs and filling.rs list. Each wrong reference must be found out by a call.
 
-mod calls;
-mod command;
-mod drives;
 mod engines;
-mod filling;
-mod handed;
-mod jams;
-mod lifts;
-mod panel_calls;
-mod panel_command;
 #[path = "../../hosts/rust/src/raw/panel.rs"]
 mod panel_raw;
-mod pipes;
 #[path = "../../hosts/rust/src/raw/station.rs"]
 mod raw;
-mod reference;
-mod sound_records;
-mod traffic;
-mod trials;
 
-use command::Command;
 use engines::Left;
-use handed::{handed, Handed};
-use panel_calls::{any_call, given_by, reason};
-use panel_command::{CARS, CARS_SIZE, CONDITION, CONDITION_SIZE, ENTRIES, EVENT, NEXT, RECORD, REQUEST, RESULT};
-use reference::{cars, read_call, Call, Instruction, Station};
-use pipes::messages_in;
-use sound_records::{every_five, SoundRecords};
+use shared::command::Command;
+use shared::handed::{self, handed, Handed};
+use shared::panel_calls::{any_call, given_by, reason};
+use shared::panel_command::{self, CARS, CARS_SIZE, CONDITION, CONDITION_SIZE, ENTRIES, EVENT, NEXT, RECORD, REQUEST, RESULT};
+use shared::pipes::messages_in;
+use shared::reference::{cars, read_call, Call, Instruction, Station};
+use shared::sound_records::{every_five, SoundRecords};
+use shared::traffic::{self, every_reason, framed_message, Numbers};
+use shared::trials::Given;
+use shared::{drives, filling, jams, lifts};
 use std::collections::{BTreeMap, BTreeSet};
 use std::process::exit;
-use traffic::{every_reason, framed_message, Numbers};
-use trials::Given;
-use wrong_plain::{Lent, WRONG};
+use wrong::fault::{all_of, Fault};
 
 /// A call by the reference.
 fn reference_call(given: &Given) -> Left {
@@ -49,9 +36,11 @@ fn reference_call(given: &Given) -> Left {
 }
 
 /// A call by a reference with a fault.
-fn wrong_call(wrong: wrong_plain::Call, given: &Given) -> Left {
-    let &Given { entry, first, second, issue, image, ref input, .. } = given;
-    engines::on_copies(given, |room, output| wrong(Lent { entry, first, second, issue, image, room, input, output }))
+fn wrong_call(fault: &Fault, given: &Given) -> Left {
+    let &Given { entry, first, second, issue, image, apart, card, ref input, .. } = given;
+    engines::on_copies(given, |room, output| {
+        fault.with(|| wrong::panel_command::call(&mut wrong::command::Command { entry, first, second, issue, image, apart, card, room, input, output }))
+    })
 }
 
 /// Bytes that are no station.
@@ -68,7 +57,7 @@ struct Run {
     filled: BTreeSet<filling::Met>,
     drives: BTreeSet<drives::Met>,
     /// Those that no call has found out yet.
-    unfound: Vec<(&'static str, wrong_plain::Call)>,
+    unfound: Vec<&'static Fault>,
 }
 
 impl Run {
@@ -82,7 +71,7 @@ impl Run {
             sorts: vec![BTreeMap::new(); each],
             filled: BTreeSet::new(),
             drives: BTreeSet::new(),
-            unfound: WRONG.to_vec(),
+            unfound: all_of("plain").collect(),
         }
     }
 
@@ -96,7 +85,7 @@ impl Run {
             eprintln!("plain     {plain:02X?}\npacked    {packed:02X?}\nreference {theirs:02X?}");
             exit(1);
         }
-        self.unfound.retain(|(_, wrong)| wrong_call(*wrong, given) == plain);
+        self.unfound.retain(|fault| wrong_call(fault, given) == plain);
         self.tell(given, plain.0);
         plain
     }
@@ -155,7 +144,7 @@ impl Run {
         let of = |&(op, from, many): &(u8, u8, u8)| (0..many).flat_map(move |at| [false, true].map(|holds| (op, from, at, holds)));
         let wanted: BTreeSet<_> = CONDITIONS.iter().flat_map(of).collect();
         held(self.conditions == wanted, format!("conditions: {:?}", self.conditions.symmetric_difference(&wanted).collect::<Vec<_>>()));
-        let unfound: Vec<_> = self.unfound.iter().map(|wrong| wrong.0).collect();
+        let unfound: Vec<_> = self.unfound.iter().map(|fault| fault.name).collect();
         held(unfound.is_empty(), format!("wrong references that were not found out: {unfound:?}"));
         right
     }
@@ -205,5 +194,5 @@ fn main() {
         run.reasons[usize::from(NEXT)].len(), run.conditions.len() / 2, handed::ALL.len());
     println!("plain: {} ways to meet a drive, {} a jam, {} a lift run beside others, {} places that are kept open, all that there are",
         run.drives.len(), jams.len(), lifts.len(), run.filled.len());
-    println!("plain: {} wrong references found out", WRONG.len());
+    println!("plain: {} wrong references found out", all_of("plain").count());
 }

@@ -1,8 +1,8 @@
 //! Plans with what the papers say of them, and the ways in which a plan can be told something, so that a run can see that all came.
 
-use crate::plan_reference::{Plan, Verdict, BAD_FIELD, CUT_SHORT, MOST_SETS, NO_SET, TOO_MANY_SETS, UNSOUND, WISH_NOT_MET};
+use shared::plan_reference::{Plan, Verdict, BAD_FIELD, CUT_SHORT, MOST_SETS, NO_SET, TOO_MANY_SETS, UNSOUND, WISH_NOT_MET};
 use crate::plan_traffic::{after_all, Draft};
-use crate::reference::{sound, START};
+use shared::reference::{sound, START};
 
 const WITHOUT: u8 = 0;
 const WITH: u8 = 1;

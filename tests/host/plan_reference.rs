@@ -1,6 +1,5 @@
 //! Plans tried before the day, by the reference, in the words of documents 01 and 02: a plan as bytes, and what it is told. No station of
 //! the caller's plays a part.
-#![allow(dead_code)] // each driver uses its own part of this module
 
 use crate::reference::{sound, Instruction, Station};
 

@@ -3,14 +3,10 @@
 //! block marked `plan` is a text, and of the blocks behind it one marked `bytes` has the bytes that it becomes, one marked `wrong` what is
 //! told of it, and one marked `verdict` what the judge writes.
 
-mod child;
-mod page;
-mod texts;
-
-use child::run_on as run;
-use page::blocks;
+use shared::child::run_on as run;
+use shared::page::blocks;
+use shared::texts::words;
 use std::process::exit;
-use texts::words;
 
 /// The first lines, and the bytes that they become with so many sets.
 const HEAD: &str = "image start\nwish without a car\n";

@@ -1,8 +1,8 @@
 //! Seeded plans: good ones, and ones with a fault. What is plausible next is judged by the reference.
 #![allow(dead_code)] // each driver uses its own part of this module
 
-use crate::reference::{Instruction, Parts, LARGEST_SET, START};
-use crate::traffic::{allowed_set, any_bytes, any_five, near_record, refused_five, Numbers};
+use shared::reference::{Instruction, Parts, LARGEST_SET, START};
+use shared::traffic::{allowed_set, any_bytes, any_five, near_record, refused_five, Numbers};
 
 /// A plan in parts, of which any may be wrong.
 #[derive(Clone)]

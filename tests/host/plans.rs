@@ -3,24 +3,20 @@
 //! each number some by the program, and most examples, in pieces of many sizes. Every number that can come must have come by the entry
 //! and by the program, no other may, and every way to come by one. Each wrong reference must be found out by a plan of the run.
 
-mod pipes;
 mod plan_examples;
-mod plan_reference;
 mod plan_traffic;
 #[path = "../../hosts/rust/src/raw/plan.rs"]
 mod raw;
-mod reference;
-mod traffic;
-// references with a fault each, as tests/host/wrong makes them from the edits: WRONG is the list of them
-include!(env!("WRONG_PLANS"));
 
 use plan_examples::{examples, ways, WAYS};
-use plan_reference::{judge, Verdict, NO_SET};
 use plan_traffic::any_plan;
-use reference::START;
+use shared::pipes;
+use shared::plan_reference::{judge, Verdict, NO_SET};
+use shared::reference::START;
+use shared::traffic::Numbers;
 use std::collections::{BTreeMap, BTreeSet};
 use std::process::exit;
-use traffic::Numbers;
+use wrong::fault::{all_of, Fault};
 
 fn plan_judge(plan: &[u8]) -> u32 { unsafe { raw::plan_judge(plan.as_ptr(), plan.len()) } }
 
@@ -70,7 +66,7 @@ struct Run {
     /// By the entry and by the program: how often each number came, 4 apart by whether a set is at fault.
     came: [BTreeMap<(u8, bool), usize>; 2],
     ways: BTreeSet<&'static str>,
-    found: BTreeSet<&'static str>,
+    unfound: Vec<&'static Fault>,
     wrong: usize,
 }
 
@@ -94,7 +90,7 @@ impl Run {
         self.count(0, expected);
         self.ways.extend(ways(plan, expected));
         let told = (got as u8, (got >> 8) as u8);
-        self.found.extend(WRONG.iter().filter(|(_, wrong)| wrong(plan) != told).map(|(name, _)| *name));
+        self.unfound.retain(|fault| fault.with(|| { let wrong = wrong::plan_reference::judge(plan); (wrong.number, wrong.set) == told }));
         expected
     }
 
@@ -132,7 +128,7 @@ impl Run {
         }
         let missing = |all: Vec<&str>, came: &BTreeSet<&str>| all.into_iter().filter(|one| !came.contains(one)).map(str::to_string).collect();
         same("ways that never came", missing(WAYS.to_vec(), &self.ways));
-        same("wrong references that were not found out", missing(WRONG.iter().map(|one| one.0).collect(), &self.found));
+        same("wrong references that were not found out", self.unfound.iter().map(|fault| fault.name.to_string()).collect());
         right
     }
 }
@@ -141,7 +137,7 @@ fn main() {
     let words: Vec<String> = std::env::args().collect();
     let [_, program, plans, share, stack, host @ ..] = &words[..] else { panic!("usage: plans PROGRAM PLANS SHARE STACK HOST..") };
     let number = |word: &str| word.parse::<u32>().expect("a number");
-    let mut run = Run::default();
+    let mut run = Run { unfound: all_of("plan").collect(), ..Run::default() };
     let (mut kept, mut to_program) = (Vec::new(), Vec::new());
     for (name, plan, verdict) in examples() {
         assert_eq!(judge(&plan), verdict, "{name}");
@@ -170,5 +166,5 @@ fn main() {
     println!("plans: {} judged by the entry ({accepted} accepted), {} by the host in C, {} by the program, each as the reference says",
         run.came[0].values().sum::<usize>(), kept.len(), to_program.len());
     println!("plans: {} numbers, {} ways to come by them, all that there are; {} wrong references found out; at most {most} bytes of stack",
-        OF_THE_PLAN.len() + OF_A_SET.len() - 1, WAYS.len(), WRONG.len());
+        OF_THE_PLAN.len() + OF_A_SET.len() - 1, WAYS.len(), all_of("plan").count());
 }

@@ -4,21 +4,16 @@
 //! in order, up to some byte; every message that was answered must be in it; and every answer must be the reference's, on one station that
 //! has gone on through all cuts. What must have come besides, or the run fails, stands in `Came`.
 
-mod journals;
-mod pipes;
-mod reference;
-mod traffic;
-
-use journals::{started, Trouble, ASK};
-use pipes::messages_in;
-use reference::{drive_under_way, read_call, serve_on, Call, Station, START};
+use shared::journals::{started, Trouble, ASK};
+use shared::pipes::messages_in;
+use shared::reference::{drive_under_way, read_call, serve_on, Call, Station, START};
+use shared::traffic::{framed_message, image, result, Numbers};
 use std::fs;
 use std::io::{Read, Write};
 use std::path::Path;
 use std::sync::{Arc, Condvar, Mutex};
 use std::thread;
 use std::time::Duration;
-use traffic::{framed_message, image, result, Numbers};
 
 /// More time than a station ever takes for an answer.
 const LONG: Duration = Duration::from_secs(60);

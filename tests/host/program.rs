@@ -6,19 +6,12 @@
 //! kept open, of jams and of lift runs beside others in row 1. In the long inputs, after each message, every choice is looked at of which stuck instructions
 //! finished (jams.rs), and with each set that has a lift run beside others, of which of them are done (lifts.rs).
 
-mod drives;
-mod filling;
-mod jams;
-mod lifts;
-mod pipes;
-mod reference;
-mod traffic;
-
-use pipes::{answer_in, answers, messages_in};
-use reference::{
-    answer, answer_at, cars, read_call, read_message, sound, write_message, Answer, Call, Instruction, Message, Station, BEGIN_IN, BEGIN_OUT,
+use shared::pipes::{answer_in, answers, messages_in};
+use shared::reference::{
+    self, answer, answer_at, cars, read_call, read_message, sound, write_message, Answer, Call, Instruction, Message, Station, BEGIN_IN, BEGIN_OUT,
     DONE, END_DONE, END_NOT_DONE, FAILED, REASON_NUMBERS, START, STUCK,
 };
+use shared::{drives, filling, jams, lifts, traffic};
 use std::collections::BTreeSet;
 use std::process::exit;
 

@@ -3,15 +3,11 @@
 //! one: what the program prints must be the reference's report. Every total that can be raised from the start must have been, and no
 //! other: answers 16 and 17 can't come.
 
-mod pipes;
-mod reference;
-mod traffic;
-mod week;
-
-use pipes::answers;
+use shared::pipes::answers;
+use shared::traffic;
+use shared::week::{report_with, totals, Total, Week, EXAMPLES};
 use std::collections::BTreeSet;
 use std::process::exit;
-use week::{report_with, totals, Total, Week, EXAMPLES};
 
 /// The reference held against what the papers say of their examples.
 fn examples() {

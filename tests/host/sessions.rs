@@ -3,9 +3,7 @@
 //! marked `session on` goes on with the session before it. At a line `!` the program is ended and started again: a session with one is held
 //! on a journal.
 
-mod page;
-
-use page::blocks;
+use shared::page::blocks;
 use std::io::Write;
 use std::process::{exit, Command, Stdio};
 

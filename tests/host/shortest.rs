@@ -2,16 +2,9 @@
 //! plan's image, all of them succeeding, one set after the other, with whatever can go beside what. The plan must have as many sets as it
 //! takes to bring a car onto the belt of row 3, and its last record must have one there.
 
-mod child;
-mod planned;
-mod reference;
-#[allow(dead_code)] // all instructions are asked for, no records
-mod sound_records;
-mod traffic;
-
-use planned::{planned, SETS};
-use reference::{belt_cells, bit, Instruction, Parts, LARGEST_SET};
-use sound_records::every_five;
+use shared::planned::{planned, SETS};
+use shared::reference::{belt_cells, bit, Instruction, Parts, LARGEST_SET};
+use shared::sound_records::every_five;
 use std::collections::HashSet;
 
 fn parked(image: u64) -> bool { belt_cells(3, 1).any(|cell| bit(image, cell)) }

@@ -2,12 +2,9 @@
 //! writes of the last image before each. The requests of its sessions are the plan's sets, the image before the first of them is the
 //! plan's, and each instruction of the plan's text stands on the page as its words, in order.
 
-mod child;
-mod page;
-mod planned;
-
-use page::blocks;
-use planned::SETS;
+use shared::child;
+use shared::page::blocks;
+use shared::planned::{self, SETS};
 use std::fs::read_to_string;
 
 fn bytes(line: &str) -> Vec<u8> {

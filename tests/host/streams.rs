@@ -2,10 +2,7 @@
 //! what the reference answers or counts, or a first part of it where the output fails; its status must be the one that
 //! docs/PROTOCOL.md names, and standard error must have one line where something failed and nothing otherwise.
 
-mod reference;
-mod traffic;
-mod week;
-
+use shared::{reference, traffic, week};
 use std::fs::File;
 use std::io::{self, Read, Write};
 use std::os::fd::{AsRawFd, OwnedFd};

@@ -1,5 +1,4 @@
 //! Instructions in words, as the page of plans has them, and lists of numbers.
-#![allow(dead_code)] // each driver uses its own part of this module
 
 fn name(names: &[&'static str], at: u8) -> &'static str { names[usize::from(at)] }
 

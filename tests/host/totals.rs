@@ -3,22 +3,18 @@
 //! short; the text, which must be what the program prints. Every total that a message can raise must have been full once, and told; been
 //! one before its end and reached it; and, where another can be full before it, not told.
 
-mod pipes;
-mod places;
 #[path = "../../hosts/rust/src/raw/station.rs"]
 mod raw;
-mod reference;
 #[path = "../../hosts/rust/src/raw/report.rs"]
 mod report;
-mod traffic;
-mod week;
 
-use places::{held, place, put, told, written, BAD_FIELD, NO_PLACE, NO_ROOM, PLACES, SIZE, TAKEN};
-use reference::Station;
+use shared::pipes;
+use shared::places::{self, held, place, put, told, written, BAD_FIELD, NO_PLACE, NO_ROOM, PLACES, SIZE, TAKEN};
+use shared::reference::Station;
+use shared::traffic::{self, any_bytes, any_message, damaged_station, Numbers};
+use shared::week::{full, happened, totals, Happened, Total, Week};
 use std::collections::BTreeSet;
 use std::process::exit;
-use traffic::{any_bytes, any_message, damaged_station, Numbers};
-use week::{full, happened, totals, Happened, Total, Week};
 
 fn report_start(room: &mut [u8]) -> u32 { unsafe { report::report_start(room.as_mut_ptr(), room.len()) } }
 

@@ -1,6 +1,5 @@
 //! Seeded traffic: messages as a planner, its motors and its drivers would send them, and damaged ones.
 //! What is plausible next is judged by the reference station, which takes each message as it is made.
-#![allow(dead_code)] // each driver uses its own part of this module
 
 use crate::reference::{
     cars, drive_under_way, Instruction, Parts, Station, BEGIN_IN, BEGIN_OUT, DONE, END_DONE, END_NOT_DONE, FAILED, REASONS, START,

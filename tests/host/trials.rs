@@ -1,6 +1,5 @@
 //! Commands for the program that makes calls as it is told to (entries.c): each in bytes, with what the call must return and leave; and
 //! the run of them, in which each answer is held against that.
-#![allow(dead_code)] // each driver uses its own part of this module
 
 use crate::command::Command;
 use crate::traffic::{any_bytes, Numbers};

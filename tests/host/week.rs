@@ -1,6 +1,5 @@
 //! The week in numbers, counted by the reference: which totals a message raises on a station, and the text of a report. The order of the
 //! totals is that of the cases below, which is the report's; those that are 0 are not kept.
-#![allow(dead_code)] // each driver uses its own part of this module
 
 use crate::reference::{self, cars, read_call, Call, Station, END_DONE};
 use std::collections::BTreeMap;

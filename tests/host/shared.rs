@@ -1,0 +1,29 @@
+//! What the tests in Rust share: the reference, the traffic they make, and how they call programs and entries. It is compiled once, as a
+//! library (tests/host/compile).
+
+pub mod calls;
+pub mod child;
+pub mod command;
+pub mod desk_command;
+pub mod desk_handed;
+pub mod desk_reference;
+pub mod drawing_reference;
+pub mod drives;
+pub mod filling;
+pub mod handed;
+pub mod jams;
+pub mod journals;
+pub mod lifts;
+pub mod page;
+pub mod panel_calls;
+pub mod panel_command;
+pub mod pipes;
+pub mod places;
+pub mod plan_reference;
+pub mod planned;
+pub mod reference;
+pub mod sound_records;
+pub mod texts;
+pub mod traffic;
+pub mod trials;
+pub mod week;
