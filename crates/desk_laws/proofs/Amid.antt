@@ -24,7 +24,8 @@ use Rattle.desk.specs.Desk.{deskFit}
 use Rattle.desk.specs.Calls as calling
 use Rattle.desk_laws.specs.Runs as desk
 use Rattle.desk_laws.specs.Runs.{DeskCall, said, left, calls, DeskBegins, appliedCards, stuckAt, finishedCards}
-use Rattle.desk_laws.specs.Amid.{DeskAmid, ends, kept, asked, rejected, DeskAmidExists, DeskAmidUnmoved, DeskAnyOrderAmid, NumbersAnyOrder}
+use Rattle.desk_laws.specs.Amid.{DeskAmid, ends, kept, asked, rejected}
+use Rattle.desk_laws.specs.Amid.{DeskAmidExists, DeskAmidUnmoved, DeskAnyOrderAmid, NumbersAnyOrder}
 use Rattle.desk_laws.proofs.Calls.{answered, untouched}
 use Rattle.desk_laws.proofs.Carrying.{code-length}
 use Rattle.desk_laws.proofs.Instance.{Garage}

@@ -1,5 +1,5 @@
--- Each number stays with its car, as `CardsFollow` of specs/Following.antt says: what each call does to the numbers is taken from the laws of
--- cards, and where an instruction takes a car from proofs/Rides.antt. Assumes nothing.
+-- Each number stays with its car, as `CardsFollow` of specs/Following.antt says: what each call does to the numbers is had from the laws
+-- of cards, and where an instruction takes a car from proofs/Rides.antt. Assumes nothing.
 use mathlib.Core.Path.{_≡_, refl, sym, ap, subst, _∙_}
 use mathlib.Core.Logic.{_⊎_, inl, inr, ⊎-elim}
 use mathlib.Core.Bool.{Bool, true, false, not, cond, _&&_, _||_}
@@ -91,7 +91,8 @@ module _ (r : ℕ) (a : List ℕ) (s : sound r ≡ true) (t : cardsFit r a ≡ t
         let (x, among, e) = brought i (bit r) is-sound ok l u L (laid-out u U) y m in
         (x, among, subst (Takes i (bit r) x) e (takes i (bit r) is-sound ok l L x among));
     outside = after-outside i (fine i (bit r) is-sound ok .0) r a;
-    cards = marked-cards now (numbersIn (cardsAfter i r a)) (fit-marked (image (next i (bit r))) (cardsAfter i r a) (after-fit r a s t i ok));
+    cards = marked-cards now (numbersIn (cardsAfter i r a))
+        (fit-marked (image (next i (bit r))) (cardsAfter i r a) (after-fit r a s t i ok));
   }
 
 code-follow : (x : Code) (r : ℕ) (a : List ℕ) → sound r ≡ true → cardsFit r a ≡ true → heldAllowed x (bit r) ≡ true
@@ -102,7 +103,8 @@ code-follow x r a s t = read (readCode x) refl
   where
     read : (v : Reading) → readCode x ≡ v → onCode (λ i. allowed i (bit r)) false v ≡ true
         → (i : Instruction) × (readCode x ≡ Good i)
-        × Follow i (bit r) (bit (image (onCode (λ i. next i (bit r)) (bit r) v))) (numbersIn a) (numbersIn (onCode (λ i. cardsAfter i r a) a v))
+        × Follow i (bit r) (bit (image (onCode (λ i. next i (bit r)) (bit r) v))) (numbersIn a)
+        (numbersIn (onCode (λ i. cardsAfter i r a) a v))
     read (Good i) e ok = (i, e, follow r a s t i ok)
     read Bad e ok = clash ok refl
 
@@ -154,18 +156,22 @@ module _ (r : ℕ) (a : List ℕ) (s : sound r ≡ true) (t : cardsFit r a ≡ t
       subst (Driven e (bit r) c (numbersIn a)) (sym (driven-numbers r a s t e c ok new))
       (driven-is e (bit r) c (numbersIn a) (λ i. fit-cards r a s t (S .layout .0) (S .layout .1) .coming .1 i) (one-drive (bit r) S))
 
-event-driven : (d : Desk) (b c : ℕ) (v : EventReading) → readEvent b ≡ v → sound (d .station .bits) ≡ true → possibleAs v (d .station .bits) ≡ true
+event-driven : (d : Desk) (b c : ℕ) (v : EventReading) → readEvent b ≡ v → sound (d .station .bits) ≡ true
+    → possibleAs v (d .station .bits) ≡ true
     → cardsFit (d .station .bits) (d .numbers) ≡ true → ruling d (desk.event b c) ≡ Fine
     → DrivenAs v (bit (d .station .bits)) c (numbersIn (d .numbers))
     (numbersIn (cond (eqb b 1) (cardsDriven BeginIn c (d .numbers)) (passed v (d .numbers))))
 event-driven d b c (Told BeginIn) r s p f =
     rw (event-one-form b BeginIn r) (λ g. driven-at _ (d .numbers) s f BeginIn c p (λ q. begun-new c (d .numbers) g))
 event-driven d b c (Told BeginOut) r s p f =
-    rw (event-one-form b BeginOut r) (λ g. driven-at _ (d .numbers) s f BeginOut 0 p (other-event BeginOut 0 (d .numbers) (λ z. omega arith)))
+    rw (event-one-form b BeginOut r)
+    (λ g. driven-at _ (d .numbers) s f BeginOut 0 p (other-event BeginOut 0 (d .numbers) (λ z. omega arith)))
 event-driven d b c (Told EndDone) r s p f =
-    rw (event-one-form b EndDone r) (λ g. driven-at _ (d .numbers) s f EndDone 0 p (other-event EndDone 0 (d .numbers) (λ z. omega arith)))
+    rw (event-one-form b EndDone r)
+    (λ g. driven-at _ (d .numbers) s f EndDone 0 p (other-event EndDone 0 (d .numbers) (λ z. omega arith)))
 event-driven d b c (Told EndNotDone) r s p f =
-    rw (event-one-form b EndNotDone r) (λ g. driven-at _ (d .numbers) s f EndNotDone 0 p (other-event EndNotDone 0 (d .numbers) (λ z. omega arith)))
+    rw (event-one-form b EndNotDone r)
+    (λ g. driven-at _ (d .numbers) s f EndNotDone 0 p (other-event EndNotDone 0 (d .numbers) (λ z. omega arith)))
 event-driven d b c Untold r s p f = clash p refl
 
 -- ---- each call
@@ -182,7 +188,8 @@ accepted-by d (desk.reports r) p v = (
       let s = d .station in
       let (w, b) = success-bits s r e (p .1) in
       rw (eq-eqb (r .ending) 1 e, b)
-      (code-follow (codeAt (s .set) (r .number)) (s .bits) (d .numbers) (fit-has s (w .0) .sound) (fit-parts d (p .0) .1) (waits-allowed s (r .number) w)),
+      (code-follow (codeAt (s .set) (r .number)) (s .bits) (d .numbers)
+      (fit-has s (w .0) .sound) (fit-parts d (p .0) .1) (waits-allowed s (r .number) w)),
   undone-stays d r (run.left (d .station) (run.reports r)),
 )
 accepted-by d (desk.event b c) p v =

@@ -178,7 +178,9 @@ abbrev ridesRight : Instruction → Bool → Car → Bool
 ridesRight i low x = let y = moved i x in cond (comes i low x y && (whole i x && whole i y)) (ridesTo i low x y) true
 
 abbrev carsRight : Instruction → Bool → Bool
-carsRight i low = every 19 (λ c. ridesRight i low (pair c)) && (every 20 (λ c. ridesRight i low (single (20 + c))) && ridesRight i low raised)
+carsRight i low =
+    every 19 (λ c. ridesRight i low (pair c))
+    && (every 20 (λ c. ridesRight i low (single (20 + c))) && ridesRight i low raised)
 
 abbrev allRight : Instruction → Bool
 allRight i = cond (gapless i) (carsRight i true && carsRight i false) true

@@ -1,4 +1,4 @@
--- What follows for the numbers of a set's cars: asks and rejected calls between the results make no difference to them, and neither does the
+-- What follows for the numbers: asks and rejected calls between the results of a set make no difference to them, and neither does the
 -- order in which stuck instructions finished. Proved in proofs/Amid.antt. Assumes nothing.
 use mathlib.Core.Path.{_≡_}
 use mathlib.Core.List.{List, [], _∷_}

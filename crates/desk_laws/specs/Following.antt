@@ -2,9 +2,10 @@
 -- goes is not mentioned in it. `CardsFollow` comes last. Proved in proofs/Rides.antt and proofs/Following.antt. Assumes nothing.
 use mathlib.Core.Path.{_≡_}
 use mathlib.Core.Bool.{true, false, cond}
-use mathlib.Core.List.{List, [], _∷_}
+use mathlib.Core.List.{List, [], _∷_, _++_}
 use Prim.Native.Nat.{ℕ}
 use lib.Dec.{eqb}
+use lib.ListN.{replicate}
 use Rattle.bits.specs.Bits.{Bits, bit}
 use Rattle.bits.specs.Places.{elem}
 use Rattle.floor.specs.Floor.{raisedCar, driveIn, driveOut}
@@ -22,8 +23,9 @@ use Rattle.garage.specs.Held.{codeAt}
 use Rattle.cards.specs.Cards.{Numbers, anchor, Among, Cards}
 use Rattle.cards.specs.Held.{numbersIn}
 use Rattle.desk.specs.declared.Desk.{Desk}
+use Rattle.desk.specs.Desk.{startDesk}
 use Rattle.desk_laws.specs.Runs as desk
-use Rattle.desk_laws.specs.Runs.{DeskCall, said, left}
+use Rattle.desk_laws.specs.Runs.{DeskCall, said, left, calls}
 
 -- ---- where an instruction takes a car
 
@@ -99,6 +101,19 @@ abbrev pub CardsFollow : Type 0
 CardsFollow =
     (d : Desk) (c : DeskCall)
     → (said d c ≡ 0 → Accepted d c (left d c)) × ((said d c ≡ 0 → ⊥) → left d c .numbers ≡ d .numbers)
+
+-- such calls happen: a car is driven in with the number 7, and the lift is asked to take it to the basement; when the result says done, the
+-- number has gone from the raised lift to the lift's cells
+abbrev pub downWithSeven : List DeskCall
+downWithSeven = desk.event 1 7 ∷ desk.event 3 0 ∷ desk.request 1 ((4 ∷ 2 ∷ 0 ∷ 0 ∷ 0 ∷ []) ++ replicate 35 0) ∷ []
+
+abbrev pub isDown : DeskCall
+isDown = desk.reports (record { issue = 0; number = 0; ending = 1 })
+
+abbrev pub FollowHappens : Type 0
+FollowHappens =
+    let d = calls startDesk downWithSeven in
+    (said d isDown ≡ 0) × (numbersIn (d .numbers) raisedCar ≡ 7) × (numbersIn (left d isDown .numbers) 11 ≡ 7)
 
 -- after a success no other numbers would do: what the rules say of each car leaves no two to exchange
 abbrev pub FollowOnly : Type 0
