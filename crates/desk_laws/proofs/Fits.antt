@@ -88,11 +88,11 @@ code-fits x r a s = read (readCode x)
     read Bad t f = clash t refl
 
 -- a number that is found fine at a begin is new
-begun-new : (c : ℕ) (a : List ℕ) → begun (eqb c 0) (isKnown a c) ≡ Fine → isNew c a ≡ true
+pub begun-new : (c : ℕ) (a : List ℕ) → begun (eqb c 0) (isKnown a c) ≡ Fine → isNew c a ≡ true
 begun-new c a e = let (z, k) = begun-fine (eqb c 0) (isKnown a c) e in rw (z, k)
 
 -- an event that is no begin of a drive-in brings none
-other-event : (e : Event) (c : ℕ) (a : List ℕ) → (eventCode e ≡ 1 → ⊥) → e ≡ BeginIn → isNew c a ≡ true
+pub other-event : (e : Event) (c : ℕ) (a : List ℕ) → (eventCode e ≡ 1 → ⊥) → e ≡ BeginIn → isNew c a ≡ true
 other-event e c a n q = absurd (n (ap eventCode q))
 
 event-fits : (d : Desk) (e c : ℕ) (v : EventReading) → readEvent e ≡ v → sound (d .station .bits) ≡ true → possibleAs v (d .station .bits) ≡ true
@@ -109,7 +109,7 @@ event-fits d e c (Told EndNotDone) r s p f =
 event-fits d e c Untold r s p f = clash p refl
 
 -- numbers that are fine with an image are all there
-fine-length : (r n : ℕ) (ns : List ℕ) → givenAs r n ns ≡ Fine → n ≤ length ns
+pub fine-length : (r n : ℕ) (ns : List ℕ) → givenAs r n ns ≡ Fine → n ≤ length ns
 unfolding givenAs
 fine-length r n ns e = split (ltb (length ns) n)
     (λ t. let past = eq-eqb _ 0 (List·getD-eq-default ns 0 {n = length ns} (omega arith)) in

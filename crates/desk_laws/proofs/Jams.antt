@@ -86,11 +86,11 @@ module _ (d : Desk) (b : DeskBegins d) (l : List DeskCall) where
       (sane-calls (below d l) [] (d .station) (fit-sane (d .station) (fit-parts d (begins-fit d b) .0)))
 
   module _ (p : List ℕ) (h : Picks (length (stuckAt d l)) p) where
-    whichever : Whichever numbered (jamsOf (stuckAt d l)) (deskView (calls d l)) p
+    pub whichever : Whichever numbered (jamsOf (stuckAt d l)) (deskView (calls d l)) p
     whichever = good-whichever numbered _ _ frame _ _
         (good-desk (stuckAt d l) (calls d l .station) (calls d l .numbers) sane-now (fit-parts (calls d l) fits-now .1)) p (picks-same _ p h)
 
-    finished-is : machine-jams.applied numbered (jamsOf (stuckAt d l)) p (calls d l .station .bits, calls d l .numbers)
+    pub finished-is : machine-jams.applied numbered (jamsOf (stuckAt d l)) p (calls d l .station .bits, calls d l .numbers)
         ≡ (finishedRecord d l p, finishedCards d l p)
     finished-is = applied-is (stuckAt d l) p (calls d l .station .bits) (calls d l .numbers)
 

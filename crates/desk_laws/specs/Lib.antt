@@ -1,3 +1,5 @@
 pub mod Runs
 pub mod Orders
 pub mod Promises
+pub mod Following
+pub mod Amid
