@@ -17,6 +17,7 @@ use Rattle.rules.specs.declared.Instruction.{Instruction}
 use Rattle.rules.specs.declared.Instruction.the-variants.{Belts, Shuttles, Tilt, Lift, Rotate}
 use Rattle.rules.specs.Rules.{wellFormed, areaOf, area, overlap, seen, allowed, next}
 use Rattle.rules_laws.specs.Laws.{Clear}
+use Rattle.rules_laws.specs.Undoing.{recordAfter}
 use Rattle.rules_laws.proofs.Laws.{same-verdict, kept-outside, sides-kept, stays-sound}
 use Rattle.cards.specs.Following.{numbersAfter}
 use Rattle.cards_laws.specs.Statements.{AllAllowed, InNone, Whichever}
@@ -58,6 +59,7 @@ module _ (i : Instruction) (f : Bits) (s : Sound f) (ok : allowed i f ≡ true) 
   )
 
 pub whichever : Whichever
+unfolding recordAfter
 whichever [] f n s c a p = (s, c, λ k h. refl)
 whichever (i ∷ is) f n s c a p =
     let ok = a .0 in
