@@ -1,0 +1,203 @@
+// The declarations of index.js. tests/headers.test.js holds the entries and the numbers against include/*.h.
+
+/** The module's entries and its memory. Numbers cross as numbers, 64 bits as a bigint, bytes as a Uint8Array. */
+export class Entries {
+  readonly exports: RawEntries & { memory: WebAssembly.Memory };
+  readonly memory: WebAssembly.Memory;
+  take(size: number): number;
+  view(at: number, size: number): Uint8Array;
+  call(name: EntryName, ...values: (number | bigint | Uint8Array)[]): number;
+}
+
+/** How a parameter crosses. */
+export type Crossing = 'u8' | 'u16' | 'u32' | 'u64' | 'room' | 'bytes';
+export const ENTRIES: { readonly [name in EntryName]: { readonly [parameter: string]: Crossing } };
+export type EntryName = Exclude<keyof RawEntries, never>;
+
+/** An address in the module's memory. */
+type Address = number;
+
+/** The entries as the module has them: each run of bytes is an address and a length. */
+export interface RawEntries {
+  station_version(): number;
+  station_start(room: Address, room_length: bigint): number;
+  station_request(room: Address, room_length: bigint, count: number, set: Address, set_length: bigint): number;
+  station_event(room: Address, room_length: bigint, way: number): number;
+  station_result(room: Address, room_length: bigint, issue: number, number: number, ending: number): number;
+  station_image(room: Address, room_length: bigint, image: bigint, apart: bigint): number;
+  station_ask(room: Address, room_length: bigint, image: Address, image_length: bigint): number;
+  station_message(room: Address, room_length: bigint, message: Address, message_length: bigint, reply: Address, reply_length: bigint): number;
+  garage_sound(image: bigint): number;
+  garage_cars(image: bigint): number;
+  garage_allowed(image: bigint, five: Address, five_length: bigint): number;
+  garage_next(image: bigint, five: Address, five_length: bigint, next: Address, next_length: bigint): number;
+  garage_area(five: Address, five_length: bigint, area: Address, area_length: bigint): number;
+  garage_overlap(one: Address, one_length: bigint, other: Address, other_length: bigint): number;
+  desk_start(room: Address, room_length: bigint): number;
+  desk_request(room: Address, room_length: bigint, count: number, set: Address, set_length: bigint): number;
+  desk_event(room: Address, room_length: bigint, way: number, card: number): number;
+  desk_result(room: Address, room_length: bigint, issue: number, number: number, ending: number): number;
+  desk_image(room: Address, room_length: bigint, image: bigint, apart: bigint, count: number, cards: Address, cards_length: bigint): number;
+  desk_ask(room: Address, room_length: bigint, image: Address, image_length: bigint): number;
+  desk_where(room: Address, room_length: bigint, card: number): number;
+  desk_leaving(room: Address, room_length: bigint, card: Address, card_length: bigint): number;
+  plan_judge(plan: Address, plan_length: bigint): number;
+  drawing_write(image: bigint, text: Address, text_length: bigint): number;
+  drawing_read(text: Address, text_length: bigint, room: Address, room_length: bigint): number;
+  plain_request(room: Address, room_length: bigint, count: number, set: Address, set_length: bigint): number;
+  plain_event(room: Address, room_length: bigint, way: number): number;
+  plain_result(room: Address, room_length: bigint, issue: number, number: number, ending: number): number;
+  panel_condition(image: bigint, five: Address, five_length: bigint, c: number, room: Address, room_length: bigint): number;
+  panel_next(image: bigint, five: Address, five_length: bigint, next: Address, next_length: bigint): number;
+  panel_cars(image: bigint, room: Address, room_length: bigint): number;
+  report_start(totals: Address, totals_length: bigint): number;
+  report_message(totals: Address, totals_length: bigint, station: Address, station_length: bigint, message: Address, message_length: bigint): number;
+  report_lines(totals: Address, totals_length: bigint, full: number, out: Address, out_length: bigint): number;
+}
+
+/** The library over the module's bytes, as tools/wasm writes them. */
+export function load(wasm: BufferSource): Promise<Library>;
+
+/** An instruction's five bytes. */
+export type Five = Uint8Array;
+
+export class Library {
+  readonly entries: Entries;
+  readonly version: [number, number, number];
+  /** A station: that of the start, or of the 60 bytes that one was. */
+  station(bytes?: Uint8Array): Station;
+  /** A desk: that of the start, or of the 228 bytes that one was. */
+  desk(bytes?: Uint8Array): Desk;
+  totals(): Totals;
+  sound(record: bigint): boolean;
+  cars(record: bigint): number;
+  /** The places of a sound record's cars: the cell where each begins, and 52 for the raised lift. */
+  places(record: bigint): number[];
+  allowed(record: bigint, five: Five): Answer;
+  next(record: bigint, five: Five): { answer: Answer; record: bigint };
+  area(five: Five): bigint;
+  overlap(one: Five, other: Five): Answer;
+  conditions(record: bigint, five: Five): Condition[];
+  drawing(record: bigint): { answer: Answer; text: string };
+  drawn(text: string): { answer: Answer; record: bigint | null };
+  judge(plan: Uint8Array): Answer;
+  bytes(record: bigint): Uint8Array;
+}
+
+/** A condition of an instruction: whether it holds, what is told where it is the first to fail, and the parts that decide it. */
+export interface Condition {
+  holds: boolean;
+  number: number;
+  parts: bigint;
+}
+
+/** An answer: a number of the table, a place or nothing, and the issue of the set where a request was taken. */
+export class Answer {
+  constructor(number: number, place: number, issue: number);
+  static of(said: number): Answer;
+  readonly number: number;
+  readonly place: number | null;
+  readonly issue: number;
+  readonly taken: boolean;
+  readonly words: string;
+  toString(): string;
+}
+
+interface Shown {
+  answer: Answer;
+  record: bigint;
+  apart: bigint;
+}
+
+declare class Held {
+  readonly bytes: Uint8Array;
+  readonly record: bigint;
+  readonly apart: bigint;
+  readonly set: { five: Five; answered: boolean }[];
+  readonly issue: number;
+  ask(): Shown;
+  request(fives: Five[]): Answer;
+  result(issue: number, number: number, outcome: number): Answer;
+}
+
+export class Station extends Held {
+  constructor(entries: Entries, bytes?: Uint8Array);
+  copy(): Station;
+  event(way: number): Answer;
+  image(record: bigint, apart?: bigint): Answer;
+  message(bytes: Uint8Array): { answer: Answer; reply: Uint8Array };
+}
+
+export class Desk extends Held {
+  constructor(entries: Entries, bytes?: Uint8Array);
+  copy(): Desk;
+  station(): Station;
+  readonly cards: Map<number, number>;
+  event(way: number, card?: number): Answer;
+  image(record: bigint, cards: number[], apart?: bigint): Answer;
+  where(card: number): { answer: Answer; place: number | null; lastKnown: boolean };
+  leaving(): { answer: Answer; card: number };
+}
+
+export class Totals {
+  readonly bytes: Uint8Array;
+  count(station: Station, message: Uint8Array): Answer;
+  lines(): [string, number][];
+}
+
+/** Many messages on one station, at the module's own speed. */
+export class Run {
+  constructor(entries: Entries, most: number);
+  lend(bytes: Uint8Array): void;
+  answer(at: number, length: number): number;
+  count(at: number, length: number): number;
+  station(): Uint8Array;
+  restore(bytes: Uint8Array): void;
+  counted(): Totals;
+}
+
+export type Message =
+  | { says: 'request'; fives: Five[] }
+  | { says: 'event'; way: number }
+  | { says: 'result'; issue: number; number: number; outcome: number }
+  | { says: 'image' | 'held'; record: bigint; apart: bigint }
+  | { says: 'ask' }
+  | { says: 'answer'; answer: Answer }
+  | { says: 'unread'; kind: number };
+export function readMessage(bytes: Uint8Array): Message;
+export function requestOf(fives: Five[]): Uint8Array;
+export function eventOf(way: number): Uint8Array;
+export function resultOf(issue: number, number: number, outcome: number): Uint8Array;
+export function imageOf(record: bigint, apart?: bigint): Uint8Array;
+export function askOf(): Uint8Array;
+/** Where the message at a place ends; 0 where the bytes end inside it, -1 where its length is out of range. */
+export function endOf(bytes: Uint8Array, at: number): number;
+
+/** The five bytes of a line such as `lift basement`; throws WrongLine. */
+export function instruction(line: string): Five;
+export function lineOf(five: Five): string;
+export class WrongLine extends Error {}
+
+export interface Plan {
+  image: Uint8Array | null;
+  wish: number | null;
+  sets: { line: number; fives: Five[] }[];
+  wrong: { line: number; why: string }[];
+}
+export function planIn(text: string): Plan;
+export function planBytes(plan: Plan): Uint8Array;
+
+export function bytesIn(text: string): Uint8Array | null;
+export function bytesOf(number: bigint): Uint8Array;
+export function hexOf(bytes: Uint8Array): string;
+export function numberAt(bytes: Uint8Array, at?: number): bigint;
+
+export const START: bigint;
+export function wordsOf(number: number): string;
+export const Numbers: { readonly [name: string]: number };
+export const Size: { readonly [name: string]: number };
+export const Kind: { readonly Request: 1; readonly Event: 2; readonly Result: 3; readonly Image: 4; readonly Ask: 5; readonly Answer: 128; readonly Held: 129 };
+export const Event: { readonly BeginIn: 1; readonly BeginOut: 2; readonly EndDone: 3; readonly EndNotDone: 4 };
+export const Outcome: { readonly Failed: 0; readonly Done: 1; readonly Stuck: 2 };
+export const Op: { readonly Belts: 1; readonly Shuttles: 2; readonly Tilt: 3; readonly Lift: 4; readonly Rotate: 5 };
+export const Height: { readonly Street: 0; readonly Rotation: 1; readonly Basement: 2 };
