@@ -43,7 +43,7 @@ export const ENTRIES = {
   report_lines: { totals: BYTES, full: U8, out: ROOM },
 };
 
-const MOST = { u8: 0xff, u16: 0xffff, u32: 0xffffffff };
+const LARGEST = { u8: 0xff, u16: 0xffff, u32: 0xffffffff };
 const PAGE = 65536;
 const LENGTHS = Array.from({ length: 256 }, (_, length) => BigInt(length));
 
@@ -99,7 +99,7 @@ export class Entries {
         if (typeof value !== 'bigint' || BigInt.asUintN(64, value) !== value) throw new RangeError(`${label} of ${name} is a bigint of 64 bits`);
         crossed.push(value);
       } else {
-        if (!Number.isInteger(value) || value < 0 || value > MOST[kind]) throw new RangeError(`${label} of ${name} goes from 0 to ${MOST[kind]}`);
+        if (!Number.isInteger(value) || value < 0 || value > LARGEST[kind]) throw new RangeError(`${label} of ${name} goes from 0 to ${LARGEST[kind]}`);
         crossed.push(value);
       }
     });

@@ -148,6 +148,7 @@ export class Totals {
 /** Many messages on one station, at the module's own speed. */
 export class Run {
   constructor(entries: Entries, most: number);
+  begin(): void;
   lend(bytes: Uint8Array): void;
   answer(at: number, length: number): number;
   count(at: number, length: number): number;

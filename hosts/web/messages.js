@@ -15,7 +15,7 @@ export const resultOf = (issue, number, outcome) => message(Kind.Result, Uint8Ar
 export const imageOf = (record, apart = 0n) => message(Kind.Image, joined(bytesOf(record), bytesOf(apart)));
 export const askOf = () => message(Kind.Ask, new Uint8Array(0));
 
-const lengthAt = (bytes, at) => bytes[at] | (bytes[at + 1] << 8);
+export const lengthAt = (bytes, at) => bytes[at] | (bytes[at + 1] << 8);
 
 /** Where the message at a place ends; 0 where the bytes end inside it, -1 where its length is out of range. */
 export function endOf(bytes, at) {

@@ -37,8 +37,13 @@ export class Run {
     this.reply = entries.take(Size.STATION_REPLY_MOST);
     this.totals = entries.take(Size.REPORT_TOTALS);
     this.messages = entries.take(most);
-    entries.exports.station_start(this.room, lengthOf(Size.STATION_SIZE));
-    entries.exports.report_start(this.totals, lengthOf(Size.REPORT_TOTALS));
+    this.begin();
+  }
+
+  /** Begins anew: the start station, and no totals. */
+  begin() {
+    this.entries.exports.station_start(this.room, lengthOf(Size.STATION_SIZE));
+    this.entries.exports.report_start(this.totals, lengthOf(Size.REPORT_TOTALS));
   }
 
   /** Lends the next messages. */

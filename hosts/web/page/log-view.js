@@ -1,0 +1,141 @@
+// The log on the screen: a file is opened, and every message of it can be looked at, with the floor after it.
+
+import { hexOf } from '../bytes.js';
+import { readMessage } from '../messages.js';
+import { byId, download, fill, html, some } from './dom.js';
+import { against, says, toDo, told } from './explain.js';
+import { BadFile, readFile } from './files.js';
+import { drawFloor } from './floor.js';
+import { Log } from './log.js';
+import { Ticker } from './motors.js';
+import { summary } from './record-words.js';
+
+const SPEEDS = [[1, 'one a second'], [10, 'ten a second'], [1000, 'a thousand a second']];
+const BUSIEST = 30; // steps a second
+
+export class LogView {
+  constructor(library, { opened }) {
+    Object.assign(this, { library, opened, log: null, at: 0, speed: 1 });
+    this.ticker = new Ticker(() => this.tick(), () => this.showControls());
+    const drop = byId('drop'), input = byId('file');
+    input.addEventListener('change', () => input.files[0] && this.openFile(input.files[0]));
+    drop.addEventListener('dragover', (event) => { event.preventDefault(); drop.classList.add('over'); });
+    drop.addEventListener('dragleave', () => drop.classList.remove('over'));
+    drop.addEventListener('drop', (event) => {
+      event.preventDefault();
+      drop.classList.remove('over');
+      if (event.dataTransfer.files[0]) this.openFile(event.dataTransfer.files[0]);
+    });
+    byId('paste').addEventListener('submit', (event) => {
+      event.preventDefault();
+      this.open('The pasted log', new TextEncoder().encode(byId('pasted').value));
+    });
+    byId('slider').addEventListener('input', (event) => this.go(Number(event.target.value)));
+  }
+
+  async openFile(file) {
+    await this.open(file.name, new Uint8Array(await file.arrayBuffer()));
+  }
+
+  /** Opens a file's bytes; what is wrong with it is told in one sentence. */
+  async open(name, bytes) {
+    this.ticker.stop();
+    const note = byId('log-note');
+    note.className = 'told';
+    note.textContent = `Reading ${name} …`;
+    try {
+      const log = new Log(this.library, readFile(name, bytes)), begun = performance.now();
+      await log.answer(async (count) => {
+        note.textContent = `${some(count, 'message')} answered …`;
+        await new Promise((resolve) => { setTimeout(resolve); });
+      });
+      this.log = log;
+      this.took = performance.now() - begun;
+      this.opened();
+      note.className = `told ${log.file.note || log.differ.length ? 'no' : 'yes'}`;
+      note.textContent = this.headline();
+      byId('log-body').hidden = false;
+      this.showMarks();
+      this.go(log.count);
+    } catch (why) {
+      if (!(why instanceof BadFile)) throw why;
+      note.className = 'told no';
+      note.textContent = why.message;
+    }
+  }
+
+  headline() {
+    const { file, refused, differ } = this.log;
+    const parts = [`${file.name}: ${some(file.count, 'message')}, ${some(refused.length, 'rejection')}`];
+    if (file.old) parts.push(`${some(file.old.length, 'answer')} in the log, ${differ.length ? `${differ.length} of them not this station's` : "all of them this station's"}`);
+    if (file.note) parts.push(file.note);
+    return `${parts.join('; ')}.`;
+  }
+
+  /** Where rejections are, along the slider. */
+  showMarks() {
+    const { log } = this, canvas = byId('marks'), paint = canvas.getContext('2d'), shades = new Set();
+    canvas.width = 1200;
+    canvas.height = 14;
+    paint.fillStyle = getComputedStyle(canvas).color;
+    for (const at of log.refused) shades.add(Math.floor(((at + 1) / log.count) * (canvas.width - 2)));
+    for (const x of shades) paint.fillRect(x, 0, 2, canvas.height);
+    canvas.setAttribute('aria-label', `${some(log.refused.length, 'rejection')} among ${some(log.count, 'message')}`);
+  }
+
+  tick() {
+    if (this.at >= this.log.count) return null;
+    this.go(Math.min(this.log.count, this.at + Math.max(1, Math.round(this.speed / BUSIEST))));
+    return Math.max(1000 / BUSIEST, 1000 / this.speed);
+  }
+
+  /** Shows the log after its first so many messages. */
+  go(count) {
+    const { log, library } = this;
+    this.at = count;
+    const slider = byId('slider');
+    slider.max = String(log.count);
+    slider.value = String(count);
+    slider.setAttribute('aria-valuetext', `message ${count} of ${log.count}`);
+    const station = log.stationAt(count), waiting = station.set.filter(({ answered }) => !answered).map(({ five }) => five);
+    const floor = { library, record: station.record, apart: station.apart, mode: 'still', motion: waiting };
+    drawFloor(byId('log-floor'), { ...floor, label: `The floor after message ${count}: ${summary(floor)}` });
+    byId('log-summary').textContent = `After message ${count.toLocaleString('en')} of ${log.count.toLocaleString('en')}: ${summary(floor)}.`;
+    this.showMessage(count - 1);
+    this.showControls();
+  }
+
+  showMessage(at) {
+    const { log, library } = this, node = byId('log-message');
+    if (at < 0) return fill(node, html('p', { class: 'quiet' }, 'The station at its start, before the first message.'));
+    const bytes = log.message(at), before = log.stationAt(at), { answer, reply } = before.copy().message(bytes), { title, lines } = says(bytes);
+    const why = answer.taken ? [] : against(library, before, bytes, answer), mend = answer.taken ? '' : toDo(bytes, answer), old = log.file.old?.[at];
+    return fill(node, html('h3', {}, `Message ${(at + 1).toLocaleString('en')}: ${title}`),
+      lines.length ? html('ul', {}, lines.map((line) => html('li', {}, line))) : null, html('code', { class: 'bytes' }, hexOf(bytes)),
+      html('p', { class: `told ${answer.taken ? 'yes' : 'no'}` }, reply[2] === 129 ? says(reply).title : told(answer, readMessage(bytes).fives)), html('code', { class: 'bytes' }, hexOf(reply)),
+      old ? html('p', { class: `told ${hexOf(old) === hexOf(reply) ? 'yes' : 'no'}` }, hexOf(old) === hexOf(reply) ? 'The log has the same answer.' : `The log has another answer: ${says(old).title} (${hexOf(old)}).`) : null,
+      why.length ? html('ul', { class: 'why' }, why.map((line) => html('li', {}, line))) : null, mend ? html('p', {}, html('b', {}, 'To do: '), mend) : null);
+  }
+
+  showControls() {
+    const { log, at } = this;
+    if (!log) return;
+    const node = byId('log-controls'), held = node.contains(document.activeElement) ? document.activeElement.id : null;
+    const next = log.nextRefused(at - 1), last = log.nextRefused(at - 1, true);
+    const button = (id, words, enabled, onclick) => html('button', { type: 'button', id, disabled: !enabled, onclick }, words);
+    fill(node,
+      button('previous-refused', '← Rejection', last >= 0, () => this.go(last + 1)), button('step-back', '← Step', at > 0, () => this.go(at - 1)),
+      button('play-log', this.ticker.runs ? 'Stop' : 'Play', at < log.count || this.ticker.runs, () => this.ticker.toggle()),
+      button('step', 'Step →', at < log.count, () => this.go(at + 1)), button('next-refused', 'Rejection →', next >= 0, () => this.go(next + 1)),
+      html('label', {}, 'Speed ', html('select', { id: 'speed', onchange: (event) => { this.speed = Number(event.target.value); } },
+        SPEEDS.map(([speed, words]) => html('option', { value: speed, selected: speed === this.speed }, words)))));
+    if (held) byId(held)?.focus();
+  }
+
+  /** Saves the messages that are asked for. */
+  save(how) {
+    const { log } = this, from = Math.max(1, Number(byId('from').value) || 1), to = Math.min(log.count, Number(byId('to').value) || log.count);
+    if (how === 'example') download('example.md', log.example(from - 1, to), 'text/markdown');
+    else download('part.log', log.hexadecimal(from - 1, to), 'text/plain');
+  }
+}
