@@ -25,7 +25,7 @@ def free_port() -> int:
 
 class Browser:
     def __init__(self, folder, width=1280, height=1000, dark=False):
-        self.port, self.session = free_port(), None
+        self.port, self.session, self.patience = free_port(), None, PATIENCE
         self.driver = subprocess.Popen(["chromedriver", f"--port={self.port}"], stdout=subprocess.DEVNULL, stderr=subprocess.DEVNULL)
         words = ["--headless=new", "--no-sandbox", "--disable-gpu", "--disable-dev-shm-usage", "--hide-scrollbars", "--no-first-run",
                  "--disable-background-networking", "--disable-component-update", f"--window-size={width},{height}", f"--user-data-dir={folder}"]
@@ -77,8 +77,8 @@ class Browser:
             raise Failed(f"{script}: {value['failed']}")
         return value
 
-    def until(self, script, what, seconds=PATIENCE):
-        end = time.monotonic() + seconds
+    def until(self, script, what):
+        end = time.monotonic() + self.patience
         while not self.run(script):
             if time.monotonic() > end:
                 raise Failed(f"waited for: {what}")

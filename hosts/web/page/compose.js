@@ -13,13 +13,12 @@ const SET_MOST = 8;
 /** The set that is being built; `changed` is called after each change. */
 export class Composer {
   constructor(library, changed) {
-    Object.assign(this, { library, changed, draft: Uint8Array.from(FRESH[Op.Lift]), touched: false, chosen: [], wrong: '' });
+    Object.assign(this, { library, changed, draft: Uint8Array.from(FRESH[Op.Lift]), touched: false, chosen: [], wrong: '', typing: null });
   }
 
   put(...bytes) {
     this.draft = Uint8Array.from(bytes);
-    this.touched = true;
-    this.wrong = '';
+    Object.assign(this, { touched: true, wrong: '', typing: null });
     this.changed();
   }
 
@@ -65,7 +64,7 @@ export class Composer {
 
   add() {
     if (this.chosen.length < SET_MOST) this.chosen.push(this.draft);
-    this.touched = false;
+    Object.assign(this, { touched: false, typing: null });
     this.changed();
   }
 
@@ -74,14 +73,16 @@ export class Composer {
     this.changed();
   }
 
+  /** A line is being typed: it stays as it is, and is the draft where it says an instruction. */
   typed(line) {
+    this.typing = line;
     try {
-      this.put(...instruction(line));
+      Object.assign(this, { draft: instruction(line), touched: true, wrong: '' });
     } catch (why) {
       if (!(why instanceof WrongLine)) throw why;
       this.wrong = why.message;
-      this.changed();
     }
+    this.changed();
   }
 
   /** The controls of the draft. */
@@ -112,13 +113,12 @@ export class Composer {
 
   /** Shows the composer in a node. */
   show(node, station, send) {
-    const verdict = this.judged(station), focused = node.contains(document.activeElement) ? document.activeElement : null;
-    const key = focused && [focused.name ?? '', focused.value, focused.id];
+    const verdict = this.judged(station), held = node.contains(document.activeElement) ? document.activeElement : null;
     fill(node,
       html('div', { class: 'controls' }, this.controls()),
-      html('form', { class: 'line', onsubmit: (event) => { event.preventDefault(); this.typed(event.target.elements.line.value); if (!this.wrong) this.add(); } },
+      html('form', { class: 'line', onsubmit: (event) => { event.preventDefault(); if (!this.wrong) this.add(); } },
         html('label', { for: 'words' }, 'In words'),
-        html('input', { id: 'words', name: 'line', value: lineOf(this.draft), autocomplete: 'off', spellcheck: 'false', onchange: (event) => this.typed(event.target.value) }),
+        html('input', { id: 'words', name: 'line', value: this.typing ?? lineOf(this.draft), autocomplete: 'off', spellcheck: 'false', oninput: (event) => this.typed(event.target.value) }),
         html('button', { id: 'add', type: 'submit', disabled: this.chosen.length >= SET_MOST }, 'Add to the set')),
       this.wrong ? html('p', { class: 'told no', role: 'alert' }, this.wrong) : html('p', { class: `told ${verdict.number === null ? '' : verdict.number ? 'no' : 'yes'}`, id: 'verdict', 'aria-live': 'polite' }, html('b', {}, verdict.number ? `${verdict.number} ` : ''), verdict.words),
       html('details', { class: 'conditions', open: verdict.number >= 20 && verdict.number <= 28 },
@@ -129,7 +129,14 @@ export class Composer {
         html('ol', { start: 0 }, this.chosen.map((five, at) => html('li', {}, html('code', {}, lineOf(five)), ' ',
           html('button', { class: 'quiet', type: 'button', 'aria-label': `Remove ${lineOf(five)}`, onclick: () => this.remove(at) }, 'Remove')))),
         html('button', { id: 'send', class: 'main', type: 'button', disabled: !this.chosen.length, onclick: send }, 'Send the set')));
-    if (key) [...node.querySelectorAll('input, button')].find((one) => (one.name ?? '') === key[0] && one.value === key[1] && one.id === key[2])?.focus();
+    if (held) focusAgain(node, held);
     return verdict;
   }
+}
+
+/** Puts the focus, and the caret, to where it was before a node was filled anew. */
+function focusAgain(node, held) {
+  const again = [...node.querySelectorAll('input, button')].find((one) => one.id === held.id && (one.id || (one.name === held.name && one.value === held.value)));
+  again?.focus();
+  if (held.id === 'words') again.setSelectionRange(held.selectionStart, held.selectionEnd);
 }

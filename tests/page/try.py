@@ -1,0 +1,53 @@
+"""Tries the page in a real browser: every check on the page as it is, then each wrong page, which its check must find out. `try.py PAGE`, and
+names of checks for these alone."""
+
+import os
+import sys
+import tempfile
+import time
+from pathlib import Path
+
+import checks
+import looks
+from browser import Browser, Failed
+from wrong import WRONG, wrong_page
+
+ALL = [checks.parks_by_clicks, checks.fetches_by_keys, checks.jam_and_image, checks.refusals_are_told, checks.two_orders, checks.motors_play, checks.night_log,
+       checks.journal, checks.random_messages, checks.bad_files, checks.garage_drawn, checks.plan_judged, looks.contrast_and_labels, looks.on_a_phone,
+       looks.on_paper, looks.still_quiet, looks.nothing_leaves]
+
+
+def main(path, names):
+    failed, tried, found_out = [], 0, 0
+    with tempfile.TemporaryDirectory() as folder, Browser(folder) as page:
+        page.slowness = float(os.environ.get("PAGE_SLOWNESS", "4")) # a machine that does other things meanwhile is slower
+        for check in ALL:
+            if names and check.__name__ not in names:
+                continue
+            begun = time.monotonic()
+            try:
+                check(page, path.as_uri())
+                print(f"{check.__name__}: {time.monotonic() - begun:.1f} s")
+            except (AssertionError, Failed) as why:
+                failed.append(f"{check.__name__}: {why}")
+            tried += 1
+        text = path.read_text()
+        for what, check, old, new in WRONG:
+            if names and check.__name__ not in names:
+                continue
+            one = path.parent / "wrong.html"
+            one.write_text(wrong_page(text, old, new))
+            page.log("browser")
+            page.patience = 6
+            try:
+                check(page, one.as_uri())
+                failed.append(f"a wrong page passes {check.__name__}: {what}")
+            except (AssertionError, Failed):
+                found_out += 1
+    for line in failed:
+        print(f"failed: {line}")
+    print(f"page: {tried - sum(not line.startswith('a wrong') for line in failed)} of {tried} checks passed, {found_out} wrong pages found out")
+    return 1 if failed else 0
+
+
+sys.exit(main(Path(sys.argv[1]).resolve(), sys.argv[2:]))

@@ -1,0 +1,42 @@
+"""Wrong pages: each has one fault in its script, and a check must find it out. A page's policy has its script's hash, which is made anew."""
+
+import base64
+import hashlib
+import re
+
+import checks
+import looks
+
+WRONG = [
+    ("a car is drawn one cell off", checks.parks_by_clicks, "spanBox(place, Math.min(place + 1, 19))", "spanBox(Math.min(place + 1, 18), Math.min(place + 2, 19))"),
+    ("a car of row 2 is drawn one cell off", checks.garage_drawn, ": cellBox(place);", ": cellBox(place + 1);"),
+    ("a jam is not hatched", checks.jam_and_image, "rx: 6, fill: sketch.hatch, 'data-apart': bit", "rx: 6, fill: 'none', 'data-apart': bit"),
+    ("a jam is hatched in part", checks.jam_and_image, "bitsOf(apart).map(", "bitsOf(apart).slice(1).map("),
+    ("an answer is not shown", checks.parks_by_clicks, "id: 'reply' }, hexOf(last.reply)", "id: 'reply' }, ''"),
+    ("an answer is another's", checks.refusals_are_told, "id: 'reply' }, hexOf(last.reply)", "id: 'reply' }, hexOf(this.history[0].reply)"),
+    ("the door stays closed", checks.parks_by_clicks, "'data-door': 'open' })", "'data-door': 'closed' })"),
+    ("the lift is drawn at street always", checks.parks_by_clicks, "'data-lift': HEIGHTS[height]", "'data-lift': HEIGHTS[0]"),
+    ("motion is not drawn", checks.parks_by_clicks, "areas(motion, 'motion'),", ""),
+    ("overlap is not told", checks.refusals_are_told, "const at = this.chosen.findIndex((five) => !library.overlap(five, draft).taken);", "const at = -1;"),
+    ("a stuck result is sent as failed", checks.jam_and_image, "this.send(resultOf(issue, at, outcome), (desk) => desk.result(issue, at, outcome));", "this.send(resultOf(issue, at, outcome % 2), (desk) => desk.result(issue, at, outcome % 2));"),
+    ("the two orders are one", checks.two_orders, "second = new Seeded(seed + other).shuffled(first);", "second = [...first]; break;"),
+    ("a rejection is not counted", checks.journal, "if (number !== Numbers.Taken) this.refused.push(at);", "if (number > 1 && number !== 12) this.refused.push(at);"),
+    ("a log's own answer is not held against the station's", checks.night_log, "if (!counted) this.compare();", ""),
+    ("a total is another's", checks.journal, "html('tr', { 'data-total': name }", "html('tr', { 'data-total': name.replace('done-1', 'done-2') }"),
+    ("half a car is sound", checks.garage_drawn, "const { library, record } = this, sound = library.sound(record),", "const { library, record } = this, sound = true,"),
+    ("the set at fault is another", checks.plan_judged, "set ${fault} (line ${plan.sets[fault].line})", "set ${fault - 1} (line ${plan.sets[fault - 1].line})"),
+    ("the floor can't be reached by keys", checks.fetches_by_keys, "first.setAttribute('tabindex', '0');", ""),
+    ("a damaged file is taken for whole", checks.bad_files, "if (end <= 0) {\n      note =", "if (end <= 0) {\n      break;\n      note ="),
+    ("a field has no name", looks.contrast_and_labels, "html('label', { for: 'words' }, 'In words'),", ""),
+    ("an error is thrown", looks.still_quiet, "byId('version').textContent =", "setTimeout(() => { throw new Error('lost'); });\n  byId('version').textContent ="),
+]
+
+
+def wrong_page(text, old, new):
+    """A page with one change in its script, and the policy that lets it run."""
+    whole = re.search(r'<script type="module">(.*?)</script>', text, re.DOTALL)[1]
+    assert whole.count(old) == 1, f"{whole.count(old)} places have {old!r}"
+    hashed = lambda script: base64.b64encode(hashlib.sha256(script.encode()).digest()).decode()
+    changed = whole.replace(old, new)
+    assert hashed(whole) in text, "the policy has another hash"
+    return text.replace(whole, changed).replace(hashed(whole), hashed(changed))
