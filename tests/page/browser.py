@@ -112,8 +112,10 @@ class Browser:
     def text(self, selector):
         return self.run("return document.querySelector(given[0])?.textContent ?? null", selector)
 
-    def picture(self, path):
-        path.write_bytes(base64.b64decode(self.here("GET", "/screenshot")))
+    def picture(self, path, selector=None):
+        """A picture of what the window shows, or of one element."""
+        where = f"/element/{self.find(selector)}/screenshot" if selector else "/screenshot"
+        path.write_bytes(base64.b64decode(self.here("GET", where)))
 
     def log(self, kind):
         return self.here("POST", "/se/log", {"type": kind})

@@ -37,7 +37,7 @@ function building(sketch, floor) {
     sketch.line(shaft.x + shaft.w + 6, STREET_AT, WIDE, STREET_AT, { class: 'street' }),
     sketch.text(18, STREET_AT - 14, 'Street', { class: 'level', start: true, aside: [-42, 6] }),
   );
-  for (const at of [0, 1, 2]) {
+  for (const at of [0, 1]) {
     const box = liftBox(at);
     parts.push(sketch.rect(inset(box, 3), { class: 'stop', rx: 6 }));
     if (at === 1) parts.push(sketch.text(box.x + box.w + 16, middle(box).y + 4, 'Rotation', { class: 'level', start: true, aside: [0, 6] }));
@@ -104,7 +104,7 @@ function moving(sketch, five, height) {
   }
   if (op === Op.Shuttles) {
     return rows.map((row) => {
-      const box = slotBox(40 + 6 * c + 3 * a + row), x = a ? box.x + box.w - 8 : box.x + 8, { y } = middle(box), by = d ? 30 : -30;
+      const box = slotBox(40 + 6 * c + 3 * a + row), x = c ? middle(box).x : a ? box.x - 4 : box.x + box.w + 4, { y } = middle(box), by = d ? 30 : -30;
       return arrow(sketch, [x, y - by], [x, y + by], kind);
     });
   }

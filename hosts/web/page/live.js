@@ -152,7 +152,7 @@ export class Live {
     const { title, lines } = says(last.bytes), { answer } = last, fives = this.fives(last.bytes), image = last.reply?.[2] === 129;
     const why = answer.taken ? [] : against(library, last.before, last.bytes, answer), mend = answer.taken ? '' : toDo(last.bytes, answer);
     return fill(node,
-      html('p', { class: 'sent' }, title, lines.length ? html('br') : null, lines.join('; ')), html('code', { class: 'bytes' }, hexOf(last.bytes)),
+      html('p', { class: 'sent' }, title), lines.length ? html('ul', {}, lines.map((line) => html('li', {}, line))) : null, html('code', { class: 'bytes' }, hexOf(last.bytes)),
       html('p', { class: `told ${answer.taken ? 'yes' : 'no'}` }, image ? 'The image, and what is set apart' : told(answer, fives), answer.taken && fives.length ? `, set ${answer.issue}` : ''),
       last.reply ? html('code', { class: 'bytes', id: 'reply' }, hexOf(last.reply)) : html('p', { class: 'quiet' }, "The desk's own: the station was not sent it."),
       why.length ? html('ul', { class: 'why' }, why.map((line) => html('li', {}, line))) : null, mend ? html('p', {}, html('b', {}, 'To do: '), mend) : null);

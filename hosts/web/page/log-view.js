@@ -44,7 +44,7 @@ export class LogView {
     note.className = 'told';
     note.textContent = `Reading ${name} …`;
     try {
-      const log = new Log(this.library, readFile(name, bytes)), begun = performance.now();
+      const begun = performance.now(), log = new Log(this.library, readFile(name, bytes));
       await log.answer(async (count) => {
         note.textContent = `${some(count, 'message')} answered …`;
         await new Promise((resolve) => { setTimeout(resolve); });
@@ -72,14 +72,16 @@ export class LogView {
     return `${parts.join('; ')}.`;
   }
 
-  /** Where rejections are, along the slider. */
+  /** Where rejections are, along the slider: the more of some messages are rejected, the higher. */
   showMarks() {
-    const { log } = this, canvas = byId('marks'), paint = canvas.getContext('2d'), shades = new Set();
-    canvas.width = 1200;
-    canvas.height = 14;
+    const { log } = this, canvas = byId('marks'), paint = canvas.getContext('2d'), columns = Math.min(600, log.count), rejected = new Uint32Array(columns);
+    Object.assign(canvas, { width: columns, height: 24 });
     paint.fillStyle = getComputedStyle(canvas).color;
-    for (const at of log.refused) shades.add(Math.floor(((at + 1) / log.count) * (canvas.width - 2)));
-    for (const x of shades) paint.fillRect(x, 0, 2, canvas.height);
+    for (const at of log.refused) rejected[Math.floor((at * columns) / log.count)] += 1;
+    rejected.forEach((count, x) => {
+      const high = count ? Math.max(3, Math.round((canvas.height * count * columns) / log.count)) : 0;
+      paint.fillRect(x, canvas.height - high, 1, high);
+    });
     canvas.setAttribute('aria-label', `${some(log.refused.length, 'rejection')} among ${some(log.count, 'message')}`);
   }
 

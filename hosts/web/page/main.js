@@ -73,6 +73,7 @@ async function begin() {
   show(linked ? 'garage' : 'station');
   byId('version').textContent = `Station ${library.version.join('.')}`;
   document.documentElement.dataset.ready = 'yes';
+  performance.mark('ready');
   return { library, views };
 }
 

@@ -27,7 +27,7 @@ function labelOf(name) {
 
 function bars(title, lines) {
   const most = Math.max(1, ...lines.map(([, value]) => value));
-  return html('table', { class: lines.length > 5 ? 'bars wide' : 'bars' }, html('caption', {}, title),
+  return html('table', { class: lines.length > 6 ? 'bars wide' : 'bars' }, html('caption', {}, title),
     html('tbody', {}, lines.map(([name, value]) => {
       const bar = html('span', { class: 'bar' });
       bar.style.width = `${value ? Math.max(0.6, (100 * value) / most) : 0}%`;
