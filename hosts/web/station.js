@@ -5,9 +5,15 @@ import { Answer, Size } from './numbers.js';
 
 /** What stands in a station's 60 bytes beside its record. */
 class Held {
-  constructor(entries, bytes) {
+  /** Of the bytes that one was, or else as the entry `start` begins it in so many bytes. */
+  constructor(entries, bytes, size, start) {
     this.entries = entries;
-    this.bytes = bytes;
+    this.bytes = bytes ? Uint8Array.from(bytes) : new Uint8Array(size);
+    if (!bytes) this.called(start);
+  }
+
+  copy() {
+    return new this.constructor(this.entries, this.bytes);
   }
 
   /** The record, as the bytes have it. */
@@ -45,12 +51,7 @@ class Held {
 /** The station of one garage. Each call gives the Answer; one that isn't taken leaves the station as it was. */
 export class Station extends Held {
   constructor(entries, bytes) {
-    super(entries, bytes ? Uint8Array.from(bytes) : new Uint8Array(Size.STATION_SIZE));
-    if (!bytes) this.called('station_start');
-  }
-
-  copy() {
-    return new Station(this.entries, this.bytes);
+    super(entries, bytes, Size.STATION_SIZE, 'station_start');
   }
 
   request(fives) {
@@ -83,12 +84,7 @@ export class Station extends Held {
 /** A station whose cars have card numbers of 32 bits. */
 export class Desk extends Held {
   constructor(entries, bytes) {
-    super(entries, bytes ? Uint8Array.from(bytes) : new Uint8Array(Size.DESK_SIZE));
-    if (!bytes) this.called('desk_start');
-  }
-
-  copy() {
-    return new Desk(this.entries, this.bytes);
+    super(entries, bytes, Size.DESK_SIZE, 'desk_start');
   }
 
   /** The station inside, as a copy: for questions, and for the bytes of its answers. */

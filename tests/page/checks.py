@@ -231,13 +231,26 @@ def night_log(page, url):
     assert "The log has another answer" in page.text("#log-message"), page.text("#log-message")
 
 
-def journal(page, url):
-    path = OUT / "journal-100000"
-    messages = path.read_bytes()
+def opened(page, url, name):
+    """Opens a journal of target/page in the page, and gives its bytes."""
     page.open(url)
     page.click("#tab-log")
-    page.upload("#file", path)
+    page.upload("#file", OUT / name)
     page.until("return !document.getElementById('log-body').hidden", "the journal is open")
+    return (OUT / name).read_bytes()
+
+
+def answered(messages):
+    """What bin/station answers, and the number of each answer: 0 where it is the image."""
+    answers, at, numbers = program("station", messages), 0, []
+    while at < len(answers):
+        numbers.append(answers[at + 4] if answers[at + 2] == 128 else 0)
+        at += 2 + answers[at]
+    return answers, numbers
+
+
+def journal(page, url):
+    messages = opened(page, url, "journal-100000")
     report = dict(line.split() for line in program("report", messages).decode().splitlines())
     rejected = sum(int(value) for name, value in report.items() if name.startswith("answer-") and name != "answer-0")
     same(page.text("#log-note"), f"journal-100000: 100,000 messages, {rejected:,} rejections.", "the headline")
@@ -252,10 +265,7 @@ def journal(page, url):
         return slowest;""")
     assert slowest < 50 * page.slowness, f"a step takes {slowest:.0f} ms"
     page.run("const { views } = await window.garage; views.log.go(0)")
-    answers, at, numbers = program("station", messages), 0, []
-    while at < len(answers):
-        numbers.append(answers[at + 4] if answers[at + 2] == 128 else 0)
-        at += 2 + answers[at]
+    _, numbers = answered(messages)
     wanted = [place + 1 for place, number in enumerate(numbers) if number][:3]
     found = []
     for _ in wanted:
@@ -280,20 +290,12 @@ def journal(page, url):
 
 def random_messages(page, url):
     """Every answer to 5,000 random messages equals bin/station's, in the page as it is."""
-    path = OUT / "journal-5000"
-    messages = path.read_bytes()
-    page.open(url)
-    page.click("#tab-log")
-    page.upload("#file", path)
-    page.until("return !document.getElementById('log-body').hidden", "the journal is open")
+    messages = opened(page, url, "journal-5000")
     count, numbers, replies = page.run("""
         const { library, views } = await window.garage, { log } = views.log, station = library.station(), replies = [];
         for (let at = 0; at < log.count; at++) replies.push(...station.message(log.message(at)).reply);
         return [log.count, [...log.numbers], replies];""")
-    wanted, at, told = program("station", messages), 0, []
-    while at < len(wanted):
-        told.append(wanted[at + 4] if wanted[at + 2] == 128 else 0)
-        at += 2 + wanted[at]
+    wanted, told = answered(messages)
     same(count, 5000, "messages")
     same(bytes(replies), wanted, "the answers")
     same(numbers, told, "the numbers that the log marks")

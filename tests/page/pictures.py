@@ -5,7 +5,7 @@ import tempfile
 from pathlib import Path
 
 from browser import Browser
-from checks import OUT, send
+from checks import opened, send
 
 REST = "await new Promise((resolve) => setTimeout(resolve, 1200)); document.activeElement?.blur(); scrollTo(0, 0)"
 
@@ -40,9 +40,7 @@ def drive(page):
 
 
 def log(page):
-    page.click("#tab-log")
-    page.upload("#file", OUT / "journal-100000")
-    page.until("return !document.getElementById('log-body').hidden", "the journal is open")
+    opened(page, page.url, "journal-100000")
     page.run("const { views } = await window.garage; views.log.go(views.log.log.nextRefused(61000) + 1)")
 
 
@@ -81,7 +79,8 @@ def main(path, folder):
     folder.mkdir(parents=True, exist_ok=True)
     for name, done, (width, height), dark, element in PICTURES:
         with tempfile.TemporaryDirectory() as own, Browser(own, width, height, dark) as page:
-            page.open(path.as_uri())
+            page.url = path.as_uri()
+            page.open(page.url)
             done(page)
             page.run(REST)
             page.picture(folder / f"{name}.png", element)
