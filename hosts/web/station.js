@@ -29,7 +29,8 @@ class Held {
   /** The instructions of the outstanding set, with whether each is answered; none where no set is outstanding. */
   get set() {
     const [count, answered] = [this.bytes[8], this.bytes[9]];
-    return Array.from({ length: count }, (_, at) => ({ five: this.bytes.slice(10 + 5 * at, 15 + 5 * at), answered: Boolean((answered >> at) & 1) }));
+    const held = (_, at) => ({ five: this.bytes.slice(10 + 5 * at, 15 + 5 * at), answered: Boolean((answered >> at) & 1) });
+    return Array.from({ length: count }, held);
   }
 
   /** The issue of the outstanding set, or of the last one. */
@@ -129,7 +130,8 @@ export class Desk extends Held {
   /** Where the car with a card is: its place, or null where no car has it; and whether that is only the last known one. */
   where(card) {
     const said = this.entries.call('desk_where', this.bytes, card), place = (said >>> 8) & 255;
-    return { answer: new Answer(said & 255, Size.STATION_NOWHERE, 0), place: place === Size.DESK_NOT_HERE ? null : place, lastKnown: Boolean((said >>> 16) & 1) };
+    const answer = new Answer(said & 255, Size.STATION_NOWHERE, 0);
+    return { answer, place: place === Size.DESK_NOT_HERE ? null : place, lastKnown: Boolean((said >>> 16) & 1) };
   }
 
   /** The card that is leaving, or 0. */

@@ -52,7 +52,7 @@ def settled(page, wanted, what, host="#live-floor"):
 
 def sent(page, answer, what):
     """Holds the answer on the screen against its bytes."""
-    same(page.text("#reply"), answer, what)
+    same(page.text("#answer .reply"), answer, what)
 
 
 TAKEN = "06 00 80 00 00 FF 00 00"

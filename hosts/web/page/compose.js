@@ -25,7 +25,8 @@ export class Composer {
   /** A part of the floor was picked. */
   pick(part) {
     const [what, one, other] = part.split('-'), first = Number(one), second = Number(other), [op, a, b, c, d] = this.draft;
-    if (what === 'lift') return first === 1 && op === Op.Lift && a === 1 ? this.put(...FRESH[Op.Rotate]) : this.put(Op.Lift, first, 0, 0, 0);
+    if (what === 'lift' && first === 1 && op === Op.Lift && a === 1) return this.put(...FRESH[Op.Rotate]);
+    if (what === 'lift') return this.put(Op.Lift, first, 0, 0, 0);
     const last = what === 'belt' ? beltsOf(first).length - 1 : 0, shuttle = what === 'slot' || second === 0 || second === last;
     if ((op === Op.Shuttles || op === Op.Tilt) && shuttle) {
       const tilted = Number(what === 'slot'), side = what === 'slot' ? Math.floor((first - 46) / 3) : Number(second !== 0);
@@ -58,7 +59,9 @@ export class Composer {
     if (answer.number === Numbers.OutOfTurn) return with_(31, 'a drive is under way, and the lift is in its area');
     if (area & apart) return { ...with_(32, `it touches what is set apart: ${partsIn(area & apart)}`), faults: area & apart };
     const at = this.chosen.findIndex((five) => !library.overlap(five, draft).taken);
-    if (at >= 0) return with_(8, `it overlaps ${at}: ${lineOf(this.chosen[at])}: both have ${partsIn(library.area(this.chosen[at]) & area)}`);
+    if (at >= 0) {
+      return with_(8, `it overlaps ${at}: ${lineOf(this.chosen[at])}: both have ${partsIn(library.area(this.chosen[at]) & area)}`);
+    }
     return { number: answer.number, words: answer.taken ? 'allowed' : answer.words, conditions, faults: faultsOf(conditions) };
   }
 
@@ -71,6 +74,11 @@ export class Composer {
   remove(at) {
     this.chosen.splice(at, 1);
     this.changed();
+  }
+
+  submitted(event) {
+    event.preventDefault();
+    if (!this.wrong) this.add();
   }
 
   /** A line is being typed: it stays as it is, and is the draft where it says an instruction. */
@@ -116,15 +124,19 @@ export class Composer {
     const verdict = this.judged(station), held = node.contains(document.activeElement) ? document.activeElement : null;
     fill(node,
       html('div', { class: 'controls' }, this.controls()),
-      html('form', { class: 'line', onsubmit: (event) => { event.preventDefault(); if (!this.wrong) this.add(); } },
+      html('form', { class: 'line', onsubmit: (event) => this.submitted(event) },
         html('label', { for: 'words' }, 'In words'),
-        html('input', { id: 'words', name: 'line', value: this.typing ?? lineOf(this.draft), autocomplete: 'off', spellcheck: 'false', oninput: (event) => this.typed(event.target.value) }),
+        html('input', {
+          id: 'words', name: 'line', value: this.typing ?? lineOf(this.draft), autocomplete: 'off', spellcheck: 'false',
+          oninput: (event) => this.typed(event.target.value),
+        }),
         html('button', { id: 'add', type: 'submit', disabled: this.chosen.length >= SET_MOST }, 'Add to the set')),
-      this.wrong ? html('p', { class: 'told no', role: 'alert' }, this.wrong) : html('p', { class: `told ${verdict.number === null ? '' : verdict.number ? 'no' : 'yes'}`, id: 'verdict', 'aria-live': 'polite' }, html('b', {}, verdict.number ? `${verdict.number} ` : ''), verdict.words),
+      this.wrong ? html('p', { class: 'told no', role: 'alert' }, this.wrong) : verdictLine(verdict),
       html('details', { class: 'conditions', open: verdict.number >= 20 && verdict.number <= 28 },
         html('summary', {}, 'Conditions, in the order of the rules'),
         html('ol', {}, verdict.conditions.map(({ number, holds, words, lines }) => html('li', { class: holds ? 'yes' : 'no' },
-          html('span', { class: 'mark' }, holds ? 'holds' : 'fails'), ` ${number} ${words}`, html('ul', {}, lines.map((line) => html('li', {}, line.words))))))),
+          html('span', { class: 'mark' }, holds ? 'holds' : 'fails'), ` ${number} ${words}`,
+          html('ul', {}, lines.map((line) => html('li', {}, line.words))))))),
       html('div', { class: 'set' }, html('h3', {}, `The set: ${this.chosen.length} of ${SET_MOST}`),
         html('ol', { start: 0 }, this.chosen.map((five, at) => html('li', {}, html('code', {}, lineOf(five)), ' ',
           html('button', { class: 'quiet', type: 'button', 'aria-label': `Remove ${lineOf(five)}`, onclick: () => this.remove(at) }, 'Remove')))),
@@ -134,9 +146,15 @@ export class Composer {
   }
 }
 
+function verdictLine({ number, words }) {
+  const kind = number === null ? '' : number ? 'no' : 'yes';
+  return html('p', { class: `told ${kind}`, id: 'verdict', 'aria-live': 'polite' }, html('b', {}, number ? `${number} ` : ''), words);
+}
+
 /** Puts the focus, and the caret, to where it was before a node was filled anew. */
 function focusAgain(node, held) {
-  const again = [...node.querySelectorAll('input, button')].find((one) => one.id === held.id && (one.id || (one.name === held.name && one.value === held.value)));
+  const same = (one) => one.id === held.id && (one.id || (one.name === held.name && one.value === held.value));
+  const again = [...node.querySelectorAll('input, button')].find(same);
   again?.focus();
   if (held.id === 'words') again.setSelectionRange(held.selectionStart, held.selectionEnd);
 }

@@ -30,7 +30,8 @@ function conditionsOf([op, a, b, c, d]) {
       asked('rows 2 and 3 move full only', THERE, `row ${a}, ${SIZES[d]}`),
       asked('at least one belt', THERE, allNamed(beltsOf(a), b)),
       asked('the belts border each other without a gap', THERE, withGaps(beltsOf(a), b)),
-      asked('each is available: a shuttle belt needs its lowered shuttle, the lift belt basement height', THERE, 'no shuttle belt and no lift belt is named'),
+      asked('each is available: a shuttle belt needs its lowered shuttle, the lift belt basement height', THERE,
+        'no shuttle belt and no lift belt is named'),
       asked(`the end of the span toward ${WAYS[c]} is free: ${long}`, FREE, 'no belt is named'),
       asked('in row 1 the number of occupied cells in the span is even', EVEN, a === 1 ? 'no belt is named' : `row ${a}: not asked`),
     ];
@@ -41,7 +42,8 @@ function conditionsOf([op, a, b, c, d]) {
       asked('at least one row', THERE, allNamed(ROWS, b)),
       asked('no gap', THERE, withGaps(ROWS, b)),
       asked(`each has a shuttle that is ${ORIENTATIONS[c]}`, THERE, 'no row is named'),
-      asked(`if lowered and row 1 is named, an even number of the ${SIDES[a]} shuttle's two cells there is occupied`, EVEN, c ? 'tilted: not asked' : 'row 1 is not named: not asked'),
+      asked(`if lowered and row 1 is named, an even number of the ${SIDES[a]} shuttle's two cells there is occupied`, EVEN,
+        c ? 'tilted: not asked' : 'row 1 is not named: not asked'),
       asked(`a next row toward ${WAYS[d]} exists and has no shuttle that is ${ORIENTATIONS[c]}`, FREE, edge),
     ];
   }
@@ -65,7 +67,8 @@ const maskOf = (bits) => bits.reduce((all, bit) => all | (1n << BigInt(bit)), 0n
 
 /** What decides a condition on a record: lines with the parts that are amiss. */
 function decided({ asks, alone }, { parts, holds }, record) {
-  const lines = [], line = (words, amiss, at) => lines.push({ words: amiss && !holds ? `${words}, at fault` : words, faults: amiss && !holds ? at : 0n });
+  const lines = [];
+  const line = (words, amiss, at) => lines.push(amiss && !holds ? { words: `${words}, at fault`, faults: at } : { words, faults: 0n });
   if (parts === 0n) {
     line(alone, true, 0n);
     return lines;

@@ -23,6 +23,11 @@ export const byId = (id) => document.getElementById(id);
 /** Replaces what is in a node. */
 export const fill = (node, ...children) => node.replaceChildren(...children.flat().filter((child) => child !== null && child !== undefined && child !== false));
 
+export const button = (words, onclick, attributes = {}) => html('button', { type: 'button', onclick, ...attributes }, words);
+
+/** Lines as a list, or nothing where there are none. */
+export const listOf = (lines, attributes = {}) => (lines.length ? html('ul', attributes, lines.map((line) => html('li', {}, line))) : null);
+
 /** So many of something, in words. */
 export const some = (count, name) => `${count.toLocaleString('en')} ${name}${count === 1 ? '' : 's'}`;
 

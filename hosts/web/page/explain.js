@@ -16,7 +16,10 @@ export function says(bytes) {
   const message = readMessage(bytes);
   switch (message.says) {
     case 'request':
-      return { title: `Request of ${some(message.fives.length, 'instruction')}`, lines: message.fives.map((five, at) => `${at}: ${lineOf(five)}`) };
+      return {
+        title: `Request of ${some(message.fives.length, 'instruction')}`,
+        lines: message.fives.map((five, at) => `${at}: ${lineOf(five)}`),
+      };
     case 'event':
       return { title: `Event ${message.way}: ${EVENTS[message.way] ?? 'no event'}`, lines: [] };
     case 'result':
@@ -43,7 +46,8 @@ export function told(answer, fives = []) {
 /** What stands against a message that was refused, on the station as it is. */
 export function against(library, station, bytes, answer) {
   const message = readMessage(bytes), { record, apart } = station, five = message.fives?.[answer.place];
-  const set = () => station.set.map((held, at) => `set ${station.issue}, ${at}: ${lineOf(held.five)}: ${held.answered ? 'answered' : 'waits for its result'}`);
+  const waits = ({ answered }) => (answered ? 'answered' : 'waits for its result');
+  const set = () => station.set.map((held, at) => `set ${station.issue}, ${at}: ${lineOf(held.five)}: ${waits(held)}`);
   switch (answer.number) {
     case Numbers.SetOutstanding:
     case Numbers.NotInSet:
@@ -58,7 +62,8 @@ export function against(library, station, bytes, answer) {
     }
     case Numbers.EventImpossible:
       return [`lift at ${HEIGHTS[heightOf(record)]}, ${(record >> 52n) & 1n ? 'a car' : 'no car'} on it`,
-        message.way === Event.BeginIn ? 'a drive-in begins at street, with the lift empty' : 'a drive-out begins at street, with a car on the lift'];
+        message.way === Event.BeginIn ? 'a drive-in begins at street, with the lift empty'
+          : 'a drive-out begins at street, with a car on the lift'];
     case Numbers.OutOfTurn:
       return [(record >> 55n) & 1n ? 'a drive-in is under way' : (record >> 56n) & 1n ? 'a drive-out is under way' : 'no drive is under way'];
     case Numbers.SetApart:
@@ -66,10 +71,12 @@ export function against(library, station, bytes, answer) {
     case Numbers.KeptOpen:
       return [`the record has ${library.cars(record)} cars, and a drive-in begins with fewer than 27`];
     case Numbers.Unsound:
-      return [...(message.apart ? ['its second number is not 0: an image sets nothing apart'] : []), ...hints(message.record).map(({ words }) => words)];
+      return [...(message.apart ? ['its second number is not 0: an image sets nothing apart'] : []),
+        ...hints(message.record).map(({ words }) => words)];
     default:
       if (!five || answer.number < Numbers.NothingNamed || answer.number > Numbers.CellsNotFree) return [];
-      return explained(library, record, five).filter(({ holds }) => !holds).flatMap(({ number, words, lines }) => [`${number}: ${words}`, ...lines.map((line) => `  ${line.words}`)]);
+      return explained(library, record, five).filter(({ holds }) => !holds)
+        .flatMap(({ number, words, lines }) => [`${number}: ${words}`, ...lines.map((line) => `  ${line.words}`)]);
   }
 }
 

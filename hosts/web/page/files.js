@@ -10,6 +10,8 @@ export class BadFile extends Error {}
 
 const isAnswer = (bytes, at) => bytes[at + 3] === 0 && (bytes[at + 2] === Kind.Answer || bytes[at + 2] === Kind.Held);
 
+const badLength = (bytes, at) => `a length of ${lengthAt(bytes, at)}, and a message has 2 to 43; what follows is left out`;
+
 /** Whether some bytes are text: no byte of the first few thousand is a control character but blanks and line ends. */
 function isText(bytes) {
   return bytes.subarray(0, 4096).every((byte) => (byte >= 32 && byte < 127) || byte === 9 || byte === 10 || byte === 13 || byte >= 194);
@@ -21,7 +23,8 @@ function recording(name, bytes) {
   while (at < bytes.length) {
     const end = endOf(bytes, at);
     if (end <= 0) {
-      note = end === 0 ? `it ends inside a message, at byte ${at}; that rest is left out` : `at byte ${at} it is damaged: a length of ${lengthAt(bytes, at)}, and a message has 2 to 43; what follows is left out`;
+      note = end === 0 ? `it ends inside a message, at byte ${at}; that rest is left out`
+        : `at byte ${at} it is damaged: ${badLength(bytes, at)}`;
       break;
     }
     starts[count++] = at;
@@ -52,12 +55,15 @@ function hexadecimal(name, text) {
     const line = lines[at].split('#')[0].trim();
     if (line === '' || line === '!' || /^cards? /.test(line)) continue;
     const [, way, rest] = line.match(/^([<>]?)(.*)$/), digits = rest.replace(/\s+/g, '');
-    if (/[^0-9a-fA-F]/.test(digits) || digits.length % 2) throw new BadFile(`${name}, line ${at + 1}: two hexadecimal digits for each byte are expected, and “${rest.trim().slice(0, 30)}” stands there.`);
+    if (/[^0-9a-fA-F]/.test(digits) || digits.length % 2) {
+      const found = rest.trim().slice(0, 30);
+      throw new BadFile(`${name}, line ${at + 1}: two hexadecimal digits for each byte are expected, and “${found}” stands there.`);
+    }
     if (way && waiting.length) throw new BadFile(`${name}, line ${at + 1}: the message before it is cut short.`);
     to = way || (waiting.length ? to : null);
     waiting = joined(waiting, Uint8Array.from(digits.match(/../g) ?? [], (two) => parseInt(two, 16)));
     if (!taken()) {
-      note = `line ${at + 1} is damaged: a length of ${lengthAt(waiting, 0)}, and a message has 2 to 43; what follows is left out`;
+      note = `line ${at + 1} is damaged: ${badLength(waiting, 0)}`;
       waiting = new Uint8Array(0);
       break;
     }

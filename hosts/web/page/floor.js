@@ -5,7 +5,8 @@ import { bitsOf, hasBit } from '../bytes.js';
 import { Op, Size } from '../numbers.js';
 import { beltsOf, HEIGHTS, SIDES } from '../words.js';
 import { svg } from './dom.js';
-import { BELT_CELLS, beltBox, carBox, cellBox, HIGH, inset, LIFT_CELL, liftBox, middle, partBox, slotBox, slotOf, spanBox, STREET_AT, WIDE } from './geometry.js';
+import { BELT_CELLS, beltBox, carBox, cellBox, HIGH, inset, liftBox, middle, partBox } from './geometry.js';
+import { slotBox, slotOf, spanBox, STREET_AT, WIDE } from './geometry.js';
 import { Sketch } from './sketch.js';
 import { carsOf, floorWords, heightOf, partWords, runsOf } from './record-words.js';
 
@@ -20,7 +21,8 @@ function areaBoxes(area, height, everySlot = false) {
       for (const run of runsOf(own)) boxes.push(spanBox(run[0], run.at(-1)));
     }
   }
-  for (const bit of bitsOf(area).filter((one) => one >= 40 && one < 52)) if (slotOf(bit).tilted || everySlot || !cells.length) boxes.push(slotBox(bit));
+  const slots = bitsOf(area).filter((bit) => bit >= 40 && bit < 52);
+  boxes.push(...slots.filter((bit) => slotOf(bit).tilted || everySlot || !cells.length).map(slotBox));
   if (area & LIFT_BITS) boxes.push(liftBox(height));
   return boxes;
 }
@@ -53,7 +55,9 @@ function building(sketch, floor) {
     }
   }));
   for (let bit = 46; bit < 52; bit++) parts.push(tilted(sketch, bit, hasBit(record, bit), mode));
-  for (const row of [0, 1, 2]) parts.push(sketch.text(18, cellBox([0, 20, 30][row]).y - 14, `Row ${row + 1}`, { class: 'level', start: true, aside: [30, -2] }));
+  BELT_CELLS.forEach(([[first]], row) => {
+    parts.push(sketch.text(18, cellBox(first).y - 14, `Row ${row + 1}`, { class: 'level', start: true, aside: [30, -2] }));
+  });
   return parts;
 }
 
@@ -62,7 +66,8 @@ function tilted(sketch, bit, there, mode) {
   const box = slotBox(bit), { side } = slotOf(bit), lean = side ? 12 : -12, { x, y } = middle(box);
   const ends = [[x - lean, y + 24], [x + lean, y - 24]];
   if (!there) return mode === 'still' ? null : sketch.path([ends], { class: 'slot-empty' });
-  return svg('g', { class: 'tilted', 'data-tilted': bit }, sketch.path([ends], { class: 'tilt-bar' }), sketch.path([ends], { class: 'tilt-belt' }));
+  const bars = ['tilt-bar', 'tilt-belt'].map((kind) => sketch.path([ends], { class: kind }));
+  return svg('g', { class: 'tilted', 'data-tilted': bit }, bars);
 }
 
 /** The lift's cage at its height, and the street's door. */
@@ -77,7 +82,9 @@ function lift(sketch, floor) {
     parts.push(arrow(sketch, [from, door.y + 32], [to, door.y + 32], 'drive'));
     const card = coming ? floor.cards?.get(Size.DESK_AT_DRIVE) : floor.cards?.get(Size.DESK_AT_LIFT);
     const words = [coming ? 'driving in' : 'driving out', card ? `card ${card}` : ''].filter(Boolean);
-    (sketch.upright ? words : [words.join(', ')]).forEach((line, at) => parts.push(sketch.text(x - 108, door.y + 37, line, { class: 'level strong', end: true, aside: [-26, 20 * at - 34] })));
+    (sketch.upright ? words : [words.join(', ')]).forEach((line, at) => {
+      parts.push(sketch.text(x - 108, door.y + 37, line, { class: 'level strong', end: true, aside: [-26, 20 * at - 34] }));
+    });
   } else {
     parts.push(sketch.path([[[x, door.y - 4], [x, STREET_AT - 1]]], { class: 'door', 'data-door': 'closed' }));
   }
@@ -104,7 +111,8 @@ function moving(sketch, five, height) {
   }
   if (op === Op.Shuttles) {
     return rows.map((row) => {
-      const box = slotBox(40 + 6 * c + 3 * a + row), x = c ? middle(box).x : a ? box.x - 4 : box.x + box.w + 4, { y } = middle(box), by = d ? 30 : -30;
+      const box = slotBox(40 + 6 * c + 3 * a + row), { y } = middle(box), by = d ? 30 : -30;
+      const x = c ? middle(box).x : a ? box.x - 4 : box.x + box.w + 4;
       return arrow(sketch, [x, y - by], [x, y + by], kind);
     });
   }
@@ -137,10 +145,11 @@ function ghosts(sketch, floor) {
 function car(sketch, { place, card, half }, floor) {
   const box = half ? cellBox(place) : carBox(place, heightOf(floor.record)), inner = inset(box, 6), { x, y } = middle(inner);
   const label = half ? '½' : card ? String(card) : '', cells = place === Size.DESK_RAISED ? [52] : place < 20 ? [place, place + 1] : [place];
+  const end = inner.w / 2, pane = (side) => [[side * (end - 15), -15], [side * (end - 10), 0], [side * (end - 15), 15]];
   const unsure = cells.some((bit) => hasBit(floor.apart ?? 0n, bit));
   const moved = svg('g', { class: `car${half ? ' half' : ''}${unsure ? ' unsure' : ''}`, 'data-car': card ?? '', 'data-place': place },
     sketch.rect({ ...inner, x: inner.x - x, y: inner.y - y }, { class: 'body', rx: 11, fill: unsure ? sketch.hatchedCar : null }),
-    half ? null : sketch.path([-1, 1].map((end) => [[end * (inner.w / 2 - 15), -15], [end * (inner.w / 2 - 10), 0], [end * (inner.w / 2 - 15), 15]]), { class: 'glass' }),
+    half ? null : sketch.path([-1, 1].map(pane), { class: 'glass' }),
     svg('text', { class: label.length > 5 ? 'card small' : 'card', 'text-anchor': 'middle', 'dominant-baseline': 'central' }, label));
   const at = sketch.point(x, y);
   moved.style.transform = `translate(${at[0]}px, ${at[1]}px)`;
@@ -150,8 +159,9 @@ function car(sketch, { place, card, half }, floor) {
 
 /** A mark on what is at fault. */
 function fault(sketch, box) {
-  const at = sketch.point(box.x + box.w - 4, box.y + 4);
-  return svg('g', { class: 'fault' }, sketch.rect(inset(box, 2), { rx: 7 }), svg('circle', { cx: at[0], cy: at[1], r: 11 }), svg('text', { x: at[0], y: at[1] + 5, 'text-anchor': 'middle' }, '!'));
+  const [x, y] = sketch.point(box.x + box.w - 4, box.y + 4);
+  return svg('g', { class: 'fault' }, sketch.rect(inset(box, 2), { rx: 7 }), svg('circle', { cx: x, cy: y, r: 11 }),
+    svg('text', { x, y: y + 5, 'text-anchor': 'middle' }, '!'));
 }
 
 /** The parts that can be picked, with their words. */
@@ -159,16 +169,19 @@ function picks(sketch, floor) {
   const { mode, record } = floor, height = heightOf(record), found = [];
   const put = (id, box, words, rx = 8) => found.push({ id, box, words, rx });
   if (mode === 'still') return [];
-  if (mode === 'cells') for (let cell = 0; cell < 40; cell++) put(`cell-${cell}`, cellBox(cell), partWords(floor, cell), 5);
-  else BELT_CELLS.forEach((belts, row) => belts.forEach((_, belt) => put(`belt-${row + 1}-${belt}`, beltBox(row, belt), `row ${row + 1}, belt ${beltsOf(row + 1)[belt]}: ${floorWords(floor, BELT_CELLS[row][belt])}`)));
-  for (const [first, from] of mode === 'cells' ? [[46, 40]] : [[46, 46]]) {
-    for (let at = 0; at < 6; at++) put(`slot-${from + at}`, slotBox(first + at), mode === 'cells' ? `shuttles ${SIDES[Math.floor(at / 3)]} row ${1 + (at % 3)}` : partWords(floor, first + at));
+  const eachSlot = (pick) => [0, 1, 2, 3, 4, 5].forEach(pick);
+  if (mode === 'cells') {
+    for (let cell = 0; cell < 40; cell++) put(`cell-${cell}`, cellBox(cell), partWords(floor, cell), 5);
+    eachSlot((at) => put(`slot-${40 + at}`, slotBox(46 + at), `shuttles ${SIDES[Math.floor(at / 3)]} row ${1 + (at % 3)}`));
+  } else {
+    BELT_CELLS.forEach((belts, row) => belts.forEach((cells, belt) => {
+      put(`belt-${row + 1}-${belt}`, beltBox(row, belt), `row ${row + 1}, belt ${beltsOf(row + 1)[belt]}: ${floorWords(floor, cells)}`);
+    }));
+    eachSlot((at) => put(`slot-${46 + at}`, slotBox(46 + at), partWords(floor, 46 + at)));
   }
-  for (const at of [0, 1, 2]) {
-    if (at === 2) continue;
-    put(`lift-${at}`, liftBox(at), `lift stop ${HEIGHTS[at]}${height === at ? ', the lift is here' : ''}`);
-  }
-  put('lift-2', { ...liftBox(2), y: liftBox(2).y - 40, h: 32 }, `lift stop basement${height === 2 ? ', the lift is here' : ''}`);
+  // the stop in the basement is row 1's own lift belt: what is picked for it is above
+  const stops = [liftBox(0), liftBox(1), { ...liftBox(2), y: liftBox(2).y - 40, h: 32 }];
+  stops.forEach((box, at) => put(`lift-${at}`, box, `lift stop ${HEIGHTS[at]}${height === at ? ', the lift is here' : ''}`));
   return found.map(({ id, box, words, rx }) => svg('g', {
     class: 'pick', role: 'button', 'data-part': id, tabindex: '-1', 'aria-label': words, 'aria-pressed': String(floor.pressed?.has(id) ?? false),
   }, sketch.rect(inset(box, 0), { class: 'target', rx }), svg('title', {}, words)));
@@ -178,7 +191,8 @@ function picks(sketch, floor) {
 export function drawFloor(host, floor) {
   const { record, apart = 0n, library, motion = [], chosen = [], draft, faults = 0n } = floor;
   const height = heightOf(record), sketch = new Sketch(floor.upright ?? window.matchMedia('(max-width: 640px)').matches);
-  const areas = (fives, kind) => fives.flatMap((five) => areaBoxes(library.area(five), height).map((box) => sketch.rect(inset(box, 2), { class: `area ${kind}`, rx: 9 })));
+  const framed = (box, kind) => sketch.rect(inset(box, 2), { class: `area ${kind}`, rx: 9 });
+  const areas = (fives, kind) => fives.flatMap((five) => areaBoxes(library.area(five), height).map((box) => framed(box, kind)));
   const moves = [...motion, ...chosen, ...(draft ? [draft] : [])].flatMap((five) => moving(sketch, five, height));
   const held = host.querySelector('[data-part]:focus')?.dataset.part;
   const before = new Map([...host.querySelectorAll('.car')].map((node) => [node.dataset.key, node.style.transform]));
@@ -231,10 +245,14 @@ function reachable(drawing, floor, held) {
 
 /** The nearest part in a direction. */
 function nearest(part, parts, [dx, dy]) {
-  const at = (one) => middle({ x: one.getBBox().x, y: one.getBBox().y, w: one.getBBox().width, h: one.getBBox().height }), here = at(part);
+  const at = (one) => {
+    const { x, y, width, height } = one.getBBox();
+    return middle({ x, y, w: width, h: height });
+  };
+  const here = at(part);
   let best = part, least = Infinity;
   for (const one of parts) {
-    const there = at(one), along = (there.x - here.x) * dx + (there.y - here.y) * dy, aside = Math.abs((there.x - here.x) * dy) + Math.abs((there.y - here.y) * dx);
+    const x = at(one).x - here.x, y = at(one).y - here.y, along = x * dx + y * dy, aside = Math.abs(x * dy) + Math.abs(y * dx);
     if (along > 4 && along + 2.5 * aside < least) [best, least] = [one, along + 2.5 * aside];
   }
   return best;

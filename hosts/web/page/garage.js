@@ -10,14 +10,17 @@ import { heightOf, hints, summary } from './record-words.js';
 
 const LETTERS = ['-', 'L', 'T', 'B']; // by a bit for a lowered shuttle and a bit for a tilted one
 const CYCLE = [1, 2, 3, 0];
+const LIFT_WORDS = { car: 52, in: 55, out: 56 }; // by their bits
 const ROW_CELLS = [[0, 20], [20, 10], [30, 10]];
 
 /** The six lines of any record, sound or not; of a sound one they are the station's own. */
 export function linesOf(record) {
   const rows = ROW_CELLS.map(([first, count]) => Array.from({ length: count }, (_, at) => (hasBit(record, first + at) ? '#' : '.')).join(''));
-  const side = (from) => [0, 1, 2].map((row) => LETTERS[Number(hasBit(record, 40 + from + row)) + 2 * Number(hasBit(record, 46 + from + row))]).join('');
-  const lift = `${HEIGHTS[heightOf(record)] ?? 'street'}${hasBit(record, 52) ? ' car' : ''}${hasBit(record, 55) ? ' in' : ''}${hasBit(record, 56) ? ' out' : ''}`;
-  return [...rows, side(0), side(3), lift].map((line) => `${line}\n`).join('');
+  const letter = (slot) => LETTERS[Number(hasBit(record, slot)) + 2 * Number(hasBit(record, slot + 6))];
+  const side = (first) => [0, 1, 2].map((row) => letter(first + row)).join('');
+  const words = Object.entries(LIFT_WORDS).filter(([, bit]) => hasBit(record, bit)).map(([word]) => ` ${word}`);
+  const lift = `${HEIGHTS[heightOf(record)] ?? 'street'}${words.join('')}`;
+  return [...rows, side(40), side(43), lift].map((line) => `${line}\n`).join('');
 }
 
 /** The record of six lines of the right form, sound or not. */
@@ -32,7 +35,7 @@ export function recordOf(text) {
   }));
   const [height, ...words] = lines[5].split(' ');
   record |= BigInt(HEIGHTS.indexOf(height)) << 53n;
-  words.forEach((word) => { record |= bit({ car: 52, in: 55, out: 56 }[word]); });
+  words.forEach((word) => { record |= bit(LIFT_WORDS[word]); });
   return record;
 }
 
@@ -66,7 +69,8 @@ export class Garage {
 
   typed(text) {
     const { answer, record } = this.library.drawn(text);
-    this.wrong = answer.number === Numbers.BadLine ? (answer.place > 5 ? 'Text follows the sixth line.' : `Line ${answer.place + 1} is not of its form.`) : '';
+    const bad = answer.place > 5 ? 'Text follows the sixth line.' : `Line ${answer.place + 1} is not of its form.`;
+    this.wrong = answer.number === Numbers.BadLine ? bad : '';
     if (answer.taken) this.record = record;
     else if (answer.number === Numbers.Unsound) this.record = recordOf(text);
     this.show('drawing');
@@ -84,11 +88,12 @@ export class Garage {
     const [what, one] = part.split('-'), at = Number(one), bit = (place) => 1n << BigInt(place);
     let { record } = this;
     if (what === 'cell') {
-      const starts = at < 20 && hasBit(record, at) ? this.pairOf(at) : at;
-      const cells = at >= 20 ? bit(at) : bit(starts) | (starts < 19 && (hasBit(record, at) ? hasBit(record, starts + 1) : !hasBit(record, starts + 1)) ? bit(starts + 1) : 0n);
-      record ^= cells;
+      const there = hasBit(record, at), first = at < 20 && there ? this.pairOf(at) : at;
+      // in row 1 a car comes onto two free half cells, or goes from both that it has
+      const both = first < 19 && at < 20 && hasBit(record, first + 1) === there;
+      record ^= bit(first) | (both ? bit(first + 1) : 0n);
     } else if (what === 'slot') {
-      const held = Number(hasBit(record, at)) + 2 * Number(hasBit(record, at + 6)), next = CYCLE[held === 0 ? 0 : held];
+      const next = CYCLE[Number(hasBit(record, at)) + 2 * Number(hasBit(record, at + 6))];
       record = (record & ~(bit(at) | bit(at + 6))) | (next & 1 ? bit(at) : 0n) | (next & 2 ? bit(at + 6) : 0n);
     } else {
       record = this.lifted(at);
@@ -112,20 +117,27 @@ export class Garage {
     return height === 0 ? next : next & ~(3n << 55n);
   }
 
+  showLift() {
+    const { record } = this, node = byId('lift-controls'), held = node.contains(document.activeElement) ? document.activeElement.name : null;
+    const drive = (way) => this.put((record & ~(3n << 55n)) | (BigInt(way) << 55n));
+    fill(node,
+      choice('lift-height', 'Lift', HEIGHTS.map((name, at) => [at, name]), heightOf(record), (height) => this.put(this.lifted(height))),
+      choice('lift-car', 'On the raised lift', [[0, 'no car'], [1, 'a car']], Number(hasBit(record, 52)), () => this.put(record ^ (1n << 52n))),
+      choice('lift-drive', 'Drive', [[0, 'none'], [1, 'in'], [2, 'out']], Number((record >> 55n) & 3n), drive));
+    if (held) node.querySelector(`input[name="${held}"]:checked`)?.focus();
+  }
+
   show(typing = null) {
     const { library, record } = this, sound = library.sound(record), found = sound ? [] : hints(record), verdict = byId('garage-verdict');
-    const floor = { library, record, mode: 'cells', faults: found.reduce((all, { parts }) => all | parts, 0n), onpick: (part) => this.pick(part) };
+    const faults = found.reduce((all, { parts }) => all | parts, 0n);
+    const floor = { library, record, mode: 'cells', faults, onpick: (part) => this.pick(part) };
     drawFloor(byId('garage-floor'), { ...floor, label: `The garage as drawn: ${summary(floor)}` });
     if (typing !== 'drawing') byId('drawing').value = sound ? library.drawing(record).text : linesOf(record);
     if (typing !== 'image') byId('image').value = hexOf(bytesOf(record));
     verdict.className = `told ${sound && !this.wrong ? 'yes' : 'no'}`;
     fill(verdict, this.wrong ? this.wrong : sound ? `Sound: ${summary(floor)}.` : '15: no garage can stand so.');
     fill(byId('garage-hints'), this.wrong ? [] : found.map(({ words }) => html('li', {}, words)));
-    const flip = (bits) => this.put(record ^ bits), held = byId('lift-controls').contains(document.activeElement) ? document.activeElement.value : null;
-    fill(byId('lift-controls'), choice('lift-height', 'Lift', HEIGHTS.map((name, at) => [at, name]), heightOf(record), (height) => this.put(this.lifted(height))),
-      choice('lift-car', 'On the raised lift', [[0, 'no car'], [1, 'a car']], Number(hasBit(record, 52)), () => flip(1n << 52n)),
-      choice('lift-drive', 'Drive', [[0, 'none'], [1, 'in'], [2, 'out']], Number((record >> 55n) & 3n), (way) => this.put((record & ~(3n << 55n)) | (BigInt(way) << 55n))));
-    if (held !== null) byId('lift-controls').querySelector(`input[value="${held}"]:checked`)?.focus();
+    this.showLift();
     for (const id of ['send-image', 'plan-from', 'copy-message']) byId(id).disabled = !sound;
     if (!this.wrong) history.replaceState(null, '', `#garage=${hexOf(bytesOf(record)).replaceAll(' ', '')}`);
   }

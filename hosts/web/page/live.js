@@ -5,11 +5,12 @@ import { hexOf, joined } from '../bytes.js';
 import { Event, Outcome, Size } from '../numbers.js';
 import { askOf, eventOf, imageOf, requestOf, resultOf } from '../messages.js';
 import { lineOf } from '../words.js';
+import { answerNodes, messageNodes } from './answer.js';
 import { Composer } from './compose.js';
-import { byId, download, fill, html } from './dom.js';
-import { against, OUTCOMES, says, toDo, told } from './explain.js';
+import { button, byId, download, fill, html } from './dom.js';
+import { OUTCOMES, says } from './explain.js';
 import { drawFloor } from './floor.js';
-import { played, Ticker, twoOrders } from './motors.js';
+import { played, Ticker, twoOrders, waitingIn } from './motors.js';
 import { summary } from './record-words.js';
 
 const FIRST_CARD = 7001;
@@ -109,11 +110,11 @@ export class Live {
   }
 
   show() {
-    const { desk, composer } = this, waiting = desk.set.filter(({ answered }) => !answered).map(({ five }) => five);
-    const verdict = composer.show(byId('composer'), desk, () => this.request()), outstanding = desk.set.length > 0;
-    const floor = { ...this.floor(), motion: waiting, chosen: composer.chosen, draft: outstanding || !composer.touched ? null : composer.draft, faults: outstanding ? 0n : verdict.faults };
-    floor.label = `The floor: ${summary(floor)}`;
-    drawFloor(byId('live-floor'), floor);
+    const { desk, composer } = this, open = desk.set.length === 0;
+    const verdict = composer.show(byId('composer'), desk, () => this.request());
+    const chosen = { chosen: composer.chosen, draft: open && composer.touched ? composer.draft : null, faults: open ? verdict.faults : 0n };
+    const floor = { ...this.floor(), motion: waitingIn(desk.set), ...chosen };
+    drawFloor(byId('live-floor'), { ...floor, label: `The floor: ${summary(floor)}` });
     byId('live-summary').textContent = `${summary(floor)}.`;
     this.showMotors();
     this.showDrivers();
@@ -123,73 +124,87 @@ export class Live {
   }
 
   showMotors() {
-    const { desk } = this, outcomes = [[Outcome.Done, 'Done'], [Outcome.Failed, 'Failed'], [Outcome.Stuck, 'Stuck']];
+    const { set } = this.desk, outcomes = [[Outcome.Done, 'Done'], [Outcome.Failed, 'Failed'], [Outcome.Stuck, 'Stuck']];
+    const results = (five, at) => html('span', { class: 'buttons', role: 'group', 'aria-label': `Result of ${lineOf(five)}` },
+      outcomes.map(([outcome, words]) => button(words, () => this.result(at, outcome), { 'data-result': `${at}-${OUTCOMES[outcome]}` })));
     const row = ({ five, answered }, at) => html('li', {}, html('code', {}, lineOf(five)),
-      answered ? html('span', { class: 'quiet' }, ' answered') : html('span', { class: 'buttons', role: 'group', 'aria-label': `Result of ${lineOf(five)}` },
-        outcomes.map(([outcome, words]) => html('button', { type: 'button', 'data-result': `${at}-${OUTCOMES[outcome]}`, onclick: () => this.result(at, outcome) }, words))));
-    fill(byId('motors'),
-      desk.set.length ? html('ol', { start: 0 }, desk.set.map(row)) : html('p', { class: 'quiet' }, 'No set is outstanding. An accepted set waits here for its results.'),
+      answered ? html('span', { class: 'quiet' }, ' answered') : results(five, at));
+    const seed = html('input', { type: 'number', min: 0, max: 65535, value: String(this.seed), onchange: (event) => { this.seed = Number(event.target.value) & 65535; } });
+    const faults = html('input', { type: 'checkbox', checked: this.faults, onchange: (event) => { this.faults = event.target.checked; } });
+    const none = html('p', { class: 'quiet' }, 'No set is outstanding. An accepted set waits here for its results.');
+    fill(byId('motors'), set.length ? html('ol', { start: 0 }, set.map(row)) : none,
       html('div', { class: 'row' },
-        html('button', { type: 'button', id: 'play-motors', disabled: !desk.set.length, onclick: () => this.motors.toggle() }, this.motors.runs ? 'Stop' : 'Play the motors'),
-        html('button', { type: 'button', id: 'two-orders', disabled: desk.set.filter(({ answered }) => !answered).length < 2, onclick: () => this.compare() }, 'In two orders')),
-      html('div', { class: 'row' },
-        html('label', {}, 'Seed ', html('input', { type: 'number', min: 0, max: 65535, value: String(this.seed), onchange: (event) => { this.seed = Number(event.target.value) & 65535; } })),
-        html('label', { class: 'check' }, html('input', { type: 'checkbox', checked: this.faults, onchange: (event) => { this.faults = event.target.checked; } }), ' with failures and jams')));
+        button(this.motors.runs ? 'Stop' : 'Play the motors', () => this.motors.toggle(), { id: 'play-motors', disabled: !set.length }),
+        button('In two orders', () => this.compare(), { id: 'two-orders', disabled: waitingIn(set).length < 2 })),
+      html('div', { class: 'row' }, html('label', {}, 'Seed ', seed), html('label', { class: 'check' }, faults, ' with failures and jams')));
   }
 
   showDrivers() {
-    const button = (way, words) => html('button', { type: 'button', 'data-event': way, onclick: () => this.event(way) }, words);
+    const event = (way, words) => button(words, () => this.event(way), { 'data-event': way });
+    const card = html('input', { type: 'number', id: 'card', min: 0, max: 4294967295, value: String(this.card), onchange: ({ target }) => { this.card = Number(target.value) >>> 0; } });
     fill(byId('drivers'),
-      html('div', { class: 'row' }, button(Event.BeginIn, 'Drive in'), html('label', {}, 'card ',
-        html('input', { type: 'number', id: 'card', min: 0, max: 4294967295, value: String(this.card), onchange: (event) => { this.card = Number(event.target.value) >>> 0; } }))),
-      html('div', { class: 'row' }, button(Event.BeginOut, 'Drive out')),
-      html('div', { class: 'row' }, button(Event.EndDone, 'Ended, done'), button(Event.EndNotDone, 'Ended, not done')));
+      html('div', { class: 'row' }, event(Event.BeginIn, 'Drive in'), html('label', {}, 'card ', card)),
+      html('div', { class: 'row' }, event(Event.BeginOut, 'Drive out')),
+      html('div', { class: 'row' }, event(Event.EndDone, 'Ended, done'), event(Event.EndNotDone, 'Ended, not done')));
   }
 
   showAnswer() {
     const { last, library } = this, node = byId('answer');
     if (!last) return fill(node, html('p', { class: 'quiet' }, 'Nothing was sent yet.'));
-    const { title, lines } = says(last.bytes), { answer } = last, fives = this.fives(last.bytes), image = last.reply?.[2] === 129;
-    const why = answer.taken ? [] : against(library, last.before, last.bytes, answer), mend = answer.taken ? '' : toDo(last.bytes, answer);
-    return fill(node,
-      html('p', { class: 'sent' }, title), lines.length ? html('ul', {}, lines.map((line) => html('li', {}, line))) : null, html('code', { class: 'bytes' }, hexOf(last.bytes)),
-      html('p', { class: `told ${answer.taken ? 'yes' : 'no'}` }, image ? 'The image, and what is set apart' : told(answer, fives), answer.taken && fives.length ? `, set ${answer.issue}` : ''),
-      last.reply ? html('code', { class: 'bytes', id: 'reply' }, hexOf(last.reply)) : html('p', { class: 'quiet' }, "The desk's own: the station was not sent it."),
-      why.length ? html('ul', { class: 'why' }, why.map((line) => html('li', {}, line))) : null, mend ? html('p', {}, html('b', {}, 'To do: '), mend) : null);
+    return fill(node, html('p', { class: 'sent' }, says(last.bytes).title), messageNodes(last.bytes),
+      answerNodes(library, last.before, last.bytes, last.answer, last.reply));
   }
 
-  fives(bytes) {
-    return bytes[2] === 1 ? Array.from({ length: bytes[4] }, (_, at) => bytes.slice(5 + 5 * at, 10 + 5 * at)) : [];
+  /** All messages that were sent, as a recording. */
+  recorded() {
+    return joined(...this.history.map(({ bytes }) => bytes));
   }
 
   showHistory() {
-    const shown = this.history.slice(-SHOWN_MOST).reverse();
+    const { library, history: sent } = this, any = { disabled: !sent.length };
+    const inUse = () => {
+      this.begin(library.desk());
+      this.image(IN_USE);
+    };
+    const anew = () => {
+      this.card = FIRST_CARD;
+      this.begin(library.desk());
+    };
+    const line = ({ bytes, answer }) => html('li', { class: answer.taken ? '' : 'no' }, says(bytes).title,
+      html('span', {}, answer.taken ? ' taken' : ` ${answer.number} ${answer.words}`));
     fill(byId('history'),
       html('div', { class: 'row' },
-        html('button', { type: 'button', disabled: !this.history.length, onclick: () => this.openLog('this session', joined(...this.history.map(({ bytes }) => bytes))) }, 'Open in the log'),
-        html('button', { type: 'button', disabled: !this.history.length, onclick: () => download('session.journal', joined(...this.history.map(({ bytes }) => bytes)), 'application/octet-stream') }, 'Save as a recording'),
-        html('button', { type: 'button', onclick: () => this.ask() }, 'Ask for the image'),
-        html('button', { type: 'button', id: 'in-use', onclick: () => { this.begin(this.library.desk()); this.image(IN_USE); } }, 'A garage in use'),
-        html('button', { type: 'button', id: 'anew', onclick: () => { this.card = FIRST_CARD; this.begin(this.library.desk()); } }, 'Start anew')),
-      html('ol', { class: 'messages', reversed: true }, shown.map(({ bytes, answer }) => html('li', { class: answer.taken ? '' : 'no' }, says(bytes).title, html('span', {}, answer.taken ? ' taken' : ` ${answer.number} ${answer.words}`)))));
+        button('Open in the log', () => this.openLog('This session', this.recorded()), any),
+        button('Save as a recording', () => download('session.journal', this.recorded(), 'application/octet-stream'), any),
+        button('Ask for the image', () => this.ask()), button('A garage in use', inUse, { id: 'in-use' }), button('Start anew', anew, { id: 'anew' })),
+      html('ol', { class: 'messages', reversed: true }, sent.slice(-SHOWN_MOST).reverse().map(line)));
   }
 
   showComparison() {
-    const node = byId('comparison'), { comparison, library } = this;
+    const node = byId('comparison'), { comparison } = this;
     node.hidden = !comparison;
     if (!comparison) return;
-    const { sides, step } = comparison, ended = step >= sides[0].order.length;
+    const { sides, step } = comparison, all = sides[0].order.length, ended = step >= all;
     const same = sides.every(({ desk }) => hexOf(desk.bytes) === hexOf(sides[0].desk.bytes));
-    const hosts = sides.map(({ desk, order }, at) => {
-      const host = html('div', { class: 'small-floor' }), floor = { library, record: desk.record, apart: desk.apart, cards: desk.cards, mode: 'still', motion: desk.set.filter(({ answered }) => !answered).map(({ five }) => five) };
-      drawFloor(host, { ...floor, label: `${at ? 'Another order' : 'One order'}: ${summary(floor)}` });
-      const said = order.map((one, place) => html('li', { class: place < step ? 'past' : '' }, `${lineOf(comparison.from.set[one.at].five)}: ${OUTCOMES[one.outcome]}`));
-      return html('div', {}, html('h3', {}, at ? 'Another order' : 'One order'), host, html('ol', {}, said), html('code', { class: 'bytes' }, hexOf(desk.bytes.slice(0, 8))));
-    });
-    fill(node, html('h2', {}, 'The same set in two orders'), html('div', { class: 'two' }, hosts),
-      html('p', { class: `told ${ended ? (same ? 'yes' : 'no') : ''}`, id: 'one-record', 'aria-live': 'polite' },
-        ended ? (same ? 'Both end in one record, with the same parts set apart.' : 'They differ.') : `${step} of ${sides[0].order.length} results`),
-      html('div', { class: 'row' }, html('button', { type: 'button', onclick: () => this.compare() }, 'Again'),
-        html('button', { type: 'button', onclick: () => { this.comparing.stop(); this.comparison = null; this.show(); } }, 'Close')));
+    const verdict = same ? 'Both end in one record, with the same parts set apart.' : 'They differ.';
+    const close = () => {
+      this.comparing.stop();
+      this.comparison = null;
+      this.show();
+    };
+    fill(node, html('h2', {}, 'The same set in two orders'),
+      html('div', { class: 'two' }, this.sideNodes(sides[0], 'One order'), this.sideNodes(sides[1], 'Another order')),
+      html('p', { class: `told ${!ended ? '' : same ? 'yes' : 'no'}`, id: 'one-record', 'aria-live': 'polite' }, ended ? verdict : `${step} of ${all} results`),
+      html('div', { class: 'row' }, button('Again', () => this.compare()), button('Close', close)));
+  }
+
+  /** One of the two orders: its floor, its results so far, and its record. */
+  sideNodes({ desk, order }, title) {
+    const { library, comparison } = this, { record, apart, cards } = desk, host = html('div', { class: 'small-floor' });
+    const floor = { library, record, apart, cards, mode: 'still', motion: waitingIn(desk.set) };
+    drawFloor(host, { ...floor, label: `${title}: ${summary(floor)}` });
+    const result = ({ at, outcome }, place) => html('li', { class: place < comparison.step ? 'past' : '' },
+      `${lineOf(comparison.from.set[at].five)}: ${OUTCOMES[outcome]}`);
+    return html('div', {}, html('h3', {}, title), host, html('ol', {}, order.map(result)), html('code', { class: 'bytes' }, hexOf(desk.bytes.slice(0, 8))));
   }
 }

@@ -1,13 +1,13 @@
 // The log on the screen: a file is opened, and every message of it can be looked at, with the floor after it.
 
 import { hexOf } from '../bytes.js';
-import { readMessage } from '../messages.js';
-import { byId, download, fill, html, some } from './dom.js';
-import { against, says, toDo, told } from './explain.js';
+import { answerNodes, messageNodes } from './answer.js';
+import { button, byId, download, fill, html, some } from './dom.js';
+import { says } from './explain.js';
 import { BadFile, readFile } from './files.js';
 import { drawFloor } from './floor.js';
 import { Log } from './log.js';
-import { Ticker } from './motors.js';
+import { Ticker, waitingIn } from './motors.js';
 import { summary } from './record-words.js';
 
 const SPEEDS = [[1, 'one a second'], [10, 'ten a second'], [1000, 'a thousand a second']];
@@ -67,14 +67,16 @@ export class LogView {
   headline() {
     const { file, refused, differ } = this.log;
     const parts = [`${file.name}: ${some(file.count, 'message')}, ${some(refused.length, 'rejection')}`];
-    if (file.old) parts.push(`${some(file.old.length, 'answer')} in the log, ${differ.length ? `${differ.length} of them not this station's` : "all of them this station's"}`);
+    const agree = differ.length ? `${differ.length} of them not this station's` : "all of them this station's";
+    if (file.old) parts.push(`${some(file.old.length, 'answer')} in the log, ${agree}`);
     if (file.note) parts.push(file.note);
     return `${parts.join('; ')}.`;
   }
 
   /** Where rejections are, along the slider: the more of some messages are rejected, the higher. */
   showMarks() {
-    const { log } = this, canvas = byId('marks'), paint = canvas.getContext('2d'), columns = Math.min(600, log.count), rejected = new Uint32Array(columns);
+    const { log } = this, canvas = byId('marks'), paint = canvas.getContext('2d');
+    const columns = Math.min(600, log.count), rejected = new Uint32Array(columns);
     Object.assign(canvas, { width: columns, height: 24 });
     paint.fillStyle = getComputedStyle(canvas).color;
     for (const at of log.refused) rejected[Math.floor((at * columns) / log.count)] += 1;
@@ -99,8 +101,7 @@ export class LogView {
     slider.max = String(log.count);
     slider.value = String(count);
     slider.setAttribute('aria-valuetext', `message ${count} of ${log.count}`);
-    const station = log.stationAt(count), waiting = station.set.filter(({ answered }) => !answered).map(({ five }) => five);
-    const floor = { library, record: station.record, apart: station.apart, mode: 'still', motion: waiting };
+    const { record, apart, set } = log.stationAt(count), floor = { library, record, apart, mode: 'still', motion: waitingIn(set) };
     drawFloor(byId('log-floor'), { ...floor, label: `The floor after message ${count}: ${summary(floor)}` });
     byId('log-summary').textContent = `After message ${count.toLocaleString('en')} of ${log.count.toLocaleString('en')}: ${summary(floor)}.`;
     this.showMessage(count - 1);
@@ -110,27 +111,33 @@ export class LogView {
   showMessage(at) {
     const { log, library } = this, node = byId('log-message');
     if (at < 0) return fill(node, html('p', { class: 'quiet' }, 'The station at its start, before the first message.'));
-    const bytes = log.message(at), before = log.stationAt(at), { answer, reply } = before.copy().message(bytes), { title, lines } = says(bytes);
-    const why = answer.taken ? [] : against(library, before, bytes, answer), mend = answer.taken ? '' : toDo(bytes, answer), old = log.file.old?.[at];
-    return fill(node, html('h3', {}, `Message ${(at + 1).toLocaleString('en')}: ${title}`),
-      lines.length ? html('ul', {}, lines.map((line) => html('li', {}, line))) : null, html('code', { class: 'bytes' }, hexOf(bytes)),
-      html('p', { class: `told ${answer.taken ? 'yes' : 'no'}` }, reply[2] === 129 ? says(reply).title : told(answer, readMessage(bytes).fives)), html('code', { class: 'bytes' }, hexOf(reply)),
-      old ? html('p', { class: `told ${hexOf(old) === hexOf(reply) ? 'yes' : 'no'}` }, hexOf(old) === hexOf(reply) ? 'The log has the same answer.' : `The log has another answer: ${says(old).title} (${hexOf(old)}).`) : null,
-      why.length ? html('ul', { class: 'why' }, why.map((line) => html('li', {}, line))) : null, mend ? html('p', {}, html('b', {}, 'To do: '), mend) : null);
+    const bytes = log.message(at), before = log.stationAt(at), { answer, reply } = before.copy().message(bytes);
+    return fill(node, html('h3', {}, `Message ${(at + 1).toLocaleString('en')}: ${says(bytes).title}`), messageNodes(bytes),
+      this.oldAnswer(at, reply), answerNodes(library, before, bytes, answer, reply));
+  }
+
+  /** What the log says was answered, beside the station's answer. */
+  oldAnswer(at, reply) {
+    const old = this.log.file.old?.[at];
+    if (!old) return null;
+    const same = hexOf(old) === hexOf(reply), words = same ? 'The log has the same answer.' : `The log has another answer: ${says(old).title} (${hexOf(old)}).`;
+    return html('p', { class: `told ${same ? 'yes' : 'no'}` }, words);
   }
 
   showControls() {
     const { log, at } = this;
     if (!log) return;
     const node = byId('log-controls'), held = node.contains(document.activeElement) ? document.activeElement.id : null;
-    const next = log.nextRefused(at - 1), last = log.nextRefused(at - 1, true);
-    const button = (id, words, enabled, onclick) => html('button', { type: 'button', id, disabled: !enabled, onclick }, words);
+    const next = log.nextRefused(at - 1), last = log.nextRefused(at - 1, true), running = this.ticker.runs;
+    const control = (id, words, enabled, onclick) => button(words, onclick, { id, disabled: !enabled });
+    const speeds = SPEEDS.map(([speed, words]) => html('option', { value: speed, selected: speed === this.speed }, words));
     fill(node,
-      button('previous-refused', '← Rejection', last >= 0, () => this.go(last + 1)), button('step-back', '← Step', at > 0, () => this.go(at - 1)),
-      button('play-log', this.ticker.runs ? 'Stop' : 'Play', at < log.count || this.ticker.runs, () => this.ticker.toggle()),
-      button('step', 'Step →', at < log.count, () => this.go(at + 1)), button('next-refused', 'Rejection →', next >= 0, () => this.go(next + 1)),
-      html('label', {}, 'Speed ', html('select', { id: 'speed', onchange: (event) => { this.speed = Number(event.target.value); } },
-        SPEEDS.map(([speed, words]) => html('option', { value: speed, selected: speed === this.speed }, words)))));
+      control('previous-refused', '← Rejection', last >= 0, () => this.go(last + 1)),
+      control('step-back', '← Step', at > 0, () => this.go(at - 1)),
+      control('play-log', running ? 'Stop' : 'Play', running || at < log.count, () => this.ticker.toggle()),
+      control('step', 'Step →', at < log.count, () => this.go(at + 1)),
+      control('next-refused', 'Rejection →', next >= 0, () => this.go(next + 1)),
+      html('label', {}, 'Speed ', html('select', { id: 'speed', onchange: ({ target }) => { this.speed = Number(target.value); } }, speeds)));
     if (held) byId(held)?.focus();
   }
 

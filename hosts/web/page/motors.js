@@ -5,6 +5,9 @@ import { Seeded } from '../traffic.js';
 
 export const PAUSE = 900;
 
+/** The instructions of a set that wait for their result. */
+export const waitingIn = (set) => set.filter(({ answered }) => !answered).map(({ five }) => five);
+
 /** The results of what waits in a set, in an order and with endings from a seed: pairs of a number and an outcome. */
 export function played(set, seed, faults) {
   const seeded = new Seeded(seed);

@@ -4,7 +4,7 @@ import { bytesOf, hexOf, numberAt } from '../bytes.js';
 import { Outcome } from '../numbers.js';
 import { planBytes, planIn } from '../plans.js';
 import { lineOf } from '../words.js';
-import { byId, fill, html, some } from './dom.js';
+import { button, byId, fill, html, some } from './dom.js';
 import { told } from './explain.js';
 import { drawFloor } from './floor.js';
 import { Ticker } from './motors.js';
@@ -54,7 +54,8 @@ export class PlanView {
     }
     const answer = library.judge(planBytes(plan)), fault = answer.place;
     verdict.className = `told ${answer.taken ? 'yes' : 'no'}`;
-    verdict.textContent = answer.taken ? `Accepted: ${some(plan.sets.length, 'set')}.` : `${answer.number}: ${answer.words}${fault === null ? '' : `, set ${fault} (line ${plan.sets[fault].line})`}.`;
+    const where = fault === null ? '' : `, set ${fault} (line ${plan.sets[fault].line})`;
+    verdict.textContent = answer.taken ? `Accepted: ${some(plan.sets.length, 'set')}.` : `${answer.number}: ${answer.words}${where}.`;
     this.play(plan, fault);
     this.go(fault === null ? this.steps.length - 1 : fault);
   }
@@ -83,16 +84,22 @@ export class PlanView {
   showSteps() {
     const { steps, at, library } = this, step = steps[at];
     if (!step) return;
-    const floor = { library, record: step.record, mode: 'still', motion: step.refused ? [] : step.fives, chosen: step.refused ? step.fives : [] };
+    const { record, fives, refused } = step, floor = { library, record, mode: 'still', [refused ? 'chosen' : 'motion']: fives };
     drawFloor(byId('plan-floor'), { ...floor, label: `The floor of the plan: ${summary(floor)}` });
     byId('plan-summary').textContent = `${summary(floor)}.`;
     const held = byId('plan-steps').contains(document.activeElement) ? document.activeElement.id : null;
-    const button = (id, words, enabled, onclick) => html('button', { type: 'button', id, disabled: !enabled, onclick }, words);
+    const control = (id, words, enabled, onclick) => button(words, onclick, { id, disabled: !enabled });
+    const play = () => {
+      if (this.at >= steps.length - 1) this.at = 0;
+      this.ticker.toggle();
+    };
+    const line = ({ words, refused: why }, place) => html('li', { class: why ? 'no' : '', 'aria-current': place === at ? 'step' : null },
+      button(words, () => this.go(place), { class: 'quiet' }), why ? html('p', { class: 'told no' }, why) : null);
     fill(byId('plan-steps'),
-      html('div', { class: 'row' }, button('plan-back', '← Set', at > 0, () => this.go(at - 1)), button('plan-play', this.ticker.runs ? 'Stop' : 'Play', steps.length > 1, () => { if (this.at >= steps.length - 1) this.at = 0; this.ticker.toggle(); }),
-        button('plan-next', 'Set →', at < steps.length - 1, () => this.go(at + 1))),
-      html('ol', { start: 0, class: 'sets' }, steps.map(({ words, refused }, place) => html('li', { class: refused ? 'no' : '', 'aria-current': place === at ? 'step' : null },
-        html('button', { class: 'quiet', type: 'button', onclick: () => this.go(place) }, words), refused ? html('p', { class: 'told no' }, refused) : null))));
+      html('div', { class: 'row' }, control('plan-back', '← Set', at > 0, () => this.go(at - 1)),
+        control('plan-play', this.ticker.runs ? 'Stop' : 'Play', steps.length > 1, play),
+        control('plan-next', 'Set →', at < steps.length - 1, () => this.go(at + 1))),
+      html('ol', { start: 0, class: 'sets' }, steps.map(line)));
     if (held) byId(held)?.focus();
   }
 }

@@ -61,7 +61,8 @@ export function partWords({ record, apart = 0n }, bit) {
 export function floorWords(floor, [first, last]) {
   const { record, apart = 0n } = floor;
   const cars = carsOf(floor).filter(({ place }) => place <= last && place + (place < 20 ? 1 : 0) >= first);
-  const words = cars.map(({ place, card }) => `${card ? `card ${card}` : 'a car'} at ${place < 20 ? `cells ${place} and ${place + 1}` : `cell ${place}`}`);
+  const cellsOf = (place) => (place < 20 ? `cells ${place} and ${place + 1}` : `cell ${place}`);
+  const words = cars.map(({ place, card }) => `${card ? `card ${card}` : 'a car'} at ${cellsOf(place)}`);
   const aside = bitsOf(apart).some((bit) => bit >= first && bit <= last);
   const slot = first === 0 || first === 20 || first === 30 ? 40 : last === 19 || last === 29 || last === 39 ? 43 : null;
   if (slot !== null && !hasBit(record, slot + (first < 20 ? 0 : first < 30 ? 1 : 2))) words.push('no lowered shuttle');
@@ -74,7 +75,8 @@ export function summary(floor) {
   const drive = hasBit(record, 55) ? 'a drive-in is under way' : hasBit(record, 56) ? 'a drive-out is under way' : 'no drive';
   const on = hasBit(record, 52) ? ' with a car' : '';
   const count = library.sound(record) ? library.cars(record) : cars.length;
-  return `${count} ${count === 1 ? 'car' : 'cars'}, lift at ${HEIGHTS[heightOf(record)] ?? 'no height'}${on}, ${drive}${apart ? `; set apart: ${partsIn(apart)}` : ''}`;
+  const aside = apart ? `; set apart: ${partsIn(apart)}` : '';
+  return `${count} ${count === 1 ? 'car' : 'cars'}, lift at ${HEIGHTS[heightOf(record)] ?? 'no height'}${on}, ${drive}${aside}`;
 }
 
 /** What is not sound in a record: the rule in words, and the parts where it fails; nothing where it is sound. */
@@ -87,11 +89,14 @@ export function hints(record) {
     const run = [];
     for (let at = cell; at < 20 && hasBit(record, at); at++) run.push(at);
     hint(run.length === 1, `cell ${cell} of row 1 is half a car: neither neighbour is occupied`, mask(run));
-    hint(run.length > 1 && run.length % 2 === 1, `cells ${cell} to ${run.at(-1)} of row 1 are an odd number side by side, and a car has two`, mask(run));
+    const odd = run.length > 1 && run.length % 2 === 1;
+    hint(odd, `cells ${cell} to ${run.at(-1)} of row 1 are an odd number side by side, and a car has two`, mask(run));
   }
   const positions = [3n, 1n << 20n, 1n << 30n, 3n << 18n, 1n << 29n, 1n << 39n];
-  positions.forEach((cells, at) => hint((record & cells) !== 0n && !hasBit(record, 40 + at),
-    `the ${SIDES[Math.floor(at / 3)]} shuttle's ${at % 3 ? 'cell' : 'cells'} in row ${1 + (at % 3)}: occupied, and no lowered shuttle is there`, cells));
+  positions.forEach((cells, at) => {
+    const where = `the ${SIDES[Math.floor(at / 3)]} shuttle's ${at % 3 ? 'cell' : 'cells'} in row ${1 + (at % 3)}`;
+    hint((record & cells) !== 0n && !hasBit(record, 40 + at), `${where}: occupied, and no lowered shuttle is there`, cells);
+  });
   SIDES.forEach((name, side) => {
     const count = (from) => [0, 1, 2].filter((row) => hasBit(record, from + 3 * side + row)).length, lowered = count(40), tilted = count(46);
     const slots = mask([40, 41, 42, 46, 47, 48].map((bit) => bit + 3 * side));
@@ -99,7 +104,8 @@ export function hints(record) {
     hint(tilted > 1, `the ${name} side has ${tilted} tilted shuttles, and at most 1 may be`, slots);
   });
   hint(height === 3, "the lift's height is 3, and there are 0 to 2", lift);
-  hint((record & (3n << 11n)) !== 0n && height !== 2, "cells 11 and 12 are the lift's: occupied, and the lift is not in the basement", 3n << 11n);
+  const lifted = (record & (3n << 11n)) !== 0n && height !== 2;
+  hint(lifted, "cells 11 and 12 are the lift's: occupied, and the lift is not in the basement", 3n << 11n);
   hint(raised && height === 2, 'bit 52, a car on the raised lift, and the lift is in the basement', lift);
   hint(coming && going, 'bits 55 and 56: a drive-in and a drive-out at once', lift);
   hint((coming || going) && height !== 0, 'a drive is under way, and the lift is not at street', lift);

@@ -31,7 +31,8 @@ function bars(title, lines) {
     html('tbody', {}, lines.map(([name, value]) => {
       const bar = html('span', { class: 'bar' });
       bar.style.width = `${value ? Math.max(0.6, (100 * value) / most) : 0}%`;
-      return html('tr', { 'data-total': name }, html('th', { scope: 'row' }, labelOf(name)), html('td', { class: 'count' }, value.toLocaleString('en')), html('td', { class: 'track', 'aria-hidden': 'true' }, bar));
+      return html('tr', { 'data-total': name }, html('th', { scope: 'row' }, labelOf(name)),
+        html('td', { class: 'count' }, value.toLocaleString('en')), html('td', { class: 'track', 'aria-hidden': 'true' }, bar));
     })));
 }
 
