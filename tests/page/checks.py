@@ -24,7 +24,7 @@ def same(found, wanted, what):
 
 def floor(page, host="#live-floor"):
     """What the drawing shows, by what stands where on the screen: for each car its card and the cells whose numbers are below it; the lift's
-    height, the door, and which parts are hatched."""
+    height by the stops above it, the door by its shape, and which parts are hatched."""
     return page.run("""
         const host = document.querySelector(given[0]), middle = (node) => { const r = node.getBoundingClientRect(); return [r.x + r.width / 2, r.y + r.height / 2]; };
         const numbers = [...host.querySelectorAll('.number')].map((node) => [Number(node.textContent), ...middle(node)]);
@@ -33,8 +33,11 @@ def floor(page, host="#live-floor"):
           const below = numbers.filter(([, x, y]) => x > r.x && x < r.right && y > r.bottom && y < r.bottom + r.height).map(([cell]) => cell);
           return [node.querySelector('text').textContent, below.length ? below.join(' ') : 'lift'];
         });
+        const high = (node) => middle(node)[1], cage = high(host.querySelector('.cage')), stops = [...host.querySelectorAll('.stop')].map(high);
+        const lift = ['street', 'rotation', 'basement'][stops.filter((stop) => stop < cage - 9).length];
+        const door = host.querySelector('.door').getBoundingClientRect();
         const hatched = [...host.querySelectorAll('[data-apart]')].filter((node) => getComputedStyle(node).fill.startsWith('url(')).map((node) => Number(node.dataset.apart));
-        return { cars, lift: host.querySelector('[data-lift]').dataset.lift, door: host.querySelector('[data-door]').dataset.door, hatched,
+        return { cars, lift, door: door.width > door.height ? 'open' : 'closed', hatched,
           moving: host.querySelectorAll('.area.motion').length, ghosts: host.querySelectorAll('.ghost').length, label: host.querySelector('svg').getAttribute('aria-label') };
     """, host)
 

@@ -42,7 +42,8 @@ def main(path, names):
             try:
                 check(page, one.as_uri())
                 failed.append(f"a wrong page passes {check.__name__}: {what}")
-            except (AssertionError, Failed):
+            except (AssertionError, Failed) as why:
+                print(f"found out: {what}: {str(why).splitlines()[0][:150]}")
                 found_out += 1
     for line in failed:
         print(f"failed: {line}")

@@ -2,6 +2,9 @@
 
 const SVG = 'http://www.w3.org/2000/svg';
 
+/** Children in one list, without those that are none. */
+const present = (children) => children.flat().filter((child) => child !== null && child !== undefined && child !== false);
+
 function filled(node, attributes, children) {
   for (const [name, value] of Object.entries(attributes)) {
     if (value === null || value === undefined || value === false) continue;
@@ -9,7 +12,7 @@ function filled(node, attributes, children) {
     else if (name in node && (name === 'value' || name === 'checked' || name === 'disabled')) node[name] = value;
     else node.setAttribute(name, value === true ? '' : value);
   }
-  node.append(...children.flat().filter((child) => child !== null && child !== undefined && child !== false));
+  node.append(...present(children));
   return node;
 }
 
@@ -21,7 +24,7 @@ export const svg = (tag, attributes = {}, ...children) => filled(document.create
 export const byId = (id) => document.getElementById(id);
 
 /** Replaces what is in a node. */
-export const fill = (node, ...children) => node.replaceChildren(...children.flat().filter((child) => child !== null && child !== undefined && child !== false));
+export const fill = (node, ...children) => node.replaceChildren(...present(children));
 
 export const button = (words, onclick, attributes = {}) => html('button', { type: 'button', onclick, ...attributes }, words);
 

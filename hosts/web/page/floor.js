@@ -74,10 +74,10 @@ function tilted(sketch, bit, there, mode) {
 function lift(sketch, floor) {
   const { record } = floor, height = heightOf(record), box = liftBox(height), door = liftBox(0);
   const coming = hasBit(record, 55), going = hasBit(record, 56), x = door.x - 12, parts = [];
-  parts.push(sketch.rect(inset(box, 1), { class: 'cage', rx: 7, 'data-lift': HEIGHTS[height] ?? 'nowhere' }));
+  parts.push(sketch.rect(inset(box, 1), { class: 'cage', rx: 7 }));
   if (height !== 2) parts.push(sketch.line(middle(box).x, liftBox(2).y + 52, middle(box).x, box.y + box.h, { class: 'mast' }));
   if (coming || going) {
-    parts.push(sketch.path([[[x, door.y - 4], [x - 46, door.y - 20]]], { class: 'door open', 'data-door': 'open' }));
+    parts.push(sketch.path([[[x, door.y - 4], [x - 46, door.y - 20]]], { class: 'door' }));
     const [from, to] = coming ? [x - 96, x - 22] : [x - 22, x - 96];
     parts.push(arrow(sketch, [from, door.y + 32], [to, door.y + 32], 'drive'));
     const card = coming ? floor.cards?.get(Size.DESK_AT_DRIVE) : floor.cards?.get(Size.DESK_AT_LIFT);
@@ -86,7 +86,7 @@ function lift(sketch, floor) {
       parts.push(sketch.text(x - 108, door.y + 37, line, { class: 'level strong', end: true, aside: [-26, 20 * at - 34] }));
     });
   } else {
-    parts.push(sketch.path([[[x, door.y - 4], [x, STREET_AT - 1]]], { class: 'door', 'data-door': 'closed' }));
+    parts.push(sketch.path([[[x, door.y - 4], [x, STREET_AT - 1]]], { class: 'door' }));
   }
   return parts;
 }

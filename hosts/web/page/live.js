@@ -129,7 +129,8 @@ export class Live {
       outcomes.map(([outcome, words]) => button(words, () => this.result(at, outcome), { 'data-result': `${at}-${OUTCOMES[outcome]}` })));
     const row = ({ five, answered }, at) => html('li', {}, html('code', {}, lineOf(five)),
       answered ? html('span', { class: 'quiet' }, ' answered') : results(five, at));
-    const seed = html('input', { type: 'number', min: 0, max: 65535, value: String(this.seed), onchange: (event) => { this.seed = Number(event.target.value) & 65535; } });
+    const seeded = ({ target }) => { this.seed = Number(target.value) & 65535; };
+    const seed = html('input', { type: 'number', min: 0, max: 65535, value: String(this.seed), onchange: seeded });
     const faults = html('input', { type: 'checkbox', checked: this.faults, onchange: (event) => { this.faults = event.target.checked; } });
     const none = html('p', { class: 'quiet' }, 'No set is outstanding. An accepted set waits here for its results.');
     fill(byId('motors'), set.length ? html('ol', { start: 0 }, set.map(row)) : none,
@@ -141,7 +142,8 @@ export class Live {
 
   showDrivers() {
     const event = (way, words) => button(words, () => this.event(way), { 'data-event': way });
-    const card = html('input', { type: 'number', id: 'card', min: 0, max: 4294967295, value: String(this.card), onchange: ({ target }) => { this.card = Number(target.value) >>> 0; } });
+    const carded = ({ target }) => { this.card = Number(target.value) >>> 0; };
+    const card = html('input', { type: 'number', id: 'card', min: 0, max: 4294967295, value: String(this.card), onchange: carded });
     fill(byId('drivers'),
       html('div', { class: 'row' }, event(Event.BeginIn, 'Drive in'), html('label', {}, 'card ', card)),
       html('div', { class: 'row' }, event(Event.BeginOut, 'Drive out')),
@@ -176,7 +178,8 @@ export class Live {
       html('div', { class: 'row' },
         button('Open in the log', () => this.openLog('This session', this.recorded()), any),
         button('Save as a recording', () => download('session.journal', this.recorded(), 'application/octet-stream'), any),
-        button('Ask for the image', () => this.ask()), button('A garage in use', inUse, { id: 'in-use' }), button('Start anew', anew, { id: 'anew' })),
+        button('Ask for the image', () => this.ask()), button('A garage in use', inUse, { id: 'in-use' }),
+        button('Start anew', anew, { id: 'anew' })),
       html('ol', { class: 'messages', reversed: true }, sent.slice(-SHOWN_MOST).reverse().map(line)));
   }
 
@@ -186,7 +189,8 @@ export class Live {
     if (!comparison) return;
     const { sides, step } = comparison, all = sides[0].order.length, ended = step >= all;
     const same = sides.every(({ desk }) => hexOf(desk.bytes) === hexOf(sides[0].desk.bytes));
-    const verdict = same ? 'Both end in one record, with the same parts set apart.' : 'They differ.';
+    const verdict = same ? 'Both end in one record, with the same parts set apart.' : 'They differ.', kind = same ? 'yes' : 'no';
+    const told = { class: `told ${ended ? kind : ''}`, id: 'one-record', 'aria-live': 'polite' };
     const close = () => {
       this.comparing.stop();
       this.comparison = null;
@@ -194,7 +198,7 @@ export class Live {
     };
     fill(node, html('h2', {}, 'The same set in two orders'),
       html('div', { class: 'two' }, this.sideNodes(sides[0], 'One order'), this.sideNodes(sides[1], 'Another order')),
-      html('p', { class: `told ${!ended ? '' : same ? 'yes' : 'no'}`, id: 'one-record', 'aria-live': 'polite' }, ended ? verdict : `${step} of ${all} results`),
+      html('p', told, ended ? verdict : `${step} of ${all} results`),
       html('div', { class: 'row' }, button('Again', () => this.compare()), button('Close', close)));
   }
 
@@ -205,6 +209,7 @@ export class Live {
     drawFloor(host, { ...floor, label: `${title}: ${summary(floor)}` });
     const result = ({ at, outcome }, place) => html('li', { class: place < comparison.step ? 'past' : '' },
       `${lineOf(comparison.from.set[at].five)}: ${OUTCOMES[outcome]}`);
-    return html('div', {}, html('h3', {}, title), host, html('ol', {}, order.map(result)), html('code', { class: 'bytes' }, hexOf(desk.bytes.slice(0, 8))));
+    return html('div', {}, html('h3', {}, title), host, html('ol', {}, order.map(result)),
+      html('code', { class: 'bytes' }, hexOf(desk.bytes.slice(0, 8))));
   }
 }

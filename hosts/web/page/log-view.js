@@ -120,8 +120,8 @@ export class LogView {
   oldAnswer(at, reply) {
     const old = this.log.file.old?.[at];
     if (!old) return null;
-    const same = hexOf(old) === hexOf(reply), words = same ? 'The log has the same answer.' : `The log has another answer: ${says(old).title} (${hexOf(old)}).`;
-    return html('p', { class: `told ${same ? 'yes' : 'no'}` }, words);
+    if (hexOf(old) === hexOf(reply)) return html('p', { class: 'told yes' }, 'The log has the same answer.');
+    return html('p', { class: 'told no' }, `The log has another answer: ${says(old).title} (${hexOf(old)}).`);
   }
 
   showControls() {
