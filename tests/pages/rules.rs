@@ -59,6 +59,27 @@ fn defined(text: &str, name: &str) -> u32 {
     definition(text, &format!("{name} = ")).lines().next().and_then(|line| line.rsplit(' ').next()?.parse().ok()).unwrap_or(u32::MAX)
 }
 
+/// The bytes that a definition reads, in its order: `fromLittleEndian 2 4 m`, `getD m 6 0`, `take 40 (drop 10 m)`.
+fn places(text: &str) -> Vec<String> {
+    let words: Vec<_> = text.split([' ', '(', ')', ';', '\n']).filter(|word| !word.is_empty()).collect();
+    let number = |at: usize| words.get(at).and_then(|word| word.parse::<u32>().ok());
+    let range = |from: u32, many: u32| if many == 1 { from.to_string() } else { format!("{from}-{}", from + many - 1) };
+    let read = words.iter().enumerate().filter_map(|(at, word)| match *word {
+        "fromLittleEndian" => Some(range(number(at + 2)?, number(at + 1)?)),
+        "getD" => Some(range(number(at + 2)?, 1)),
+        "take" => Some(range(number(at + 3)?, number(at + 1)?)),
+        _ => None,
+    });
+    read.collect()
+}
+
+/// The definition that begins so, in whichever crate's specs/ it stands.
+fn found(begins: &str) -> String {
+    let folders = fs::read_dir("crates").into_iter().flatten().flatten().filter_map(|krate| fs::read_dir(krate.path().join("specs")).ok());
+    let mut texts = folders.flatten().flatten().filter_map(|file| fs::read_to_string(file.path()).ok());
+    texts.find(|text| text.contains(&format!("\n{begins}"))).map_or_else(String::new, |text| definition(&text, begins).to_string())
+}
+
 /// The numbers of the table by their cases: `numberOf (BadField p) = 4`, `reasonNumber Gap = 21`.
 fn cases(answers: &str) -> BTreeMap<&str, u32> {
     let of = |line: &&str| line.starts_with("numberOf ") || line.starts_with("reasonNumber ");
@@ -183,6 +204,25 @@ fn main() {
     let said: Vec<_> = rows.iter().skip(1).map(|row| [numbers(row[0])[0], numbers(row[2])[0]]).collect();
     check.same("kinds and lengths", &said, &defined_kinds);
     check.same("kind of a request", &numbers(rows.first().map_or("", |row| row[0])), &vec![defined(&kinds, "request")]);
+
+    // every byte of a message, of a lent station and of a plan's head
+    let mut bytes = vec!["0-1", "2-3", "4", "5 on"].into_iter().map(String::from).collect::<Vec<_>>();
+    for kind in ["event", "result", "image", "answer", "held"] { bytes.extend(places(definition(&kinds, &format!("{kind} = record")))); }
+    let column_of = |rows: &[Vec<&str>], at: usize| rows.iter().map(|row| row[at].to_string()).collect::<Vec<_>>();
+    check.same("bytes of messages", &column_of(&table(&page, "Messages", "kind | bytes"), 1), &bytes);
+    check.same("bytes of a station", &column_of(&table(&page, "A fit station", "bytes"), 0), &places(&found("stationOf m =")));
+    let plans = read("crates/plans/specs/Plans.antt");
+    let mut head = places(definition(&plans, "planIn s ="));
+    head.push(format!("{} on", defined(&plans, "head")));
+    check.same("bytes of a plan", &column_of(&table(&page, "Plans", "bytes"), 0), &head);
+
+    // opcodes, events and the reader's kinds
+    let codes = read("crates/rules/specs/Codes.antt");
+    let after = |word: &str, line: &str| line.split(word).nth(1).and_then(|rest| rest.split(';').next()?.trim().parse::<u32>().ok());
+    let ops: Vec<_> = codes.lines().filter(|line| line.starts_with("codeOf ")).filter_map(|line| after("op = ", line)).collect();
+    check.same("opcodes", &column(&table(&page, "The five instructions", "instruction"), 1), &ops);
+    let events: Vec<_> = codes.lines().filter(|line| line.starts_with("eventCode ")).filter_map(|line| after(" = ", line)).collect();
+    check.same("events", &column(&table(&page, "Drives", "event"), 1), &events);
 
     // the record's bits
     let bits: Vec<_> = table(&page, "The record", "bits").iter().map(|row| row[0].to_string()).collect();
