@@ -354,6 +354,8 @@ def garage_drawn(page, url):
     same(page.run("return document.getElementById('drawing').value"), program("draw", b"0F 66 3F F0 C0 3F 10 00").decode(), "as bin/draw has it")
     page.click("#plan-from")
     assert page.run("return document.getElementById('plan').value").startswith("image 0F 66 3F F0 C0 3F 10 00\n"), "a plan's start"
+    page.run("location.hash = given[0]", link.split("#")[1])
+    settled(page, {"cars": [["", "4 5"], ["", "23"]]}, "the link's floor in an open page", "#garage-floor")
     page.open(link)
     settled(page, {"cars": [["", "4 5"], ["", "23"]]}, "the link's floor", "#garage-floor")
 

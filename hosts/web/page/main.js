@@ -68,9 +68,13 @@ async function begin() {
   });
   window.matchMedia('(max-width: 640px)').addEventListener('change', () => show(VIEWS.find((view) => !byId(`view-${view}`).hidden)));
   themed();
-  const linked = location.hash.match(/^#garage=([0-9a-fA-F]{16})$/);
-  if (linked) views.garage.record = numberAt(bytesIn(linked[1]));
-  show(linked ? 'garage' : 'station');
+  const linked = () => {
+    const [, digits] = location.hash.match(/^#garage=([0-9a-fA-F]{16})$/) ?? [];
+    if (digits) views.garage.record = numberAt(bytesIn(digits));
+    return Boolean(digits);
+  };
+  window.addEventListener('hashchange', () => linked() && show('garage'));
+  show(linked() ? 'garage' : 'station');
   byId('version').textContent = `Station ${library.version.join('.')}`;
   document.documentElement.dataset.ready = 'yes';
   performance.mark('ready');
