@@ -45,6 +45,7 @@ test('a run in the module answers the same, and can be put back', () => {
   }
   assert.deepEqual(run.station(), station.bytes);
   run.restore(kept.bytes);
+  assert.deepEqual(run.station(), kept.bytes);
   for (let at = kept.at; at < all.length; at = endOf(all, at)) run.answer(at, endOf(all, at) - at);
   assert.deepEqual(run.station(), station.bytes);
   const report = new TextDecoder().decode(wrote('bin/report', all));

@@ -2,6 +2,7 @@
 import assert from 'node:assert/strict';
 import { test } from 'node:test';
 import { bytesOf, endOf, hexOf, instruction, lineOf, numberAt, Outcome, START } from '../index.js';
+import { Composer } from '../page/compose.js';
 import { explained, faultsOf } from '../page/conditions.js';
 import { BadFile, readFile } from '../page/files.js';
 import { linesOf, recordOf } from '../page/garage.js';
@@ -116,6 +117,10 @@ test('a log is answered as bin/station answers it, and any place of it is found 
   for (const [from, to] of [[0, 40], [300, 340], [5000, 5030]]) {
     const lines = log.example(from, to).split('\n').filter((line) => /^[<>]/.test(line)), of = (mark) => lines.filter((line) => line[0] === mark).map((line) => line.slice(2)).join(' ');
     assert.equal(hexOf(wrote('bin/station', Uint8Array.from(of('>').split(' '), (two) => parseInt(two, 16)))), of('<'));
+    // what the log accepts the example accepts; behind its image, if it begins with one
+    const told = lines.filter((line) => line[0] === '<').map((line) => line.slice(2).split(' ')).map((bytes) => (bytes[2] === '80' ? parseInt(bytes[4], 16) : 0));
+    const own = told.length === to ? told : told.slice(1), first = to - own.length;
+    own.forEach((number, at) => assert.equal(number === 0, log.numbers[first + at] === 0, `${from}, ${at}`));
     assert.equal(log.hexadecimal(from, to).trim().split('\n').length, 2 * (to - from));
   }
 });
@@ -142,4 +147,17 @@ test('motors that are played answer each instruction once, and two orders end in
     }
   }
   assert.ok(compared > 200);
+});
+
+test('what is told before a set is sent is what the station then answers', () => {
+  const seeded = new Seeded(41), station = garage.station(), composer = new Composer(garage, () => {}), came = new Set();
+  for (const message of traffic(garage, 12, 6000)) {
+    station.message(message);
+    const chosen = seeded.oneIn(2) ? allowedSet(seeded, garage, station.record, station.apart, 1) : [];
+    Object.assign(composer, { chosen, draft: anyFive(seeded), touched: true });
+    const { number } = composer.judged(station), answer = station.copy().request([...chosen, composer.draft]);
+    assert.equal(number, answer.number, `${[...chosen, composer.draft].map(lineOf)} on ${hexOf(station.bytes)}`);
+    came.add(number);
+  }
+  for (const number of [0, 6, 8, 20, 21, 22, 23, 24, 26, 27, 28, 31, 32]) assert.ok(came.has(number), `${number} never came`);
 });
