@@ -135,7 +135,7 @@ export class Composer {
       html('details', { class: 'conditions', open: verdict.number >= 20 && verdict.number <= 28 },
         html('summary', {}, 'Conditions, in the order of the rules'),
         html('ol', {}, verdict.conditions.map(({ number, holds, words, lines }) => html('li', { class: holds ? 'yes' : 'no' },
-          html('span', { class: 'mark' }, holds ? 'holds' : 'fails'), ` ${number} ${words}`,
+          html('span', { class: 'mark' }, holds ? 'holds' : 'fails'), `${number} ${words}`,
           html('ul', {}, lines.map((line) => html('li', {}, line.words))))))),
       html('div', { class: 'set' }, html('h3', {}, `The set: ${this.chosen.length} of ${SET_MOST}`),
         html('ol', { start: 0 }, this.chosen.map((five, at) => html('li', {}, html('code', {}, lineOf(five)), ' ',
