@@ -1,10 +1,14 @@
 """How the page looks and is heard: contrast, labels, a phone, paper; and that nothing leaves it."""
 
 import base64
+import functools
+import http.server
 import json
 import re
+import shutil
+import threading
 
-from checks import settled
+from checks import OUT, ROOT, same, settled
 
 # the least contrast of text, and of what a drawing is read by
 TEXT, SHAPES = 4.5, 3.0
@@ -120,6 +124,36 @@ def nothing_leaves(page, url):
     assert blocked, "the policy lets a request out"
     page.log("browser")
     page.log("performance")
+
+
+PLANNER = """<!doctype html><title>planner</title><script type="module">
+    import { Event, instruction, load } from './index.js';
+    const garage = await load(await (await fetch('station.wasm')).arrayBuffer()), station = garage.station();
+    station.event(Event.BeginIn);
+    window.told = `${garage.version.join('.')}: ${station.request([instruction('lift basement')])}`;
+    document.documentElement.dataset.ready = 'yes';
+</script>"""
+
+
+class Quiet(http.server.SimpleHTTPRequestHandler):
+    def log_message(self, *_):
+        pass
+
+
+def as_a_module(page, _):
+    """The library by itself, as a planner's web developer takes it: modules and the entries from a server, no page of ours."""
+    folder = OUT / "served"
+    folder.mkdir(exist_ok=True)
+    for part in [*(ROOT / "hosts/web").glob("*.js"), ROOT / "target/web/station.wasm"]:
+        shutil.copy(part, folder)
+    (folder / "planner.html").write_text(PLANNER)
+    with http.server.ThreadingHTTPServer(("127.0.0.1", 0), functools.partial(Quiet, directory=folder)) as server:
+        threading.Thread(target=server.serve_forever, daemon=True).start()
+        page.open(f"http://127.0.0.1:{server.server_port}/planner.html")
+        version = re.findall(r"STATION_VERSION_(?:FIRST|SECOND|THIRD) (\d+)", (ROOT / "include/station.h").read_text())
+        same(page.run("return window.told"), f"{'.'.join(version)}: 31 (out of turn)", "a planner in a browser")
+        server.shutdown()
+    page.log("browser") # the browser asks for an icon, which is not there
 
 
 def still_quiet(page, url):

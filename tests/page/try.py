@@ -14,7 +14,7 @@ from wrong import WRONG, wrong_page
 
 ALL = [checks.parks_by_clicks, checks.fetches_by_keys, checks.jam_and_image, checks.refusals_are_told, checks.two_orders, checks.motors_play, checks.night_log,
        checks.journal, checks.random_messages, checks.bad_files, checks.garage_drawn, checks.plan_judged, looks.contrast_and_labels, looks.on_a_phone,
-       looks.on_paper, looks.still_quiet, looks.nothing_leaves]
+       looks.on_paper, looks.as_a_module, looks.still_quiet, looks.nothing_leaves]
 
 
 def main(path, names):
