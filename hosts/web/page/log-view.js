@@ -101,17 +101,20 @@ export class LogView {
     slider.max = String(log.count);
     slider.value = String(count);
     slider.setAttribute('aria-valuetext', `message ${count} of ${log.count}`);
-    const { record, apart, set } = log.stationAt(count), floor = { library, record, apart, mode: 'still', motion: waitingIn(set) };
+    const before = log.stationAt(Math.max(0, count - 1)), station = before.copy();
+    const answered = count ? station.message(log.message(count - 1)) : null;
+    const { record, apart, set } = station, floor = { library, record, apart, mode: 'still', motion: waitingIn(set) };
     drawFloor(byId('log-floor'), { ...floor, label: `The floor after message ${count}: ${summary(floor)}` });
     byId('log-summary').textContent = `After message ${count.toLocaleString('en')} of ${log.count.toLocaleString('en')}: ${summary(floor)}.`;
-    this.showMessage(count - 1);
+    this.showMessage(count - 1, before, answered);
     this.showControls();
   }
 
-  showMessage(at) {
+  /** The message at a place, with the station before it and what that answered. */
+  showMessage(at, before, answered) {
     const { log, library } = this, node = byId('log-message');
-    if (at < 0) return fill(node, html('p', { class: 'quiet' }, 'The station at its start, before the first message.'));
-    const bytes = log.message(at), before = log.stationAt(at), { answer, reply } = before.copy().message(bytes);
+    if (!answered) return fill(node, html('p', { class: 'quiet' }, 'The station at its start, before the first message.'));
+    const bytes = log.message(at), { answer, reply } = answered;
     return fill(node, html('h3', {}, `Message ${(at + 1).toLocaleString('en')}: ${says(bytes).title}`), messageNodes(bytes),
       this.oldAnswer(at, reply), answerNodes(library, before, bytes, answer, reply));
   }
