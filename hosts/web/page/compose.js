@@ -1,7 +1,7 @@
 // Building a set: an instruction is chosen on the floor, by controls or in words; it is judged before it is sent.
 
 import { Numbers, Op } from '../numbers.js';
-import { beltsOf, HEIGHTS, instruction, lineOf, ORIENTATIONS, ROWS, SIDES, SIZES, WAYS, WrongLine } from '../words.js';
+import { beltsOf, HEIGHTS, instruction, lineOf, ORIENTATIONS, ROWS, SIDES, SIZES, WrongLine } from '../words.js';
 import { explained, faultsOf } from './conditions.js';
 import { choice, choices, html, fill } from './dom.js';
 import { partsIn } from './record-words.js';

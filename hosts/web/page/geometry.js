@@ -13,7 +13,7 @@ const LIFT_AT = [40, 148, 256];
 export const STREET_AT = LIFT_AT[0] + DEEP;
 export const WIDE = 2 * SIDE + 20 * HALF + 2 * GAP;
 export const HIGH = ROW_AT[2] + DEEP + 34;
-export const LIFT_CELL = 11;
+const LIFT_CELL = 11;
 
 /** The cells of each belt, by rows: the first and the last. */
 export const BELT_CELLS = [
@@ -25,7 +25,7 @@ export const BELT_CELLS = [
 /** Where a half cell of row 1 begins. */
 const across = (half) => SIDE + half * HALF + (half >= 2 ? GAP : 0) + (half >= 18 ? GAP : 0);
 
-export const rowOf = (cell) => (cell < 20 ? 0 : cell < 30 ? 1 : 2);
+const rowOf = (cell) => (cell < 20 ? 0 : cell < 30 ? 1 : 2);
 
 export function cellBox(cell) {
   const row = rowOf(cell);

@@ -14,8 +14,8 @@ const SPEEDS = [[1, 'one a second'], [10, 'ten a second'], [1000, 'a thousand a 
 const BUSIEST = 30; // steps a second
 
 export class LogView {
-  constructor(library, { opened }) {
-    Object.assign(this, { library, opened, log: null, at: 0, speed: 1 });
+  constructor(library) {
+    Object.assign(this, { library, log: null, at: 0, speed: 1 });
     this.ticker = new Ticker(() => this.tick(), () => this.showControls());
     const drop = byId('drop'), input = byId('file');
     input.addEventListener('change', () => input.files[0] && this.openFile(input.files[0]));
@@ -51,7 +51,6 @@ export class LogView {
       });
       this.log = log;
       this.took = performance.now() - begun;
-      this.opened();
       note.className = `told ${log.file.note || log.differ.length ? 'no' : 'yes'}`;
       note.textContent = this.headline();
       byId('log-body').hidden = false;

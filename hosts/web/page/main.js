@@ -45,7 +45,7 @@ async function begin() {
     if (name === 'week') showWeek(views.log.log);
   };
   views.live = new Live(library, { openLog: (name, bytes) => { show('log'); views.log.open(name, bytes); } });
-  views.log = new LogView(library, { opened: () => {} });
+  views.log = new LogView(library);
   views.garage = new Garage(library, {
     sendImage: (record) => { views.live.image(record); show('station'); },
     planFrom: (record) => { views.plan.from(record); show('plan'); },

@@ -3,7 +3,7 @@
 import { Outcome } from '../numbers.js';
 import { Seeded } from '../traffic.js';
 
-export const PAUSE = 900;
+const PAUSE = 900; // milliseconds between two results, more or less
 
 /** The instructions of a set that wait for their result. */
 export const waitingIn = (set) => set.filter(({ answered }) => !answered).map(({ five }) => five);

@@ -4,7 +4,7 @@ import { readFileSync, readdirSync } from 'node:fs';
 import { fileURLToPath } from 'node:url';
 import { load } from '../index.js';
 
-export const ROOT = fileURLToPath(new URL('../../../', import.meta.url));
+const ROOT = fileURLToPath(new URL('../../../', import.meta.url));
 export const text = (path) => readFileSync(ROOT + path, 'utf8');
 export const HEADERS = readdirSync(`${ROOT}include`).map((name) => text(`include/${name}`).replace(/\/\*[\s\S]*?\*\//g, ''));
 export const garage = await load(readFileSync(process.env.STATION_WASM ?? `${ROOT}target/web/station.wasm`));
