@@ -14,6 +14,7 @@ const SILENCES: usize = 40;
 /// What the stack is painted with, as board.h says.
 const PAINT: u32 = 0xA55A_3CC3;
 /// A board's states, as board.h numbers them.
+const STARTING: u32 = 0;
 const RUNNING: u32 = 1;
 const STATES: [&str; 5] = ["starting", "running", "the stack is too small: the guard was touched", "another fault", "ended"];
 
@@ -80,7 +81,12 @@ impl Board {
         let mut this = Board { child, line, answers, rest: Vec::new(), control: BufReader::new(stream), symbols, folder };
         this.told_line();
         this.ask("\"qmp_capabilities\"");
-        while this.state().0 != RUNNING { std::thread::sleep(Duration::from_millis(20)); }
+        let mut waited = 0;
+        while this.state().0 == STARTING {
+            assert!(waited < SILENCES, "the board does not start");
+            std::thread::sleep(if waited == 0 { SILENCE / 10 } else { SILENCE });
+            waited += 1;
+        }
         this
     }
 
