@@ -85,3 +85,13 @@ pub fn record_call(numbers: &mut Numbers, record: u64) -> Given {
         _ => Given { entry: 10, image, input: five, output: any_bytes(numbers, size), ..Given::default() },
     }
 }
+
+/// A call of any entry.
+pub fn any_call(numbers: &mut Numbers, station: &Station) -> Given {
+    match numbers.below(9) {
+        0 | 1 => record_call(numbers, station.record),
+        2 | 3 => message_call(numbers, station),
+        4 => sets_call(numbers),
+        _ => station_call(numbers, station),
+    }
+}

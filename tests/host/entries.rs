@@ -4,7 +4,7 @@
 //! it can give, and no other; those that say why an instruction isn't allowed, every reason of each opcode on sound records. Each call
 //! must have been made on handed-in stations of every sort that handed.rs tells apart, and calls must have met all that filling.rs lists.
 
-use shared::calls::{lent_station, message_call, record_call, sets_call, station_call};
+use shared::calls::{any_call, lent_station};
 use shared::command::{self, ENTRIES};
 use shared::filling;
 use shared::handed::{self, handed, Handed};
@@ -56,12 +56,7 @@ fn trials(count: usize) -> Vec<Trial<Told>> {
             let message = traffic::framed_message(&mut numbers, &station);
             traffic::after(&mut station, &message);
             let lent = lent_station(&mut numbers, &station);
-            trial(match numbers.below(9) {
-                0 | 1 => record_call(&mut numbers, lent.record),
-                2 | 3 => message_call(&mut numbers, &lent),
-                4 => sets_call(&mut numbers),
-                _ => station_call(&mut numbers, &lent),
-            })
+            trial(any_call(&mut numbers, &lent))
         })
         .collect()
 }

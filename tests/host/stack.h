@@ -7,6 +7,11 @@
 #include <stddef.h>
 #include <stdint.h>
 
+/* On a board there is more to do round a call (tests/board/measured.h). */
+#ifndef MEASURED
+#define MEASURED(call) call
+#endif
+
 enum { PAINTED = 8192, MARGIN = 256 };
 #define PAINT UINT64_C(0xA55A3CC3699617E8)
 
@@ -17,7 +22,7 @@ __attribute__((noinline)) static size_t stack_of(void (*call)(void *), void *giv
     size_t kept = 0, words = (PAINTED - MARGIN) / sizeof *low;
     for (size_t at = 0; at < words; at++)
         low[at] = PAINT;
-    call(given);
+    MEASURED(call(given));
     while (kept < words && low[kept] == PAINT)
         kept++;
     return PAINTED - kept * sizeof *low + here;

@@ -7,7 +7,7 @@ use std::io::{BufReader, Read, Write};
 use std::process::{exit, Stdio};
 
 /// What a command is made of.
-#[derive(Default)]
+#[derive(Clone, Default)]
 pub struct Given {
     pub entry: u8,
     pub first: u8,
