@@ -2,6 +2,7 @@
 // parts of the floor; that they are the areas of the rules is one computed test over all well-formed instructions, in proofs/.
 ghost use mathlib.Core.Path.{_≡_};
 ghost use Rattle.rules.specs.Verdicts.{maskOf, sharingOf, codeMask, codeSharing};
+ghost use Rattle.areas.specs.Located.{locate};
 ghost use Rattle.areas.specs.Private.{beltsMask, rowsMask, positions, tiltedSlots, shuttlesMask, rowBit, tiltMask, areaMask};
 use floor::masks::LEFT_1;
 use floor::masks::LEFT_2;
@@ -169,12 +170,32 @@ pub fn overlap(i: Instruction, j: Instruction) -> Sharing
     Sharing::IllFormed
 }
 
+// What five bytes say, and its area.
+pub struct Located {
+    pub reading: Reading,
+    pub area: u64,
+}
+
+// Reads five bytes and takes the area of what they say: an instruction that was read is well formed, and is not tested again.
+pub fn locate(x: Code) -> Located
+    ensures { λ l. ⌜ l ≡ locate x ⌝ }
+{
+    let reading = rules::read(x);
+    match reading {
+        Reading::Good(i) => Located {
+            reading,
+            area: area_mask(i),
+        },
+        Reading::Bad => Located { reading, area: 0 },
+    }
+}
+
 // The same of instructions as five bytes.
 pub fn code_area(x: Code) -> Area
     ensures { λ a. ⌜ a ≡ codeMask x ⌝ }
 {
     match rules::read(x) {
-        Reading::Good(i) => area(i),
+        Reading::Good(i) => Area::Mask(area_mask(i)),
         Reading::Bad => Area::IllFormed,
     }
 }
