@@ -22,14 +22,14 @@ use Rattle.rules.proofs.Every.{everywhere, each}
 use Rattle.rules.proofs.Frame.{area-small}
 use Rattle.areas.specs.declared.Located.{Located}
 use Rattle.areas.specs.Located.{locate}
-use Rattle.areas.specs.Private.{beltsMask, rowsMask, positions, tiltedSlots, shuttlesMask, rowBit, tiltMask, areaMask}
+use Rattle.areas.specs.Private.{beltsMask, rowsMask, positions, tiltedSlots, shuttlesMask, corner, tiltMask, areaMask}
 
 -- the mask is the area
 abbrev right : Instruction → Bool
 right i = eqb (areaMask i) (image (area i))
 
 all-right : T (everywhere right)
-unfolding everywhere every packed area beltsMask rowsMask positions tiltedSlots shuttlesMask rowBit tiltMask areaMask
+unfolding everywhere every packed area beltsMask rowsMask positions tiltedSlots shuttlesMask corner tiltMask areaMask
 all-right = tt
 
 pub area-right : (i : Instruction) → wellFormed i ≡ true → areaMask i ≡ image (area i)

@@ -38,11 +38,12 @@ abbrev evenOf : ℕ → Bits → Bool
 evenOf m f = eqb (count (places m) f % 2) 0
 
 -- what the code's tests say is what the conditions say
-pub lift-law : (height : ℕ) (f : Bits) (still whole : Bool)
-    → holds (heightIs height) f ≡ still → (not (holds atBasement f) || (noneOf 0x1800 f || (evenOf 0x7FF f && evenOf 0xFE000 f))) ≡ whole
-    → cond (not still) (cond whole Allowed (NotAllowed OddCount)) (NotAllowed SameHeight) ≡ judged (clauses (Lift height)) f
+pub lift-law : (height : ℕ) (f : Bits) (still below free whole : Bool) → still ≡ holds (heightIs height) f → below ≡ holds atBasement f
+    → free ≡ noneOf 0x1800 f → whole ≡ evenOf 0x7FF f && evenOf 0xFE000 f
+    → cond (not still) (cond (not below || (free || whole)) Allowed (NotAllowed OddCount)) (NotAllowed SameHeight) ≡ judged (clauses (Lift height)) f
 unfolding places
-lift-law height f still whole p q = ap₂ (λ (x y : Bool). cond (not x) (cond y Allowed (NotAllowed OddCount)) (NotAllowed SameHeight)) (sym p) (sym q)
+lift-law height f still below free whole p q u v =
+    ap₂ (λ (x y : Bool). cond (not x) (cond y Allowed (NotAllowed OddCount)) (NotAllowed SameHeight)) p (ap₂ (λ (x y : Bool). not x || y) q (ap₂ _||_ u v))
 
 -- an event that comes in turn, with its own conditions
 pub in-law : (f : Bits) {due : Bool} → due ≡ inTurn BeginIn f → due && (holds (heightIs 0) f && noneOf 0x10000000000000 f) ≡ possible BeginIn f

@@ -25,15 +25,19 @@ use rules::Verdict;
 pub fn lift_judged(r: u64, height: u8) -> Verdict
     ensures { λ v. ⌜ v ≡ judged (clauses (Instruction.Lift height)) (bit r) ⌝ }
 {
-    let even = bits::even(r, LEFT_OF_LIFT) & bits::even(r, RIGHT_OF_LIFT);
-    let whole = !height_is(r, 2) | (bits::free(r, LIFT_CELLS) | even);
     if height_is(r, height) {
         return Verdict::NotAllowed(Reason::SameHeight);
     }
-    if !whole {
-        return Verdict::NotAllowed(Reason::OddCount);
+    if !height_is(r, 2) {
+        return Verdict::Allowed;
     }
-    Verdict::Allowed
+    if bits::free(r, LIFT_CELLS) {
+        return Verdict::Allowed;
+    }
+    if bits::even(r, LEFT_OF_LIFT) & bits::even(r, RIGHT_OF_LIFT) {
+        return Verdict::Allowed;
+    }
+    Verdict::NotAllowed(Reason::OddCount)
 }
 
 // The bits of the lift at a height, with a car or without: in the basement the car stands on its two cells.

@@ -1,9 +1,10 @@
--- A row's next record is the rules', one test at every well-formed instruction that a record may allow, but the lift's runs. Assumes nothing.
+-- A row's next record is the rules', one test at every well-formed instruction whose belts or rows leave no gap, but the lift's runs.
+-- Assumes nothing.
 use mathlib.Core.Path.{_≡_, refl, sym, ap, ap₂, _∙_}
 use mathlib.Core.Bool.{Bool, true, false, cond, _&&_, true≢false}
 use mathlib.Core.List.{List, [], _∷_}
 use Prim.Native.Nat.{ℕ, _^_, _<_}
-use lib.Dec.{T, eqb, ltb}
+use lib.Dec.{T, ltb}
 use borrow.Author.Tests.{ltb-true}
 use Rattle.bits.specs.Bits.{bit, image}
 use Rattle.bits.specs.Places.{places}
@@ -11,15 +12,14 @@ use Rattle.bits.specs.Search.{every}
 use Rattle.bits.proofs.Cases.{true→T, T→true, both, clash}
 use Rattle.bits.proofs.Search.{every-at}
 use Rattle.bits.proofs.Digits.{by-bits}
-use Rattle.floor.specs.Tests.{Test, holds}
 use Rattle.rules.specs.declared.Instruction.{Instruction}
 use Rattle.rules.specs.declared.Instruction.the-variants.{Belts, Shuttles, Tilt, Lift, Rotate}
 use Rattle.rules.specs.Rules.{wellFormed, changes, next}
 use Rattle.rules.proofs.Every.{everywhere, each}
-use Rattle.rows.specs.Private.{Move, moveRow, moveOf, whole}
+use Rattle.rows.specs.Private.{moveRow, moveOf, whole}
 use Rattle.rows.proofs.Steps.{Atom, flat}
 use Rattle.rows.proofs.Takes.{takes, rowTakes}
-use Rattle.areas.specs.Private.{beltsMask, rowsMask, positions, tiltedSlots, shuttlesMask, rowBit, tiltMask, areaMask}
+use Rattle.areas.specs.Private.{beltsMask, rowsMask, positions, tiltedSlots, shuttlesMask, corner, tiltMask, areaMask}
 use Rattle.rows.proofs.Flat.{allMeet, flat-right}
 use Rattle.rows.proofs.Same.{sameAtom, atom-right}
 use Rattle.rows.proofs.Judging.{isLift}
@@ -51,7 +51,7 @@ tried (Lift height) = true
 tried Rotate = moved Rotate
 
 all-moved : T (everywhere tried)
-unfolding everywhere every places moveOf beltsMask rowsMask positions tiltedSlots shuttlesMask rowBit tiltMask areaMask
+unfolding everywhere every places moveOf beltsMask rowsMask positions tiltedSlots shuttlesMask corner tiltMask areaMask
 all-moved = tt
 
 pick : (b c : Bool) → b ≡ true → T (cond b c true) → c ≡ true

@@ -14,7 +14,7 @@ use Rattle.rules.specs.Verdicts.{judged}
 use Rattle.rules.proofs.Every.{everywhere, each}
 use Rattle.rows.specs.Private.{judgedRow, rowOf}
 use Rattle.rows.proofs.Steps.{steps, cut, run, rowSteps, allFit}
-use Rattle.areas.specs.Private.{beltsMask, rowsMask, positions, tiltedSlots, shuttlesMask, rowBit, tiltMask, areaMask}
+use Rattle.areas.specs.Private.{beltsMask, rowsMask, positions, tiltedSlots, shuttlesMask, corner, tiltMask, areaMask}
 use Rattle.rows.proofs.Flat.{steps-right, cut-right}
 use Rattle.rows.proofs.Parts.{row-right}
 use Rattle.rows.proofs.Same.{sameSteps, steps-same}
@@ -37,7 +37,7 @@ tried (Lift height) = true
 tried Rotate = asks Rotate
 
 all-ask : T (everywhere tried)
-unfolding everywhere every places rowOf beltsMask rowsMask positions tiltedSlots shuttlesMask rowBit tiltMask areaMask
+unfolding everywhere every places rowOf beltsMask rowsMask positions tiltedSlots shuttlesMask corner tiltMask areaMask
 all-ask = tt
 
 ask : (i : Instruction) → isLift i ≡ false → T (tried i) → asks i ≡ true

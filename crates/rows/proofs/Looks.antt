@@ -1,17 +1,17 @@
 -- A masked comparison is a look at each bit that the mask names. Assumes nothing.
 use mathlib.Core.Path.{_≡_, refl, sym, ap, ap₂, _∙_}
 use mathlib.Core.Bool.{Bool, true, false, cond, not, _&&_}
-use mathlib.Core.List.{List, [], _∷_, map}
+use mathlib.Core.List.{List, _∷_, map}
 use Prim.Native.Nat.{ℕ, zero, suc, _/_, _%_, _^_, _<_, min}
 use native.Mathlib.Nat.{pow-suc, div-one, mod-lt, zero-lt-suc}
 use native.Mathlib.Omega.{arith}
 use lib.Bits.{bitAnd, and-step, and-zero-r}
 use lib.Dec.{eqb}
 use borrow.Author.Tests.{eqb-true, eqb-false, eq-eqb, ne-eqb}
-use Rattle.bits.specs.Bits.{Bits, bit}
+use Rattle.bits.specs.Bits.{bit}
 use Rattle.bits.specs.Places.{from, named, places}
 use Rattle.bits.proofs.Masks.{half}
-use Rattle.rows.proofs.Steps.{Atom, Look, meets}
+use Rattle.rows.proofs.Steps.{Atom, Look}
 use Rattle.rows.proofs.Flat.{allMeet}
 
 and-half : (r j m : ℕ) → bitAnd (r / 2 ^ j) m / 2 ≡ bitAnd (r / 2 ^ suc j) (m / 2)

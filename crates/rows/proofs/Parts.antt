@@ -1,8 +1,8 @@
 -- A row of masks judges as its steps do. Assumes nothing.
-use mathlib.Core.Path.{_≡_, refl, sym, ap, ap₂, _∙_}
-use mathlib.Core.Bool.{Bool, true, false, cond, not, _&&_}
+use mathlib.Core.Path.{_≡_, refl, sym, ap₂, _∙_}
+use mathlib.Core.Bool.{Bool, true, false, cond, not}
 use mathlib.Core.List.{List, [], _∷_}
-use Prim.Native.Nat.{ℕ, _%_, _^_}
+use Prim.Native.Nat.{ℕ, _^_}
 use lib.Bits.{bitAnd}
 use lib.Dec.{eqb, ltb}
 use borrow.Author.Tests.{ltb-true, eqb-true}
@@ -12,7 +12,7 @@ use Rattle.bits.specs.Places.{places}
 use Rattle.floor.specs.Tests.{fact, even}
 use Rattle.rules.specs.declared.Verdict.{Verdict}
 use Rattle.rows.specs.Private.{Part, look, pairs, halt, because, passes, judgedRow}
-use Rattle.rows.proofs.Steps.{flat, atomsOf, rowSteps, run, fits, allFit}
+use Rattle.rows.proofs.Steps.{atomsOf, rowSteps, run, fits, allFit}
 use Rattle.rows.proofs.Flat.{allMeet, flat-right, one-reason}
 use Rattle.rows.proofs.Looks.{look-right}
 

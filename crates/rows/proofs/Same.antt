@@ -1,12 +1,11 @@
 -- Steps that are compared. Assumes nothing.
-use mathlib.Core.Path.{_≡_, refl, sym, ap, ap₂, _∙_}
-use mathlib.Core.Bool.{Bool, true, false, cond, not, _&&_}
+use mathlib.Core.Path.{_≡_, refl, ap, ap₂}
+use mathlib.Core.Bool.{Bool, true, false, not, _&&_}
 use mathlib.Core.List.{List, [], _∷_}
 use Prim.Native.Nat.{ℕ}
 use lib.Dec.{eqb}
 use borrow.Author.Tests.{eqb-true}
 use Rattle.bits.proofs.Cases.{both, clash}
-use Rattle.answers.specs.declared.Reason.{Reason}
 use Rattle.answers.specs.Answers.{reasonNumber}
 use Rattle.answers.proofs.Promises.{reason-same}
 use Rattle.rows.proofs.Steps.{Atom, Never, Look, Even, Other, Step, _or_}
