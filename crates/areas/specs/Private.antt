@@ -32,9 +32,11 @@ positions side rows =
 unfoldable pub tiltedSlots : ℕ → ℕ → ℕ
 tiltedSlots side rows = cond (eqb side 0) (rows % 8 * 0x400000000000) (rows % 8 * 0x2000000000000)
 
--- one row as a mask
-unfoldable pub rowBit : ℕ → ℕ
-rowBit row = cond (eqb row 1) 1 (cond (eqb row 2) 2 4)
+-- a side's position in a row, with its tilted slot
+unfoldable pub corner : ℕ → ℕ → ℕ
+corner side row =
+    cond (eqb side 0) (cond (eqb row 1) 0x410000000003 (cond (eqb row 2) 0x820000100000 0x1040040000000))
+    (cond (eqb row 1) 0x20800000C0000 (cond (eqb row 2) 0x4100020000000 0x8208000000000))
 
 -- lowered: the positions of the rows moved; tilted: their tilted slots
 unfoldable pub shuttlesMask : ℕ → ℕ → ℕ → ℕ → ℕ
@@ -44,7 +46,7 @@ shuttlesMask side mask orientation toward =
 -- both slots and the cells of the position; from lowered also the side's lowered slots
 unfoldable pub tiltMask : ℕ → ℕ → ℕ → ℕ
 tiltMask side row orientation =
-    let here = bitOr (positions side (rowBit row)) (tiltedSlots side (rowBit row)) in
+    let here = corner side row in
     cond (eqb orientation 1) here (bitOr here (cond (eqb side 0) 0x70000000000 0x380000000000))
 
 -- the area of each instruction; the lift with its two cells, and with the six for its turn

@@ -2,7 +2,8 @@
 // parts of the floor; that they are the areas of the rules is one computed test over all well-formed instructions, in proofs/.
 ghost use mathlib.Core.Path.{_≡_};
 ghost use Rattle.rules.specs.Verdicts.{maskOf, sharingOf, codeMask, codeSharing};
-ghost use Rattle.areas.specs.Private.{beltsMask, rowsMask, positions, tiltedSlots, shuttlesMask, rowBit, tiltMask, areaMask};
+ghost use Rattle.areas.specs.Located.{locate};
+ghost use Rattle.areas.specs.Private.{beltsMask, rowsMask, positions, tiltedSlots, shuttlesMask, corner, tiltMask, areaMask};
 use floor::masks::LEFT_1;
 use floor::masks::LEFT_2;
 use floor::masks::LEFT_3;
@@ -76,17 +77,26 @@ fn tilted_slots(side: u8, rows: u64) -> u64
     rows % 8 * RIGHT_TILTED_1
 }
 
-// One row as a mask of rows.
-fn row_bit(row: u8) -> u64
-    ensures { λ x. ⌜ x ≡ rowBit row ⌝ }
+// A side's position in a row, with its tilted slot.
+fn corner(side: u8, row: u8) -> u64
+    ensures { λ x. ⌜ x ≡ corner side row ⌝ }
 {
+    if side == 0 {
+        if row == 1 {
+            return LEFT_1 | LEFT_TILTED_1;
+        }
+        if row == 2 {
+            return LEFT_2 | LEFT_TILTED_1 * 2;
+        }
+        return LEFT_3 | LEFT_TILTED_1 * 4;
+    }
     if row == 1 {
-        return 1;
+        return RIGHT_1 | RIGHT_TILTED_1;
     }
     if row == 2 {
-        return 2;
+        return RIGHT_2 | RIGHT_TILTED_1 * 2;
     }
-    4
+    RIGHT_3 | RIGHT_TILTED_1 * 4
 }
 
 // ---- the areas
@@ -106,8 +116,7 @@ fn shuttles_mask(side: u8, mask: u8, orientation: u8, toward: u8) -> u64
 fn tilt_mask(side: u8, row: u8, orientation: u8) -> u64
     ensures { λ x. ⌜ x ≡ tiltMask side row orientation ⌝ }
 {
-    let rows = row_bit(row);
-    let here = positions(side, rows) | tilted_slots(side, rows);
+    let here = corner(side, row);
     if orientation == 1 {
         return here;
     }
@@ -169,12 +178,32 @@ pub fn overlap(i: Instruction, j: Instruction) -> Sharing
     Sharing::IllFormed
 }
 
+// What five bytes say, and its area.
+pub struct Located {
+    pub reading: Reading,
+    pub area: u64,
+}
+
+// Reads five bytes and takes the area of what they say: an instruction that was read is well formed, and is not tested again.
+pub fn locate(x: Code) -> Located
+    ensures { λ l. ⌜ l ≡ locate x ⌝ }
+{
+    let reading = rules::read(x);
+    match reading {
+        Reading::Good(i) => Located {
+            reading,
+            area: area_mask(i),
+        },
+        Reading::Bad => Located { reading, area: 0 },
+    }
+}
+
 // The same of instructions as five bytes.
 pub fn code_area(x: Code) -> Area
     ensures { λ a. ⌜ a ≡ codeMask x ⌝ }
 {
     match rules::read(x) {
-        Reading::Good(i) => area(i),
+        Reading::Good(i) => Area::Mask(area_mask(i)),
         Reading::Bad => Area::IllFormed,
     }
 }

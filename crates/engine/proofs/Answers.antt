@@ -1,64 +1,154 @@
--- The answers: from what is said of an instruction and the next record to what is answered, and from that to the verdict.
--- Assumes nothing.
-use mathlib.Core.Path.{_≡_, refl, sym, ap, _∙_}
-use mathlib.Core.Bool.{Bool, true, false, not}
+-- The answers: from what is said of an instruction and the next record to what is answered, of instructions and of five bytes; and of
+-- events. Assumes nothing.
+use mathlib.Core.Path.{_≡_, refl, sym, ap, ap₂, _∙_}
+use mathlib.Core.Bool.{Bool, true, false, cond}
 use Prim.Native.Nat.{ℕ, _^_, _<_}
-use lib.Dec.{T}
-use borrow.Author.Tests.{not-false}
 use Rattle.bits.specs.Bits.{bit, image}
-use Rattle.bits.proofs.Cases.{T→true, true→T, failed}
+use Rattle.bits.proofs.Cases.{both, clash}
 use Rattle.bits.proofs.Digits.{image-bit}
+use Rattle.floor.specs.Tests.{allHold}
 use Rattle.answers.specs.declared.Reason.{Reason}
 use Rattle.rules.specs.declared.Instruction.{Instruction}
 use Rattle.rules.specs.declared.Instruction.the-variants.{Rotate}
 use Rattle.rules.specs.declared.Event.{Event}
+use Rattle.rules.specs.declared.Code.{Code}
+use Rattle.rules.specs.declared.Area.{Area}
+use Rattle.rules.specs.declared.Reading.{Reading}
+use Rattle.rules.specs.declared.Reading.the-variants.{Good, Bad}
 use Rattle.rules.specs.declared.Moved.{Moved}
 use Rattle.rules.specs.declared.Driven.{Driven}
 use Rattle.rules.specs.declared.Verdict.{Verdict}
-use Rattle.rules.specs.Rules.{wellFormed, clauses, allowed, next}
+use Rattle.rules.specs.Rules.{wellFormed, area, clauses, conditions, allowed, next}
+use Rattle.rules.specs.Codes.{readCode}
 use Rattle.rules.specs.Events.{inTurn, possible, placesOpen, after}
-use Rattle.rules.specs.Verdicts.{judged, verdictOf, movedBy, movedOf, drivenOf}
-use Rattle.rules.proofs.Answering as answering
+use Rattle.rules.specs.Verdicts.{judged, verdictOf, movedBy, movedOf, maskOf, drivenOf, onCode, codeVerdict, codeMoved}
+use Rattle.rules.proofs.CodeLaws.{one-form}
 use Rattle.rules.proofs.Answering.{is-verdict, not-moved, has-moved, is-allowed}
-use Rattle.engine.specs.Private.{told}
+use Rattle.areas.specs.declared.Located.{Located}
+use Rattle.areas.specs.Located.{locate}
+use Rattle.rows.specs.Private.{whole}
+use Rattle.engine.specs.declared.Judged.{Judged}
+use Rattle.engine.specs.Judged.{judge, unbroken, codeNext}
+use Rattle.engine.proofs.Ruling.{whole-right, allowed-unbroken}
 
--- what is known of an instruction is known of the variant that it is
-pub well-formed : (i j : Instruction) → i ≡ j → (b : Bool) → b ≡ wellFormed i → not b ≡ false → T (wellFormed j)
-well-formed i j e b p q = true→T (ap wellFormed (sym e) ∙ sym p ∙ not-false b q)
+-- of a well-formed instruction its conditions say it
+module _ (i : Instruction) (r : ℕ) (w : wellFormed i ≡ true) (v : Verdict) (p : v ≡ judged (clauses i) (bit r)) where
+  pub taken : (x : ℕ) → v ≡ Verdict.Allowed → x ≡ image (next i (bit r)) → Moved.Record x ≡ movedOf i r
+  taken x q e = has-moved i r w (sym q ∙ p) e
 
-module _ (i : Instruction) (r : ℕ) where
-  pub ill-formed : (b : Bool) → b ≡ wellFormed i → not b ≡ true → Moved.IllFormed ≡ movedOf i r
-  ill-formed b p q = answering.ill-formed i r (failed p q) .1
+  pub refused : (why : Reason) → v ≡ Verdict.NotAllowed why → Moved.NotAllowed why ≡ movedOf i r
+  refused why q = not-moved i r w (sym q ∙ p)
 
-  -- of a well-formed one its conditions say it
-  module _ (w : T (wellFormed i)) (v : Verdict) (p : v ≡ judged (clauses i) (bit r)) where
-    pub taken : (x : ℕ) → v ≡ Verdict.Allowed → x ≡ image (next i (bit r)) → Moved.Record x ≡ movedOf i r
-    taken x q e = has-moved i r (T→true (wellFormed i) w) (sym q ∙ p) e
+  pub unread : v ≡ Verdict.IllFormed → Moved.IllFormed ≡ movedOf i r
+  unfolding movedOf
+  unread q = ap (λ (u : Verdict). movedBy u (image (next i (bit r)))) (is-verdict i r w (sym q ∙ p))
 
-    pub refused : (why : Reason) → v ≡ Verdict.NotAllowed why → Moved.NotAllowed why ≡ movedOf i r
-    refused why q = not-moved i r (T→true (wellFormed i) w) (sym q ∙ p)
+  -- and where they all hold, nothing is missing between its belts or rows
+  pub no-gap : v ≡ Verdict.Allowed → whole i ≡ true
+  unfolding allowed
+  no-gap q = whole-right i w ∙ allowed-unbroken i (bit r) (both (wellFormed i) (allHold (conditions i) (bit r)) (is-allowed i r w (sym q ∙ p)) .1)
 
-    pub unread : v ≡ Verdict.IllFormed → Moved.IllFormed ≡ movedOf i r
-    unfolding movedOf
-    unread q = ap (λ (u : Verdict). movedBy u (image (next i (bit r)))) (is-verdict i r (T→true (wellFormed i) w) (sym q ∙ p))
+-- ---- what an area and a reading tell
 
-    pub permitted : v ≡ Verdict.Allowed → allowed i (bit r) ≡ true
-    permitted q = is-allowed i r (T→true (wellFormed i) w) (sym q ∙ p)
+maskIn : Area → ℕ
+maskIn (Area.Mask m) = m
+maskIn Area.IllFormed = 0
 
--- the verdict is told by the next record
-pub told-verdict : (i : Instruction) (r : ℕ) → told (movedOf i r) ≡ verdictOf i r
-unfolding movedOf
-told-verdict i r = go (verdictOf i r)
-  where
-    go : (v : Verdict) → told (movedBy v (image (next i (bit r)))) ≡ v
-    go Verdict.Allowed = refl
-    go (Verdict.NotAllowed why) = refl
-    go Verdict.IllFormed = refl
+isMask : Area → Bool
+isMask (Area.Mask m) = true
+isMask Area.IllFormed = false
+
+module _ (i : Instruction) (y : Area) (e : y ≡ maskOf i) where
+  -- an area is a well-formed instruction's
+  pub masked : (a : ℕ) → y ≡ Area.Mask a → (wellFormed i ≡ true) × (a ≡ image (area i))
+  unfolding maskOf maskIn isMask
+  masked a g = go (wellFormed i) (sym g ∙ e)
+    where
+      go : (b : Bool) → Area.Mask a ≡ cond b (Area.Mask (image (area i))) Area.IllFormed → (b ≡ true) × (a ≡ image (area i))
+      go true h = (refl, ap maskIn h)
+      go false h = clash refl (ap isMask h)
+
+  pub unmasked : y ≡ Area.IllFormed → wellFormed i ≡ false
+  unfolding maskOf isMask
+  unmasked g = go (wellFormed i) (sym g ∙ e)
+    where
+      go : (b : Bool) → Area.IllFormed ≡ cond b (Area.Mask (image (area i))) Area.IllFormed → b ≡ false
+      go true h = clash refl (ap isMask (sym h))
+      go false h = refl
+
+-- five bytes and what they say
+module _ (x : Code) (r : ℕ) (y : Reading) (e : y ≡ readCode x) where
+  module _ (i : Instruction) (g : y ≡ Good i) where
+    said : readCode x ≡ Good i
+    said = sym e ∙ g
+
+    pub well : wellFormed i ≡ true
+    well = one-form x i said .1
+
+    pub code-moved : (m : Moved) → m ≡ movedOf i r → m ≡ codeMoved x r
+    unfolding codeMoved
+    code-moved m p = p ∙ ap (onCode (λ i. movedOf i r) Moved.IllFormed) (sym said)
+
+    pub code-verdict : (v : Verdict) → v ≡ verdictOf i r → v ≡ codeVerdict x r
+    unfolding codeVerdict
+    code-verdict v p = p ∙ ap (onCode (λ i. verdictOf i r) Verdict.IllFormed) (sym said)
+
+    pub code-next : (n : ℕ) → n ≡ cond (unbroken i) (image (next i (bit r))) r → n ≡ codeNext x r
+    unfolding codeNext
+    code-next n p = p ∙ ap (onCode (λ i. cond (unbroken i) (image (next i (bit r))) r) r) (sym said)
+
+  module _ (g : y ≡ Bad) where
+    nothing : readCode x ≡ Bad
+    nothing = sym e ∙ g
+
+    pub bad-moved : Moved.IllFormed ≡ codeMoved x r
+    unfolding codeMoved
+    bad-moved = ap (onCode (λ i. movedOf i r) Moved.IllFormed) (sym nothing)
+
+    pub bad-verdict : Verdict.IllFormed ≡ codeVerdict x r
+    unfolding codeVerdict
+    bad-verdict = ap (onCode (λ i. verdictOf i r) Verdict.IllFormed) (sym nothing)
+
+    pub bad-next : r ≡ codeNext x r
+    unfolding codeNext
+    bad-next = ap (onCode (λ i. cond (unbroken i) (image (next i (bit r))) r) r) (sym nothing)
+
+-- the same with the area
+module _ (x : Code) (r : ℕ) (l : Located) (e : l ≡ locate x) where
+  pub reads : l .reading ≡ readCode x
+  unfolding locate
+  reads = ap (λ (l : Located). l .reading) e
+
+  placed : l .area ≡ onCode (λ i. image (area i)) 0 (readCode x)
+  unfolding locate
+  placed = ap (λ (l : Located). l .area) e
+
+  judged-as : (v : Verdict) → v ≡ codeVerdict x r → record { area = l .area; verdict = v } ≡ judge x r
+  unfolding judge
+  judged-as v p = ap₂ {A = ℕ} {B = Verdict} {C = Judged} (λ a v. record { area = a; verdict = v }) placed p
+
+  module _ (i : Instruction) (g : l .reading ≡ Good i) where
+    pub given : (wellFormed i ≡ true) × (l .area ≡ image (area i))
+    given = (well x r (l .reading) reads i g, placed ∙ ap (onCode (λ i. image (area i)) 0) (sym reads ∙ g))
+
+    pub code-judged : (v : Verdict) → v ≡ judged (clauses i) (bit r) → record { area = l .area; verdict = v } ≡ judge x r
+    code-judged v p = judged-as v (code-verdict x r (l .reading) reads i g v (is-verdict i r (given .0) p))
+
+  pub bad-judged : l .reading ≡ Bad → record { area = l .area; verdict = Verdict.IllFormed } ≡ judge x r
+  bad-judged g = judged-as Verdict.IllFormed (bad-verdict x r (l .reading) reads g)
+
+-- a success that is not judged
+module _ (i : Instruction) (r : ℕ) (w : wellFormed i ≡ true) where
+  pub without-gap : whole i ≡ true → (n : ℕ) → n ≡ image (next i (bit r)) → n ≡ cond (unbroken i) (image (next i (bit r))) r
+  without-gap h n p = p ∙ ap (λ (b : Bool). cond b (image (next i (bit r))) r) (sym h ∙ whole-right i w)
+
+  pub with-gap : whole i ≡ false → r ≡ cond (unbroken i) (image (next i (bit r))) r
+  with-gap h = ap (λ (b : Bool). cond b (image (next i (bit r))) r) (sym h ∙ whole-right i w)
 
 -- rotating keeps the record
-pub rotated : (r : ℕ) → r < 2 ^ 64 → r ≡ image (next Rotate (bit r))
+pub rotated : (i : Instruction) → i ≡ Rotate → (r : ℕ) → r < 2 ^ 64 → r ≡ image (next i (bit r))
 unfolding next
-rotated r h = sym (image-bit r h)
+rotated i e r h = sym (image-bit r h) ∙ ap (λ i. image (next i (bit r))) (sym e)
 
 -- ---- events
 

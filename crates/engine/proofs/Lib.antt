@@ -1,7 +1,7 @@
-pub mod Naming
+pub mod Heights
 pub mod Settings
 pub mod Nexts
-pub mod Shuttling
-pub mod Tilting
 pub mod Lifting
+pub mod Masking
+pub mod Ruling
 pub mod Answers

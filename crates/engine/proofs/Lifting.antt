@@ -1,4 +1,4 @@
--- The lift in code: the conditions of its moves, of rotating and of the car events, and the next records. Assumes nothing.
+-- The lift in code: the conditions of its moves and of the car events, and the next records. Assumes nothing.
 use mathlib.Core.Path.{_≡_, refl, sym, ap, ap₂, _∙_}
 use mathlib.Core.Bool.{Bool, true, false, cond, not, _&&_, _||_, and-true}
 use Prim.Native.Nat.{ℕ, _+_, _*_, _%_, _^_, _<_}
@@ -11,8 +11,8 @@ use Rattle.bits.proofs.Cases.{and-l, and-r}
 use Rattle.bits.proofs.Search.{each}
 use Rattle.floor.specs.Floor.{driveIn}
 use Rattle.floor.specs.Tests.{holds, heightIs, atBasement}
-use Rattle.answers.specs.declared.Reason.the-variants.{OddCount, SameHeight, NotAtRotation, CellsNotFree}
-use Rattle.rules.specs.declared.Instruction.the-variants.{Lift, Rotate}
+use Rattle.answers.specs.declared.Reason.the-variants.{OddCount, SameHeight}
+use Rattle.rules.specs.declared.Instruction.the-variants.{Lift}
 use Rattle.rules.specs.declared.Event.{Event}
 use Rattle.rules.specs.declared.Event.the-variants.{BeginIn, BeginOut, EndDone, EndNotDone}
 use Rattle.rules.specs.declared.Verdict.the-variants.{Allowed, NotAllowed}
@@ -38,16 +38,12 @@ abbrev evenOf : ℕ → Bits → Bool
 evenOf m f = eqb (count (places m) f % 2) 0
 
 -- what the code's tests say is what the conditions say
-pub lift-law : (height : ℕ) (f : Bits) (still whole : Bool)
-    → holds (heightIs height) f ≡ still → (not (holds atBasement f) || (noneOf 0x1800 f || (evenOf 0x7FF f && evenOf 0xFE000 f))) ≡ whole
-    → cond (not still) (cond whole Allowed (NotAllowed OddCount)) (NotAllowed SameHeight) ≡ judged (clauses (Lift height)) f
+pub lift-law : (height : ℕ) (f : Bits) (still below free whole : Bool) → still ≡ holds (heightIs height) f → below ≡ holds atBasement f
+    → free ≡ noneOf 0x1800 f → whole ≡ evenOf 0x7FF f && evenOf 0xFE000 f
+    → cond (not still) (cond (not below || (free || whole)) Allowed (NotAllowed OddCount)) (NotAllowed SameHeight) ≡ judged (clauses (Lift height)) f
 unfolding places
-lift-law height f still whole p q = ap₂ (λ (x y : Bool). cond (not x) (cond y Allowed (NotAllowed OddCount)) (NotAllowed SameHeight)) (sym p) (sym q)
-
-pub rotate-law : (f : Bits) (there clear : Bool) → holds (heightIs 1) f ≡ there → noneOf 0xE700 f ≡ clear
-    → cond there (cond clear Allowed (NotAllowed CellsNotFree)) (NotAllowed NotAtRotation) ≡ judged (clauses Rotate) f
-unfolding places
-rotate-law f there clear p q = ap₂ (λ (x y : Bool). cond x (cond y Allowed (NotAllowed CellsNotFree)) (NotAllowed NotAtRotation)) (sym p) (sym q)
+lift-law height f still below free whole p q u v =
+    ap₂ (λ (x y : Bool). cond (not x) (cond y Allowed (NotAllowed OddCount)) (NotAllowed SameHeight)) p (ap₂ (λ (x y : Bool). not x || y) q (ap₂ _||_ u v))
 
 -- an event that comes in turn, with its own conditions
 pub in-law : (f : Bits) {due : Bool} → due ≡ inTurn BeginIn f → due && (holds (heightIs 0) f && noneOf 0x10000000000000 f) ≡ possible BeginIn f

@@ -1,68 +1,27 @@
--- The bits that the code makes anew are those of the next record: tried for every shuttle move, tilt and lift move at every setting
--- of the bits that it rests on, and for the events. Assumes nothing.
+-- The bits that the code makes anew are those of the next record: tried for every lift run at every setting of the bits that it rests
+-- on, and for the events. Assumes nothing.
 use mathlib.Core.Path.{_≡_, refl, ap, ap₂}
-use mathlib.Core.Bool.{Bool, true, false, cond, _&&_, _||_}
+use mathlib.Core.Bool.{Bool, cond, _&&_, _||_}
 use mathlib.Core.List.{List, [], _∷_, _++_}
-use Prim.Native.Nat.{ℕ, _-_, _+_, _*_}
-use lib.Bits.{bitAnd, bitOr}
-use lib.Dec.{T, eqb}
-use Rattle.bits.specs.Bits.{Bits, digit, allSet}
+use Prim.Native.Nat.{ℕ}
+use native.Mathlib.Omega.{arith}
+use lib.Dec.{T, eqb, leb→le}
+use Rattle.bits.specs.Bits.{Bits, allSet}
 use Rattle.bits.specs.Places.{elem}
 use Rattle.bits.specs.Search.{every}
-use Rattle.bits.proofs.Cases.{both}
+use Rattle.bits.proofs.Search.{each}
 use Rattle.bits.proofs.Counts.{set-agree}
-use Rattle.floor.specs.Floor.{lowered, slot, place, lift, liftCells, raisedCar, heightLow, heightHigh, basement, driveIn, driveOut, drives}
-use Rattle.floor.specs.Tests.{holds, allHold, atBasement}
-use Rattle.floor.specs.Sound.{slots}
+use Rattle.floor.specs.Floor.{lift, liftCells, raisedCar, heightLow, heightHigh, basement, driveIn, driveOut, drives}
+use Rattle.floor.specs.Tests.{holds, atBasement}
 use Rattle.floor.proofs.Reading.{holds-agree}
-use Rattle.rules.specs.declared.Instruction.{Instruction}
-use Rattle.rules.specs.declared.Instruction.the-variants.{Belts, Shuttles, Tilt, Lift, Rotate}
+use Rattle.rules.specs.declared.Instruction.the-variants.{Lift}
 use Rattle.rules.specs.declared.Event.{Event}
 use Rattle.rules.specs.declared.Event.the-variants.{BeginIn, BeginOut, EndDone, EndNotDone}
 use Rattle.rules.specs.Events.{eventChanges, after}
-use Rattle.rules.specs.Rules.{wellFormed, conditions, changes, allowed, next}
-use Rattle.rules.proofs.Every.{everywhere, each}
-use Rattle.engine.specs.Private.{slotsOf, cellsOf, onto, carsOf, liftBits}
-use Rattle.bits.proofs.Lists.{in-left, in-right}
+use Rattle.rules.specs.Rules.{wellFormed, changes, next}
+use Rattle.engine.specs.Private.{liftBits}
+use Rattle.bits.proofs.Lists.{in-left}
 use Rattle.engine.proofs.Settings.{right, renewed, renewed-right}
-
--- ---- shuttles
-
--- the cells of a side
-abbrev sideCells : ℕ → List ℕ
-sideCells side = place side 1 ++ place side 2 ++ place side 3
-
--- lowered shuttles have their cells with them
-abbrev pub withCells : ℕ → List ℕ → List ℕ → List ℕ
-withCells orientation js ks = cond (eqb orientation lowered) (js ++ ks) js
-
--- the bits that a shuttle move rests on
-abbrev shuttleBits : ℕ → ℕ → List ℕ
-shuttleBits side orientation = withCells orientation (slots side orientation) (sideCells side)
-
--- the rows named and those one further are touched
-abbrev pub rowsTouched : ℕ → ℕ → ℕ
-rowsTouched mask toward = bitOr mask (onto toward mask)
-
--- the places that it touches
-abbrev pub shuttlesTouched : ℕ → ℕ → ℕ → ℕ → List ℕ
-shuttlesTouched side mask orientation toward =
-    withCells orientation (slotsOf side orientation (rowsTouched mask toward)) (cellsOf side (rowsTouched mask toward))
-
--- the rows where the cars of the rows named stand then
-abbrev pub carsTaken : ℕ → ℕ → ℕ → Bits → ℕ
-carsTaken side mask toward f = onto toward (bitAnd (carsOf side f) mask)
-
--- the places that become 1: the shuttles stand one further, with their cars
-abbrev pub shuttlesNew : ℕ → ℕ → ℕ → ℕ → Bits → List ℕ
-shuttlesNew side mask orientation toward f =
-    withCells orientation (slotsOf side orientation (onto toward mask)) (cellsOf side (carsTaken side mask toward f))
-
--- where a move is allowed, these make the next record
-shuttlesRight : ℕ → ℕ → ℕ → ℕ → Bool
-shuttlesRight side mask orientation toward =
-    right (shuttleBits side orientation) (conditions (Shuttles side mask orientation toward)) (changes (Shuttles side mask orientation toward))
-    (λ f. shuttlesTouched side mask orientation toward) (shuttlesNew side mask orientation toward)
 
 -- ---- lift
 
@@ -97,60 +56,14 @@ eventNew BeginOut f = driveOut ∷ []
 eventNew EndDone f = cond (f driveIn) (raisedCar ∷ []) []
 eventNew EndNotDone f = []
 
--- ---- all instructions in one test
+-- ---- the lift's runs in one test
 
--- belts are another crate's, and rotating changes nothing
-rightOf : Instruction → Bool
-rightOf (Belts row mask toward size) = true
-rightOf (Shuttles side mask orientation toward) = shuttlesRight side mask orientation toward
-rightOf (Tilt side row orientation) =
-    right (slot side 0 row ∷ slot side 1 row ∷ []) [] (changes (Tilt side row orientation))
-    (λ f. slot side 0 row ∷ slot side 1 row ∷ []) (λ f. slot side (1 - orientation) row ∷ [])
-rightOf (Lift height) = right liftAll [] (changes (Lift height)) (liftTouched height) (λ f. liftBits height (liftCar height f))
-rightOf Rotate = true
+rightOf : ℕ → Bool
+rightOf height = right liftAll [] (changes (Lift height)) (liftTouched height) (λ f. liftBits height (liftCar height f))
 
-all-right : T (everywhere rightOf)
-unfolding everywhere every rightOf shuttlesRight
+all-right : T (every 3 rightOf)
+unfolding every rightOf
 all-right = tt
-
--- ---- what the test says of each
-
-module _ (side mask orientation toward : ℕ) where
-  -- the cars are read from the cells alone
-  cars-agree : (f g : Bits) → ((k : ℕ) → T (elem k (sideCells side)) → f k ≡ g k) → carsOf side f ≡ carsOf side g
-  cars-agree f g e =
-      ap₂ (λ (x y : ℕ). x + y * 4)
-      (ap₂ (λ (x y : ℕ). x + y * 2)
-      (ap digit (set-agree (place side 1) f g (λ k m. e k (in-left k (place side 1) (place side 2 ++ place side 3) m))))
-      (ap digit (set-agree (place side 2) f g (λ k m. e k (in-right k (place side 1) (place side 2 ++ place side 3) (in-left k (place side 2) (place side 3) m))))))
-      (ap digit (set-agree (place side 3) f g (λ k m. e k (in-right k (place side 1) (place side 2 ++ place side 3) (in-right k (place side 2) (place side 3) m)))))
-
-  -- so the new places rest on the bits listed
-  new-agree : (b : Bool) (f g : Bits) → ((k : ℕ) → T (elem k (cond b (slots side orientation ++ sideCells side) (slots side orientation))) → f k ≡ g k)
-      → cond b (slotsOf side orientation (onto toward mask) ++ cellsOf side (carsTaken side mask toward f)) (slotsOf side orientation (onto toward mask))
-      ≡ cond b (slotsOf side orientation (onto toward mask) ++ cellsOf side (carsTaken side mask toward g)) (slotsOf side orientation (onto toward mask))
-  new-agree true f g e =
-      ap (λ (n : ℕ). slotsOf side orientation (onto toward mask) ++ cellsOf side (onto toward (bitAnd n mask)))
-      (cars-agree f g (λ k m. e k (in-right k (slots side orientation) (sideCells side) m)))
-  new-agree false f g e = refl
-
-  pub shuttles-right : T (wellFormed (Shuttles side mask orientation toward)) → (f : Bits) → allowed (Shuttles side mask orientation toward) f ≡ true
-      → (k : ℕ) → renewed (shuttlesTouched side mask orientation toward) (shuttlesNew side mask orientation toward f) f k ≡ next (Shuttles side mask orientation toward) f k
-  unfolding allowed next rightOf shuttlesRight
-  shuttles-right w f ok =
-      renewed-right (shuttleBits side orientation) (conditions (Shuttles side mask orientation toward)) (changes (Shuttles side mask orientation toward))
-      (λ f. shuttlesTouched side mask orientation toward) (shuttlesNew side mask orientation toward)
-      (λ f g e. (refl, new-agree (eqb orientation lowered) f g e))
-      (each rightOf all-right (Shuttles side mask orientation toward) w) f
-      (both (wellFormed (Shuttles side mask orientation toward)) (allHold (conditions (Shuttles side mask orientation toward)) f) ok .1)
-
-pub tilt-right : (side row orientation : ℕ) → T (wellFormed (Tilt side row orientation)) → (f : Bits)
-    → (k : ℕ) → renewed (slot side 0 row ∷ slot side 1 row ∷ []) (slot side (1 - orientation) row ∷ []) f k ≡ next (Tilt side row orientation) f k
-unfolding next rightOf
-tilt-right side row orientation w f =
-    renewed-right (slot side 0 row ∷ slot side 1 row ∷ []) [] (changes (Tilt side row orientation))
-    (λ f. slot side 0 row ∷ slot side 1 row ∷ []) (λ f. slot side (1 - orientation) row ∷ [])
-    (λ f g e. (refl, refl)) (each rightOf all-right (Tilt side row orientation) w) f refl
 
 pub lift-right : (height : ℕ) → T (wellFormed (Lift height)) → (f : Bits)
     → (k : ℕ) → renewed (liftTouched height f) (liftBits height (liftCar height f)) f k ≡ next (Lift height) f k
@@ -163,7 +76,7 @@ lift-right height w f =
       ap₂ (λ (x y : Bool). liftBits height (cond (eqb height basement) x y)) (e raisedCar tt)
           (ap₂ _&&_ low (set-agree liftCells f g (λ k m. e k (in-left k liftCells lift m)))),
     ))
-    (each rightOf all-right (Lift height) w) f refl
+    (each 3 rightOf all-right height (omega (arith, leb→le height 2 w))) f refl
 
 -- an event makes these bits anew
 pub event-right : (e : Event) (f : Bits) (k : ℕ) → renewed (eventTouched e) (eventNew e f) f k ≡ after e f k

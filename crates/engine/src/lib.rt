@@ -1,11 +1,14 @@
 // What an instruction or a car event does to a record: whether it is allowed or why not, and the next record.
 ghost use mathlib.Core.Path.{_≡_};
+ghost use mathlib.Core.Bool.{true, cond};
 ghost use Rattle.bits.specs.Bits.{bit, image};
-ghost use Rattle.rules.specs.declared.Instruction.{Instruction};
 ghost use Rattle.rules.specs.declared.Event.the-variants.{EndDone};
+ghost use Rattle.rules.specs.Rules.{wellFormed, area, clauses, next};
 ghost use Rattle.rules.specs.Events.{inTurn, possible, placesOpen, after};
-ghost use Rattle.rules.specs.Verdicts.{verdictOf, movedOf, drivenOf, codeVerdict, codeMoved};
-ghost use Rattle.engine.specs.Private.{told};
+ghost use Rattle.rules.specs.Verdicts.{judged, verdictOf, movedOf, drivenOf, codeVerdict, codeMoved};
+ghost use Rattle.rows.specs.Private.{whole};
+ghost use Rattle.engine.specs.Judged.{judge, unbroken, codeNext};
+use rules::Area;
 use rules::Code;
 use rules::Driven;
 use rules::Event;
@@ -14,51 +17,115 @@ use rules::Moved;
 use rules::Reading;
 use rules::Verdict;
 
+mod judging;
 mod lifts;
 mod masks;
-mod shuttles;
-mod tilts;
+mod moves;
 
 use floor::masks::DRIVE_IN;
 use floor::masks::DRIVE_OUT;
 use floor::masks::DRIVES;
 use floor::masks::RAISED_CAR;
 use floor::masks::RAISED_CAR_AND_DRIVES;
-use lifts::lift_moved;
-use lifts::rotate_moved;
+use judging::belts_judged;
+use judging::gaps;
+use judging::rotate_judged;
+use judging::shuttles_judged;
+use judging::tilt_judged;
+use lifts::lift_judged;
+use lifts::lift_next;
 use masks::height_is;
-use shuttles::shuttles_moved;
-use tilts::tilt_moved;
+use moves::belts_next;
+use moves::shuttles_next;
+use moves::tilt_next;
 
 // ---- instructions
 
-// The record after an instruction, where it is allowed.
-pub fn moved(i: Instruction, r: u64) -> Moved
-    ensures { λ m. ⌜ m ≡ movedOf i r ⌝ }
+// What the conditions of a well-formed instruction say, given its area.
+fn told(i: Instruction, a: u64, r: u64) -> Verdict
+    requires { ⌜ (wellFormed i ≡ true) × (a ≡ image (area i)) ⌝ }
+    ensures { λ v. ⌜ v ≡ judged (clauses i) (bit r) ⌝ }
 {
-    if !rules::well_formed(i) {
-        return Moved::IllFormed;
-    }
     match i {
         Instruction::Belts {
             row,
             mask,
             toward,
             size,
-        } => belts::belts_moved(r, row, mask, toward, size),
+        } => belts_judged(r, a, row, mask, toward, size),
         Instruction::Shuttles {
             side,
             mask,
             orientation,
-            toward,
-        } => shuttles_moved(r, side, mask, orientation, toward),
+            toward: _,
+        } => shuttles_judged(r, a, side, mask, orientation),
         Instruction::Tilt {
-            side,
-            row,
+            side: _,
+            row: _,
             orientation,
-        } => tilt_moved(r, side, row, orientation),
-        Instruction::Lift { height } => lift_moved(r, height),
-        Instruction::Rotate => rotate_moved(r),
+        } => tilt_judged(r, a, orientation),
+        Instruction::Lift { height } => lift_judged(r, height),
+        Instruction::Rotate => rotate_judged(r),
+    }
+}
+
+// The record after a well-formed instruction whose belts or rows leave no gap, given its area. Nothing is asked of the record.
+fn next(i: Instruction, a: u64, r: u64) -> u64
+    requires { ⌜ (wellFormed i ≡ true) × (whole i ≡ true) × (a ≡ image (area i)) ⌝ }
+    ensures { λ x. ⌜ x ≡ image (next i (bit r)) ⌝ }
+{
+    match i {
+        Instruction::Belts {
+            row,
+            mask: _,
+            toward,
+            size,
+        } => belts_next(r, a, row, toward, size),
+        Instruction::Shuttles {
+            side: _,
+            mask: _,
+            orientation: _,
+            toward,
+        } => shuttles_next(r, a, toward),
+        Instruction::Tilt {
+            side: _,
+            row: _,
+            orientation,
+        } => tilt_next(r, a, orientation),
+        Instruction::Lift { height } => lift_next(r, height),
+        Instruction::Rotate => r,
+    }
+}
+
+// The record after a well-formed instruction, where it is allowed.
+fn stepped(i: Instruction, a: u64, r: u64) -> Moved
+    requires { ⌜ (wellFormed i ≡ true) × (a ≡ image (area i)) ⌝ }
+    ensures { λ m. ⌜ m ≡ movedOf i r ⌝ }
+{
+    match told(i, a, r) {
+        Verdict::Allowed => Moved::Record(next(i, a, r)),
+        Verdict::NotAllowed(why) => Moved::NotAllowed(why),
+        Verdict::IllFormed => Moved::IllFormed,
+    }
+}
+
+// Whether an instruction is allowed, and why not.
+pub fn verdict(i: Instruction, r: u64) -> Verdict
+    ensures { λ v. ⌜ v ≡ verdictOf i r ⌝ }
+{
+    match areas::area(i) {
+        Area::Mask(a) => told(i, a, r),
+        Area::IllFormed => Verdict::IllFormed,
+    }
+}
+
+// The record after an instruction, where it is allowed.
+pub fn moved(i: Instruction, r: u64) -> Moved
+    ensures { λ m. ⌜ m ≡ movedOf i r ⌝ }
+{
+    match areas::area(i) {
+        Area::Mask(a) => stepped(i, a, r),
+        Area::IllFormed => Moved::IllFormed,
     }
 }
 
@@ -66,47 +133,96 @@ pub fn moved(i: Instruction, r: u64) -> Moved
 pub fn code_moved(x: Code, r: u64) -> Moved
     ensures { λ m. ⌜ m ≡ codeMoved x r ⌝ }
 {
-    let y = rules::read(x);
-    match y {
+    match rules::read(x) {
         Reading::Good(i) => moved(i, r),
         Reading::Bad => Moved::IllFormed,
     }
 }
 
-// What a next record, or none, says of the instruction.
-fn told(m: Moved) -> Verdict
-    ensures { λ v. ⌜ v ≡ told m ⌝ }
-{
-    match m {
-        Moved::Record(_) => Verdict::Allowed,
-        Moved::NotAllowed(why) => Verdict::NotAllowed(why),
-        Moved::IllFormed => Verdict::IllFormed,
-    }
-}
-
-// Whether an instruction is allowed, and why not: it is where it has a next record. A belt move's is not worked out for that.
-pub fn verdict(i: Instruction, r: u64) -> Verdict
-    ensures { λ v. ⌜ v ≡ verdictOf i r ⌝ }
-{
-    if let Instruction::Belts {
-        row,
-        mask,
-        toward,
-        size,
-    } = i {
-        return belts::belts_verdict(r, row, mask, toward, size);
-    }
-    told(moved(i, r))
-}
-
-// The same of five bytes.
 pub fn code_verdict(x: Code, r: u64) -> Verdict
     ensures { λ v. ⌜ v ≡ codeVerdict x r ⌝ }
 {
-    let y = rules::read(x);
-    match y {
+    match rules::read(x) {
         Reading::Good(i) => verdict(i, r),
         Reading::Bad => Verdict::IllFormed,
+    }
+}
+
+// The area and the verdict of five bytes, read once; bytes that say no instruction have no area.
+pub struct Judged {
+    pub area: u64,
+    pub verdict: Verdict,
+}
+
+pub fn judge(x: Code, r: u64) -> Judged
+    ensures { λ j. ⌜ j ≡ judge x r ⌝ }
+{
+    let l = areas::locate(x);
+    let area = l.area;
+    let y = l.reading;
+    match y {
+        Reading::Good(i) => {
+            let verdict = told(i, area, r);
+            Judged { area, verdict }
+        }
+        Reading::Bad => Judged {
+            area,
+            verdict: Verdict::IllFormed,
+        },
+    }
+}
+
+// The belts or rows that an instruction names leave no gap.
+fn whole(i: Instruction) -> bool
+    requires { ⌜ wellFormed i ≡ true ⌝ }
+    ensures { λ b. ⌜ b ≡ whole i ⌝ }
+{
+    match i {
+        Instruction::Belts {
+            row: _,
+            mask,
+            toward: _,
+            size: _,
+        } => !gaps(mask),
+        Instruction::Shuttles {
+            side: _,
+            mask,
+            orientation: _,
+            toward: _,
+        } => mask != 5,
+        Instruction::Tilt {
+            side: _,
+            row: _,
+            orientation: _,
+        } => true,
+        Instruction::Lift { height: _ } => true,
+        Instruction::Rotate => true,
+    }
+}
+
+// The record after a well-formed instruction, whether it is allowed or not; where belts or rows leave a gap the record stays.
+fn done(i: Instruction, r: u64) -> u64
+    requires { ⌜ wellFormed i ≡ true ⌝ }
+    ensures { λ n. ⌜ n ≡ cond (unbroken i) (image (next i (bit r))) r ⌝ }
+{
+    match areas::area(i) {
+        Area::Mask(a) => {
+            if whole(i) {
+                return next(i, a, r);
+            }
+            r
+        }
+        Area::IllFormed => r,
+    }
+}
+
+// The same of five bytes, for callers who know that it is allowed; bad bytes change nothing.
+pub fn code_next(x: Code, r: u64) -> u64
+    ensures { λ n. ⌜ n ≡ codeNext x r ⌝ }
+{
+    match rules::read(x) {
+        Reading::Good(i) => done(i, r),
+        Reading::Bad => r,
     }
 }
 

@@ -18,9 +18,10 @@ use Rattle.bits.proofs.Operations.{bit-and, bit-low}
 use Rattle.bits.proofs.Least.{every-least}
 use Rattle.floor.specs.Tests.{holds, underWay}
 use Rattle.floor.specs.Sound.{sound}
+use Rattle.rules.specs.Codes.{most}
 use Rattle.garage.specs.declared.Station.{Station}
-use Rattle.garage.specs.Held.{bad, touches, overlapsEarlier, stranded, liftIn, crossesDrive}
-use Rattle.garage.specs.Station.{closed, inSet, used, fit, noting, answering}
+use Rattle.garage.specs.Held.{codeAt, heldAllowed, bad, touches, overlapsEarlier, stranded, liftIn, crossesDrive}
+use Rattle.garage.specs.Station.{closed, inSet, marked, used, fit, noting, answering}
 
 -- n marks are a byte
 pub pow-small : (n : ℕ) → n ≤ 8 → (0 < 2 ^ n) × (2 ^ n ≤ 256)
@@ -142,3 +143,32 @@ fit-is s {fine} {rest} {driving} {lifts} {worst} {touched} {over} {shut} {all} h
 pub unfit-is : (s : Station) → 8 < s .count → false ≡ fit s
 unfolding fit
 unfit-is s h = rw (lt-leb _ _ h) (sym (and-false (sound (s .bits))))
+
+-- on a fit station an instruction of its set without a mark is allowed
+pub waiting-allowed : (s : Station) (i : ℕ) → fit s ≡ true → i < s .count → marked s i ≡ false → heldAllowed (codeAt (s .set) i) (bit (s .bits)) ≡ true
+unfolding fit
+waiting-allowed s i e l m =
+    let ready : Bool = every (s .count) (λ i. not (stranded (s .answered) (s .set) (s .bits) i)) in
+    let apart : Bool = every (s .count) (λ i. not (overlapsEarlier (s .set) i)) in
+    let clear : Bool = not (crossesDrive (s .bits) (s .set) (s .count)) in
+    let owed : Bool = eqb (s .count) 0 || some (s .count) (λ i. not (marked s i)) in
+    let blank : Bool = every 40 (λ k. used s k || eqb (getD (s .set) k 0) 0) in
+    let marks : Bool = every 8 (λ i. not (marked s i) || ltb i (s .count)) in
+    let good : Bool = every (s .count) (λ i. not (bad (s .set) i)) in
+    let t₉ : Bool = ready && ltb (s .apart) (2 ^ 53) in
+    let t₈ : Bool = apart && t₉ in
+    let t₇ : Bool = clear && t₈ in
+    let t₆ : Bool = owed && t₇ in
+    let t₅ : Bool = blank && t₆ in
+    let t₄ : Bool = marks && t₅ in
+    let t₃ : Bool = good && t₄ in
+    let a = both (sound (s .bits)) (leb (s .count) most && t₃) e .1 in
+    let b = both marks t₅ (both good t₄ (both (leb (s .count) most) t₃ a .1) .1) .1 in
+    let c = both clear t₈ (both owed t₇ (both blank t₆ b .1) .1) .1 in
+    let y = both ready (ltb (s .apart) (2 ^ 53)) (both apart t₉ c .1) .0 in
+    go (bit (s .answered) i) (heldAllowed (codeAt (s .set) i) (bit (s .bits))) (every-at (s .count) (λ i. not (stranded (s .answered) (s .set) (s .bits) i)) y i l) m
+  where
+    go : (m h : Bool) → not (not m && not h) ≡ true → m ≡ false → h ≡ true
+    go true h t e = clash refl e
+    go false true t e = refl
+    go false false t e = clash t refl

@@ -1,15 +1,15 @@
 -- What the answers of the crates below say of held instructions and events: areas, verdicts, moves that are made or not, an event's byte.
 -- Assumes nothing.
 use Prim.Native.Nat.{ℕ}
-use mathlib.Core.Path.{_≡_, refl, ap, _∙_}
+use mathlib.Core.Path.{_≡_, refl, sym, ap, _∙_}
 use mathlib.Core.Bool.{Bool, true, false, not, cond, _&&_}
-use mathlib.Core.List.{[]}
+use mathlib.Core.List.{List, [], _∷_}
 use lib.Dec.{eqb}
 use borrow.Author.Tests.{not-true, not-false}
-use Rattle.bits.specs.Bits.{bit, packed, image}
+use Rattle.bits.specs.Bits.{Bits, bit, packed, image}
 use Rattle.bits.specs.Places.{elem}
-use Rattle.bits.proofs.Cases.{split}
-use Rattle.rules.specs.declared.Instruction.{Instruction}
+use Rattle.bits.proofs.Cases.{split, both}
+use Rattle.floor.specs.Tests.{holds, allHold}
 use Rattle.rules.specs.declared.Code.{Code}
 use Rattle.rules.specs.declared.Area.{Area}
 use Rattle.rules.specs.declared.Verdict.{Verdict}
@@ -19,14 +19,17 @@ use Rattle.rules.specs.declared.Moved.{Moved}
 use Rattle.rules.specs.declared.Driven.{Driven}
 use Rattle.rules.specs.declared.Reading.{Reading}
 use Rattle.rules.specs.declared.Reading.the-variants.{Good, Bad}
-use Rattle.rules.specs.Rules.{areaOf, area, allowed, next}
+use Rattle.rules.specs.Rules.{wellFormed, areaOf, area, Clause, _else_, clauses, conditions, allowed, next}
 use Rattle.rules.specs.Events.{inTurn, possible, placesOpen}
 use Rattle.rules.specs.Codes.{readCode, readEvent}
-use Rattle.rules.specs.Verdicts.{onCode, maskOf, codeMask, verdictOf, codeVerdict, isAllowed, movedBy, movedOf, codeMoved, drivenOf}
+use Rattle.rules.specs.Verdicts.{judged, onCode, maskOf, codeMask, verdictOf, codeVerdict, isAllowed, movedBy, movedOf, codeMoved, drivenOf}
 use Rattle.rules.proofs.CodeLaws.{one-form}
 use Rattle.rules.proofs.Reasons.{allows-is}
 use Rattle.answers.specs.declared.Answer.the-variants.{BadField, EventImpossible, OutOfTurn, SetApart, KeptOpen}
 use Rattle.answers.specs.Answers.{nowhere}
+use Rattle.engine.specs.declared.Judged.{Judged}
+use Rattle.engine.specs.Judged.{judge, unbroken, codeNext}
+use Rattle.engine.proofs.Ruling.{allowed-unbroken}
 use Rattle.garage.specs.declared.Station.{Station}
 use Rattle.garage.specs.declared.Outcome.{Outcome}
 use Rattle.garage.specs.declared.Turn.{Turn}
@@ -56,24 +59,41 @@ held-verdict x r e = ap isAllowed e ∙ read (readCode x)
     read (Good i) = allows-is i r
     read Bad = refl
 
--- ---- one reading
+-- ---- one judgement
 
-module _ (x : Code) (r : ℕ) where
-  -- what the instruction that the bytes say has
-  pub one-reading : (i : Instruction) {a : Area} {v : Verdict} {m : ℕ} {b : Bool} → readCode x ≡ Good i
-      → a ≡ maskOf i → m ≡ maskIn a → v ≡ verdictOf i r → b ≡ isAllowed v
-      → (true ≡ isGood x) × (m ≡ heldMask x) × (b ≡ heldAllowed x (bit r))
-  unfolding isGood codeMask codeVerdict
-  one-reading i e p q u w = (
-    rw e,
-    q ∙ held-area x (p ∙ rw e),
-    w ∙ held-verdict x r (u ∙ rw e),
-  )
+-- a verdict is of an instruction that was read
+abbrev pub isRead : Verdict → Bool
+isRead Verdict.Allowed = true
+isRead (Verdict.NotAllowed why) = true
+isRead Verdict.IllFormed = false
 
-  -- bad bytes
-  pub no-reading : readCode x ≡ Bad → (false ≡ isGood x) × (0 ≡ heldMask x) × (false ≡ heldAllowed x (bit r))
-  unfolding isGood codeMask codeVerdict
-  no-reading e = (rw e, held-area x {a = Area.IllFormed} (rw e), held-verdict x r {v = Verdict.IllFormed} (rw e))
+conditions-read : (cs : List Clause) (f : Bits) → isRead (judged cs f) ≡ true
+conditions-read [] f = refl
+conditions-read ((t else why) ∷ cs) f = go (holds t f) (conditions-read cs f)
+  where
+    go : (b : Bool) → isRead (judged cs f) ≡ true → isRead (cond b (judged cs f) (Verdict.NotAllowed why)) ≡ true
+    go true e = e
+    go false e = refl
+
+held-read : (x : Code) (r : ℕ) → isRead (codeVerdict x r) ≡ isGood x
+unfolding isGood codeVerdict verdictOf
+held-read x r = read (readCode x) refl
+  where
+    read : (g : Reading) → readCode x ≡ g → isRead (onCode (λ i. cond (wellFormed i) (judged (clauses i) (bit r)) Verdict.IllFormed) Verdict.IllFormed g) ≡ onCode (λ i. true) false g
+    read (Good i) d = rw (one-form x i d .1) (conditions-read (clauses i) (bit r))
+    read Bad d = refl
+
+-- what the engine says of five bytes
+pub one-judgement : (x : Code) (r : ℕ) {j : Judged} → j ≡ judge x r → (v : Verdict) → j .verdict ≡ v
+    → (isRead v ≡ isGood x) × (j .area ≡ heldMask x) × (isAllowed v ≡ heldAllowed x (bit r))
+unfolding judge heldMask heldArea area packed
+one-judgement x r {j} e v d =
+    let u : v ≡ codeVerdict x r = sym d ∙ ap (λ (j : Judged). j .verdict) e in
+    (ap isRead u ∙ held-read x r, ap (λ (j : Judged). j .area) e ∙ read (readCode x), held-verdict x r u)
+  where
+    read : (g : Reading) → onCode (λ i. image (λ k. elem k (areaOf i))) 0 g ≡ image (λ k. elem k (onCode areaOf [] g))
+    read (Good i) = refl
+    read Bad = refl
 
 -- ---- moves
 
@@ -106,6 +126,18 @@ held-moved {A} made unmade x r = read (readCode x)
 pub held-after : (x : Code) (r : ℕ) {m : Moved} → m ≡ codeMoved x r → onMoved (λ n. n) r m ≡ heldAfter x r
 unfolding heldAfter
 held-after x r e = ap (onMoved (λ n. n) r) e ∙ held-moved (λ n. n) r x r
+
+-- where it is allowed nothing need be judged
+pub held-done : (x : Code) (r : ℕ) → heldAllowed x (bit r) ≡ true → codeNext x r ≡ heldAfter x r
+unfolding codeNext heldAfter heldAllowed heldNext allowed
+held-done x r h = read (readCode x) h
+  where
+    read : (g : Reading) → onCode (λ i. allowed i (bit r)) false g ≡ true
+        → onCode (λ i. cond (unbroken i) (image (next i (bit r))) r) r g
+        ≡ cond (onCode (λ i. allowed i (bit r)) false g) (image (onCode (λ i. next i (bit r)) (bit r) g)) r
+    read (Good i) a =
+        ap (λ (b : Bool). cond b (image (next i (bit r))) r) (allowed-unbroken i (bit r) (both (wellFormed i) (allHold (conditions i) (bit r)) a .1) ∙ sym a)
+    read Bad a = refl
 
 -- an outcome, unless a part of the lift is set apart
 abbrev pub unlessApart : Station → Outcome → Outcome

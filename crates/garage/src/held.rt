@@ -1,13 +1,12 @@
 // One instruction as the station holds it, by its five bytes: bad bytes have an empty area, are never allowed and change nothing.
 ghost use mathlib.Core.Path.{_≡_};
+ghost use mathlib.Core.Bool.{true};
 ghost use Rattle.bits.specs.Bits.{bit};
-ghost use Rattle.rules.specs.Verdicts.{isAllowed};
 ghost use Rattle.garage.specs.Held.{isGood, heldAllowed, heldAfter, heldParts};
 ghost use Rattle.garage.specs.Private.{heldMask, maskIn};
 use rules::Area;
 use rules::Code;
 use rules::Moved;
-use rules::Reading;
 use rules::Verdict;
 
 // The mask that an answer gives, or none.
@@ -17,17 +16,6 @@ fn mask_in(a: Area) -> u64
     match a {
         Area::Mask(m) => m,
         Area::IllFormed => 0,
-    }
-}
-
-// Whether a verdict allows.
-fn allows(v: Verdict) -> bool
-    ensures { λ b. ⌜ b ≡ isAllowed v ⌝ }
-{
-    match v {
-        Verdict::Allowed => true,
-        Verdict::NotAllowed(_) => false,
-        Verdict::IllFormed => false,
     }
 }
 
@@ -60,18 +48,34 @@ pub struct Judged {
 pub fn judge(x: Code, r: u64) -> Judged
     ensures { λ j. ⌜ (j .good ≡ isGood x) × (j .area ≡ heldMask x) × (j .allowed ≡ heldAllowed x (bit r)) ⌝ }
 {
-    match rules::read(x) {
-        Reading::Good(i) => Judged {
+    let j = engine::judge(x, r);
+    let area = j.area;
+    let verdict = j.verdict;
+    match verdict {
+        Verdict::Allowed => Judged {
             good: true,
-            area: mask_in(areas::area(i)),
-            allowed: allows(engine::verdict(i, r)),
+            area,
+            allowed: true,
         },
-        Reading::Bad => Judged {
+        Verdict::NotAllowed(_) => Judged {
+            good: true,
+            area,
+            allowed: false,
+        },
+        Verdict::IllFormed => Judged {
             good: false,
-            area: 0,
+            area,
             allowed: false,
         },
     }
+}
+
+// The record after it, where it is known that it is allowed: nothing is judged.
+pub fn done(x: Code, r: u64) -> u64
+    requires { ⌜ heldAllowed x (bit r) ≡ true ⌝ }
+    ensures { λ n. ⌜ n ≡ heldAfter x r ⌝ }
+{
+    engine::code_next(x, r)
 }
 
 // The record after it, where it is allowed; else the record as it was.

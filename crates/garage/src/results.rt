@@ -1,7 +1,10 @@
 // Results of the outstanding set's instructions.
 ghost use mathlib.Core.Path.{_≡_};
+ghost use mathlib.Core.Bool.{true};
 ghost use Prim.Native.Nat.{_≤_, _<_};
-ghost use Rattle.garage.specs.Station.{inSet, behind, answering};
+ghost use Rattle.bits.specs.Bits.{bit};
+ghost use Rattle.garage.specs.Held.{codeAt, heldAllowed};
+ghost use Rattle.garage.specs.Station.{fit, inSet, behind, answering};
 ghost use Rattle.garage.specs.Calls.{taken, ended, numbered, timely, resulted, result};
 ghost use Rattle.garage.specs.Turns.{turnOf};
 use super::Outcome;
@@ -44,14 +47,17 @@ impl Station {
         }
     }
 
-    // The end of a result: 0 failed, 1 done, 2 stuck.
-    fn ended(self, i: u8, ending: u8) -> Turn
-        requires { ⌜ (self .count ≤ 8) × (i < self .count) ⌝ }
+    // The end of a result: 0 failed, 1 done, 2 stuck. A success on a fit station was allowed, and is not judged.
+    fn ended(self, i: u8, ending: u8, known: bool) -> Turn
+        requires { ⌜ (self .count ≤ 8) × (i < self .count) × (known ≡ true → heldAllowed (codeAt (self .set) i) (bit (self .bits)) ≡ true) ⌝ }
         ensures { λ t. ⌜ t ≡ turnOf (ended self i ending) ⌝ }
     {
         let set = self.set;
         let x = sets::code_at(&set, i);
         if ending == 1 {
+            if known {
+                return self.answering(i, held::done(x, self.bits), self.apart);
+            }
             return self.answering(i, held::after(x, self.bits), self.apart);
         }
         if ending == 2 {
@@ -68,7 +74,8 @@ impl Station {
     }
 
     // A result by its instruction's number.
-    fn numbered(self, i: u8, ending: u8) -> Turn
+    fn numbered(self, i: u8, ending: u8, known: bool) -> Turn
+        requires { ⌜ (known ≡ true → fit self ≡ true) ⌝ }
         ensures { λ t. ⌜ t ≡ turnOf (numbered self i ending) ⌝ }
     {
         if !self.in_set(i) {
@@ -77,7 +84,7 @@ impl Station {
         if (self.answered >> i) % 2 == 1 {
             return self.unmoved(Answer::AlreadyAnswered);
         }
-        self.ended(i, ending)
+        self.ended(i, ending, known)
     }
 
     // How far an issue is behind the present set's, counted round the end.
@@ -88,18 +95,20 @@ impl Station {
     }
 
     // A result by the issue of its set.
-    fn timely(self, report: Report) -> Turn
+    fn timely(self, report: Report, known: bool) -> Turn
+        requires { ⌜ (known ≡ true → fit self ≡ true) ⌝ }
         ensures { λ t. ⌜ t ≡ turnOf (timely self report) ⌝ }
     {
         match self.behind(report.issue) {
-            0 => self.numbered(report.number, report.ending),
+            0 => self.numbered(report.number, report.ending, known),
             1..=32767 => self.unmoved(Answer::Late),
             _ => self.unmoved(Answer::NotIssued),
         }
     }
 
-    // A result past the test of fitness.
-    pub fn resulted(self, report: Report) -> Turn
+    // A result past the test of fitness, which may be known to have been passed.
+    fn settled(self, report: Report, known: bool) -> Turn
+        requires { ⌜ (known ≡ true → fit self ≡ true) ⌝ }
         ensures { λ t. ⌜ t ≡ turnOf (resulted self report) ⌝ }
     {
         if 2 < report.ending {
@@ -108,7 +117,14 @@ impl Station {
         if self.count == 0 {
             return self.unmoved(Answer::NoSet);
         }
-        self.timely(report)
+        self.timely(report, known)
+    }
+
+    // A result past the test of fitness.
+    pub fn resulted(self, report: Report) -> Turn
+        ensures { λ t. ⌜ t ≡ turnOf (resulted self report) ⌝ }
+    {
+        self.settled(report, false)
     }
 
     // A result.
@@ -118,7 +134,7 @@ impl Station {
         if !self.fit() {
             return refused(self, Answer::Unfit);
         }
-        let t = self.resulted(report);
+        let t = self.settled(report, true);
         let held = self.set;
         self.after(t, held)
     }

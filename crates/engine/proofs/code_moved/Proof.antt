@@ -1,7 +1,5 @@
-use Rattle.rules.specs.Verdicts.{movedOf, onCode, codeMoved}
-use Rattle.rules.specs.declared.Moved.{Moved}
-use Rattle.rules.specs.declared.Instruction.{Instruction}
-use mathlib.Core.Path.{sym, ap, _∙_}
+-- `engine::code_moved` meets its contract, by what the bytes say. Assumes nothing.
+use Rattle.engine.proofs.Answers.{code-moved, bad-moved}
 use borrow.Author.Needs.{needs}
 use Rattle.engine.proofs.code_moved.Statement.{statement}
 use Rattle.engine.proofs.code_moved.Tie as tie
@@ -9,8 +7,8 @@ use Rattle.engine.proofs.code_moved.Tie as tie
 read-requires : tie.Need-read-requires
 read-requires c κs = search needs
 
-enum-known-y : tie.Need-enum-known-y
-enum-known-y c = search needs
+enum-known-i : tie.Need-enum-known-i
+enum-known-i c = search needs
 
 moved-requires : tie.Need-moved-requires
 moved-requires c κs = search needs
@@ -19,13 +17,11 @@ enum-told : tie.Need-enum-told
 enum-told c = search needs
 
 returns : tie.Need-returns
-unfolding codeMoved
-returns c = c .moved .ensures ∙ ap (onCode (λ (i : Instruction). movedOf i (c .before .before .before .before .before .args .r)) Moved.IllFormed) (sym (c .before .before .y .given .1) ∙ c .before .before .before .before .read .ensures)
+returns c = code-moved (c .before .before .before .before .before .args .x) (c .before .before .before .before .before .args .r) (c .before .before .before .before .read .result) (c .before .before .before .before .read .ensures) _ (c .before .before .i .given .1) _ (c .moved .ensures)
 
 returns-2 : tie.Need-returns-2
-unfolding codeMoved
-returns-2 c = ap (onCode (λ (i : Instruction). movedOf i (c .before .before .before .args .r)) Moved.IllFormed) (sym (c .enum-told .given .1) ∙ c .before .before .read .ensures)
+returns-2 c = bad-moved (c .before .before .before .args .x) (c .before .before .before .args .r) (c .before .before .read .result) (c .before .before .read .ensures) (c .enum-told .given .1)
 
 pub code-moved-spec : {M : Type 1} → statement M
 code-moved-spec =
-    tie.close (tie.spec read-requires enum-known-y moved-requires enum-told returns returns-2)
+    tie.close (tie.spec read-requires enum-known-i moved-requires enum-told returns returns-2)

@@ -1,8 +1,7 @@
-use Rattle.engine.proofs.Naming.{height-law}
+use Rattle.engine.proofs.Heights.{height-law}
 use Rattle.engine.proofs.masks.height_is.Tie as tie
 use borrow.Author.Needs.{needs}
 use Rattle.engine.proofs.masks.height_is.Statement.{statement}
-use Rattle.engine.proofs.masks.height_is.Tie as tie
 
 cast-result : tie.Need-cast-result
 cast-result c = search needs

@@ -1,4 +1,5 @@
 -- `garage::Station::numbered` meets its contract: a chain of refusals in the order of the definition. Assumes nothing.
+use Rattle.garage.proofs.Marks.{waiting-allowed}
 use native.Mathlib.Omega.{arith}
 use mathlib.Core.Path.{_≡_, _∙_}
 use mathlib.Core.Bool.{true, false}
@@ -35,7 +36,9 @@ returns-2 c =
     c .unmoved2 .ensures ∙ rw (passed (c .before .before .before .before .in-set .ensures) (c .before .before .before .if1 .left), answered)
 
 ended-requires : tie.Need-ended-requires
-ended-requires c κs = let a = c .before .before .before .before .args in in-set (a .self) (a .i) (passed (c .before .before .before .in-set .ensures) (c .before .before .if1 .left))
+ended-requires c κs = let a = c .before .before .before .before .args in let h = in-set (a .self) (a .i) (passed (c .before .before .before .in-set .ensures) (c .before .before .if1 .left)) in
+    let waits : marked (a .self) (a .i) ≡ false = ne-eqb _ _ (c .if2 .left) in
+    (h .0, h .1, λ e. waiting-allowed (a .self) (a .i) (c .before .before .before .before .pre e) (h .1) waits)
 
 returns-3 : tie.Need-returns-3
 unfolding numbered

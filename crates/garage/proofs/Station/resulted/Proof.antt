@@ -1,33 +1,14 @@
--- `garage::Station::resulted` meets its contract: a chain of refusals in the order of the definition. Assumes nothing.
-use mathlib.Core.Path.{_∙_}
-use borrow.Author.Tests.{eq-eqb, ne-eqb, lt-ltb, le-ltb}
-use borrow.Author.Needs.{needs}
-use Rattle.garage.specs.Calls.{resulted}
+-- `garage::Station::resulted` meets its contract: nothing is known of the station. Assumes nothing.
+use mathlib.Core.Path.{refl}
+use Rattle.bits.proofs.Cases.{clash}
 use Rattle.garage.proofs.Station.resulted.Statement.{statement}
 use Rattle.garage.proofs.Station.resulted.Tie as tie
 
-unmoved-requires : tie.Need-unmoved-requires
-unmoved-requires c κs = search needs
+settled-requires : tie.Need-settled-requires
+settled-requires c κs = λ e. clash e refl
 
 returns : tie.Need-returns
-unfolding resulted
-returns c = c .unmoved .ensures ∙ rw (lt-ltb _ _ (c .before .if1 .taken))
-
-unmoved-requires-2 : tie.Need-unmoved-requires-2
-unmoved-requires-2 c κs = search needs
-
-returns-2 : tie.Need-returns-2
-unfolding resulted
-returns-2 c = c .unmoved2 .ensures ∙ rw (le-ltb _ _ (c .before .before .before .if1 .left), eq-eqb _ _ (c .before .if2 .taken))
-
-timely-requires : tie.Need-timely-requires
-timely-requires c κs = search needs
-
-returns-3 : tie.Need-returns-3
-unfolding resulted
-returns-3 c = c .timely .ensures ∙ rw (le-ltb _ _ (c .before .before .before .if1 .left), ne-eqb _ _ (c .before .if2 .left))
+returns c = c .settled .ensures
 
 pub resulted-spec : {M : Type 1} → statement M
-resulted-spec =
-    tie.close
-    (tie.spec unmoved-requires returns unmoved-requires-2 returns-2 timely-requires returns-3)
+resulted-spec = tie.close (tie.spec settled-requires returns)

@@ -1,4 +1,0 @@
-mod Spans
-mod Masks
-mod Conditions
-mod Moves

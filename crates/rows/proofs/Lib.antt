@@ -1,0 +1,9 @@
+pub mod Steps
+pub mod Takes
+pub mod Flat
+pub mod Looks
+pub mod Parts
+pub mod Same
+pub mod Judging
+pub mod Moving
+pub mod Changing

@@ -1,0 +1,1 @@
+// Laws only: the instructions as rows of masks judge and change every record as the rules do.
