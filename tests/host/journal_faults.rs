@@ -191,6 +191,17 @@ impl Place<'_> {
         assert_eq!(run(self.program, &[&path], &ASK, Trouble::Nothing).stdout, image_after(kept), "after a full device");
     }
 
+    /// A limit on a file's size, which ends a process by a signal: the command's program says one line, and what it answered is kept.
+    fn limited(&self) {
+        let (path, bytes) = (self.without("limited"), input(10, 3000));
+        let output = run(self.script, &["--new", &path], &bytes, Trouble::LimitedTo(8000));
+        assert_eq!(output.status.code(), Some(1), "a limit on a file's size");
+        one_line("a limit on a file's size", &output.stderr);
+        let journal = fs::read(&path).expect("the journal");
+        assert!(bytes.starts_with(&journal) && serve(&journal[..whole(&journal)]).starts_with(&output.stdout), "a limit: answered and not kept");
+        assert_eq!(run(self.program, &[&path], &ASK, Trouble::Nothing).stdout, image_after(&journal[..whole(&journal)]), "after a limit");
+    }
+
     /// Calls that fail: nothing is answered, and no message is in the journal that was answered and is lost.
     fn failing(&self) {
         let messages = input(12, 50);
@@ -316,6 +327,7 @@ fn main() {
     place.torn();
     place.stops();
     place.full();
+    place.limited();
     place.failing();
     place.shared();
     place.raced(20);

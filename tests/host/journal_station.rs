@@ -28,7 +28,7 @@ const BY_CUTS: [(&str, &str); 12] = [
 ];
 
 /// Those that the run of journals which fail must find.
-const BY_FAULTS: [(&str, &str); 14] = [
+const BY_FAULTS: [(&str, &str); 15] = [
     ("makes_what_is_missing", "a journal that is not there is begun"),
     ("makes_over", "a new journal takes the place of one that is there"),
     ("leaves_the_name", "it does not wait until a new journal's name is on the disk"),
@@ -37,6 +37,7 @@ const BY_FAULTS: [(&str, &str); 14] = [
     ("past_the_damage", "it leaves out a length out of range and goes on behind it"),
     ("keeps_what_stops", "what ends a session is in the journal"),
     ("answers_unkept", "where it can't append, it answers all the same"),
+    ("ends_by_a_limit", "a limit on a file's size ends it without a word"),
     ("never_syncs", "it does not wait until what it appends is on the disk"),
     ("syncs_late", "it waits for the disk when it has answered"),
     ("looks_away", "it does not look whether another station has written"),
@@ -179,6 +180,10 @@ fn session(fault: &Fault, mut station: Station, mut journal: Option<Journal>) {
     if let Some(journal) = journal.as_mut().filter(|_| fault.is("appends_late")) { journal.keep(fault, &[], &[]); }
 }
 
+extern "C" {
+    fn signal(number: i32, handler: usize) -> usize;
+}
+
 fn main() {
     let mut words: Vec<String> = std::env::args().skip(1).collect();
     if words == ["list"] {
@@ -186,6 +191,8 @@ fn main() {
         return BY_FAULTS.iter().for_each(|(name, does)| println!("journal_faults {name} {does}"));
     }
     let fault = Fault(words.remove(0));
+    let (too_large, ignored) = (25, 1);
+    if !fault.is("ends_by_a_limit") { unsafe { signal(too_large, ignored) }; }
     if fault.is("takes_any_word") { words.retain(|word| word == "--new" || !word.starts_with('-')); }
     let is_name = |word: &str| !word.is_empty() && !word.starts_with('-');
     match &words[..] {
