@@ -246,6 +246,30 @@ impl Place<'_> {
         assert!(fs::read(&path).expect("the journal") == ASK.repeat(3));
     }
 
+    /// A journal that is taken away under a running station: renamed, removed, or replaced by a copy. It is noticed at the next append, and
+    /// nothing more is answered.
+    fn moved(&self) {
+        let aside = self.without("aside");
+        let taken_away: [(&str, fn(&str, &str)); 3] = [
+            ("a journal that was renamed", |path, aside| fs::rename(path, aside).expect("another name")),
+            ("a journal that was removed", |path, _| fs::remove_file(path).expect("it goes")),
+            ("a journal that was replaced", |path, aside| {
+                fs::copy(path, aside).expect("a copy");
+                fs::rename(aside, path).expect("its name");
+            }),
+        ];
+        for (what, take_away) in taken_away {
+            let path = self.without("moved");
+            assert!(run(self.program, &["--new", &path], &ASK, Trouble::Nothing).stderr.is_empty(), "a new journal");
+            let mut station = started(self.program, &[&path], Trouble::Nothing);
+            assert_eq!(exchanged(&mut station, &ASK, 20), image_after(&[]));
+            take_away(&path, &aside);
+            assert_eq!(exchanged(&mut station, &ASK, 20), [], "{what}: it has answered");
+            one_line(what, &station.wait_with_output().expect("it ends").stderr);
+            if Path::new(&path).exists() { assert_eq!(fs::read(&path).expect("the other one"), ASK.repeat(2), "{what}: the other one has changed"); }
+        }
+    }
+
     /// Two stations that are sent messages at once: at most one of them answers, and what it answered stands at the front of the journal.
     fn raced(&self, times: u64) {
         let mut answered = 0;
@@ -330,6 +354,7 @@ fn main() {
     place.limited();
     place.failing();
     place.shared();
+    place.moved();
     place.raced(20);
     place.restarts();
     place.long(messages.parse().expect("a number"));
