@@ -1,0 +1,5 @@
+pub mod Moves
+pub mod Promises
+pub mod Running
+pub mod Slices
+pub mod Xor
