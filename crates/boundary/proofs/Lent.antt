@@ -30,9 +30,10 @@ use Rattle.service.specs.Service.{respond, answerBytes}
 use Rattle.service.specs.Statements.{Answers}
 use Rattle.service.proofs.Readings.{ways}
 use Rattle.service.proofs.Ranges.{always-answered, refused-keeps}
-use Rattle.station_c.specs.Entries.{stationBytes, stationOf, returned, Entry, writes, entry, requestOf, asking, returnedOf, exchange}
-use Rattle.station_c.specs.Promises.{Typed}
-use Rattle.station_c.proofs.Promises.{station-fits, station-reads-back, returned-reads-back}
+use Rattle.rooms.specs.Rooms.{stationBytes, stationOf, returned, Entry, writes, entry, requestOf}
+use Rattle.station_c.specs.Entries.{asking, returnedOf, exchange}
+use Rattle.rooms.specs.Promises.{Typed}
+use Rattle.rooms.proofs.Promises.{station-fits, station-reads-back, returned-reads-back}
 use Rattle.boundary.specs.Calls.{Heard, makes, refuses, heard, reply, callsIn}
 use Rattle.boundary.specs.Uses.{Use, start, request, event, result, image, ask, message, used, uses, heardRequest, meant, AsPassed, AllPassed}
 use Rattle.boundary.specs.Uses.{roomy, callBy, NoStarts, Begun, started, imaged}

@@ -24,8 +24,9 @@ use Rattle.wire.specs.declared.What.the-variants.{Request, Event, Result, Image
 use Rattle.service.specs.Service.{respond, answerBytes}
 use Rattle.service.specs.Statements.{Answers}
 use Rattle.service.proofs.Ranges.{always-answered}
-use Rattle.station_c.specs.Entries.{stationOf, returned, writes, entry, requestOf, asking, returnedOf, exchange}
-use Rattle.station_c.proofs.Promises.{returned-reads-back}
+use Rattle.rooms.specs.Rooms.{stationOf, returned, writes, entry, requestOf}
+use Rattle.station_c.specs.Entries.{asking, returnedOf, exchange}
+use Rattle.rooms.proofs.Promises.{returned-reads-back}
 use Rattle.boundary.specs.Uses.{start, request, event, result, image, ask, message}
 use Rattle.boundary.specs.Statements.{EntryPlacesInRange}
 

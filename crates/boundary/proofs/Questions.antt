@@ -29,8 +29,8 @@ use Rattle.garage.specs.Station.{closed}
 use Rattle.garage.specs.Calls as station
 use Rattle.garage_laws.specs.Runs.{request, said}
 use Rattle.garage_laws.proofs.Fits.{fit-closed}
-use Rattle.station_c.specs.Entries.{moved, answerTo, judgement}
-use Rattle.station_c.proofs.Judging.{crossed-says, clear-says}
+use Rattle.rooms.specs.Questions.{moved, answerTo, judgement}
+use Rattle.rooms.proofs.Judging.{crossed-says, clear-says}
 use Rattle.boundary.specs.Statements.{QuestionIsRequest}
 
 -- where nothing is set apart, nothing touches it

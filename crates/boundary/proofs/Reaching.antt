@@ -29,9 +29,10 @@ use Rattle.garage_laws.proofs.EachCall.{untouched, fit-says}
 use Rattle.garage_laws.proofs.Steps.{Step, refuses, opens, fails, succeeds, sticks, drives, tells, steps, reached}
 use Rattle.garage_laws.proofs.Always.{begins-has, fit-step, small-step, fit-stays}
 use Rattle.garage_laws.proofs.Jammed.{always-laid-out}
-use Rattle.station_c.specs.Entries.{returned, returnedOf}
-use Rattle.station_c.specs.Promises.{Typed}
-use Rattle.station_c.proofs.Promises.{returned-reads-back}
+use Rattle.rooms.specs.Rooms.{returned}
+use Rattle.station_c.specs.Entries.{returnedOf}
+use Rattle.rooms.specs.Promises.{Typed}
+use Rattle.rooms.proofs.Promises.{returned-reads-back}
 use Rattle.boundary.specs.Calls as made
 use Rattle.boundary.specs.Calls.{Heard, makes, replyTo, reply, Sized}
 use Rattle.boundary.specs.Statements.{StaysReached, ReachedFit}

@@ -19,7 +19,7 @@ use Rattle.garage_laws.specs.Recovery.{HasWayBack}
 use Rattle.garage_laws.proofs.Demands.{any-order}
 use Rattle.garage_laws.proofs.Motion.{however-far}
 use Rattle.garage_laws.proofs.Recovery.{never-locks-up}
-use Rattle.station_c.specs.Entries.{stationOf}
+use Rattle.rooms.specs.Rooms.{stationOf}
 use Rattle.boundary.specs.Uses.{Use, start, request, event, result, image, ask, message, used, uses, AsPassed, AllPassed, roomy, callBy, callsBy, NoStarts, Begun}
 use Rattle.boundary.specs.Statements.{RoomsAreRuns, RoomsLaidOut, RoomsCounted, RoomsAnyOrder, RoomsHoweverFar, RoomsNeverLockUp}
 use Rattle.boundary.proofs.Lent.{Lent, done, skipped, long-enough, too-short, lent-used, lent-uses, begun, begun-begins, meant-calls, accepted-by}

@@ -26,7 +26,9 @@ use Rattle.wire.specs.Writes.{writing, oneForm}
 use Rattle.wire_laws.specs.Statements.{Bytes, Typed}
 use Rattle.service.specs.Service.{respond, answerBytes, answersOn}
 use Rattle.service.specs.Runs.{run, fed}
-use Rattle.station_c.specs.Entries.{stationSize, stationOf, asking, returnedOf, exchange, judgement}
+use Rattle.rooms.specs.Rooms.{stationSize, stationOf}
+use Rattle.rooms.specs.Questions.{judgement}
+use Rattle.station_c.specs.Entries.{asking, returnedOf, exchange}
 use Rattle.station_c.specs.Sets.{pairAnswer}
 use Rattle.boundary.specs.Calls.{heardAs, heard, reply, heardIn, callsIn, repliesTo, inBytes, fedStation, Sized}
 use Rattle.boundary.specs.Uses.{Use, used, uses, meant, message, AsPassed, AllPassed, roomy, callBy, callsBy, NoStarts, Begun}

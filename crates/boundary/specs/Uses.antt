@@ -14,7 +14,8 @@ use Rattle.garage_laws.specs.Runs as run
 use Rattle.wire_laws.specs.Statements.{Bytes}
 use Rattle.service.specs.declared.Reply.{Reply}
 use Rattle.service.specs.Service.{respond, answerBytes, answerMessage}
-use Rattle.station_c.specs.Entries.{stationSize, stationOf, Entry, entry, requestOf, asking, exchange}
+use Rattle.rooms.specs.Rooms.{stationSize, stationOf, Entry, entry, requestOf}
+use Rattle.station_c.specs.Entries.{asking, exchange}
 use Rattle.boundary.specs.Calls.{Heard, makes, refuses, heard, reply, callsIn}
 
 -- an entry with what it is given: a set of so many instructions; an event; a result with its issue; an image with what it says is set apart; the image's room; a message and the reply's room

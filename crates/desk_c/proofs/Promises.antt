@@ -5,6 +5,7 @@ use mathlib.Core.Logic.{_⊎_, inl, inr}
 use mathlib.Core.List.{List, _++_, append-assoc}
 use Prim.Native.Nat.{ℕ, _+_, _%_}
 use native.Mathlib.Omega.{arith}
+use borrow.Author.Tests.{ne-eqb}
 use lib.Dec.{ltb}
 use lib.ListN.{length, drop, length-append, length-drop}
 use lib.Seq.{take-add, drop-at}
@@ -15,9 +16,10 @@ use Rattle.wire_laws.proofs.Numbers.{bytes-drop}
 use Rattle.fours.specs.Fours.{foursIn, foursBytes}
 use Rattle.fours.proofs.Fours.{bytesTo, bytes-length}
 use Rattle.fours.proofs.Forms.{fours-read-back, fours-one-form}
-use Rattle.station_c.specs.Entries.{stationBytes, imageBytes, writes}
-use Rattle.station_c.proofs.Promises.{station-fits, station-reads-back, station-one-form}
+use Rattle.rooms.specs.Rooms.{stationBytes, imageBytes, writes}
+use Rattle.rooms.proofs.Promises.{station-fits, station-reads-back, station-one-form}
 use Rattle.desk.specs.declared.Desk.{Desk}
+use Rattle.desk.specs.Desk.{replyNumber}
 use Rattle.desk.specs.declared.Reply.{Reply}
 use Rattle.desk.specs.declared.Reply.the-variants.{Told, ZeroNumber, KnownNumber, WrongCount}
 use Rattle.desk.specs.declared.Whereabouts.{Whereabouts}
@@ -28,7 +30,7 @@ use Rattle.desk.specs.Calls.{ask}
 use Rattle.desk.specs.Questions.{whereabouts, leaving}
 use Rattle.desk_c.specs.Entries.{deskBytes, deskOf, replied, shows, entry, asking, whereSaid, finding, leavingEntry, parting}
 use Rattle.desk_c.specs.Promises.{DeskFits, DeskReadsBack, DeskOneForm, RepliedReadsBack, WhereReadsBack, RefusedUntouched, OfDesk, NumbersReturned}
-use Rattle.desk_c.proofs.Rooms.{reply-byte, reply-number, not-taken}
+use Rattle.desk_c.proofs.Rooms.{reply-byte, reply-number}
 
 -- ---- a desk in bytes
 
@@ -80,7 +82,8 @@ where-reads-back Whereabouts.Unfit Whereabouts.Unfit l m e = refl
 -- ---- refused, nothing is written
 
 refused-shows : (a : Reply) (bytes room : List ℕ) → (replied a % 256 ≡ 0 → ⊥) → shows a bytes room .leaves ≡ room
-refused-shows a bytes room h = sym (not-taken a bytes room refl h .1)
+unfolding shows
+refused-shows a bytes room h = rw (ne-eqb (replyNumber a) 0 (λ z. h (reply-number a ∙ z)))
 
 refused-leaving : (x : Leaving) (out : List ℕ) → (leavingEntry x out .says % 256 ≡ 0 → ⊥) → leavingEntry x out .leaves ≡ out
 unfolding writes

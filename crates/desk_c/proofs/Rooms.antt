@@ -1,11 +1,12 @@
 -- What is lent, a desk laid out in bytes, and what an entry leaves, case by case: one pair of laws serves every call. Assumes nothing.
+use mathlib.Core.Bool.{false}
 use mathlib.Core.Path.{_≡_, refl, sym, ap, ap₂, _∙_}
 use mathlib.Core.List.{List, [], _++_, append-nil}
 use Prim.Native.Nat.{ℕ, _*_, _-_, _%_, _^_, _≤_, _<_}
 use native.Mathlib.Nat.{mul-le-mul-right}
 use native.Mathlib.Omega.{arith}
-use borrow.Author.Tests.{lt-ltb, le-ltb, ltb-false, eq-eqb, ne-eqb}
-use lib.Dec.{ltb}
+use borrow.Author.Tests.{lt-ltb, le-ltb, ltb-false}
+use lib.Dec.{eqb, ltb}
 use lib.ListN.{length, take, drop, replicate}
 use lib.Seq.{take-length}
 use Rattle.bits.proofs.Cases.{split}
@@ -15,7 +16,7 @@ use Rattle.garage.specs.declared.Station.{Station}
 use Rattle.wire.specs.Kinds.{littleEndian, setOf}
 use Rattle.wire.proofs.Parts.{zeros-past, from-on}
 use Rattle.fours.specs.Fours.{foursIn, foursBytes}
-use Rattle.station_c.specs.Entries.{stationBytes, stationOf, lentStation, imageBytes, returned, Leaves, writes}
+use Rattle.rooms.specs.Rooms.{stationBytes, stationOf, lentStation, imageBytes, returned, Leaves, writes, told}
 use Rattle.desk.specs.declared.Desk.{Desk}
 use Rattle.desk.specs.declared.DeskOutcome.{DeskOutcome}
 use Rattle.desk.specs.declared.Reply.{Reply}
@@ -103,19 +104,14 @@ reply-byte WrongCount = omega arith
 pub reply-number : (a : Reply) → replied a % 256 ≡ replyNumber a
 reply-number a = let h = reply-byte a in omega arith
 
-module _ (a : Reply) (bytes room : List ℕ) {r : ℕ} (f : r ≡ replied a) where
-  number-said : r % 256 ≡ replyNumber a
-  number-said = ap (λ (n : ℕ). n % 256) f ∙ reply-number a
-
-  -- refused, nothing is written
-  pub not-taken : (r % 256 ≡ 0 → ⊥) → Leaves (shows a bytes room) r room
-  unfolding shows
-  not-taken h = (f, rw (ne-eqb (replyNumber a) 0 (λ z. h (number-said ∙ z))))
-
-  -- taken, the bytes are
-  pub all-taken : {last : List ℕ} → r % 256 ≡ 0 → last ≡ take (length bytes) bytes ++ drop (length bytes) room → Leaves (shows a bytes room) r last
-  unfolding shows
-  all-taken h l = (f, l ∙ rw (eq-eqb (replyNumber a) 0 (sym number-said ∙ h), take-length bytes))
+-- a reply that is told is shown, in the bytes that stand for it
+pub as-shows : (a : Reply) (bytes room : List ℕ) {b : List ℕ} {n r : ℕ} {last : List ℕ} → b ≡ bytes → length b ≤ length room → n ≡ replied a
+    → Leaves (told n b room) r last → Leaves (shows a bytes room) r last
+unfolding told shows
+as-shows a bytes room {b} d l e w =
+    let fits : ltb (length room) (length b) ≡ false = le-ltb _ _ l in
+    let zero : eqb (replied a % 256) 0 ≡ eqb (replyNumber a) 0 = ap (λ (k : ℕ). eqb k 0) (reply-number a) in
+    let t = rw (e, fits, zero) at w in rw (← d) t
 
 -- a call whose room is too short
 pub short : (call : Desk → DeskOutcome) (room : List ℕ) {r : ℕ} → length room < 228 → r ≡ returned NoRoom → Leaves (entry call room) r room
@@ -140,10 +136,12 @@ module _ (room image : List ℕ) {r : ℕ} where
   unfolding asking
   image-short h l e = rw (le-ltb _ _ h, lt-ltb _ _ l) (e, refl)
 
-  pub asked : {d : Desk} {o : DeskOutcome} {b last : List ℕ} → 228 ≤ length room → 16 ≤ length image → d ≡ deskOf room → o ≡ ask d
-      → b ≡ imageBytes (d .station .bits) (d .station .apart) → Leaves (shows (o .reply) b image) r last → Leaves (asking room image) r last
+  pub asked : {d : Desk} {o : DeskOutcome} {b last : List ℕ} {n : ℕ} → 228 ≤ length room → 16 ≤ length image → d ≡ deskOf room → o ≡ ask d
+      → b ≡ imageBytes (d .station .bits) (d .station .apart) → n ≡ replied (o .reply) → Leaves (told n b image) r last → Leaves (asking room image) r last
   unfolding asking
-  asked h l e f g w = rw (le-ltb _ _ h, le-ltb _ _ l, ← e, ← f, ← g) w
+  asked {d} {o} {b} h l e f g q w =
+      let size : length b ≡ 16 = ap length g in
+      rw (le-ltb _ _ h, le-ltb _ _ l, ← e, ← f) (as-shows (o .reply) (imageBytes (d .station .bits) (d .station .apart)) image g (omega (arith, size, l)) q w)
 
 -- where a card's car is
 module _ (room : List ℕ) (c : ℕ) {r : ℕ} where
@@ -154,12 +152,6 @@ module _ (room : List ℕ) (c : ℕ) {r : ℕ} where
   pub where-said : {d : Desk} {w : Whereabouts} → 228 ≤ length room → d ≡ deskOf room → w ≡ whereabouts d c → r ≡ whereSaid w → r ≡ finding room c
   unfolding finding
   where-said h e f g = g ∙ rw (le-ltb _ _ h, ← e, ← f)
-
--- a card's number that is put
-pub card-put : (c : ℕ) (out : List ℕ) {b : List ℕ} {r : ℕ} {last : List ℕ} → b ≡ littleEndian 4 c → Leaves (shows (Told Taken) b out) r last
-    → Leaves (writes Taken (littleEndian 4 c) out) r last
-unfolding writes shows
-card-put c out e w = (w .0, w .1 ∙ ap (λ (l : List ℕ). l ++ drop (length l) out) e)
 
 -- which card is leaving
 module _ (room out : List ℕ) {r : ℕ} where

@@ -9,7 +9,7 @@ use Rattle.answers.specs.Answers.{nowhere}
 use Rattle.rules.specs.Codes.{most}
 use Rattle.wire.specs.Kinds.{littleEndian, setOf}
 use Rattle.fours.specs.Fours.{foursIn, foursBytes}
-use Rattle.station_c.specs.Entries.{stationSize, stationBytes, stationOf, imageBytes, returned, Entry, writes, noRoom}
+use Rattle.rooms.specs.Rooms.{stationSize, stationBytes, stationOf, imageBytes, returned, Entry, writes, noRoom}
 use Rattle.desk.specs.declared.Desk.{Desk}
 use Rattle.desk.specs.declared.DeskOutcome.{DeskOutcome}
 use Rattle.desk.specs.declared.Reply.{Reply}

@@ -6,7 +6,7 @@ use Prim.Native.Nat.{ℕ, _/_, _%_, _^_, _≤_, _<_}
 use lib.ListN.{length, getD, take}
 use Rattle.answers.specs.Answers.{OfTable}
 use Rattle.wire_laws.specs.Statements.{Bytes}
-use Rattle.station_c.specs.Promises as station
+use Rattle.rooms.specs.Promises as station
 use Rattle.desk.specs.declared.Desk.{Desk}
 use Rattle.desk.specs.declared.DeskOutcome.{DeskOutcome}
 use Rattle.desk.specs.declared.Reply.{Reply}

@@ -8,7 +8,7 @@ ghost use lib.ListN.{length, drop, replicate};
 ghost use Rattle.wire.specs.Kinds.{littleEndian};
 ghost use Rattle.fours.specs.Fours.{foursIn, foursBytes};
 ghost use Rattle.answers.specs.declared.Answer.{Answer};
-ghost use Rattle.station_c.specs.Entries.{Leaves, writes};
+ghost use Rattle.rooms.specs.Rooms.{Leaves, writes};
 ghost use Rattle.desk.specs.declared.Reply.{Reply};
 ghost use Rattle.desk.specs.Desk.{startDesk};
 ghost use Rattle.desk.specs.Calls as calls;
@@ -23,7 +23,8 @@ use desk::Whereabouts;
 use garage::Picture;
 use garage::Report;
 use garage::Station;
-use station_c::say;
+use rooms::say;
+use rooms::tell;
 
 // The bytes of a lent desk, and of its station.
 const DESK: usize = 228;
@@ -63,7 +64,7 @@ fn load(room: &[u8]) -> Desk
     requires { ⌜ deskSize ≤ length (now room) ⌝ }
     ensures { λ d. ⌜ d ≡ deskOf (now (room .entry)) ⌝ }
 {
-    let station = station_c::station_of(room);
+    let station = rooms::station_of(room);
     let numbers = numbers_in(&room[STATION..]);
     Desk { station, numbers }
 }
@@ -89,7 +90,7 @@ fn stored(d: Desk) -> [u8; DESK]
     let numbers = d.numbers;
     put_numbers(&numbers, &mut b[STATION..DESK]);
     let station = d.station;
-    let s = station_c::station_bytes(station);
+    let s = rooms::station_bytes(station);
     bytes::copy(&s, &mut b[..STATION]);
     b
 }
@@ -101,20 +102,7 @@ fn told(a: Reply) -> u32
     a.number() as u32 + 256 * (a.place() as u32) + 65536 * (a.issue() as u32)
 }
 
-// Answers, and writes src to room if that is "taken".
-fn answer(a: Reply, src: &[u8], room: &mut [u8]) -> u32
-    requires { ⌜ length (now src) ≤ length (now room) ⌝ }
-    ensures { λ r. ⌜ Leaves (shows a (now (src .entry)) (now (room .entry))) r (now (room .exit)) ⌝ }
-{
-    let said = told(a);
-    if said % 256 != 0 {
-        return said;
-    }
-    bytes::copy(src, room);
-    said
-}
-
-// The same of a call's outcome.
+// Answers a call's outcome, and writes its desk to room if that is "taken".
 fn keep(o: DeskOutcome, room: &mut [u8]) -> u32
     requires { ⌜ deskSize ≤ length (now room) ⌝ }
     ensures { λ r. ⌜ Leaves (shows (o .reply) (deskBytes (o .desk)) (now (room .entry))) r (now (room .exit)) ⌝ }
@@ -122,7 +110,7 @@ fn keep(o: DeskOutcome, room: &mut [u8]) -> u32
     let d = o.desk;
     let b = stored(d);
     let a = o.reply;
-    answer(a, &b, room)
+    tell(told(a), &b, room)
 }
 
 // ---- the calls on a lent desk
@@ -289,10 +277,10 @@ pub extern "C" fn desk_ask(room: &[u8], image: &mut [u8]) -> u32
     }
     let d = load(room);
     let s = d.station;
-    let b = station_c::image_in(s.bits, s.apart);
+    let b = rooms::image_in(s.bits, s.apart);
     let o = d.ask();
     let a = o.reply;
-    answer(a, &b, image)
+    tell(told(a), &b, image)
 }
 
 // Where a card's car is, as one number.
@@ -325,7 +313,7 @@ fn put_card(card: u32, out: &mut [u8]) -> u32
     ensures { λ r. ⌜ Leaves (writes Answer.Taken (littleEndian 4 card) (now (out .entry))) r (now (out .exit)) ⌝ }
 {
     let four = fours::four_bytes(card);
-    answer(Reply::Told(Answer::Taken), &four, out)
+    tell(say(Answer::Taken), &four, out)
 }
 
 // Which card is leaving: its number's four bytes, those of 0 where none is, to a room of their own.

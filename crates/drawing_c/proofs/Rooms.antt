@@ -1,13 +1,15 @@
 -- What the entries leave, case by case. Assumes nothing.
-use mathlib.Core.Path.{_≡_, refl, ap, ap₂, _∙_}
+use mathlib.Core.Path.{_≡_, refl, ap, _∙_}
+use mathlib.Core.Bool.{false, cond}
 use mathlib.Core.List.{List, _++_}
-use Prim.Native.Nat.{ℕ, _≤_, _<_}
-use lib.ListN.{length, take, drop}
-use lib.Seq.{take-length}
-use borrow.Author.Tests.{lt-ltb, le-ltb, eq-eqb, ne-eqb}
+use Prim.Native.Nat.{ℕ, _%_, _≤_, _<_}
+use lib.Dec.{eqb, ltb}
+use lib.ListN.{length, drop}
+use native.Mathlib.Omega.{arith}
+use borrow.Author.Tests.{lt-ltb, le-ltb}
 use Rattle.answers.specs.declared.Answer.the-variants.{NoRoom}
 use Rattle.wire.specs.Kinds.{littleEndian}
-use Rattle.station_c.specs.Entries.{returned, Leaves}
+use Rattle.rooms.specs.Rooms.{returned, Leaves, told}
 use Rattle.drawing.specs.declared.Written.{Written}
 use Rattle.drawing.specs.declared.Found.{Found}
 use Rattle.drawing.specs.Drawing as drawing
@@ -21,18 +23,17 @@ pub written : (r : ℕ) (room : List ℕ) (w : Written) {last : List ℕ} {n : �
 unfolding drawnInto
 written r room w l e = (e ∙ ap writtenSaid (l .0), l .1)
 
--- what reading found
-module _ (f : Found) (room : List ℕ) {n : ℕ} (e : n ≡ foundSaid f) where
-  pub not-kept : (f .number ≡ 0 → ⊥) → Leaves (kept f room) n room
-  unfolding kept
-  not-kept h = (e, rw (ne-eqb (f .number) 0 h))
-
-  pub is-kept : {b last : List ℕ} → f .number ≡ 0 → b ≡ littleEndian 8 (f .bits) → last ≡ take (length b) b ++ drop (length b) room
-      → Leaves (kept f room) n last
-  unfolding kept
-  is-kept {b} z p q =
-      let l : length b ≡ 8 = ap length p in
-      (e, q ∙ ap₂ (λ (x y : List ℕ). x ++ y) (take-length b ∙ p) (ap (λ (k : ℕ). drop k room) l) ∙ rw (eq-eqb (f .number) 0 z))
+-- what reading found, as it is told
+pub is-kept : (f : Found) (room : List ℕ) {b : List ℕ} {n r : ℕ} {last : List ℕ} → f .number < 256 → n ≡ foundSaid f → b ≡ littleEndian 8 (f .bits)
+    → length b ≤ length room → Leaves (told n b room) r last → Leaves (kept f room) r last
+unfolding kept told
+is-kept f room {b} h e d l w =
+    let fits : ltb (length room) (length b) ≡ false = le-ltb _ _ l in
+    let low : foundSaid f % 256 ≡ f .number = omega arith in
+    let zero : eqb (foundSaid f % 256) 0 ≡ eqb (f .number) 0 = ap (λ (k : ℕ). eqb k 0) low in
+    let size : length b ≡ 8 = ap length d in
+    let t = rw (e, fits, zero, size) at w in
+    (t .0, t .1 ∙ ap (λ (x : List ℕ). cond (eqb (f .number) 0) (x ++ drop 8 room) room) d)
 
 -- a drawing that is read
 module _ (text room : List ℕ) {n : ℕ} where

@@ -6,7 +6,7 @@ use lib.Dec.{eqb, ltb}
 use lib.ListN.{length, drop}
 use Rattle.answers.specs.Answers.{nowhere}
 use Rattle.wire.specs.Kinds.{littleEndian}
-use Rattle.station_c.specs.Entries.{Entry, noRoom}
+use Rattle.rooms.specs.Rooms.{Entry, noRoom}
 use Rattle.drawing.specs.declared.Written.{Written}
 use Rattle.drawing.specs.declared.Found.{Found}
 use Rattle.drawing.specs.Drawing.{writing}

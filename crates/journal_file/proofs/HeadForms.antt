@@ -14,9 +14,9 @@ use Rattle.garage.specs.Station.{fit}
 use Rattle.wire.specs.Kinds.{littleEndian}
 use Rattle.fours.specs.Fours.{fourAt}
 use Rattle.commands.specs.Words.{isText}
-use Rattle.station_c.specs.Entries.{stationBytes, stationOf, lentStation}
-use Rattle.station_c.specs.Promises.{Typed}
-use Rattle.station_c.proofs.Promises.{station-fits, station-reads-back}
+use Rattle.rooms.specs.Rooms.{stationBytes, stationOf, lentStation}
+use Rattle.rooms.specs.Promises.{Typed}
+use Rattle.rooms.proofs.Promises.{station-fits, station-reads-back}
 use Rattle.checksum.specs.Checksum.{crcOver}
 use Rattle.checksum.proofs.Promises.{in-range, continues}
 use Rattle.journal_file.specs.declared.Kind.the-variants.{Good}

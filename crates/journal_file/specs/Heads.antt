@@ -9,7 +9,7 @@ use Rattle.garage.specs.Station.{fit, closed}
 use Rattle.wire.specs.Kinds.{littleEndian}
 use Rattle.fours.specs.Fours.{fourAt}
 use Rattle.version.specs.Version.{version}
-use Rattle.station_c.specs.Entries.{stationBytes, lentStation}
+use Rattle.rooms.specs.Rooms.{stationBytes, lentStation}
 use Rattle.commands.specs.Words.{isText}
 use Rattle.journal_file.specs.declared.Kind.{Kind}
 use Rattle.journal_file.specs.declared.Kind.the-variants.{NoJournal, OtherFormat, Damaged, Unfit, Good}

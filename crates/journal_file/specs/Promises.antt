@@ -8,7 +8,7 @@ use lib.ListN.{length, getD, take, replicate}
 use Rattle.garage.specs.declared.Station.{Station}
 use Rattle.garage.specs.Station.{fit}
 use Rattle.wire_laws.specs.Statements.{Bytes}
-use Rattle.station_c.specs.Promises.{Typed}
+use Rattle.rooms.specs.Promises.{Typed}
 use Rattle.checksum.specs.Checksum.{crcOver}
 use Rattle.checksum.specs.Slices.{slices, crcBy}
 use Rattle.journal_file.specs.declared.Kind.the-variants.{Good}

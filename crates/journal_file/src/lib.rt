@@ -8,7 +8,7 @@ ghost use lib.Dec.{eqb};
 ghost use lib.ListN.{length, take, drop};
 ghost use Rattle.service.specs.Runs.{serving};
 ghost use Rattle.wire.specs.Kinds.{fromLittleEndian};
-ghost use Rattle.station_c.specs.Entries.{lentStation};
+ghost use Rattle.rooms.specs.Rooms.{lentStation};
 ghost use Rattle.garage.specs.declared.Station.{Station};
 ghost use Rattle.checksum.specs.Slices.{crcBy};
 ghost use Rattle.journal_file.specs.Appends.{openingOf, closingOf, carriedOf, titled, carried, noFront, wholeFront, frontOf, written, lostFrom, zeroed};
@@ -265,11 +265,11 @@ pub fn head_of(t: &[u32], m: &[u8]) -> Head
     if m.len() < 128 {
         return Head {
             kind: Kind::NoJournal,
-            station: station_c::station_of(&[]),
+            station: rooms::station_of(&[]),
             sum: 0,
         };
     }
-    let station = station_c::station_of(&m[64..124]);
+    let station = rooms::station_of(&m[64..124]);
     let kind = kind_of(t, m, station);
     Head {
         kind,

@@ -28,7 +28,8 @@ use Rattle.answers.specs.declared.Answer.the-variants.{TooFewBytes, BadField, N
 use Rattle.answers.specs.Answers.{numberOf, nowhere}
 use Rattle.garage.specs.Held.{heldArea, crosses}
 use Rattle.wire.specs.Kinds.{littleEndian}
-use Rattle.station_c.specs.Entries.{returned, Entry, Leaves, writes, noRoom, moved, answerTo, judgement, recordIn, nexting}
+use Rattle.rooms.specs.Rooms.{returned, Entry, Leaves, writes, noRoom}
+use Rattle.rooms.specs.Questions.{moved, answerTo, judgement, recordIn, nexting}
 use Rattle.plain.specs.declared.Floor.{Floor}
 use Rattle.plain.specs.Plain.{plainBits, floorOf}
 use Rattle.plain.specs.Conditions.{verdictOn}

@@ -16,9 +16,8 @@ use Rattle.rules.specs.Verdicts.{onCode}
 use Rattle.answers.specs.declared.Answer.{Answer}
 use Rattle.answers.specs.declared.Answer.the-variants.{Taken, TooFewBytes, BadField, NoRoom, Unsound}
 use Rattle.answers.specs.Answers.{OfTable, nowhere}
-use Rattle.station_c.specs.Entries.{returned, Entry, writes}
-use Rattle.station_c.proofs.Promises as station
-use Rattle.station_c.proofs.Promises.{returned-reads-back}
+use Rattle.rooms.specs.Rooms.{returned, Entry, writes}
+use Rattle.rooms.proofs.Promises.{returned-reads-back, next-untouched, next-of-table}
 use Rattle.plain.specs.Walks.{walked}
 use Rattle.panel.specs.Panel.{explained}
 use Rattle.plain_c.specs.Entries.{refuses, conditionBytes, explaining, following, walking}
@@ -60,7 +59,7 @@ module _ (room : List ℕ) where
   unfolding following
   fair-following r five = either (ltb (length room) 8) (fair-refuses NoRoom)
       (either (ltb (length five) 5) (fair-refuses TooFewBytes)
-      (either (sound r) (record { untouched = station.next-refused-untouched r five room; number = station.numbers-in-table .4 r five room }) (fair-refuses Unsound)))
+      (either (sound r) (record { untouched = next-untouched r five room; number = next-of-table r five room }) (fair-refuses Unsound)))
 
   fair-walking : (r : ℕ) → Fair room (walking r room)
   unfolding walking

@@ -18,9 +18,8 @@ use Rattle.rules.specs.Codes.{readBytes}
 use Rattle.rules.specs.Verdicts.{onCode}
 use Rattle.answers.specs.declared.Answer.the-variants.{Taken, TooFewBytes, BadField, NoRoom, Unsound}
 use Rattle.answers.specs.Answers.{reasonNumber, nowhere}
-use Rattle.garage.specs.declared.Station.{Station}
 use Rattle.wire.specs.Kinds.{littleEndian}
-use Rattle.station_c.specs.Entries.{stationOf, lentStation, returned, Entry, Leaves, writes, noRoom}
+use Rattle.rooms.specs.Rooms.{returned, Entry, Leaves, writes, noRoom}
 use Rattle.plain.specs.declared.Floor.{Floor}
 use Rattle.plain.specs.declared.Walk.{Walk}
 use Rattle.plain.specs.Plain.{plainBits, floorOf}
@@ -30,11 +29,6 @@ use Rattle.panel.specs.declared.Explanation.{Explanation}
 use Rattle.panel.specs.Panel.{explained}
 use Rattle.plain_laws.proofs.Crossing.{reads-back, sound-drawn}
 use Rattle.plain_c.specs.Entries.{refuses, conditionBytes, explaining, walking}
-
--- the station that a room holds which is long enough
-pub lent-there : (room : List ℕ) {s : Station} → 60 ≤ length room → s ≡ lentStation room → s ≡ stationOf room
-unfolding lentStation
-lent-there room h e = e ∙ rw (le-ltb (length room) 60 h)
 
 -- what is left by an entry that equals another
 pub lead : {e g : Entry} {x : ℕ} {last : List ℕ} → e ≡ g → Leaves g x last → Leaves e x last

@@ -1,5 +1,5 @@
 -- What the entries of the service panel answer, and what they leave in the room that is lent to them. The plain station's entries have no
--- definitions of their own: they answer what station_c's answer, in the words of its specs/Entries.antt. Assumes nothing.
+-- definitions of their own: they answer what station_c's answer, in the words of rooms' specs/Rooms.antt. Assumes nothing.
 use mathlib.Core.Bool.{cond}
 use mathlib.Core.List.{List, _∷_, _++_}
 use Prim.Native.Nat.{ℕ, _+_, _*_}
@@ -13,7 +13,8 @@ use Rattle.answers.specs.declared.Answer.{Answer}
 use Rattle.answers.specs.declared.Answer.the-variants.{Taken, TooFewBytes, BadField, Unsound}
 use Rattle.answers.specs.Answers.{reasonNumber, nowhere}
 use Rattle.wire.specs.Kinds.{littleEndian}
-use Rattle.station_c.specs.Entries.{returned, Entry, writes, noRoom, nexting}
+use Rattle.rooms.specs.Rooms.{returned, Entry, writes, noRoom}
+use Rattle.rooms.specs.Questions.{nexting}
 use Rattle.plain.specs.Walks.{walked, walkOf}
 use Rattle.plain_moves.specs.Moves.{partsBits}
 use Rattle.panel.specs.declared.Explanation.{Explanation}

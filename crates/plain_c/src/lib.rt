@@ -1,6 +1,6 @@
 // The entries of the plain station and of the service panel, for a host in C or Rust: numbers and runs of bytes alone. A station is lent as
 // 60 bytes, an answer is its number plus 256 times its place plus 65536 times its issue, and a refused call writes nothing. What each
-// answers and leaves stands in specs/Entries.antt, and for the plain station in that of station_c.
+// answers and leaves stands in specs/Entries.antt, and for the plain station in that of rooms.
 ghost use mathlib.Core.Path.{_≡_};
 ghost use Prim.Native.Nat.{_≤_};
 ghost use lib.ListN.{length};
@@ -9,8 +9,7 @@ ghost use Rattle.garage.specs.Calls as calls;
 ghost use Rattle.plain.specs.Plain.{plainBits};
 ghost use Rattle.panel.specs.Panel.{explained};
 ghost use Rattle.wire.specs.Kinds.{littleEndian};
-ghost use Rattle.station_c.specs.Private.{bytesAsked};
-ghost use Rattle.station_c.specs.Entries.{stationSize, stationBytes, Leaves, writes, entry, requestOf};
+ghost use Rattle.rooms.specs.Rooms.{Leaves, writes, entry, requestOf};
 ghost use Rattle.plain_laws.specs.Promises.{packedOutcome};
 ghost use Rattle.plain_c.specs.Entries.{conditionBytes, explaining, following, walking};
 ghost use Rattle.plain_c.specs.Private.{floorAnswer, floorNext};
@@ -22,9 +21,13 @@ use garage::Station;
 use panel::Explanation;
 use plain::Floor;
 use plain_station::PlainOutcome;
+use rooms::bytes_asked;
+use rooms::keep;
+use rooms::say;
+use rooms::station_of;
+use rooms::tell;
 use rules::Instruction;
 use rules::Reading;
-use station_c::say;
 
 // The bytes of a lent station, of a record, of an instruction, of a condition explained, and of the cars that a walk lists.
 const STATION: usize = 60;
@@ -91,16 +94,6 @@ fn result(s: Station, report: Report) -> Outcome
     packed(p.resulted(report))
 }
 
-// How many bytes a request asks for: of more than eight instructions none is looked at.
-fn bytes_asked(count: u8) -> usize
-    ensures { λ n. ⌜ n ≡ bytesAsked count ⌝ }
-{
-    if Station::MOST < count {
-        return 0;
-    }
-    CODE * (count as usize)
-}
-
 // A request, its set as a run of bytes.
 fn requested(s: Station, count: u8, set: &[u8]) -> Outcome
     ensures { λ o. ⌜ o ≡ requestOf count (now (set .entry)) s ⌝ }
@@ -113,32 +106,6 @@ fn requested(s: Station, count: u8, set: &[u8]) -> Outcome
     request(s, count, five_each)
 }
 
-// ---- what is written
-
-// Answers, and writes src to room if that is "taken".
-fn answer(a: Answer, src: &[u8], room: &mut [u8]) -> u32
-    requires { ⌜ length (now src) ≤ length (now room) ⌝ }
-    ensures { λ r. ⌜ Leaves (writes a (now (src .entry)) (now (room .entry))) r (now (room .exit)) ⌝ }
-{
-    let said = say(a);
-    if said % 256 != 0 {
-        return said;
-    }
-    bytes::copy(src, room);
-    said
-}
-
-// The same of a call's outcome.
-fn keep(o: Outcome, room: &mut [u8]) -> u32
-    requires { ⌜ stationSize ≤ length (now room) ⌝ }
-    ensures { λ r. ⌜ Leaves (writes (o .answer) (stationBytes (o .station)) (now (room .entry))) r (now (room .exit)) ⌝ }
-{
-    let s = o.station;
-    let b = station_c::station_bytes(s);
-    let a = o.answer;
-    answer(a, &b, room)
-}
-
 // ---- the plain station's entries
 
 // A request of `count` instructions, five bytes each.
@@ -149,7 +116,7 @@ pub extern "C" fn plain_request(room: &mut [u8], count: u8, set: &[u8]) -> u32
     if room.len() < STATION {
         return say(Answer::NoRoom);
     }
-    let s = station_c::station_of(room);
+    let s = station_of(room);
     let o = requested(s, count, set);
     keep(o, room)
 }
@@ -162,7 +129,7 @@ pub extern "C" fn plain_event(room: &mut [u8], way: u8) -> u32
     if room.len() < STATION {
         return say(Answer::NoRoom);
     }
-    let s = station_c::station_of(room);
+    let s = station_of(room);
     let o = event(s, way);
     keep(o, room)
 }
@@ -175,7 +142,7 @@ pub extern "C" fn plain_result(room: &mut [u8], issue: u16, number: u8, ending: 
     if room.len() < STATION {
         return say(Answer::NoRoom);
     }
-    let s = station_c::station_of(room);
+    let s = station_of(room);
     let o = result(
         s,
         Report {
@@ -213,12 +180,12 @@ fn condition_bytes(x: Explanation) -> [u8; CONDITION]
 }
 
 // A condition of an instruction on a floor, to a room that has place for it.
-fn tell(f: Floor, i: Instruction, c: u8, room: &mut [u8]) -> u32
+fn explain(f: Floor, i: Instruction, c: u8, room: &mut [u8]) -> u32
     requires { ⌜ 11 ≤ length (now room) ⌝ }
     ensures { λ r. ⌜ Leaves (writes Answer.Taken (conditionBytes (explained i c (plainBits f))) (now (room .entry))) r (now (room .exit)) ⌝ }
 {
     let b = condition_bytes(panel::explained(f, i, c));
-    answer(Answer::Taken, &b, room)
+    tell(say(Answer::Taken), &b, room)
 }
 
 // A condition of the instruction that five bytes say, on a record.
@@ -240,7 +207,7 @@ pub extern "C" fn panel_condition(image: u64, five: &[u8], c: u8, room: &mut [u8
         return say(Answer::Unsound);
     }
     let f = plain::of_image(image);
-    tell(f, i, c, room)
+    explain(f, i, c, room)
 }
 
 // The record after an instruction on a floor, to a room that has place for it.
@@ -256,7 +223,7 @@ fn follow(f: Floor, i: Instruction, next: &mut [u8]) -> u32
     let a = verdict.answer(NOWHERE);
     let moved = plain_moves::moved(f, i);
     let b = wire::image_bytes(moved.image());
-    answer(a, &b, next)
+    tell(say(a), &b, next)
 }
 
 // The eight bytes of the record after an instruction, to a room of their own.

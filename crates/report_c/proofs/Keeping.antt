@@ -24,7 +24,7 @@ use Rattle.totals.specs.Totals.{Name, size, order, nameAt, counts, next, nexts,
 use Rattle.totals.specs.Totals.Name.{Kind, Number, Done, Failed, CarsIn, CarsOut, MostCars}
 use Rattle.totals.proofs.Order.{nexts-length, after-at, after-beyond}
 use Rattle.weeks.specs.Weeks.{carsIn, happened}
-use Rattle.station_c.specs.Entries.{stationOf, writes}
+use Rattle.rooms.specs.Rooms.{stationOf, writes}
 use Rattle.report_c.specs.Entries.{totalsBytes, totalsIn, tallied, counting}
 use Rattle.report_c.specs.Promises.{Typed, MessageCounted}
 use Rattle.report_c.proofs.Forms.{totals-read-back, any-bytes-hold}

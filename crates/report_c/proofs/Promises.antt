@@ -6,7 +6,7 @@ use native.Mathlib.Omega.{arith}
 use lib.Dec.{eqb, ltb}
 use lib.ListN.{length}
 use Rattle.bits.proofs.Cases.{split}
-use Rattle.station_c.specs.Entries.{stationOf, writes}
+use Rattle.rooms.specs.Rooms.{stationOf, writes}
 use Rattle.weeks.specs.Weeks.{happened}
 use Rattle.totals.specs.Totals.{nothing, countedIn}
 use Rattle.lines.specs.Lines.{reportOf}

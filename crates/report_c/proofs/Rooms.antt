@@ -16,7 +16,7 @@ use Rattle.weeks.specs.Weeks.{happened}
 use Rattle.garage.specs.declared.Station.{Station}
 use Rattle.lines.specs.declared.Text.{Text}
 use Rattle.lines.specs.Lines.{reportOf, textOf}
-use Rattle.station_c.specs.Entries.{stationOf, lentStation, returned, Leaves, writes}
+use Rattle.rooms.specs.Rooms.{stationOf, lentStation, returned, Leaves, writes}
 use Rattle.report_c.specs.Entries.{totalsBytes, totalsIn, starting, fullNumber, tallied, counting, known, texting, lining}
 use Rattle.fours.proofs.Fours.{bytesTo, bytes-length}
 

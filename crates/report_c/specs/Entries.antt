@@ -12,7 +12,7 @@ use Rattle.totals.specs.declared.Tally.{Tally}
 use Rattle.totals.specs.Totals.{size, totalsOf, nothing, countedIn, blank}
 use Rattle.lines.specs.Lines.{reportOf}
 use Rattle.weeks.specs.Weeks.{happened}
-use Rattle.station_c.specs.Entries.{stationSize, stationOf, returned, Entry, writes, noRoom}
+use Rattle.rooms.specs.Rooms.{stationSize, stationOf, returned, Entry, writes, noRoom}
 
 -- ---- totals in bytes
 

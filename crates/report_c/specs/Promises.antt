@@ -8,7 +8,7 @@ use Rattle.wire_laws.specs.Statements.{Bytes}
 use Rattle.totals.specs.declared.Totals.{Totals}
 use Rattle.totals.specs.Totals.{size, most, countedIn}
 use Rattle.weeks.specs.Weeks.{happened}
-use Rattle.station_c.specs.Entries.{stationSize, stationOf}
+use Rattle.rooms.specs.Rooms.{stationSize, stationOf}
 use Rattle.report_c.specs.Entries.{totalsSize, totalsBytes, totalsIn, starting, counting, lining}
 
 -- totals as code holds them: one for each place, none above the most

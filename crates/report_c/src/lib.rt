@@ -5,11 +5,11 @@ ghost use mathlib.Core.List.{_++_};
 ghost use Prim.Native.Nat.{_≤_};
 ghost use lib.ListN.{length, take, drop};
 ghost use Rattle.totals.specs.Totals.{totalsOf};
-ghost use Rattle.station_c.specs.Entries.{Leaves};
+ghost use Rattle.rooms.specs.Rooms.{Leaves};
 ghost use Rattle.report_c.specs.Entries.{totalsSize, totalsBytes, totalsIn, starting, counting, known, texting, lining};
 use answers::Answer;
 use answers::NOWHERE;
-use station_c::say;
+use rooms::say;
 use totals::NOTHING;
 use totals::Totals;
 
@@ -80,7 +80,7 @@ pub extern "C" fn report_message(totals: &mut [u8], station: &[u8], message: &[u
     if station.len() < STATION {
         return say(Answer::NoRoom);
     }
-    let s = station_c::station_of(station);
+    let s = rooms::station_of(station);
     let t = load(totals);
     let mut counts = t.counts;
     let full = weeks::count_message(&mut counts, s, message);

@@ -1,7 +1,8 @@
 -- What the questions for building sets answer and leave, case by case. Assumes nothing.
-use mathlib.Core.Path.{_≡_, refl}
+use mathlib.Core.Path.{_≡_, refl, ap}
 use mathlib.Core.List.{List}
 use Prim.Native.Nat.{ℕ, _≤_, _<_}
+use native.Mathlib.Omega.{arith}
 use borrow.Author.Tests.{lt-ltb, le-ltb}
 use lib.ListN.{length}
 use Rattle.answers.specs.declared.Answer.{Answer}
@@ -11,7 +12,8 @@ use Rattle.rules.specs.declared.Reading.{Reading}
 use Rattle.rules.specs.Codes.{readBytes}
 use Rattle.rules.specs.Verdicts.{onCode, sharingOf}
 use Rattle.wire.specs.Kinds.{littleEndian}
-use Rattle.station_c.specs.Entries.{returned, Leaves, writes}
+use Rattle.rooms.specs.Rooms.{returned, Leaves, writes, told}
+use Rattle.rooms.proofs.Rooms.{as-writes}
 use Rattle.station_c.specs.Sets.{areaIn, areaSaid, areaBits, areaAnswer, areaInto, sharingSaid, pairAnswer}
 
 -- ---- an area
@@ -28,10 +30,12 @@ module _ (five room : List ℕ) where
   area-few h l e = rw (le-ltb _ _ h, lt-ltb _ _ l) (e, refl)
 
   -- else it is written, or there is none
-  pub area-told : {m : Area} {a : Answer} {x : ℕ} {b : List ℕ} {r : ℕ} {last : List ℕ} → 8 ≤ length room → 5 ≤ length five → m ≡ areaIn five
-      → a ≡ areaSaid m → x ≡ areaBits m → b ≡ littleEndian 8 x → Leaves (writes a b room) r last → Leaves (areaInto five room) r last
+  pub area-told : {m : Area} {a : Answer} {x : ℕ} {b : List ℕ} {n r : ℕ} {last : List ℕ} → 8 ≤ length room → 5 ≤ length five → m ≡ areaIn five
+      → a ≡ areaSaid m → x ≡ areaBits m → b ≡ littleEndian 8 x → n ≡ returned a → Leaves (told n b room) r last → Leaves (areaInto five room) r last
   unfolding areaInto areaAnswer
-  area-told h l e f g k w = rw (le-ltb _ _ h, le-ltb _ _ l, ← e, ← f, ← g, ← k) w
+  area-told {m} {a} {x} {b} h l e f g k q w =
+      let size : length b ≡ 8 = ap length k in
+      rw (le-ltb _ _ h, le-ltb _ _ l, ← e, ← f, ← g) (as-writes a (littleEndian 8 x) room k (omega (arith, size, h)) q w)
 
 -- ---- two instructions
 

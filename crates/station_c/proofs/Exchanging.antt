@@ -26,7 +26,8 @@ use Rattle.service.specs.Service as service
 use Rattle.service.specs.Service.{respond}
 use Rattle.service.proofs.Replies.{plain-written}
 use Rattle.service.proofs.Ranges.{replies-in-range}
-use Rattle.station_c.specs.Entries.{stationBytes, stationOf, returned, returnedOf, Exchanges, exchange}
+use Rattle.rooms.specs.Rooms.{stationBytes, stationOf, returned}
+use Rattle.station_c.specs.Entries.{returnedOf, Exchanges, exchange}
 
 -- only of an answer the number is returned
 pub not-an-answer : (w : What) → OneOf (0 ∷ 1 ∷ 2 ∷ 3 ∷ 4 ∷ 6 ∷ []) (tagOf what.the-type w) → returned Taken ≡ returnedOf w

@@ -1,6 +1,4 @@
-pub mod Rooms
-pub mod Padding
-pub mod Judging
+pub mod Asking
 pub mod Exchanging
 pub mod Building
 pub mod Promises

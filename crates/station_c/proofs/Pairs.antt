@@ -31,8 +31,8 @@ use Rattle.rules.proofs.Frame.{area-small}
 use Rattle.garage.specs.Held.{codeAt, heldArea}
 use Rattle.garage.specs.Private.{heldMask}
 use Rattle.garage.proofs.Areas.{partsMask, touching}
-use Rattle.wire_laws.proofs.Numbers.{image-reads-back}
-use Rattle.station_c.specs.Entries.{writes}
+use Rattle.rooms.proofs.Promises.{eight-back}
+use Rattle.rooms.specs.Rooms.{writes}
 use Rattle.station_c.specs.Sets.{areaIn, areaAnswer, areaInto, sharingSaid, pairAnswer}
 use Rattle.station_c.specs.Promises.{readArea, PairEitherWay, PairByAreas, TouchesByArea}
 
@@ -98,7 +98,7 @@ module _ (five room : List ℕ) (h : areaInto five room .says % 256 ≡ 0) where
         enough = u;
         says = e;
         formed = w;
-        number = rw (t, u, e, mask-of i w) (image-reads-back (image (area i)) (drop 8 room) (packed-lt 64 0 (area i)));
+        number = rw (t, u, e, mask-of i w) (eight-back (image (area i)) (drop 8 room) (packed-lt 64 0 (area i)));
       }
 
   written : Written five room

@@ -1,4 +1,3 @@
 pub mod Entries
 pub mod Sets
 pub mod Promises
-pub mod Private

@@ -1,47 +1,20 @@
--- What is promised of lent stations, and of answers as numbers. Proved in proofs/Promises.antt. Assumes nothing.
+-- What is promised of the entries. Proved in proofs/Promises.antt. Assumes nothing.
 use mathlib.Core.Path.{_≡_}
 use mathlib.Core.Bool.{not, cond}
-use mathlib.Core.List.{List, _++_}
-use Prim.Native.Nat.{ℕ, _/_, _%_, _^_, _≤_, _<_}
+use mathlib.Core.List.{List}
+use Prim.Native.Nat.{ℕ, _/_, _%_, _^_, _<_}
 use lib.Bits.{bitAnd}
 use lib.Dec.{eqb}
-use lib.ListN.{length, take}
-use Rattle.answers.specs.declared.Answer.{Answer}
 use Rattle.answers.specs.declared.Answer.the-variants.{Taken, Overlap}
-use Rattle.answers.specs.Answers.{numberOf, OfTable, placeOf, issueOf}
+use Rattle.answers.specs.Answers.{numberOf, OfTable}
 use Rattle.garage.specs.declared.Station.{Station}
 use Rattle.garage.specs.declared.Outcome.{Outcome}
 use Rattle.garage.specs.Held.{touches}
 use Rattle.wire.specs.Kinds.{fromLittleEndian}
-use Rattle.wire_laws.specs.Statements.{Bytes}
-use Rattle.station_c.specs.Entries.{stationSize, stationBytes, stationOf, returned, entry, asking, exchange, judgement, nexting}
+use Rattle.rooms.specs.Rooms.{returned, entry}
+use Rattle.rooms.specs.Questions.{judgement, nexting}
+use Rattle.station_c.specs.Entries.{asking, exchange}
 use Rattle.station_c.specs.Sets.{areaInto, pairAnswer}
-
--- a station as code holds it: the record is a number of 64 bits, the set has forty places, the next issue 16 bits, what is set apart 64
-pub record Typed (s : Station) : Type 0 where
-  pub image : s .bits < 2 ^ 64
-  pub places : length (s .set) ≡ 40
-  pub issue : s .next < 2 ^ 16
-  pub apart : s .apart < 2 ^ 64
-
--- it takes 60 bytes
-abbrev pub StationFits : Type 0
-StationFits = (s : Station) → Typed s → length (stationBytes s) ≡ stationSize
-
--- a station that was written reads back, whatever stands past it
-abbrev pub StationReadsBack : Type 0
-StationReadsBack = (s : Station) (past : List ℕ) → Typed s → stationOf (stationBytes s ++ past) ≡ s
-
--- and the bytes of a room are those of the station that they hold
-abbrev pub StationOneForm : Type 0
-StationOneForm = (room : List ℕ) → Bytes room → stationSize ≤ length room → stationBytes (stationOf room) ≡ take stationSize room
-
--- an answer's number reads back from what an entry says; where its place is a byte, so do the place and the issue
-abbrev pub ReturnedReadsBack : Type 0
-ReturnedReadsBack =
-    (a : Answer)
-    → (returned a % 256 ≡ numberOf a)
-    × (placeOf a < 256 → (returned a / 256 % 256 ≡ placeOf a) × (returned a / 65536 ≡ issueOf a))
 
 -- an entry that refuses leaves the room as it was
 abbrev pub RefusedUntouched : Type 0

@@ -15,7 +15,7 @@ use Rattle.answers.specs.declared.Answer.{Answer}
 use Rattle.answers.specs.declared.Answer.the-variants.{Taken, TooFewBytes, BadField, Overlap}
 use Rattle.answers.specs.Answers.{nowhere}
 use Rattle.wire.specs.Kinds.{littleEndian}
-use Rattle.station_c.specs.Entries.{Entry, noRoom, writes}
+use Rattle.rooms.specs.Rooms.{Entry, noRoom, writes}
 
 -- ---- an instruction's area
 

@@ -1,5 +1,6 @@
 // The entries for a planner in C or Rust: numbers and runs of bytes alone. A station is lent as 60 bytes, an answer is its number plus
-// 256 times its place plus 65536 times its issue, and a refused call writes nothing. What each answers and leaves stands in specs/Entries.antt.
+// 256 times its place plus 65536 times its issue, and a refused call writes nothing. What each answers and leaves stands in specs/Entries.antt,
+// and of what other entries answer too in that of rooms.
 ghost use mathlib.Core.Path.{_≡_};
 ghost use Prim.Native.Nat.{_≤_};
 ghost use lib.ListN.{length};
@@ -10,8 +11,9 @@ ghost use Rattle.garage.specs.Held.{crosses};
 ghost use Rattle.garage.specs.Station.{startOf};
 ghost use Rattle.garage.specs.Calls.{taken, event, result, takeImage};
 ghost use Rattle.version.specs.Version.{version};
-ghost use Rattle.station_c.specs.Private.{bytesAsked};
-ghost use Rattle.station_c.specs.Entries.{stationSize, stationBytes, stationOf, lentStation, imageBytes, returned, Leaves, writes, entry, requestOf, asking, returnedOf, Exchanges, exchange, moved, answerTo, judgement, recordIn, nexting, carsOr255};
+ghost use Rattle.rooms.specs.Rooms.{returned, Leaves, writes, entry, requestOf};
+ghost use Rattle.rooms.specs.Questions.{moved, answerTo, judgement, recordIn, nexting};
+ghost use Rattle.station_c.specs.Entries.{asking, returnedOf, Exchanges, exchange, carsOr255};
 use answers::Answer;
 use answers::NOWHERE;
 use floor::Total;
@@ -19,6 +21,13 @@ use garage::Outcome;
 use garage::Picture;
 use garage::Report;
 use garage::Station;
+use rooms::bytes_asked;
+use rooms::image_in;
+use rooms::keep;
+use rooms::say;
+use rooms::station_bytes;
+use rooms::station_of;
+use rooms::tell;
 use rules::Code;
 use rules::Instruction;
 use rules::Moved;
@@ -30,134 +39,11 @@ pub mod sets;
 // The bytes of a lent station, of a record, of a record and what is set apart, and of an instruction.
 const STATION: usize = 60;
 
-// Where the issue of the next set stands in it, and what is set apart.
-const NEXT: usize = 50;
-
-const APART: usize = 52;
-
 const RECORD: usize = 8;
 
 const IMAGE: usize = 16;
 
 const CODE: usize = 5;
-
-// ---- stations and answers in bytes and numbers
-
-// The station that the first 60 bytes hold.
-fn load(room: &[u8]) -> Station
-    requires { ⌜ stationSize ≤ length (now room) ⌝ }
-    ensures { λ s. ⌜ s ≡ stationOf (now (room .entry)) ⌝ }
-{
-    let set = wire::set_of(&room[10..NEXT]);
-    let apart = wire::image_of(&room[APART..STATION]);
-    Station {
-        bits: wire::image_of(room),
-        count: room[8],
-        answered: room[9],
-        set,
-        next: wire::word(room[NEXT], room[NEXT + 1]),
-        apart,
-    }
-}
-
-// The station that a room's first 60 bytes hold, for a crate that is lent one too; one of zeros, which is not fit, where it has fewer.
-pub fn station_of(room: &[u8]) -> Station
-    ensures { λ s. ⌜ s ≡ lentStation (now (room .entry)) ⌝ }
-{
-    if room.len() < STATION {
-        return Station {
-            bits: 0,
-            count: 0,
-            answered: 0,
-            set: [0; 40],
-            next: 0,
-            apart: 0,
-        };
-    }
-    load(room)
-}
-
-// A station as 60 bytes, by its fields.
-fn stored(bits: u64, count: u8, answered: u8, set: [u8; 40], next: u16, apart: u64) -> [u8; STATION]
-    ensures { λ b. ⌜ b ≡ stationBytes (record { bits = bits; count = count; answered = answered; set = set; next = next; apart = apart }) ⌝ }
-{
-    let mut b = [0u8; STATION];
-    let parts = wire::image_bytes(apart);
-    bytes::copy(&parts, &mut b[APART..STATION]);
-    b[NEXT] = (next % 256) as u8;
-    b[NEXT + 1] = (next / 256) as u8;
-    bytes::copy(&set, &mut b[10..NEXT]);
-    let image = wire::image_bytes(bits);
-    bytes::copy(&image, &mut b[..8]);
-    b[8] = count;
-    b[9] = answered;
-    b
-}
-
-// A station as 60 bytes.
-pub fn station_bytes(s: Station) -> [u8; STATION]
-    ensures { λ b. ⌜ b ≡ stationBytes s ⌝ }
-{
-    let set = s.set;
-    stored(s.bits, s.count, s.answered, set, s.next, s.apart)
-}
-
-// A record and what is set apart, as an image's sixteen bytes.
-pub fn image_in(bits: u64, apart: u64) -> [u8; IMAGE]
-    ensures { λ b. ⌜ b ≡ imageBytes bits apart ⌝ }
-{
-    let b = wire::image_bytes(bits);
-    let a = wire::image_bytes(apart);
-    [
-        b[0],
-        b[1],
-        b[2],
-        b[3],
-        b[4],
-        b[5],
-        b[6],
-        b[7],
-        a[0],
-        a[1],
-        a[2],
-        a[3],
-        a[4],
-        a[5],
-        a[6],
-        a[7],
-    ]
-}
-
-// An answer as one number.
-pub fn say(a: Answer) -> u32
-    ensures { λ r. ⌜ r ≡ returned a ⌝ }
-{
-    a.number() as u32 + 256 * (a.place() as u32) + 65536 * (a.issue() as u32)
-}
-
-// Answers, and writes src to room if that is "taken".
-fn answer(a: Answer, src: &[u8], room: &mut [u8]) -> u32
-    requires { ⌜ length (now src) ≤ length (now room) ⌝ }
-    ensures { λ r. ⌜ Leaves (writes a (now (src .entry)) (now (room .entry))) r (now (room .exit)) ⌝ }
-{
-    let said = say(a);
-    if said % 256 != 0 {
-        return said;
-    }
-    bytes::copy(src, room);
-    said
-}
-
-// The same of a call's outcome.
-fn keep(o: Outcome, room: &mut [u8]) -> u32
-    requires { ⌜ stationSize ≤ length (now room) ⌝ }
-    ensures { λ r. ⌜ Leaves (writes (o .answer) (stationBytes (o .station)) (now (room .entry))) r (now (room .exit)) ⌝ }
-{
-    let s = o.station;
-    let b = station_bytes(s);
-    let a = o.answer;
-    answer(a, &b, room)
-}
 
 // ---- the calls on a lent station
 
@@ -175,16 +61,6 @@ pub extern "C" fn station_start(room: &mut [u8]) -> u32
         answer: Answer::Taken,
     };
     keep(o, room)
-}
-
-// How many bytes a request asks for: of more than eight instructions none is looked at.
-fn bytes_asked(count: u8) -> usize
-    ensures { λ n. ⌜ n ≡ bytesAsked count ⌝ }
-{
-    if Station::MOST < count {
-        return 0;
-    }
-    5 * (count as usize)
 }
 
 // A request on a station, its set as a run of bytes.
@@ -210,7 +86,7 @@ pub extern "C" fn station_request(room: &mut [u8], count: u8, set: &[u8]) -> u32
     if room.len() < STATION {
         return say(Answer::NoRoom);
     }
-    let s = load(room);
+    let s = station_of(room);
     let o = requested(s, count, set);
     keep(o, room)
 }
@@ -223,7 +99,7 @@ pub extern "C" fn station_event(room: &mut [u8], way: u8) -> u32
     if room.len() < STATION {
         return say(Answer::NoRoom);
     }
-    let s = load(room);
+    let s = station_of(room);
     let o = s.event(way);
     keep(o, room)
 }
@@ -236,7 +112,7 @@ pub extern "C" fn station_result(room: &mut [u8], issue: u16, number: u8, ending
     if room.len() < STATION {
         return say(Answer::NoRoom);
     }
-    let s = load(room);
+    let s = station_of(room);
     let o = s.result(Report {
         issue,
         number,
@@ -253,7 +129,7 @@ pub extern "C" fn station_image(room: &mut [u8], image: u64, apart: u64) -> u32
     if room.len() < STATION {
         return say(Answer::NoRoom);
     }
-    let s = load(room);
+    let s = station_of(room);
     let o = s.image(Picture { bits: image, apart });
     keep(o, room)
 }
@@ -269,11 +145,11 @@ pub extern "C" fn station_ask(room: &[u8], image: &mut [u8]) -> u32
     if image.len() < IMAGE {
         return say(Answer::NoRoom);
     }
-    let s = load(room);
+    let s = station_of(room);
     let b = image_in(s.bits, s.apart);
     let o = s.ask();
     let a = o.answer;
-    answer(a, &b, image)
+    tell(say(a), &b, image)
 }
 
 // ---- a message on a lent station
@@ -300,7 +176,7 @@ pub extern "C" fn station_message(room: &mut [u8], message: &[u8], reply: &mut [
     if room.len() < STATION {
         return say(Answer::NoRoom);
     }
-    let o = service::respond(load(room), message);
+    let o = service::respond(station_of(room), message);
     let what = o.answer;
     let w = wire::writing::write_plain(what, reply);
     let a = w.answer;
@@ -444,5 +320,5 @@ pub extern "C" fn garage_next(image: u64, five: &[u8], next: &mut [u8]) -> u32
     let a = answer_to(m);
     let r = record_in(m);
     let b = wire::image_bytes(r);
-    answer(a, &b, next)
+    tell(say(a), &b, next)
 }

@@ -1,12 +1,12 @@
 // Questions for building sets, which need no record: an instruction's area, and whether two may stand in one set. What each answers stands
 // in specs/Sets.antt.
 ghost use mathlib.Core.Path.{_≡_};
-ghost use Rattle.station_c.specs.Entries.{returned, Leaves};
+ghost use Rattle.rooms.specs.Rooms.{returned, Leaves};
 ghost use Rattle.station_c.specs.Sets.{areaIn, areaSaid, areaBits, areaInto, sharingSaid, pairAnswer};
 use super::CODE;
 use super::RECORD;
-use super::answer;
 use super::say;
+use super::tell;
 use answers::Answer;
 use answers::NOWHERE;
 use rules::Area;
@@ -61,7 +61,7 @@ pub extern "C" fn garage_area(five: &[u8], area: &mut [u8]) -> u32
     let a = area_said(m);
     let x = area_bits(m);
     let b = wire::image_bytes(x);
-    answer(a, &b, area)
+    tell(say(a), &b, area)
 }
 
 // ---- whether two may stand in one set

@@ -1,5 +1,6 @@
 -- `desk_c::desk_ask` meets its contract: either room too short, or the image. Assumes nothing.
 use Rattle.desk_c.proofs.Rooms.{ask-short, image-short, asked}
+use native.Mathlib.Omega.{arith}
 use borrow.Author.Needs.{needs}
 use Rattle.desk_c.proofs.desk_ask.Statement.{statement}
 use Rattle.desk_c.proofs.desk_ask.Tie as tie
@@ -14,7 +15,7 @@ say-requires-2 : tie.Need-say-requires-2
 say-requires-2 c κs = search needs
 
 returns-2 : tie.Need-returns-2
-returns-2 c = image-short _ _ (c .before .before .if1 .left) (c .before .if2 .taken) (c .say2 .ensures)
+returns-2 c = image-short _ _ (omega (arith, c .before .before .if1 .left)) (c .before .if2 .taken) (c .say2 .ensures)
 
 load-requires : tie.Need-load-requires
 load-requires c κs = search needs
@@ -25,17 +26,20 @@ image-in-requires c κs = search needs
 ask-requires : tie.Need-ask-requires
 ask-requires c κs = search needs
 
-slice-aggregate-answer : tie.Need-slice-aggregate-answer
-slice-aggregate-answer c = search needs
+told-requires : tie.Need-told-requires
+told-requires c κs = search needs
 
-answer-requires : tie.Need-answer-requires
-answer-requires c κs = search needs
+slice-aggregate-tell : tie.Need-slice-aggregate-tell
+slice-aggregate-tell c = search needs
+
+tell-requires : tie.Need-tell-requires
+tell-requires c κs = search needs
 
 same-length : tie.Need-same-length
 same-length c = search needs
 
 returns-3 : tie.Need-returns-3
-returns-3 c = asked _ _ (c .before .before .before .before .before .before .before .before .before .before .if1 .left) (c .before .before .before .before .before .before .before .before .before .if2 .left) (c .before .before .before .before .before .before .before .before .load .ensures) (c .before .before .before .before .before .ask .ensures) (c .before .before .before .before .before .before .image-in .ensures) (c .before .before .answer .ensures)
+returns-3 c = asked _ _ (omega (arith, c .before .before .before .before .before .before .before .before .before .before .before .if1 .left)) (omega (arith, c .before .before .before .before .before .before .before .before .before .before .if2 .left)) (c .before .before .before .before .before .before .before .before .before .load .ensures) (c .before .before .before .before .before .before .ask .ensures) (c .before .before .before .before .before .before .before .image-in .ensures) (c .before .before .before .before .before .told .ensures) (c .before .before .tell .ensures)
 
 pub desk-ask-spec : {M : Type 1} → statement M
 desk-ask-spec =
@@ -48,7 +52,8 @@ desk-ask-spec =
     load-requires
     image-in-requires
     ask-requires
-    slice-aggregate-answer
-    answer-requires
+    told-requires
+    slice-aggregate-tell
+    tell-requires
     same-length
     returns-3)

@@ -1,5 +1,6 @@
 -- `desk_c::desk_where` meets its contract: too short, or what is told of the card. Assumes nothing.
 use Rattle.desk_c.proofs.Rooms.{where-short, where-said}
+use native.Mathlib.Omega.{arith}
 use borrow.Author.Needs.{needs}
 use Rattle.desk_c.proofs.desk_where.Statement.{statement}
 use Rattle.desk_c.proofs.desk_where.Tie as tie
@@ -20,7 +21,7 @@ place-told-requires : tie.Need-place-told-requires
 place-told-requires c κs = search needs
 
 returns-2 : tie.Need-returns-2
-returns-2 c = where-said _ _ (c .before .before .before .if1 .left) (c .before .before .load .ensures) (c .before .whereabouts .ensures) (c .place-told .ensures)
+returns-2 c = where-said _ _ (omega (arith, c .before .before .before .if1 .left)) (c .before .before .load .ensures) (c .before .whereabouts .ensures) (c .place-told .ensures)
 
 pub desk-where-spec : {M : Type 1} → statement M
 desk-where-spec =

@@ -1,5 +1,6 @@
 -- `desk_c::keep` meets its contract: by the desk in bytes. Assumes nothing.
-use mathlib.Core.Path.{_∙_}
+use native.Mathlib.Omega.{arith}
+use Rattle.desk_c.proofs.Rooms.{as-shows}
 use borrow.Author.Needs.{needs}
 use Rattle.desk_c.proofs.keep.Statement.{statement}
 use Rattle.desk_c.proofs.keep.Tie as tie
@@ -7,19 +8,20 @@ use Rattle.desk_c.proofs.keep.Tie as tie
 stored-requires : tie.Need-stored-requires
 stored-requires c κs = search needs
 
-slice-aggregate-answer : tie.Need-slice-aggregate-answer
-slice-aggregate-answer c = search needs
+told-requires : tie.Need-told-requires
+told-requires c κs = search needs
 
-answer-requires : tie.Need-answer-requires
-answer-requires c κs = search needs
+slice-aggregate-tell : tie.Need-slice-aggregate-tell
+slice-aggregate-tell c = search needs
+
+tell-requires : tie.Need-tell-requires
+tell-requires c κs = search needs
 
 same-length : tie.Need-same-length
 same-length c = search needs
 
 returns : tie.Need-returns
-returns c = let e = c .before .before .before .before .before .stored .ensures in
-    let a = c .before .before .answer .ensures in
-    (a .0 ∙ rw e, a .1 ∙ rw e)
+returns c = as-shows _ _ _ (c .before .before .before .before .before .before .stored .ensures) (omega arith) (c .before .before .before .before .before .told .ensures) (c .before .before .tell .ensures)
 
 pub keep-spec : {M : Type 1} → statement M
-keep-spec = tie.close (tie.spec stored-requires slice-aggregate-answer answer-requires same-length returns)
+keep-spec = tie.close (tie.spec stored-requires told-requires slice-aggregate-tell tell-requires same-length returns)

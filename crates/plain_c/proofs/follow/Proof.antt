@@ -1,6 +1,9 @@
 -- `plain_c::follow` meets its contract: the lift under a driver, or the verdict and the next record. Assumes nothing.
 use Rattle.plain_c.proofs.Following.{hindered, written}
+use mathlib.Core.Path.{refl}
+use native.Mathlib.Omega.{arith}
 use borrow.Author.Needs.{needs}
+use Rattle.rooms.proofs.Rooms.{as-writes}
 use Rattle.plain_c.proofs.follow.Statement.{statement}
 use Rattle.plain_c.proofs.follow.Tie as tie
 
@@ -28,17 +31,20 @@ image-requires c κs = search needs
 image-bytes-requires : tie.Need-image-bytes-requires
 image-bytes-requires c κs = search needs
 
-slice-aggregate-answer : tie.Need-slice-aggregate-answer
-slice-aggregate-answer c = search needs
+say-requires-2 : tie.Need-say-requires-2
+say-requires-2 c κs = search needs
 
-answer-requires-2 : tie.Need-answer-requires-2
-answer-requires-2 c κs = search needs
+slice-aggregate-tell : tie.Need-slice-aggregate-tell
+slice-aggregate-tell c = search needs
+
+tell-requires : tie.Need-tell-requires
+tell-requires c κs = search needs
 
 same-length : tie.Need-same-length
 same-length c = search needs
 
 returns-2 : tie.Need-returns-2
-returns-2 c = written _ _ _ (c .before .before .before .before .before .before .before .before .before .before .before .before .before .area .ensures) (c .before .before .before .before .before .before .before .before .before .before .if1 .left) (c .before .before .before .before .before .before .before .before .before .verdict .ensures) (c .before .before .before .before .before .before .before .before .answer .ensures) (c .before .before .before .before .before .before .before .moved .ensures) (c .before .before .before .before .before .before .image .ensures) (c .before .before .before .before .before .image-bytes .ensures) (c .before .before .answer2 .ensures)
+returns-2 c = written _ _ _ (c .before .before .before .before .before .before .before .before .before .before .before .before .before .before .area .ensures) (c .before .before .before .before .before .before .before .before .before .before .before .if1 .left) (c .before .before .before .before .before .before .before .before .before .before .verdict .ensures) (c .before .before .before .before .before .before .before .before .before .answer .ensures) (c .before .before .before .before .before .before .before .before .moved .ensures) (c .before .before .before .before .before .before .before .image .ensures) (c .before .before .before .before .before .before .image-bytes .ensures) (as-writes _ _ _ refl (omega arith) (c .before .before .before .before .before .say2 .ensures) (c .before .before .tell .ensures))
 
 pub follow-spec : {M : Type 1} → statement M
 follow-spec =
@@ -52,7 +58,8 @@ follow-spec =
     moved-requires
     image-requires
     image-bytes-requires
-    slice-aggregate-answer
-    answer-requires-2
+    say-requires-2
+    slice-aggregate-tell
+    tell-requires
     same-length
     returns-2)

@@ -19,7 +19,7 @@ say-requires-2 : tie.Need-say-requires-2
 say-requires-2 c κs = search needs
 
 returns-2 : tie.Need-returns-2
-returns-2 c = no-walk _ _ (c .before .before .before .if1 .left) (failed (c .before .before .sound .ensures) (c .before .if2 .taken)) (c .say2 .ensures)
+returns-2 c = no-walk _ _ (omega (arith, c .before .before .before .if1 .left)) (failed (c .before .before .sound .ensures) (c .before .if2 .taken)) (c .say2 .ensures)
 
 of-image-requires : tie.Need-of-image-requires
 of-image-requires c κs = search needs
@@ -50,7 +50,7 @@ same-length c = search needs
 
 returns-3 : tie.Need-returns-3
 returns-3 c = let e = c .before .say3 .ensures in
-    walked-so _ _ (c .before .before .before .before .before .before .before .before .before .before .before .before .if1 .left) (search needs) (passed (c .before .before .before .before .before .before .before .before .before .before .before .sound .ensures) (c .before .before .before .before .before .before .before .before .before .before .if2 .left)) (c .before .before .before .before .before .before .before .before .before .of-image .ensures) (c .before .before .before .before .before .before .before .before .walk .ensures) (search needs) (c .before .before .before .before .copy .ensures .1) (omega (arith, e))
+    walked-so _ _ (omega (arith, c .before .before .before .before .before .before .before .before .before .before .before .before .if1 .left)) (search needs) (passed (c .before .before .before .before .before .before .before .before .before .before .before .sound .ensures) (c .before .before .before .before .before .before .before .before .before .before .if2 .left)) (c .before .before .before .before .before .before .before .before .before .of-image .ensures) (c .before .before .before .before .before .before .before .before .walk .ensures) (search needs) (c .before .before .before .before .copy .ensures .1) (omega (arith, e))
 
 pub panel-cars-spec : {M : Type 1} → statement M
 panel-cars-spec =

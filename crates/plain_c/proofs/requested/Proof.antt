@@ -1,5 +1,5 @@
 -- `plain_c::requested` meets its contract: the bytes past the instructions are not looked at. Assumes nothing.
-use Rattle.station_c.proofs.Padding.{asked-few, asked-enough}
+use Rattle.rooms.proofs.Padding.{asked-few, asked-enough}
 use lib.Seq.{length-take-le}
 use mathlib.Core.Path.{sym, _∙_}
 use borrow.Author.Needs.{needs}

@@ -1,5 +1,5 @@
 -- `station_c::judged` meets its contract: the verdict tells the answer. Assumes nothing.
-use Rattle.station_c.proofs.Judging.{judged-so}
+use Rattle.rooms.proofs.Judging.{judged-so}
 use mathlib.Core.Path.{_∙_}
 use borrow.Author.Needs.{needs}
 use Rattle.station_c.proofs.judged.Statement.{statement}

@@ -1,7 +1,7 @@
 -- `station_c::moved` meets its contract: by what the five bytes say. Assumes nothing.
 use mathlib.Core.Path.{_∙_}
 use borrow.Author.Needs.{needs}
-use Rattle.station_c.specs.Entries.{moved}
+use Rattle.rooms.specs.Questions.{moved}
 use Rattle.station_c.proofs.moved.Statement.{statement}
 use Rattle.station_c.proofs.moved.Tie as tie
 

@@ -2,7 +2,7 @@
 use mathlib.Core.Path.{sym, _∙_}
 use lib.Seq.{length-take-le}
 use borrow.Author.Needs.{needs}
-use Rattle.station_c.proofs.Padding.{asked-few, asked-enough}
+use Rattle.rooms.proofs.Padding.{asked-few, asked-enough}
 use Rattle.station_c.proofs.requested.Statement.{statement}
 use Rattle.station_c.proofs.requested.Tie as tie
 

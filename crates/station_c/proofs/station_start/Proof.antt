@@ -1,8 +1,9 @@
 -- `station_c::station_start` meets its contract: as every entry. Assumes nothing.
 use mathlib.Core.Path.{ap, refl}
+use native.Mathlib.Omega.{arith}
 use borrow.Author.Needs.{needs}
 use Rattle.garage.specs.Calls.{taken}
-use Rattle.station_c.proofs.Rooms.{short, entered}
+use Rattle.rooms.proofs.Rooms.{short, entered}
 use Rattle.station_c.proofs.station_start.Statement.{statement}
 use Rattle.station_c.proofs.station_start.Tie as tie
 
@@ -22,7 +23,7 @@ same-length : tie.Need-same-length
 same-length c = search needs
 
 returns-2 : tie.Need-returns-2
-returns-2 c = entered _ _ (c .before .before .before .before .before .if1 .left) refl (ap taken (c .before .before .before .before .start .ensures)) (c .before .before .keep .ensures)
+returns-2 c = entered _ _ (omega (arith, c .before .before .before .before .before .if1 .left)) refl (ap taken (c .before .before .before .before .start .ensures)) (c .before .before .keep .ensures)
 
 pub station-start-spec : {M : Type 1} → statement M
 station-start-spec =
