@@ -55,7 +55,7 @@ enum {
 enum { DRAWING_PAST_THE_LAST = 6, DRAWING_NOWHERE = 255 };
 
 /* The bytes of stack that a call may take on x86-64, below the frame that makes it. No theorem says so: it is added up over the archive's
- * instructions for every path, which comes to 432 for drawing_write and 448 for drawing_read, and measured on calls; the C
+ * instructions for every path, which comes to 304 for drawing_write and 320 for drawing_read, and measured on calls; the C
  * library's memcpy and the like are left out. */
 enum { DRAWING_STACK_MOST = 640 };
 

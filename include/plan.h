@@ -58,7 +58,7 @@ enum { PLAN_WITHOUT_A_CAR = 0, PLAN_WITH_A_CAR = 1 };
 enum { PLAN_SETS_MOST = 64, PLAN_BYTES_MOST = 2642 };
 
 /* The bytes of stack that a call may take on x86-64, below the frame that makes it. No theorem says so: it is added up over the archive's
- * instructions for every path, which comes to 648, and measured on calls; the C library's memcpy and the like are left out. */
+ * instructions for every path, which comes to 504, and measured on calls; the C library's memcpy and the like are left out. */
 enum { PLAN_STACK_MOST = 1024 };
 
 /* What the plan of these bytes is told: PLAN_NUMBER and PLAN_SET take the answer apart. */

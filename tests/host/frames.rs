@@ -1,7 +1,8 @@
 //! The most stack that calls can take, by the instructions: `objdump -d --no-show-raw-insn PROGRAM | frames LIMIT HEADER`. A function takes
-//! what it pushes and what it moves the stack pointer by, and below that what the deepest of those that it calls takes. An upper
-//! bound for each entry of the header on every path, for x86-64; what can't be read so (a call by a pointer, a circle of calls, another
-//! change of the stack pointer) is a failure. The C library's functions that the entries call are counted as taking the red zone only.
+//! what it pushes, what it moves the stack pointer by, and below that what it uses there itself or what the deepest of those that it calls
+//! takes. An upper bound for each entry of the header on every path, for x86-64; what can't be read so (a call by a pointer, a circle of
+//! calls, another change of the stack pointer) is a failure. Functions are told apart by their addresses: two archives have functions of the
+//! same name. The C library's functions that the entries call are counted as taking the red zone only.
 
 use std::collections::{BTreeMap, BTreeSet};
 use std::io::Read;
@@ -13,19 +14,32 @@ const WORD: i64 = 8;
 
 #[derive(Default)]
 struct Function {
+    name: String,
     frame: i64,
-    calls: BTreeSet<String>,
+    below: i64,
+    goes_to: BTreeSet<u64>,
     unread: Option<String>,
 }
+
+/// All functions of a program, by the address at which each begins.
+type Functions = BTreeMap<u64, Function>;
 
 /// A number of the disassembler's, as a change of 64 bits.
 fn change(text: &str) -> Option<i64> {
     u64::from_str_radix(text.strip_prefix("$0x")?.strip_suffix(",%rsp")?, 16).ok().map(|number| number as i64)
 }
 
+/// How far below the stack pointer an operand lies.
+fn below(operands: &str) -> i64 {
+    let places = operands.split("(%rsp").collect::<Vec<_>>();
+    let negative = |text: &str| i64::from_str_radix(text.rsplit_once("-0x")?.1, 16).ok();
+    places[..places.len() - 1].iter().filter_map(|text| negative(text)).max().unwrap_or(0)
+}
+
 impl Function {
-    fn step(&mut self, own: &str, instruction: &str) {
+    fn step(&mut self, instruction: &str) {
         let (word, operands) = instruction.split_once(' ').map_or((instruction, ""), |(word, rest)| (word, rest.trim()));
+        self.below = self.below.max(below(operands));
         match word {
             "push" => self.frame += WORD,
             "sub" | "add" if operands.ends_with(",%rsp") => match change(operands) {
@@ -33,42 +47,49 @@ impl Function {
                 None => self.unread = Some(instruction.to_string()),
             },
             "call" if operands.starts_with('*') => self.unread = Some(instruction.to_string()),
+            // a jump by a table of a match stays in its function
+            "jmp" if operands.starts_with('*') => {}
             "pop" | "cmp" | "test" => {}
             _ if operands.ends_with(",%rsp") => self.unread = Some(instruction.to_string()),
-            // a call, or a jump that leaves the function
+            // a call or a jump; a jump within the function is left out below
             _ if word == "call" || word.starts_with('j') => {
-                let to = operands.split_once('<').and_then(|(_, name)| name.strip_suffix('>')).unwrap_or("");
-                let name = to.split_once("+0x").map_or(to, |(name, _)| name);
-                if word == "call" || !(name.is_empty() || name == own) { self.calls.insert(name.to_string()); }
+                match operands.split_once(" <").and_then(|(to, _)| u64::from_str_radix(to, 16).ok()) {
+                    Some(to) => { self.goes_to.insert(to); }
+                    None => self.unread = Some(instruction.to_string()),
+                }
             }
             _ => {}
         }
     }
 }
 
-fn functions(text: &str) -> BTreeMap<String, Function> {
-    let mut all: BTreeMap<String, Function> = BTreeMap::new();
-    let mut own = String::new();
+fn functions(text: &str) -> Functions {
+    let mut all = Functions::new();
+    let mut own = 0;
     for line in text.lines() {
-        if let Some((_, name)) = line.strip_suffix(">:").and_then(|line| line.split_once(" <")) {
-            own = name.to_string();
-            all.entry(own.clone()).or_default();
+        if let Some((at, name)) = line.strip_suffix(">:").and_then(|line| line.split_once(" <")) {
+            own = u64::from_str_radix(at, 16).expect("an address");
+            all.insert(own, Function { name: name.to_string(), ..Function::default() });
         } else if let (Some((_, instruction)), Some(function)) = (line.split_once('\t'), all.get_mut(&own)) {
-            function.step(&own.clone(), instruction.trim());
+            function.step(instruction.trim());
         }
     }
     all
 }
 
-/// What a call of a function takes, with its return address, or why that can't be said.
-fn bound(all: &BTreeMap<String, Function>, name: &str, above: &[&str]) -> Result<i64, String> {
+/// What a call of the function at an address takes, with its return address, or why that can't be said.
+fn bound(all: &Functions, at: u64, above: &[u64]) -> Result<i64, String> {
+    let function = all.get(&at).ok_or(format!("{at:x} is not there"))?;
+    let name = &function.name;
     if name.ends_with("@plt") { return Ok(WORD + RED_ZONE); }
-    let function = all.get(name).ok_or(format!("{name} is not there"))?;
     if let Some(instruction) = &function.unread { return Err(format!("{name} has {instruction}")); }
-    if above.contains(&name) { return Err(format!("{name} calls itself")); }
-    let above = [above, &[name]].concat();
-    let mut below = RED_ZONE;
-    for called in &function.calls { below = below.max(bound(all, called, &above)?); }
+    if above.contains(&at) { return Err(format!("{name} calls itself")); }
+    let above = [above, &[at]].concat();
+    let mut below = function.below;
+    for to in &function.goes_to {
+        let (&called, _) = all.range(..=*to).next_back().ok_or(format!("{name} goes to {to:x}"))?;
+        if called != at { below = below.max(bound(all, called, &above)?); }
+    }
     Ok(WORD + function.frame + below)
 }
 
@@ -83,7 +104,8 @@ fn main() {
     let all = functions(&text);
     let mut bounds = Vec::new();
     for entry in header.lines().filter_map(entry) {
-        match bound(&all, &entry, &[]) {
+        let at = all.iter().find(|(_, function)| function.name == entry).map(|(&at, _)| at);
+        match at.ok_or("it is not there".to_string()).and_then(|at| bound(&all, at, &[])) {
             Ok(most) if most <= limit => bounds.push((entry, most)),
             Ok(most) => { eprintln!("{entry} can take {most} bytes of stack, which is above {limit}"); exit(1); }
             Err(why) => { eprintln!("{entry}: {why}"); exit(1); }

@@ -374,7 +374,7 @@ accepted-by room h T u c p e z = split (short room u) (λ t. let k = skipped roo
           long = D .long;
         }
 
-begun-start : (before : List ℕ) → 60 ≤ length before → Done (used before start) (meant (stationOf before) start)
+pub begun-start : (before : List ℕ) → 60 ≤ length before → Done (used before start) (meant (stationOf before) start)
 begun-start before h = entered (λ s. station.taken startOf) before (meant (stationOf before) start) h start-typed refl refl (λ n. absurd (n refl))
 
 -- where a lent station begins, calls begin

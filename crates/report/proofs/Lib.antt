@@ -1,1 +1,1 @@
-mod Short
+mod Turning

@@ -2,10 +2,11 @@
 // counts stands in weeks, what is printed in lines, what is tried again and what is told of a failure in streams; no contract can say
 // what is read and written.
 ghost use mathlib.Core.Path.{_≡_};
-ghost use mathlib.Core.Bool.{false};
 ghost use Prim.Native.Nat.{_≤_, _<_};
 ghost use lib.ListN.{length};
+ghost use Rattle.report.specs.Turning.{countTurn, closeTurn, failedTurn, TurnIs, TurnByRead, Short, Week, HasWeek};
 ghost use Rattle.streams.specs.Input.{Fills};
+ghost use Rattle.totals.specs.Totals.{totalsOf, blank};
 use garage::Station;
 use streams::Input;
 use totals::NOTHING;
@@ -34,7 +35,7 @@ fn read_on(buf: &mut [u8], have: usize) -> Input
 // Counts what came whole, and holds the rest: less than a message, so that a read that brings nothing is always the input's end.
 fn count(s: Station, counts: &mut [u32; 52], buf: &mut [u8], end: usize) -> Between
     requires { ⌜ end ≤ length (now buf) ⌝ }
-    ensures { λ r. ⌜ (r .stop ≡ false → r .have < 45) ⌝ }
+    ensures { λ r. ⌜ Short r × TurnIs (countTurn (totalsOf (now (counts .entry))) s (now (buf .entry)) end) r (now (counts .exit)) (now (buf .exit)) ⌝ }
 {
     let w = weeks::count_all(counts, s, &buf[..end]);
     let station = w.station;
@@ -51,7 +52,7 @@ fn count(s: Station, counts: &mut [u32; 52], buf: &mut [u8], end: usize) -> Betw
 // The end of the input, where the first `have` bytes are left over.
 fn close(s: Station, counts: &mut [u32; 52], buf: &[u8], have: usize) -> Between
     requires { ⌜ have ≤ length (now buf) ⌝ }
-    ensures { λ r. ⌜ (r .stop ≡ false → r .have < 45) ⌝ }
+    ensures { λ r. ⌜ TurnIs (closeTurn (totalsOf (now (counts .entry))) s (now (buf .entry)) have) r (now (counts .exit)) (now (buf .entry)) ⌝ }
 {
     let full = weeks::count_end(counts, s, &buf[..have]);
     Between {
@@ -65,7 +66,7 @@ fn close(s: Station, counts: &mut [u32; 52], buf: &[u8], have: usize) -> Between
 
 // A read failed, and that is told.
 fn failed(s: Station) -> Between
-    ensures { λ r. ⌜ (r .stop ≡ false → r .have < 45) ⌝ }
+    ensures { λ r. ⌜ r ≡ failedTurn s ⌝ }
 {
     Between {
         station: s,
@@ -79,7 +80,7 @@ fn failed(s: Station) -> Between
 // Reads once, counts what came whole, and holds the rest.
 fn one_turn(t: Between, counts: &mut [u32; 52], buf: &mut [u8]) -> Between
     requires { ⌜ (t .have < 45) × (45 ≤ length (now buf)) ⌝ }
-    ensures { λ r. ⌜ (r .stop ≡ false → r .have < 45) ⌝ }
+    ensures { λ r. ⌜ Short r × TurnByRead (totalsOf (now (counts .entry))) t (now (buf .entry)) r (now (counts .exit)) (now (buf .exit)) ⌝ }
 {
     let station = t.station;
     let have = t.have;
@@ -87,7 +88,8 @@ fn one_turn(t: Between, counts: &mut [u32; 52], buf: &mut [u8]) -> Between
     match input {
         Input::Bytes(end) => count(station, counts, buf, end),
         Input::Ended => close(station, counts, buf, have),
-        _ => failed(station),
+        Input::Failed => failed(station),
+        Input::Full => failed(station),
     }
 }
 
@@ -104,9 +106,11 @@ fn end_dots(shown: bool, reads: u64) {
     }
 }
 
-// Turn after turn; no input is so long that it takes more.
+// Turn after turn, in totals that nothing is counted in yet; no input is so long that it takes more. At its end they are the week of what
+// was read.
 fn session(counts: &mut [u32; 52], buf: &mut [u8]) -> Between
-    requires { ⌜ 45 ≤ length (now buf) ⌝ }
+    requires { ⌜ (45 ≤ length (now buf)) × (now counts ≡ blank .counts) ⌝ }
+    ensures { λ r. ⌜ HasWeek r (now (counts .exit)) ⌝ }
 {
     let station = Station::start();
     let mut t = Between {
@@ -131,7 +135,9 @@ fn session(counts: &mut [u32; 52], buf: &mut [u8]) -> Between
 }
 
 // Prints the week.
-fn print(counts: [u32; 52], full: u8) {
+fn print(counts: [u32; 52], full: u8)
+    requires { ⌜ Week counts full ⌝ }
+{
     let t = Totals { counts };
     let text = lines::report(t, full);
     let bytes = text.bytes;
@@ -154,7 +160,7 @@ fn main() {
     let mut counts = [0u32; 52];
     let mut buf = [0u8; 65536];
     let t = session(&mut counts, &mut buf);
-    if !t.failed {
+    if t.stop & !t.failed {
         print(counts, t.full);
     }
 }

@@ -3,11 +3,11 @@ use mathlib.Core.Path.{_≡_, refl, sym, _∙_}
 use mathlib.Core.Bool.{Bool, true, false, _&&_}
 use mathlib.Core.Logic.{_⊎_, inl, inr}
 use mathlib.Core.List.{List}
-use Prim.Native.Nat.{ℕ, _+_, _≤_, _<_}
+use Prim.Native.Nat.{ℕ, _+_, _/_, _≤_, _<_}
 use native.Mathlib.Omega.{arith}
 use borrow.Author.Tests.{le-ltb, leb-false, ltb-false, eqb-true, eqb-false}
 use lib.Dec.{eqb, leb, ltb}
-use lib.ListN.{getD, length, drop}
+use lib.ListN.{getD, length, drop, length-append}
 use Rattle.bits.specs.Bits.{digit}
 use Rattle.bits.proofs.Cases.{split}
 use Rattle.bits.proofs.Search.{lt-or-ge}
@@ -28,6 +28,7 @@ use Rattle.rooms.specs.Rooms.{stationOf, writes}
 use Rattle.report_c.specs.Entries.{totalsBytes, totalsIn, tallied, counting}
 use Rattle.report_c.specs.Promises.{Typed, MessageCounted}
 use Rattle.report_c.proofs.Forms.{totals-read-back, any-bytes-hold}
+use Rattle.report_c.proofs.Rooms.{totals-size}
 
 -- ---- no total passes the most
 
@@ -73,15 +74,37 @@ happened-few s message = let r = respond s message .station .bits in few (total 
 
 -- ---- what a room holds
 
-pub message-counted : MessageCounted
+-- a room that holds totals as code does, holds such totals after a message
+pub record Counted (room station message : List ℕ) : Type 0 where
+  pub long : 208 ≤ length (counting room station message .leaves)
+  pub typed : Typed (countedIn (totalsIn room) (happened (stationOf station) message) .totals)
+  pub totals : totalsIn (counting room station message .leaves) ≡ countedIn (totalsIn room) (happened (stationOf station) message) .totals
+  pub full : counting room station message .says / 256 ≡ countedIn (totalsIn room) (happened (stationOf station) message) .full
+
+pub counted-room : (room station message : List ℕ) → Typed (totalsIn room) → 208 ≤ length room → 60 ≤ length station → Counted room station message
 unfolding counting tallied writes
-message-counted room station message b h l =
+counted-room room station message w h l =
     let x = happened (stationOf station) message in
     let t = totalsIn room in
     let c = countedIn t x in
-    let typed = counted-typed t x (any-bytes-hold room b) (happened-few (stationOf station) message) in
-    rw (le-ltb _ _ h, le-ltb _ _ l)
-    (split (eqb (c .full) nothing)
+    let typed = counted-typed t x w (happened-few (stationOf station) message) in
+    let past = drop (length (totalsBytes (c .totals))) room in
+    split (eqb (c .full) nothing)
     (λ e. let f = eqb-true (c .full) nothing e in
-    rw e (totals-read-back (c .totals) (drop (length (totalsBytes (c .totals))) room) typed, omega arith))
-    (λ e. rw e (sym (full-stays t x (eqb-false (c .full) nothing e)), omega arith)))
+    let z = totals-size (c .totals) in
+    record {
+      long = rw (le-ltb _ _ h, le-ltb _ _ l, e, length-append (totalsBytes (c .totals)) past) (omega arith);
+      typed = typed;
+      totals = rw (le-ltb _ _ h, le-ltb _ _ l, e) (totals-read-back (c .totals) past typed);
+      full = rw (le-ltb _ _ h, le-ltb _ _ l, e) (omega arith);
+    })
+    (λ e. record {
+      long = rw (le-ltb _ _ h, le-ltb _ _ l, e) h;
+      typed = typed;
+      totals = rw (le-ltb _ _ h, le-ltb _ _ l, e) (sym (full-stays t x (eqb-false (c .full) nothing e)));
+      full = rw (le-ltb _ _ h, le-ltb _ _ l, e) (omega arith);
+    })
+
+pub message-counted : MessageCounted
+message-counted room station message b h l =
+    let c = counted-room room station message (any-bytes-hold room b) h l in (c .totals, c .full)

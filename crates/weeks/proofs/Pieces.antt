@@ -109,7 +109,7 @@ going-on : (b : Bool) (w : Counting) (c : Tally) (s : Station) (a u : List ℕ) 
 going-on true w c s a u e = e
 going-on false w c s a u e = refl
 
-happenings-more : (s : Station) (a u : List ℕ) (n : ℕ) → frameOf a ≡ Whole n
+pub happenings-more : (s : Station) (a u : List ℕ) (n : ℕ) → frameOf a ≡ Whole n
     → happenings s (a ++ u) ≡ happened s a ∷ happenings (respond s a .station) (drop n a ++ u)
 happenings-more s a u n e =
     happenings-whole s (a ++ u) n (whole-more a u n e)

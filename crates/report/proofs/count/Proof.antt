@@ -2,7 +2,7 @@
 use mathlib.Core.Path.{sym}
 use borrow.Author.Needs.{needs}
 use lib.Seq.{length-take-le}
-use Rattle.report.proofs.Short.{held-short}
+use Rattle.report.proofs.Turning.{as-count-turn, held-short}
 use Rattle.report.proofs.count.Statement.{statement}
 use Rattle.report.proofs.count.Tie as tie
 
@@ -22,7 +22,10 @@ same-length : tie.Need-same-length
 same-length c = search needs
 
 returns : tie.Need-returns
-returns c = held-short _ _ _ _ (c .before .before .before .before .before .count-all .ensures .0) (c .before .before .hold .ensures .0)
+returns c =
+    let args = c .before .before .before .before .before .before .before .before .before .args in
+    let turned = as-count-turn _ _ (args .buf .now) (args .end) (c .before .before .before .before .before .count-all .ensures) (c .before .before .hold .ensures) in
+    (held-short _ _ (args .buf .now) (args .end) turned, turned)
 
 pub count-spec : {M : Type 1} → statement M
 count-spec =

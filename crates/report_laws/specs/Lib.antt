@@ -1,0 +1,2 @@
+pub mod Rounds
+pub mod Statements

@@ -1,0 +1,1 @@
+// What is promised of the rooms of a report beside a station; no code.
