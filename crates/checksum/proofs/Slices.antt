@@ -97,7 +97,7 @@ bits-long [] = refl
 bits-long (x ∷ xs) = length-append (lowBits 8 x) (bitsOf xs) ∙ omega (arith, low-long 8 x, bits-long xs)
 
 -- a byte and the bits behind it as a number; four bytes
-value-byte : (x : ℕ) (l : List ℕ) → x < 256 → valueOf (lowBits 8 x ++ l) ≡ x + 256 * valueOf l
+pub value-byte : (x : ℕ) (l : List ℕ) → x < 256 → valueOf (lowBits 8 x ++ l) ≡ x + 256 * valueOf l
 unfolding lowBits valueOf
 value-byte x l h = omega arith
 
