@@ -7,7 +7,7 @@ use Prim.Native.Nat.{ℕ, zero, suc, _+_, _-_, _*_, _/_, _%_, _^_, _≤_, _<_, m
 use native.Mathlib.Omega.{arith}
 use native.Mathlib.Nat.{mod-lt, zero-lt-suc, pow-suc, lt-of-lt-of-le, div-eq-of-lt}
 use lib.Bits.{bitXor, xor-comm, xor-lt, xor-shr, xor-self}
-use lib.ListN.{length, getD, take, drop, length-append, length-take, length-drop, take-append-drop, List·getD-append}
+use lib.ListN.{length, getD, take, drop, length-append, length-take, length-drop, take-append-drop, List·getD-append, List·getD-eq-default}
 use lib.Pow.{pow-mono, pow-pos, shr-shr}
 use lib.Seq.{getD-take, getD-drop, getD-append-add, ext-getD, take-at}
 use Rattle.bits.proofs.Search.{lt-or-ge}
@@ -20,7 +20,7 @@ use Rattle.checksum.specs.Bursts.{bitAt, Burst, BurstFound, checked, Che
 use Rattle.checksum.proofs.Xor.{xor-assoc, xor-cancel}
 use Rattle.checksum.proofs.Moves.{AreBits, valueOf, moved-bits, step-lt, over-append, over-lt}
 use Rattle.checksum.proofs.Slices.{bits-append, are-bits, bits-long, low-long, value-byte, after-four}
-use Rattle.checksum.proofs.Promises.{inverted-lt, in-range}
+use Rattle.checksum.proofs.Promises.{inverted-lt, crc-lt}
 
 -- ---- moving on loses nothing
 
@@ -81,10 +81,10 @@ window s a b h p q l m e =
 -- ---- a window in a longer run of bits
 
 bits-take : (n : ℕ) (l : List ℕ) → AreBits l → AreBits (take n l)
-bits-take zero l h i = omega arith
-bits-take (suc n) [] h i = omega arith
-bits-take (suc n) (x ∷ l) h zero = h 0
-bits-take (suc n) (x ∷ l) h (suc i) = bits-take n l (λ j. h (suc j)) i
+bits-take n l h i = ⊎-elim
+    (λ (t : i < n). rw (getD-take n l i 0 t) (h i))
+    (λ (t : n ≤ i). rw (List·getD-eq-default (take n l) 0 {n = i} (omega (arith, length-take n l))) (omega arith))
+    (lt-or-ge i n)
 
 bits-drop : (n : ℕ) (l : List ℕ) → AreBits l → AreBits (drop n l)
 bits-drop n l h i = rw (getD-drop n l i 0) (h (n + i))
@@ -193,7 +193,7 @@ checked-end c x h =
     let s = overBits (inverted c) (bitsOf x) in
     ap (overBits (inverted c)) (bits-append x (littleEndian 4 (crcOver c x)))
     ∙ over-append (inverted c) (bitsOf x) (bitsOf (littleEndian 4 (crcOver c x)))
-    ∙ four-end s (crcOver c x) (in-range c x h)
+    ∙ four-end s (crcOver c x) (crc-lt c x h)
     ∙ ap (moved 32) (sym (xor-assoc s s 0xFFFFFFFF) ∙ ap (λ (z : ℕ). bitXor z 0xFFFFFFFF) (xor-self s))
 
 pub checked-burst-found : CheckedBurstFound

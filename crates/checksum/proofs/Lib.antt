@@ -3,4 +3,5 @@ pub mod Moves
 pub mod Promises
 pub mod Running
 pub mod Slices
+pub mod Stored
 pub mod Xor

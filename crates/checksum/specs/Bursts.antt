@@ -1,11 +1,12 @@
 -- What the checksum finds for certain: every change of up to 32 neighbouring bits, in the bytes, in the checksum behind them, or across both.
--- Proved in proofs/Bursts.antt. Assumes nothing.
+-- Proved in proofs/Bursts.antt and proofs/Stored.antt. Assumes nothing.
 use mathlib.Core.Path.{_≡_}
 use mathlib.Core.Logic.{_⊎_}
 use mathlib.Core.List.{List, [], _∷_, _++_}
 use Prim.Native.Nat.{ℕ, _+_, _/_, _%_, _^_, _≤_, _<_}
-use lib.ListN.{length, getD}
+use lib.ListN.{length, getD, take}
 use Rattle.wire.specs.Kinds.{littleEndian}
+use Rattle.fours.specs.Fours.{fourAt}
 use Rattle.wire_laws.specs.Statements.{Bytes}
 use Rattle.checksum.specs.Checksum.{crcOver}
 
@@ -31,6 +32,12 @@ checked c bytes = bytes ++ littleEndian 4 (crcOver c bytes)
 -- no burst turns such bytes into others that also have their checksum behind them, wherever it lies
 abbrev pub CheckedBurstFound : Type 0
 CheckedBurstFound = (c k : ℕ) (x y : List ℕ) → c < 2 ^ 32 → Burst k (checked c x) (checked c y) → x ≡ y
+
+-- as a reader of bytes sees it: n bytes and the number behind them, which is their checksum; no burst makes such of other bytes
+abbrev pub StoredBurstFound : Type 0
+StoredBurstFound =
+    (c n k : ℕ) (m changed : List ℕ) → c < 2 ^ 32 → Burst k m changed → n + 4 ≤ length m
+    → fourAt n m ≡ crcOver c (take n m) → fourAt n changed ≡ crcOver c (take n changed) → take (n + 4) changed ≡ take (n + 4) m
 
 -- 32 bits are the most: these two differ within 33
 abbrev pub NoLonger : Type 0
