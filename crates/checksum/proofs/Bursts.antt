@@ -16,7 +16,7 @@ use Rattle.wire_laws.specs.Statements.{Bytes}
 use Rattle.wire_laws.proofs.Numbers.{number-back}
 use Rattle.checksum.specs.Checksum.{polynomial, step, overBits, lowBits, bitsOf, inverted, crcOver}
 use Rattle.checksum.specs.Slices.{moved}
-use Rattle.checksum.specs.Bursts.{bitAt, Burst, BurstFound, checked, CheckedBurstFound, NoLonger}
+use Rattle.checksum.specs.Bursts.{bitAt, Burst, BurstFound, checked, CheckedBurstFound, StartFound, NoLonger}
 use Rattle.checksum.proofs.Xor.{xor-assoc, xor-cancel}
 use Rattle.checksum.proofs.Moves.{AreBits, valueOf, moved-bits, step-lt, over-append, over-lt}
 use Rattle.checksum.proofs.Slices.{bits-append, are-bits, bits-long, low-long, value-byte, after-four}
@@ -201,6 +201,14 @@ checked-burst-found c k x y h u =
     let e = same-end (inverted c) k (checked c x) (checked c y) (inverted-lt c h) u (checked-end c x h ∙ sym (checked-end c y h)) in
     let l : length y ≡ length x = omega (arith, u .long, length-append x (littleEndian 4 (crcOver c x)), length-append y (littleEndian 4 (crcOver c y))) in
     sym (take-at x (littleEndian 4 (crcOver c x)) (length x) refl) ∙ ap (take (length x)) e ∙ take-at y (littleEndian 4 (crcOver c y)) (length x) l
+
+pub start-found : StartFound
+unfolding crcOver
+start-found c d bytes hc hd e =
+    let s = overBits (inverted c) (bitsOf bytes) in
+    let t = overBits (inverted d) (bitsOf bytes) in
+    xor-cancel c d 0xFFFFFFFF
+    (over-back (inverted c) (inverted d) (bitsOf bytes) (inverted-lt c hc) (inverted-lt d hd) (xor-cancel s t 0xFFFFFFFF e))
 
 pub no-longer : NoLonger
 unfolding crcOver overBits bitsOf lowBits

@@ -58,7 +58,7 @@ four-bytes : (m : List ℕ) (a : ℕ) → Bytes m → a + 4 ≤ length m → lit
 four-bytes m a b h = ap (littleEndian 4) (four-at m a h) ∙ number-form 4 (drop a m) (bytes-drop a m b) (omega (arith, length-drop a m))
 
 -- n bytes and the number behind them, which is their checksum
-with-sum : (s n : ℕ) (m : List ℕ) → Bytes m → n + 4 ≤ length m → fourAt n m ≡ crcOver s (take n m) → checked s (take n m) ≡ take (n + 4) m
+pub with-sum : (s n : ℕ) (m : List ℕ) → Bytes m → n + 4 ≤ length m → fourAt n m ≡ crcOver s (take n m) → checked s (take n m) ≡ take (n + 4) m
 with-sum s n m b h e =
     ap (λ (x : ℕ). take n m ++ littleEndian 4 x) (sym e) ∙ ap (λ (l : List ℕ). take n m ++ l) (four-bytes m n b h) ∙ sym (take-add n 4 m)
 

@@ -39,6 +39,10 @@ StoredBurstFound =
     (c n k : ℕ) (m changed : List ℕ) → c < 2 ^ 32 → Burst k m changed → n + 4 ≤ length m
     → fourAt n m ≡ crcOver c (take n m) → fourAt n changed ≡ crcOver c (take n changed) → take (n + 4) changed ≡ take (n + 4) m
 
+-- the checksum tells what stands before: the same bytes behind two checksums have two
+abbrev pub StartFound : Type 0
+StartFound = (c d : ℕ) (bytes : List ℕ) → c < 2 ^ 32 → d < 2 ^ 32 → crcOver c bytes ≡ crcOver d bytes → c ≡ d
+
 -- 32 bits are the most: these two differ within 33
 abbrev pub NoLonger : Type 0
 NoLonger = crcOver 0 (0 ∷ 0 ∷ 0 ∷ 0 ∷ 0 ∷ []) ≡ crcOver 0 (0xF1 ∷ 0x76 ∷ 0xEC ∷ 0x05 ∷ 0x01 ∷ [])
