@@ -191,6 +191,17 @@ impl Place<'_> {
         assert_eq!(run(self.program, &[&path], &ASK, Trouble::Nothing).stdout, image_after(kept), "after a full device");
     }
 
+    /// A limit on a file's size, which ends a process by a signal: the command's program says one line, and what it answered is kept.
+    fn limited(&self) {
+        let (path, bytes) = (self.without("limited"), input(10, 3000));
+        let output = run(self.script, &["--new", &path], &bytes, Trouble::LimitedTo(8000));
+        assert_eq!(output.status.code(), Some(1), "a limit on a file's size");
+        one_line("a limit on a file's size", &output.stderr);
+        let journal = fs::read(&path).expect("the journal");
+        assert!(bytes.starts_with(&journal) && serve(&journal[..whole(&journal)]).starts_with(&output.stdout), "a limit: answered and not kept");
+        assert_eq!(run(self.program, &[&path], &ASK, Trouble::Nothing).stdout, image_after(&journal[..whole(&journal)]), "after a limit");
+    }
+
     /// Calls that fail: nothing is answered, and no message is in the journal that was answered and is lost.
     fn failing(&self) {
         let messages = input(12, 50);
@@ -233,6 +244,30 @@ impl Place<'_> {
         assert_eq!(exchanged(&mut other, &ASK, 20), image, "the second goes on");
         assert!(other.wait_with_output().expect("it ends").stderr.is_empty());
         assert!(fs::read(&path).expect("the journal") == ASK.repeat(3));
+    }
+
+    /// A journal that is taken away under a running station: renamed, removed, or replaced by a copy. It is noticed at the next append, and
+    /// nothing more is answered.
+    fn moved(&self) {
+        let aside = self.without("aside");
+        let taken_away: [(&str, fn(&str, &str)); 3] = [
+            ("a journal that was renamed", |path, aside| fs::rename(path, aside).expect("another name")),
+            ("a journal that was removed", |path, _| fs::remove_file(path).expect("it goes")),
+            ("a journal that was replaced", |path, aside| {
+                fs::copy(path, aside).expect("a copy");
+                fs::rename(aside, path).expect("its name");
+            }),
+        ];
+        for (what, take_away) in taken_away {
+            let path = self.without("moved");
+            assert!(run(self.program, &["--new", &path], &ASK, Trouble::Nothing).stderr.is_empty(), "a new journal");
+            let mut station = started(self.program, &[&path], Trouble::Nothing);
+            assert_eq!(exchanged(&mut station, &ASK, 20), image_after(&[]));
+            take_away(&path, &aside);
+            assert_eq!(exchanged(&mut station, &ASK, 20), [], "{what}: it has answered");
+            one_line(what, &station.wait_with_output().expect("it ends").stderr);
+            if Path::new(&path).exists() { assert_eq!(fs::read(&path).expect("the other one"), ASK.repeat(2), "{what}: the other one has changed"); }
+        }
     }
 
     /// Two stations that are sent messages at once: at most one of them answers, and what it answered stands at the front of the journal.
@@ -316,8 +351,10 @@ fn main() {
     place.torn();
     place.stops();
     place.full();
+    place.limited();
     place.failing();
     place.shared();
+    place.moved();
     place.raced(20);
     place.restarts();
     place.long(messages.parse().expect("a number"));

@@ -6,7 +6,8 @@ use shared::pipes::messages_in;
 use shared::reference::{drive_under_way, serve_on, Parts, Station};
 use std::fs::{File, OpenOptions};
 use std::io::{self, Read, Seek, SeekFrom, Write};
-use std::path::Path;
+use std::os::fd::AsRawFd;
+use std::path::{Path, PathBuf};
 use std::process::exit;
 use std::thread::sleep;
 use std::time::Duration;
@@ -28,7 +29,7 @@ const BY_CUTS: [(&str, &str); 12] = [
 ];
 
 /// Those that the run of journals which fail must find.
-const BY_FAULTS: [(&str, &str); 14] = [
+const BY_FAULTS: [(&str, &str); 16] = [
     ("makes_what_is_missing", "a journal that is not there is begun"),
     ("makes_over", "a new journal takes the place of one that is there"),
     ("leaves_the_name", "it does not wait until a new journal's name is on the disk"),
@@ -37,10 +38,12 @@ const BY_FAULTS: [(&str, &str); 14] = [
     ("past_the_damage", "it leaves out a length out of range and goes on behind it"),
     ("keeps_what_stops", "what ends a session is in the journal"),
     ("answers_unkept", "where it can't append, it answers all the same"),
+    ("ends_by_a_limit", "a limit on a file's size ends it without a word"),
     ("never_syncs", "it does not wait until what it appends is on the disk"),
     ("syncs_late", "it waits for the disk when it has answered"),
     ("looks_away", "it does not look whether another station has written"),
     ("looks_once", "it looks before it appends, and not after"),
+    ("keeps_a_lost_file", "it does not look whether the file still has its name"),
     ("takes_any_word", "it leaves out words that it does not know"),
     ("says_nothing", "where it stops it does not say why"),
 ];
@@ -61,9 +64,10 @@ impl Fault {
     fn done<T>(&self, result: io::Result<T>, words: &str) -> T { result.unwrap_or_else(|error| self.stops(1, &format!("{words}: {error}"))) }
 }
 
-/// The journal: its file, open to read and to append, and how long it should be.
+/// The journal: its file, open to read and to append, what the system calls it, and how long it should be.
 struct Journal {
     file: File,
+    called: PathBuf,
     length: u64,
     late: Vec<u8>,
 }
@@ -121,8 +125,11 @@ fn opened(fault: &Fault, path: &str) -> (Station, Journal) {
     if bytes.len() < before { fault.done(file.set_len(used as u64), "the journal can't be cut"); }
     fault.done(file.sync_all(), "the journal can't be synced");
     forgetful(fault, &mut station);
-    (station, Journal { file, length: bytes.len() as u64, late: Vec::new() })
+    let called = called_now(&file);
+    (station, Journal { file, called, length: bytes.len() as u64, late: Vec::new() })
 }
+
+fn called_now(file: &File) -> PathBuf { std::fs::read_link(format!("/proc/self/fd/{}", file.as_raw_fd())).unwrap_or_default() }
 
 impl Journal {
     /// Whether the file has the length that it should have.
@@ -145,6 +152,8 @@ impl Journal {
         if written.is_err() && fault.is("answers_unkept") { return; }
         fault.done(written, "the journal can't be written");
         self.length += bytes.len() as u64;
+        let lost = called_now(&self.file) != self.called;
+        if lost && !fault.is("keeps_a_lost_file") { fault.stops(1, "the journal was renamed, replaced or removed"); }
         if !fault.is("looks_away") && !fault.is("looks_once") { self.looks(fault); }
     }
 
@@ -179,6 +188,10 @@ fn session(fault: &Fault, mut station: Station, mut journal: Option<Journal>) {
     if let Some(journal) = journal.as_mut().filter(|_| fault.is("appends_late")) { journal.keep(fault, &[], &[]); }
 }
 
+extern "C" {
+    fn signal(number: i32, handler: usize) -> usize;
+}
+
 fn main() {
     let mut words: Vec<String> = std::env::args().skip(1).collect();
     if words == ["list"] {
@@ -186,6 +199,8 @@ fn main() {
         return BY_FAULTS.iter().for_each(|(name, does)| println!("journal_faults {name} {does}"));
     }
     let fault = Fault(words.remove(0));
+    let (too_large, ignored) = (25, 1);
+    if !fault.is("ends_by_a_limit") { unsafe { signal(too_large, ignored) }; }
     if fault.is("takes_any_word") { words.retain(|word| word == "--new" || !word.starts_with('-')); }
     let is_name = |word: &str| !word.is_empty() && !word.starts_with('-');
     match &words[..] {

@@ -13,6 +13,8 @@ pub enum Trouble {
     Nothing,
     /// Files can't grow past so many bytes, as on a device that gets full.
     FullAt(u64),
+    /// The same as a limit that is set for a process: the system ends it by a signal, unless that is ignored.
+    LimitedTo(u64),
     /// A call to the system fails with an error, on every file but the standard streams.
     Fails(Call, u32),
     /// A file's mode holds for everybody, for root too.
@@ -80,6 +82,7 @@ impl Trouble {
                 signal(too_large, ignored);
                 setrlimit(file_size, &[most; 2]) == 0
             },
+            Trouble::LimitedTo(most) => unsafe { setrlimit(file_size, &[most; 2]) == 0 },
             Trouble::Fails(call, error) => filtered(call, error),
             // whoever can't drop the right has none
             Trouble::ModeHolds => unsafe {

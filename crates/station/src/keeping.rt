@@ -6,16 +6,19 @@ ghost use Prim.Native.Nat.{_+_};
 ghost use lib.ListN.{length};
 ghost use Rattle.garage.specs.Station.{startOf};
 ghost use Rattle.journal.specs.Journal.{counted, Follows};
+ghost use Rattle.libc.specs.Io.{Ended};
 ghost use Rattle.station.specs.Keeping.{placeOf};
 use garage::Station;
 
-// The station, and the journal that makes it: whether one is kept, its descriptor, how many bytes it has, and whether they are safe, which
-// is to say all on the disk and nothing else with them. Where none is kept nothing is asked of a disk.
+// The station, and the journal that makes it: whether one is kept, its descriptor, under which name the system has the file, how many bytes
+// it has, and whether they are safe, which is to say all on the disk and nothing else with them. Where none is kept nothing is asked of a
+// disk.
 pub struct Journal {
     pub station: Station,
     pub length: usize,
     pub kept: bool,
     pub fd: i32,
+    pub called: u32,
     pub safe: bool,
 }
 
@@ -29,6 +32,7 @@ pub fn unkept() -> Journal
         length: 0,
         kept: false,
         fd: 0,
+        called: 0,
         safe: true,
     }
 }
@@ -69,9 +73,88 @@ pub fn has_length(fd: i32, n: usize) -> bool {
     true
 }
 
-// Whether the bytes are at the end of a file that was so long before, alone and on the disk; where they aren't, that is told. The length is
-// looked at again after the write: of two stations that append at once, neither answers, or only the one whose bytes come first.
-fn write_behind(fd: i32, before: usize, bytes: &[u8], after: usize) -> bool {
+// The digits of a number below 10,000, and zeros behind them.
+fn digits_of(n: usize) -> [u8; 4] {
+    if n < 10 {
+        return [(48 + n) as u8, 0, 0, 0];
+    }
+    if n < 100 {
+        return [(48 + n / 10) as u8, (48 + n % 10) as u8, 0, 0];
+    }
+    if n < 1000 {
+        return [
+            (48 + n / 100) as u8,
+            (48 + n / 10 % 10) as u8,
+            (48 + n % 10) as u8,
+            0,
+        ];
+    }
+    [
+        (48 + n / 1000 % 10) as u8,
+        (48 + n / 100 % 10) as u8,
+        (48 + n / 10 % 10) as u8,
+        (48 + n % 10) as u8,
+    ]
+}
+
+// A descriptor as a number of more bits.
+fn widened(fd: i32) -> isize {
+    fd as isize
+}
+
+// The path by which the system tells what a descriptor's file is called.
+fn link_of(fd: i32) -> [u8; 4096]
+    ensures { λ r. ⌜ Ended r ⌝ }
+{
+    let mut path = [0u8; 4096];
+    let d = digits_of(io::count(widened(fd), &path));
+    path[0] = b'/';
+    path[1] = b'p';
+    path[2] = b'r';
+    path[3] = b'o';
+    path[4] = b'c';
+    path[5] = b'/';
+    path[6] = b's';
+    path[7] = b'e';
+    path[8] = b'l';
+    path[9] = b'f';
+    path[10] = b'/';
+    path[11] = b'f';
+    path[12] = b'd';
+    path[13] = b'/';
+    path[14] = d[0];
+    path[15] = d[1];
+    path[16] = d[2];
+    path[17] = d[3];
+    path[4095] = 0;
+    path
+}
+
+// What the system calls a descriptor's file, as a checksum: another one once the file was renamed, replaced or removed.
+pub fn called_now(fd: i32) -> u32 {
+    let path = link_of(fd);
+    let mut text = io::buffer();
+    let got = libc::readlink(&path, &mut text);
+    let n = io::count(got, &text);
+    checksum::continue_over(0, &text[..n])
+}
+
+// Whether the file still has the name that it was opened under; where it hasn't, that is told.
+fn still_called(fd: i32, called: u32) -> bool {
+    if called_now(fd) != called {
+        io::write_all(
+            libc::STDERR_FILENO,
+            b"station: the journal was renamed, replaced or removed\n",
+        );
+        return false;
+    }
+    true
+}
+
+// Whether the bytes are at the end of a file that was so long before, alone, on the disk and under its name; where they aren't, that is
+// told. Name and length are looked at after the write: of two stations that append at once, neither answers, or only the one whose bytes
+// come first.
+fn write_behind(fd: i32, called: u32, before: usize, bytes: &[u8], after: usize) -> bool {
     if !has_length(fd, before) {
         return false;
     }
@@ -87,6 +170,9 @@ fn write_behind(fd: i32, before: usize, bytes: &[u8], after: usize) -> bool {
         os::fail(b"station: the journal can't be synced");
         return false;
     }
+    if !still_called(fd, called) {
+        return false;
+    }
     has_length(fd, after)
 }
 
@@ -97,7 +183,7 @@ pub fn append(j: Journal, next: Station, bytes: &[u8]) -> Journal
 {
     let length = std::num::wrapping_add_usize(j.length, bytes.len());
     if j.kept & (0 < bytes.len()) {
-        if !write_behind(j.fd, j.length, bytes, length) {
+        if !write_behind(j.fd, j.called, j.length, bytes, length) {
             return lost();
         }
     }
@@ -106,6 +192,7 @@ pub fn append(j: Journal, next: Station, bytes: &[u8]) -> Journal
         length,
         kept: j.kept,
         fd: j.fd,
+        called: j.called,
         safe: true,
     }
 }

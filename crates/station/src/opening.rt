@@ -9,6 +9,7 @@ ghost use Rattle.journal.specs.Journal.{Journaled};
 ghost use Rattle.service.specs.Runs.{enough};
 ghost use Rattle.station.specs.Keeping.{KeptIfSafe, Reads, Roomy};
 use crate::keeping::Journal;
+use crate::keeping::called_now;
 use crate::keeping::has_length;
 use crate::keeping::lost;
 use crate::keeping::place;
@@ -138,6 +139,7 @@ fn to_append(name: &[u8], r: Replay) -> Journal
         length: r.whole,
         kept: true,
         fd,
+        called: called_now(fd),
         safe: true,
     }
 }

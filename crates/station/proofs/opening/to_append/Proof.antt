@@ -34,6 +34,9 @@ lost-requires-2 c κs = search needs
 returns-2 : tie.Need-returns-2
 returns-2 c = λ q. clash q (c .lost2 .ensures)
 
+called-now-requires : tie.Need-called-now-requires
+called-now-requires c κs = search needs
+
 returns-3 : tie.Need-returns-3
 returns-3 c = search needs
 
@@ -51,4 +54,5 @@ to-append-spec =
     fail-requires-2
     lost-requires-2
     returns-2
+    called-now-requires
     returns-3)

@@ -1,0 +1,177 @@
+-- Appends that are taken carry whole messages: replay is the station's own run, it goes on after a restart, and an append more keeps it a
+-- journal. Assumes nothing.
+use mathlib.Core.Path.{_≡_, refl, sym, ap, ap₂, subst, _∙_}
+use mathlib.Core.Bool.{Bool, true, false, cond, not, _||_}
+use mathlib.Core.List.{List, [], _∷_, _++_, append-nil}
+use Prim.Native.Nat.{ℕ, _+_, _^_, _≤_, _<_}
+use native.Mathlib.Omega.{arith}
+use borrow.Author.Tests.{not-false, eqb-true, eq-eqb, ne-eqb}
+use lib.Dec.{eqb}
+use lib.ListN.{length, getD, take, drop, length-drop}
+use lib.Seq.{take-length, length-take-le}
+use Rattle.bits.specs.Places.{join}
+use Rattle.bits.proofs.Cases.{neither}
+use Rattle.garage.specs.declared.Station.{Station}
+use Rattle.service.specs.Service.{answersOn}
+use Rattle.service.specs.Runs.{Ran, run}
+use Rattle.journal.specs.Journal.{stationAfter, Follows}
+use Rattle.journal.proofs.Restart.{messages-alone, goes-on-from}
+use Rattle.journal.proofs.Which.{only-messages, both-messages, join-both, after-both}
+use Rattle.checksum.specs.Checksum.{crcOver}
+use Rattle.journal_file.specs.declared.Front.{Front}
+use Rattle.journal_file.specs.declared.Replay.{Replay}
+use Rattle.journal_file.specs.declared.Step.{Step}
+use Rattle.journal_file.specs.Appends.{around, sumAfter, appendOf, carriedOf, payloadOf, wholeFront, frontOf}
+use Rattle.journal_file.specs.Replaying.{notTaken, taken, messagesTaken, markTaken, stepBy, stepOf, Leads}
+use Rattle.journal_file.specs.Statements.{recordedIn, ReplayFollows, FileGoesOn, FileKeepsUp}
+use Rattle.journal_file.proofs.Fronts.{Whole, whole}
+use Rattle.journal_file.proofs.Taking.{third-of}
+use Rattle.journal_file.proofs.Forms.{append-reads-back, payload-back, append-long}
+
+-- ---- whole messages
+
+none-follow : (s : Station) → Follows s [] s
+none-follow s = record { messages = []; each = tt; bytes-are = refl; station = refl }
+
+both-follow : {s t u : Station} {a b : List ℕ} → Follows s a t → Follows t b u → Follows s (a ++ b) u
+both-follow {s} {t} {u} {a} {b} f g =
+    record {
+      messages = f .messages ++ g .messages;
+      each = both-messages (f .messages) (g .messages) (f .each) (g .each);
+      bytes-are = ap₂ _++_ (f .bytes-are) (g .bytes-are) ∙ sym (join-both (f .messages) (g .messages));
+      station = g .station ∙ ap (λ (x : Station). stationAfter x (g .messages)) (f .station) ∙ sym (after-both s (f .messages) (g .messages));
+    }
+
+-- a run that takes all bytes
+all-follow : (s : Station) (p : List ℕ) → run s p .used ≡ length p → Follows s p (run s p .station)
+all-follow s p e =
+    subst (λ (l : List ℕ). Follows s l (run s p .station)) (ap (λ (n : ℕ). take n p) e ∙ take-length p) (only-messages s p .follows)
+
+-- and the run of whole messages
+run-of : {s next : Station} {p : List ℕ} → Follows s p next → (run s p .used ≡ length p) × (run s p .station ≡ next)
+run-of {s} {next} {p} f =
+    let e = ap (run s) (f .bytes-are) ∙ messages-alone s (f .messages) (f .each) in
+    (ap (λ (r : Ran). r .used) e ∙ sym (ap length (f .bytes-are)), ap (λ (r : Ran). r .station) e ∙ sym (f .station))
+
+-- ---- an append that is taken
+
+by-kind : {C : Type 0} (w c k : Bool) (a b t m : Step) → a .took ≡ 0 → b .took ≡ 0 → 0 < cond (not w) a (cond c b (cond k t m)) .took
+    → (w ≡ true → k ≡ true → 0 < t .took → cond (not w) a (cond c b (cond k t m)) ≡ t → C)
+    → (w ≡ true → k ≡ false → cond (not w) a (cond c b (cond k t m)) ≡ m → C) → C
+by-kind false c k a b t m x y h f g = absurd (omega arith)
+by-kind true true k a b t m x y h f g = absurd (omega arith)
+by-kind true false true a b t m x y h f g = f refl refl h refl
+by-kind true false false a b t m x y h f g = g refl refl refl
+
+passes : (z : Bool) (b t : Step) → b .took ≡ 0 → 0 < cond z b t .took → (z ≡ false) × (cond z b t ≡ t)
+passes true b t x h = absurd (omega arith)
+passes false b t x h = (refl, refl)
+
+-- whatever a mark is, the station stays
+mark-stays : (x y z : Bool) (s : Station) (b t u : Step) → b .replay .station ≡ s → t .replay .station ≡ s → u .replay .station ≡ s
+    → cond x b (cond y t (cond z u b)) .replay .station ≡ s
+mark-stays true y z s b t u p q r = p
+mark-stays false true z s b t u p q r = q
+mark-stays false false true s b t u p q r = r
+mark-stays false false false s b t u p q r = p
+
+module _ (r : Replay) (a : List ℕ) where
+  abbrev w : Ran
+  w = run (r .station) (payloadOf a)
+
+  abbrev f : Front
+  f = frontOf crcOver (r .sum) a
+
+  abbrev carried-messages : List ℕ
+  carried-messages = cond (eqb (getD a 0 0) 1) (payloadOf a) []
+
+  -- the bytes that a whole append carries are so many
+  carried-long : Whole crcOver (r .sum) a → length (payloadOf a) ≡ carriedOf a
+  carried-long x = length-take-le (carriedOf a) (drop 8 a) (let l = length-drop 8 a in let h = x .within in omega arith)
+
+  of-messages : f .whole ≡ true → eqb (f .kind) 1 ≡ true → 0 < messagesTaken r f (w .used) (w .station) .took
+      → Follows (r .station) carried-messages (messagesTaken r f (w .used) (w .station) .replay .station)
+  of-messages e k h =
+      let x = whole crcOver (r .sum) a e in
+      let p = passes (eqb (f .carries) 0 || not (eqb (w .used) (f .carries))) (notTaken r false) (taken (w .station) f false) refl h in
+      let used : w .used ≡ f .carries = eqb-true (w .used) (f .carries) (not-false _ (neither (eqb (f .carries) 0) (not (eqb (w .used) (f .carries))) (p .0) .1)) in
+      let all : w .used ≡ length (payloadOf a) = used ∙ ap (λ (g : Front). g .carries) (x .is) ∙ sym (carried-long x) in
+      let kind : eqb (getD a 0 0) 1 ≡ true = ap (λ (g : Front). eqb (g .kind) 1) (sym (x .is)) ∙ k in
+      rw (kind, ap (λ (q : Step). q .replay .station) (p .1)) (all-follow (r .station) (payloadOf a) all)
+
+  of-mark : f .whole ≡ true → eqb (f .kind) 1 ≡ false → Follows (r .station) carried-messages (markTaken r f .replay .station)
+  of-mark e k =
+      let x = whole crcOver (r .sum) a e in
+      let kind : eqb (getD a 0 0) 1 ≡ false = ap (λ (g : Front). eqb (g .kind) 1) (sym (x .is)) ∙ k in
+      let stays : markTaken r f .replay .station ≡ r .station =
+      mark-stays (not (eqb (f .carries) 0)) (eqb (f .kind) 4) (eqb (f .kind) 2 || eqb (f .kind) 3) (r .station) (notTaken r false) (taken (r .station) f true)
+      (taken (r .station) f false) refl refl refl in
+      rw (kind, stays) (none-follow (r .station))
+
+  one-follows : 0 < stepOf crcOver r a .took → Follows (r .station) carried-messages (stepOf crcOver r a .replay .station)
+  unfolding stepOf
+  one-follows h =
+      by-kind (f .whole) (r .closed) (eqb (f .kind) 1) (notTaken r (f .short)) (notTaken r false) (messagesTaken r f (w .used) (w .station)) (markTaken r f)
+      refl refl h (λ e k t q. rw (ap (λ (x : Step). x .replay .station) q) (of-messages e k t)) (λ e k q. rw (ap (λ (x : Step). x .replay .station) q) (of-mark e k))
+
+-- ---- all of them
+
+pub replay-follows : ReplayFollows
+replay-follows r q [] l = record { messages = []; each = tt; bytes-are = refl; station = ap (λ (x : Replay). x .station) l }
+replay-follows r q (a ∷ more) (h, t, l) =
+    both-follow (one-follows r a (omega (arith, h, t))) (replay-follows (stepOf crcOver r a .replay) q more l)
+
+pub file-goes-on : FileGoesOn
+file-goes-on r q appends input l =
+    let f = replay-follows r q appends l in
+    let ms = f .messages in
+    ap (λ (m : List ℕ). answersOn (r .station) (m ++ input)) (f .bytes-are)
+    ∙ goes-on-from (r .station) ms input (f .each)
+    ∙ ap₂ (λ (m : List ℕ) (s : Station). m ++ answersOn s input)
+    (sym (ap (λ (m : List ℕ). run (r .station) m .bytes) (f .bytes-are) ∙ ap (λ (x : Ran). x .bytes) (messages-alone (r .station) ms (f .each)))) (sym (f .station))
+
+-- ---- one more
+
+leads-more : (r q next : Replay) (appends : List (List ℕ)) (a : List ℕ) → Leads r appends q → 0 < length a → stepOf crcOver q a .took ≡ length a
+    → next ≡ stepOf crcOver q a .replay → Leads r (appends ++ (a ∷ [])) next
+leads-more r q next [] a l h t e =
+    subst (λ (x : Replay). (0 < length a) × (stepOf crcOver x a .took ≡ length a) × (next ≡ stepOf crcOver x a .replay)) l (h, t, e)
+leads-more r q next (b ∷ more) a (x, y, l) h t e = (x, y, leads-more (stepOf crcOver r b .replay) q next more a l h t e)
+
+module _ (q : Replay) (bytes : List ℕ) (next : Station) (unclosed : q .closed ≡ false) (small : q .sum < 2 ^ 32) (follows : Follows (q .station) bytes next)
+    (some : 0 < length bytes) (fits : length bytes ≤ 65536) where
+  abbrev written : List ℕ
+  written = appendOf crcOver (q .sum) 1 bytes
+
+  abbrev there : Front
+  there = record { whole = true; short = false; kind = 1; carries = length bytes; sum = sumAfter crcOver (q .sum) 1 bytes }
+
+  front-there : frontOf crcOver (q .sum) written ≡ there
+  front-there = ap (frontOf crcOver (q .sum)) (sym (append-nil written)) ∙ append-reads-back (q .sum) 1 bytes [] small fits
+
+  all-used : eqb (length bytes) 0 || not (eqb (length bytes) (length bytes)) ≡ false
+  all-used = ap₂ (λ (x y : Bool). x || not y) (ne-eqb (length bytes) 0 (λ (e : length bytes ≡ 0). omega (arith, some, e))) (eq-eqb (length bytes) (length bytes) refl)
+
+  messages-there : messagesTaken q there (length bytes) next ≡ taken next there false
+  messages-there = ap (λ (x : Bool). cond x (notTaken q false) (taken next there false)) all-used
+
+  by-there : stepBy q there (length bytes) next ≡ taken next there false
+  by-there =
+      sym (third-of false (q .closed) true (notTaken q false) (notTaken q false) (messagesTaken q there (length bytes) next) (markTaken q there) refl unclosed refl)
+      ∙ messages-there
+
+  step-there : stepOf crcOver q written ≡ taken next there false
+  unfolding stepOf
+  step-there =
+      let p = payload-back (q .sum) 1 bytes small fits in
+      let ran = run-of follows in
+      let used : run (q .station) (payloadOf written) .used ≡ length bytes = ap (λ (m : List ℕ). run (q .station) m .used) p ∙ ran .0 in
+      let station : run (q .station) (payloadOf written) .station ≡ next = ap (λ (m : List ℕ). run (q .station) m .station) p ∙ ran .1 in
+      rw (front-there, used, station) by-there
+
+pub file-keeps-up : FileKeepsUp
+file-keeps-up r q appends bytes next l unclosed small follows some fits =
+    let e = step-there q bytes next unclosed small follows some fits in
+    let n = append-long (q .sum) 1 bytes small fits in
+    leads-more r q (record { station = next; sum = sumAfter crcOver (q .sum) 1 bytes; closed = false }) appends (appendOf crcOver (q .sum) 1 bytes) l (omega (arith, n))
+    (ap (λ (x : Step). x .took) e ∙ sym n) (sym (ap (λ (x : Step). x .replay) e))

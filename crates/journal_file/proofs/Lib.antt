@@ -1,0 +1,10 @@
+pub mod Fronts
+pub mod Zeros
+pub mod Taking
+pub mod Heading
+pub mod Forms
+pub mod Determined
+pub mod Files
+pub mod Cuts
+pub mod HeadForms
+pub mod OneForm

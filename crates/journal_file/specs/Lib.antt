@@ -1,0 +1,5 @@
+pub mod Appends
+pub mod Heads
+pub mod Replaying
+pub mod Promises
+pub mod Statements

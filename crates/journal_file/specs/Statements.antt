@@ -1,0 +1,39 @@
+-- What is promised of a journal's file, from whatever station it begins with. Proved in proofs/. Assumes nothing.
+use mathlib.Core.Path.{_≡_}
+use mathlib.Core.Bool.{false, cond}
+use mathlib.Core.List.{List, [], _∷_, _++_}
+use Prim.Native.Nat.{ℕ, _^_, _≤_, _<_}
+use lib.Dec.{eqb}
+use lib.ListN.{length, getD}
+use Rattle.garage.specs.declared.Station.{Station}
+use Rattle.service.specs.Service.{answersOn}
+use Rattle.service.specs.Runs.{run}
+use Rattle.journal.specs.Journal.{Follows}
+use Rattle.checksum.specs.Checksum.{crcOver}
+use Rattle.journal_file.specs.declared.Replay.{Replay}
+use Rattle.journal_file.specs.Appends.{messagesKind, most, sumAfter, appendOf, payloadOf}
+use Rattle.journal_file.specs.Replaying.{Leads}
+
+-- the messages that some appends carry, one behind the other: what the station was sent
+abbrev pub recordedIn : List (List ℕ) → List ℕ
+recordedIn [] = []
+recordedIn (a ∷ more) = cond (eqb (getD a 0 0) messagesKind) (payloadOf a) [] ++ recordedIn more
+
+-- replay is the station's own run: the station is the one after the recorded messages, all of which are whole
+abbrev pub ReplayFollows : Type 0
+ReplayFollows = (r q : Replay) (appends : List (List ℕ)) → Leads r appends q → Follows (r .station) (recordedIn appends) (q .station)
+
+-- after a restart the answers are those of the run that was never interrupted: what the recorded messages were answered with, and then
+-- what the station that they make answers
+abbrev pub FileGoesOn : Type 0
+FileGoesOn =
+    (r q : Replay) (appends : List (List ℕ)) (input : List ℕ) → Leads r appends q
+    → answersOn (r .station) (recordedIn appends ++ input) ≡ run (r .station) (recordedIn appends) .bytes ++ answersOn (q .station) input
+
+-- with the messages of one read behind it, a journal that is not closed is one again, and makes the station that they make
+abbrev pub FileKeepsUp : Type 0
+FileKeepsUp =
+    (r q : Replay) (appends : List (List ℕ)) (bytes : List ℕ) (next : Station) → Leads r appends q
+    → q .closed ≡ false → q .sum < 2 ^ 32 → Follows (q .station) bytes next → 0 < length bytes → length bytes ≤ most
+    → Leads r (appends ++ (appendOf crcOver (q .sum) messagesKind bytes ∷ []))
+    (record { station = next; sum = sumAfter crcOver (q .sum) messagesKind bytes; closed = false })

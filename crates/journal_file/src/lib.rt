@@ -1,0 +1,369 @@
+// A journal's file as bytes: its head, and its appends, each with a checksum that goes on from the one before. Nothing here reads or writes
+// a file. What each byte says, and which bytes are a journal, stands in specs/.
+ghost use mathlib.Core.Path.{_≡_};
+ghost use mathlib.Core.Bool.{not};
+ghost use mathlib.Core.List.{[], _∷_};
+ghost use Prim.Native.Nat.{_+_, _≤_};
+ghost use lib.Dec.{eqb};
+ghost use lib.ListN.{length, take, drop};
+ghost use Rattle.service.specs.Runs.{serving};
+ghost use Rattle.wire.specs.Kinds.{fromLittleEndian};
+ghost use Rattle.station_c.specs.Entries.{lentStation};
+ghost use Rattle.garage.specs.declared.Station.{Station};
+ghost use Rattle.checksum.specs.Slices.{crcBy};
+ghost use Rattle.journal_file.specs.Appends.{openingOf, closingOf, carriedOf, titled, carried, noFront, wholeFront, frontOf, written, lostFrom, zeroed};
+ghost use Rattle.journal_file.specs.Heads.{titleBytes, headKind, headOf};
+ghost use Rattle.journal_file.specs.Replaying.{notTaken, taken, markTaken, messagesTaken, Leaves, stepping};
+use garage::Station;
+
+const MOST: usize = 65536;
+
+const AROUND: usize = 13;
+
+const SECTOR: usize = 512;
+
+const END: u8 = 10;
+
+// ---- an append
+
+// What stands at the front of some bytes: whether it is a whole append, or the bytes end inside of one; its kind, how many bytes it carries,
+// and its checksum.
+pub struct Front {
+    pub whole: bool,
+    pub short: bool,
+    pub kind: u8,
+    pub carries: usize,
+    pub sum: u32,
+}
+
+// What stands before the bytes of an append of this kind, behind an append with this checksum.
+pub fn opening(t: &[u32], sum: u32, kind: u8, size: usize) -> [u8; 8]
+    ensures { λ b. ⌜ b ≡ openingOf (crcBy (now (t .entry))) sum kind size ⌝ }
+{
+    let title = [
+        kind,
+        (size % 256) as u8,
+        (size / 256 % 256) as u8,
+        (size / 256 / 256 % 256) as u8,
+    ];
+    let s = fours::four_bytes(checksum::continue_by(t, sum, &title));
+    [
+        title[0],
+        title[1],
+        title[2],
+        title[3],
+        s[0],
+        s[1],
+        s[2],
+        s[3],
+    ]
+}
+
+// What stands behind them.
+pub fn closing(sum: u32) -> [u8; 5]
+    ensures { λ b. ⌜ b ≡ closingOf sum ⌝ }
+{
+    let s = fours::four_bytes(sum);
+    [s[0], s[1], s[2], s[3], END]
+}
+
+// The number that three bytes say, the lowest first.
+fn joined(a: u8, b: u8, c: u8) -> usize
+    ensures { λ n. ⌜ n ≡ fromLittleEndian 3 0 (a ∷ b ∷ c ∷ []) ⌝ }
+{
+    a as usize + 256 * (b as usize + 256 * (c as usize))
+}
+
+// How many bytes are carried, as the title says.
+fn carried_of(m: &[u8]) -> usize
+    requires { ⌜ 8 ≤ length (now m) ⌝ }
+    ensures { λ n. ⌜ n ≡ carriedOf (now (m .entry)) ⌝ }
+{
+    joined(m[1], m[2], m[3])
+}
+
+// Whether the title is right.
+fn is_titled(t: &[u32], sum: u32, m: &[u8]) -> bool
+    requires { ⌜ 8 ≤ length (now m) ⌝ }
+    ensures { λ b. ⌜ b ≡ titled (crcBy (now (t .entry))) sum (now (m .entry)) ⌝ }
+{
+    let said = fours::four_at(m, 4);
+    (said == checksum::continue_by(t, sum, &m[..4])) & (carried_of(m) <= MOST)
+}
+
+// Whether what is carried is right.
+fn is_carried(t: &[u32], m: &[u8], n: usize) -> bool
+    requires { ⌜ (n ≡ carriedOf (now m)) × (n + 13 ≤ length (now m)) ⌝ }
+    ensures { λ b. ⌜ b ≡ carried (crcBy (now (t .entry))) (now (m .entry)) ⌝ }
+{
+    let before = fours::four_at(m, 4);
+    let said = fours::four_at(m, n + 8);
+    (said == checksum::continue_by(t, before, &m[8..n + 8])) & (m[n + 12] == END)
+}
+
+fn no_front(short: bool) -> Front
+    ensures { λ f. ⌜ f ≡ noFront short ⌝ }
+{
+    Front {
+        whole: false,
+        short,
+        kind: 0,
+        carries: 0,
+        sum: 0,
+    }
+}
+
+// What stands at the front of some bytes, behind an append with this checksum.
+pub fn front_of(t: &[u32], sum: u32, m: &[u8]) -> Front
+    ensures { λ f. ⌜ f ≡ frontOf (crcBy (now (t .entry))) sum (now (m .entry)) ⌝ }
+{
+    if m.len() < 8 {
+        return no_front(true);
+    }
+    if !is_titled(t, sum, m) {
+        return no_front(false);
+    }
+    let n = carried_of(m);
+    if m.len() < n + AROUND {
+        return no_front(true);
+    }
+    if is_carried(t, m, n) {
+        return Front {
+            whole: true,
+            short: false,
+            kind: m[0],
+            carries: n,
+            sum: fours::four_at(m, n + 8),
+        };
+    }
+    no_front(false)
+}
+
+// ---- cut off by a lost power supply
+
+// How many bytes there are up to the last that is not zero.
+fn written_of(m: &[u8]) -> usize
+    ensures { λ n. ⌜ n ≡ written (now (m .entry)) ⌝ }
+{
+    let mut n = m.len();
+    while 0 < n {
+        if m[n - 1] != 0 {
+            return n;
+        }
+        n -= 1;
+    }
+    0
+}
+
+// The first place from the n-th byte on at which a sector begins.
+fn lost_from(at: usize, n: usize) -> usize
+    requires { ⌜ n ≤ 65549 ⌝ }
+    ensures { λ r. ⌜ r ≡ lostFrom at n ⌝ }
+{
+    if n == 0 {
+        return 0;
+    }
+    n + (SECTOR - (at % SECTOR + n) % SECTOR) % SECTOR
+}
+
+// Whether an append that is not right, with all bytes to the file's end, was cut off by a lost power supply: there are only zeros from its
+// beginning on, or from a sector's. Its first byte is at this place in the file.
+pub fn is_zeroed(t: &[u32], sum: u32, at: usize, m: &[u8]) -> bool
+    ensures { λ b. ⌜ b ≡ zeroed (crcBy (now (t .entry))) sum at (now (m .entry)) ⌝ }
+{
+    if MOST + AROUND < m.len() {
+        return false;
+    }
+    let lost = lost_from(at, written_of(m));
+    if m.len() <= lost {
+        return false;
+    }
+    if lost < 8 {
+        return true;
+    }
+    if is_titled(t, sum, m) {
+        return m.len() == carried_of(m) + AROUND;
+    }
+    false
+}
+
+// ---- the head
+
+// What the bytes are that a file begins with: no journal, one of another format, damaged, one whose station is not fit, or a good one.
+pub enum Kind {
+    NoJournal,
+    OtherFormat,
+    Damaged,
+    Unfit,
+    Good,
+}
+
+// A head: what it is, the station to begin with, and the checksum that the first append goes on from.
+pub struct Head {
+    pub kind: Kind,
+    pub station: Station,
+    pub sum: u32,
+}
+
+// What stands before the garage's name.
+pub fn title() -> [u8; 24]
+    ensures { λ b. ⌜ b ≡ titleBytes ⌝ }
+{
+    let n = version::number();
+    [
+        86,
+        97,
+        114,
+        103,
+        115,
+        110,
+        105,
+        100,
+        97,
+        44,
+        32,
+        106,
+        111,
+        117,
+        114,
+        110,
+        97,
+        108,
+        46,
+        10,
+        2,
+        (n % 256) as u8,
+        (n / 256 % 256) as u8,
+        (n / 256 / 256 % 256) as u8,
+    ]
+}
+
+// What the bytes of a head are.
+fn kind_of(t: &[u32], m: &[u8], station: Station) -> Kind
+    requires { ⌜ (128 ≤ length (now m)) × (station ≡ lentStation (take 60 (drop 64 (now m)))) ⌝ }
+    ensures { λ k. ⌜ k ≡ headKind (crcBy (now (t .entry))) (now (m .entry)) ⌝ }
+{
+    if !commands::is_text(&m[..20], b"Vargsnida, journal.\n") {
+        return Kind::NoJournal;
+    }
+    if m[20] != 2 {
+        return Kind::OtherFormat;
+    }
+    if fours::four_at(m, 124) != checksum::continue_by(t, 0, &m[..124]) {
+        return Kind::Damaged;
+    }
+    if !station.fit() {
+        return Kind::Unfit;
+    }
+    Kind::Good
+}
+
+// The head that some bytes begin with.
+pub fn head_of(t: &[u32], m: &[u8]) -> Head
+    ensures { λ h. ⌜ h ≡ headOf (crcBy (now (t .entry))) (now (m .entry)) ⌝ }
+{
+    if m.len() < 128 {
+        return Head {
+            kind: Kind::NoJournal,
+            station: station_c::station_of(&[]),
+            sum: 0,
+        };
+    }
+    let station = station_c::station_of(&m[64..124]);
+    let kind = kind_of(t, m, station);
+    Head {
+        kind,
+        station,
+        sum: fours::four_at(m, 124),
+    }
+}
+
+// ---- a replay
+
+// The station after the appends so far, the checksum of the last one, and whether it says that the journal is closed.
+pub struct Replay {
+    pub station: Station,
+    pub sum: u32,
+    pub closed: bool,
+}
+
+// What became of an append: the replay then, and how many bytes it took; where none was taken, whether the bytes end inside of one.
+pub struct Step {
+    pub replay: Replay,
+    pub took: usize,
+    pub short: bool,
+}
+
+fn not_taken(r: Replay, short: bool) -> Step
+    ensures { λ q. ⌜ q ≡ notTaken r short ⌝ }
+{
+    Step {
+        replay: r,
+        took: 0,
+        short,
+    }
+}
+
+fn take(station: Station, f: Front, closed: bool) -> Step
+    requires { ⌜ f .carries ≤ 65536 ⌝ }
+    ensures { λ q. ⌜ q ≡ taken station f closed ⌝ }
+{
+    let replay = Replay {
+        station,
+        sum: f.sum,
+        closed,
+    };
+    Step {
+        replay,
+        took: f.carries + AROUND,
+        short: false,
+    }
+}
+
+// An append that carries nothing.
+fn take_mark(r: Replay, f: Front) -> Step
+    requires { ⌜ f .carries ≤ 65536 ⌝ }
+    ensures { λ q. ⌜ q ≡ markTaken r f ⌝ }
+{
+    let station = r.station;
+    if f.carries != 0 {
+        return not_taken(r, false);
+    }
+    if f.kind == 4 {
+        return take(station, f, true);
+    }
+    if (f.kind == 2) | (f.kind == 3) {
+        return take(station, f, false);
+    }
+    not_taken(r, false)
+}
+
+// An append of messages, which carries these.
+fn take_messages(r: Replay, f: Front, bytes: &[u8], room: &mut [u8]) -> Step
+    requires { ⌜ f .carries ≤ 65536 ⌝ }
+    ensures { λ q. ⌜ (q ≡ messagesTaken r f (serving (r .station) (now (bytes .entry)) (now (room .entry)) .says .used) (serving (r .station) (now (bytes .entry)) (now (room .entry)) .says .station)) × (now (room .exit) ≡ serving (r .station) (now (bytes .entry)) (now (room .entry)) .leaves) ⌝ }
+{
+    let w = service::serve(r.station, bytes, room);
+    let next = w.station;
+    if (f.carries == 0) | (w.used != f.carries) {
+        return not_taken(r, false);
+    }
+    take(next, f, false)
+}
+
+// Takes the append at the front of some bytes. The room is for answers, which are not to be written.
+pub fn take_append(t: &[u32], r: Replay, m: &[u8], room: &mut [u8]) -> Step
+    ensures { λ q. ⌜ Leaves (stepping (crcBy (now (t .entry))) r (now (m .entry)) (now (room .entry))) q (now (room .exit)) ⌝ }
+{
+    let f = front_of(t, r.sum, m);
+    if !f.whole {
+        return not_taken(r, f.short);
+    }
+    if r.closed {
+        return not_taken(r, false);
+    }
+    if f.kind == 1 {
+        return take_messages(r, f, &m[8..8 + f.carries], room);
+    }
+    take_mark(r, f)
+}
