@@ -17,9 +17,12 @@ use Rattle.checksum.proofs.Slices.{slices-long, bits-append, by-fours}
 pub inverted-lt : (c : ℕ) → c < 2 ^ 32 → inverted c < 2 ^ 32
 inverted-lt c h = xor-lt 32 c 0xFFFFFFFF h (omega arith)
 
-pub in-range : InRange
+pub crc-lt : (c : ℕ) (bytes : List ℕ) → c < 2 ^ 32 → crcOver c bytes < 2 ^ 32
 unfolding crcOver
-in-range c bytes h = inverted-lt _ (over-lt (inverted c) (bitsOf bytes) (inverted-lt c h))
+crc-lt c bytes h = inverted-lt _ (over-lt (inverted c) (bitsOf bytes) (inverted-lt c h))
+
+pub in-range : InRange
+in-range c bytes h = crc-lt c bytes h
 
 pub continues : Continues
 unfolding crcOver

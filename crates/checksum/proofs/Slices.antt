@@ -1,15 +1,15 @@
 -- The tables hold what they should, and by them a byte and four bytes move a state on as their bits do. Assumes nothing.
 use mathlib.Core.Path.{_≡_, refl, sym, ap, ap₂, _∙_}
-use mathlib.Core.List.{List, [], _∷_, _++_, map, append-nil}
+use mathlib.Core.List.{List, [], _∷_, _++_, append-nil}
 use Prim.Native.Nat.{ℕ, zero, suc, _+_, _*_, _/_, _%_, _^_, _<_}
 use native.Mathlib.Omega.{arith}
 use native.Mathlib.Nat.{mod-lt, zero-lt-suc, add-assoc}
 use lib.Bits.{bitXor, xor-lt}
 use lib.ListN.{length, getD, length-append, List·getD-append, List·getD-eq-default}
 use lib.Seq.{getD-append-add}
-use Rattle.bits.specs.Places.{from}
 use Rattle.wire.specs.Kinds.{fromLittleEndian}
 use Rattle.wire_laws.specs.Statements.{Bytes}
+use Rattle.fours.proofs.Fours.{valued-length, valued-at}
 use Rattle.checksum.specs.Checksum.{overBits, lowBits, bitsOf, inverted, crcOver}
 use Rattle.checksum.specs.Slices.{moved, entry, slices, overByte, overFour, overBytes, overFours, crcBy}
 use Rattle.checksum.proofs.Xor.{xor-twice}
@@ -17,22 +17,13 @@ use Rattle.checksum.proofs.Moves.{AreBits, valueOf, moved-bits, moved-s
 
 -- ---- the tables
 
-at-from : (n a p : ℕ) → p < n → getD (map entry (from a n)) p 0 ≡ entry (a + p)
-at-from zero a p h = absurd (omega arith)
-at-from (suc n) a zero h = ap entry (omega arith)
-at-from (suc n) a (suc p) h = at-from n (suc a) p (omega arith) ∙ ap entry (omega arith)
-
-long-from : (n a : ℕ) → length (map entry (from a n)) ≡ n
-long-from zero a = refl
-long-from (suc n) a = ap suc (long-from n (suc a))
-
 pub slices-long : length slices ≡ 1024
 unfolding slices
-slices-long = long-from 1024 0
+slices-long = valued-length entry 0 1024
 
 pub entries : (p : ℕ) → p < 1024 → getD slices p 0 ≡ entry p
 unfolding slices
-entries p l = at-from 1024 0 p l ∙ ap entry (omega arith)
+entries p l = valued-at entry 0 1024 p l ∙ ap entry (omega arith)
 
 -- entry i of table j
 slice-at : (p j i : ℕ) → i < 256 → p ≡ 256 * j + i → p < 1024 → getD slices p 0 ≡ moved (8 * (j + 1)) i
@@ -97,7 +88,7 @@ bits-long [] = refl
 bits-long (x ∷ xs) = length-append (lowBits 8 x) (bitsOf xs) ∙ omega (arith, low-long 8 x, bits-long xs)
 
 -- a byte and the bits behind it as a number; four bytes
-value-byte : (x : ℕ) (l : List ℕ) → x < 256 → valueOf (lowBits 8 x ++ l) ≡ x + 256 * valueOf l
+pub value-byte : (x : ℕ) (l : List ℕ) → x < 256 → valueOf (lowBits 8 x ++ l) ≡ x + 256 * valueOf l
 unfolding lowBits valueOf
 value-byte x l h = omega arith
 

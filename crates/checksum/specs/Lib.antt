@@ -1,3 +1,4 @@
+pub mod Bursts
 pub mod Checksum
 pub mod Promises
 pub mod Slices

@@ -1,25 +1,32 @@
 // CRC-32C over a run of bytes, by tables of four times 256 numbers that the caller makes once and lends.
 ghost use mathlib.Core.Path.{_≡_};
-ghost use Prim.Native.Nat.{_≤_};
+ghost use Prim.Native.Nat.{_≤_, _<_};
 ghost use lib.ListN.{length, drop};
-ghost use Rattle.checksum.specs.Checksum.{step, crcOver};
+ghost use Rattle.checksum.specs.Checksum.{overBits, bitsOf, crcOver};
 ghost use Rattle.checksum.specs.Slices.{moved, slices, overByte, overFour, overBytes, overFours, crcBy};
 
-const POLYNOMIAL: u32 = 0x82F63B78;
 const ONES: u32 = 0xFFFFFFFF;
 
-// A state after one bit that is 0.
-fn next(s: u32) -> u32
-    ensures { λ r. ⌜ r ≡ step s 0 ⌝ }
+// A byte after eight bits that are 0: the sum of what its bits become.
+fn byte_moved(x: u32) -> u32
+    requires { ⌜ x < 256 ⌝ }
+    ensures { λ r. ⌜ r ≡ moved 8 x ⌝ }
 {
-    (s / 2) ^ (s % 2 * POLYNOMIAL)
+    (x % 2 * 0xF26B8303)
+        ^ (x / 2 % 2 * 0xE13B70F7)
+        ^ (x / 4 % 2 * 0xC79A971F)
+        ^ (x / 8 % 2 * 0x8AD958CF)
+        ^ (x / 16 % 2 * 0x105EC76F)
+        ^ (x / 32 % 2 * 0x20BD8EDE)
+        ^ (x / 64 % 2 * 0x417B1DBC)
+        ^ (x / 128 % 2 * 0x82F63B78)
 }
 
-// After eight of them.
+// A state after eight of them.
 fn eight(s: u32) -> u32
     ensures { λ r. ⌜ r ≡ moved 8 s ⌝ }
 {
-    next(next(next(next(next(next(next(next(s))))))))
+    (s / 256) ^ byte_moved(s % 256)
 }
 
 // The tables: the first from the bytes themselves, each further one from the one before.
@@ -83,6 +90,19 @@ fn over_fours(t: &[u32], s: u32, bytes: &[u8]) -> u32
     over_rest(t, state, bytes, i)
 }
 
+// A state after all bytes, without tables.
+fn over_short(s: u32, bytes: &[u8]) -> u32
+    ensures { λ r. ⌜ r ≡ overBits s (bitsOf (now (bytes .entry))) ⌝ }
+{
+    let mut state = s;
+    let mut i: usize = 0;
+    while i < bytes.len() {
+        state = eight(state ^ (bytes[i] as u32));
+        i += 1;
+    }
+    state
+}
+
 // The checksum that the lent tables give, of bytes that stand behind others whose checksum is c.
 pub fn continue_by(t: &[u32], c: u32, bytes: &[u8]) -> u32
     ensures { λ r. ⌜ r ≡ crcBy (now (t .entry)) c (now (bytes .entry)) ⌝ }
@@ -93,10 +113,13 @@ pub fn continue_by(t: &[u32], c: u32, bytes: &[u8]) -> u32
     over_fours(t, c ^ ONES, bytes) ^ ONES
 }
 
-// The same with tables of its own, for a caller with few runs of bytes.
+// The same without lent tables: few bytes are taken without any, for many it is worth while to make them.
 pub fn continue_over(c: u32, bytes: &[u8]) -> u32
     ensures { λ r. ⌜ r ≡ crcOver c (now (bytes .entry)) ⌝ }
 {
+    if bytes.len() < 192 {
+        return over_short(c ^ ONES, bytes) ^ ONES;
+    }
     let t = tables();
     continue_by(&t, c, bytes)
 }

@@ -8,3 +8,5 @@ pub mod Files
 pub mod Cuts
 pub mod HeadForms
 pub mod OneForm
+pub mod Damage
+pub mod OneFile

@@ -3,3 +3,4 @@ pub mod Heads
 pub mod Replaying
 pub mod Promises
 pub mod Statements
+pub mod Damage

@@ -5,13 +5,13 @@ use native.Mathlib.Omega.{arith}
 use borrow.Author.Needs.{needs}
 use lib.ListN.{length}
 use Rattle.checksum.specs.Slices.{overFours}
-use Rattle.checksum.proofs.Running.{Fours, fours-more, fours-done}
+use Rattle.checksum.proofs.Running.{Rest, fours-more, fours-done}
 use borrow.Author.Needs.{needs}
 use Rattle.checksum.proofs.over_fours.Statement.{statement}
 use Rattle.checksum.proofs.over_fours.Tie as tie
 
 abbrev Inv-loop : tie.InvT-loop
-Inv-loop t s bytes state₀ i₀ state i = Fours t (overFours t s bytes) bytes state i
+Inv-loop t s bytes state₀ i₀ state i = Rest (overFours t) (overFours t s bytes) bytes state i
 
 abbrev μ-loop : tie.MeasureT-loop
 μ-loop t s bytes state₀ i₀ state i = length bytes - i
@@ -35,13 +35,15 @@ loop-less : tie.Need-loop-less Inv-loop μ-loop
 loop-less c = omega arith
 
 loop-again : tie.Need-loop-again Inv-loop μ-loop
-loop-again c = fours-more (c .before .before .before .loop .inv) (c .before .before .loop-test .taken) (c .before .four-at .ensures) (c .over-four .ensures)
+loop-again c =
+    fours-more (c .before .before .before .before .before .before .args .t .now) (c .before .before .before .loop .inv) (c .before .before .loop-test .taken) (c .before .four-at .ensures) (c .over-four .ensures)
 
 over-rest-requires : tie.Need-over-rest-requires Inv-loop μ-loop
 over-rest-requires c κs = (c .before .before .before .before .pre, c .before .loop .inv .within)
 
 returns : tie.Need-returns Inv-loop μ-loop
-returns c = fours-done (c .before .before .loop .inv) (c .before .loop-test .left) (c .over-rest .ensures)
+returns c =
+    fours-done (c .before .before .before .before .before .args .t .now) (c .before .before .loop .inv) (c .before .loop-test .left) (c .over-rest .ensures)
 
 pub over-fours-spec : {M : Type 1} → statement M
 over-fours-spec =

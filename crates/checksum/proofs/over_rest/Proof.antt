@@ -4,13 +4,13 @@ use Prim.Native.Nat.{_-_}
 use native.Mathlib.Omega.{arith}
 use lib.ListN.{length, drop}
 use Rattle.checksum.specs.Slices.{overBytes}
-use Rattle.checksum.proofs.Running.{Rest, rest-more, rest-done}
+use Rattle.checksum.proofs.Running.{Rest, byte-more, byte-done}
 use borrow.Author.Needs.{needs}
 use Rattle.checksum.proofs.over_rest.Statement.{statement}
 use Rattle.checksum.proofs.over_rest.Tie as tie
 
 abbrev Inv-loop : tie.InvT-loop
-Inv-loop t s bytes from state₀ i₀ state i = Rest t (overBytes t s (drop from bytes)) bytes state i
+Inv-loop t s bytes from state₀ i₀ state i = Rest (overBytes t) (overBytes t s (drop from bytes)) bytes state i
 
 abbrev μ-loop : tie.MeasureT-loop
 μ-loop t s bytes from state₀ i₀ state i = length bytes - i
@@ -34,10 +34,11 @@ loop-less : tie.Need-loop-less Inv-loop μ-loop
 loop-less c = omega arith
 
 loop-again : tie.Need-loop-again Inv-loop μ-loop
-loop-again c = rest-more (c .before .before .before .loop .inv) (c .before .before .loop-test .taken) (c .over-byte .ensures)
+loop-again c =
+    byte-more (c .before .before .before .before .before .before .args .t .now) (c .before .before .before .loop .inv) (c .before .before .loop-test .taken) (c .over-byte .ensures)
 
 returns : tie.Need-returns Inv-loop μ-loop
-returns c = rest-done (c .before .loop .inv) (c .loop-test .left)
+returns c = byte-done (c .before .before .before .before .args .t .now) (c .before .loop .inv) (c .loop-test .left)
 
 pub over-rest-spec : {M : Type 1} → statement M
 over-rest-spec =
