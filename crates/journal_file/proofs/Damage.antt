@@ -22,7 +22,7 @@ use Rattle.checksum.proofs.Running.{four-at}
 use Rattle.checksum.proofs.Stored.{burst-drop, stored-burst-found}
 use Rattle.garage.specs.declared.Station.{Station}
 use Rattle.garage.specs.Station.{fit}
-use Rattle.station_c.specs.Entries.{lentStation}
+use Rattle.rooms.specs.Rooms.{lentStation}
 use Rattle.commands.specs.Words.{isText}
 use Rattle.journal_file.specs.declared.Kind.{Kind}
 use Rattle.journal_file.specs.declared.Kind.the-variants.{NoJournal, OtherFormat, Damaged, Unfit, Good}
