@@ -13,7 +13,6 @@ use Rattle.rules.specs.declared.Instruction.the-variants.{Rotate}
 use Rattle.rules.specs.declared.Event.{Event}
 use Rattle.rules.specs.declared.Code.{Code}
 use Rattle.rules.specs.declared.Area.{Area}
-use Rattle.rules.specs.declared.Reading.{Reading}
 use Rattle.rules.specs.declared.Reading.the-variants.{Good, Bad}
 use Rattle.rules.specs.declared.Moved.{Moved}
 use Rattle.rules.specs.declared.Driven.{Driven}
@@ -77,73 +76,66 @@ module _ (i : Instruction) (y : Area) (e : y ≡ maskOf i) where
       go false h = refl
 
 -- five bytes and what they say
-module _ (x : Code) (r : ℕ) (y : Reading) (e : y ≡ readCode x) where
-  module _ (i : Instruction) (g : y ≡ Good i) where
+module _ (x : Code) (l : Located) (e : l ≡ locate x) where
+  pub read : l .reading ≡ readCode x
+  unfolding locate
+  read = ap (λ (l : Located). l .reading) e
+
+  pub placed : l .area ≡ onCode (λ i. image (area i)) 0 (readCode x)
+  unfolding locate
+  placed = ap (λ (l : Located). l .area) e
+
+  module _ (r : ℕ) (i : Instruction) (g : l .reading ≡ Good i) where
+    -- they say this
     said : readCode x ≡ Good i
-    said = sym e ∙ g
+    said = sym read ∙ g
 
     pub well : wellFormed i ≡ true
     well = one-form x i said .1
+
+    pub area-is : l .area ≡ image (area i)
+    area-is = placed ∙ ap (onCode (λ i. image (area i)) 0) said
 
     pub code-moved : (m : Moved) → m ≡ movedOf i r → m ≡ codeMoved x r
     unfolding codeMoved
     code-moved m p = p ∙ ap (onCode (λ i. movedOf i r) Moved.IllFormed) (sym said)
 
-    pub code-verdict : (v : Verdict) → v ≡ verdictOf i r → v ≡ codeVerdict x r
-    unfolding codeVerdict
-    code-verdict v p = p ∙ ap (onCode (λ i. verdictOf i r) Verdict.IllFormed) (sym said)
+    pub code-judged : (v : Verdict) → v ≡ judged (clauses i) (bit r) → record { area = l .area; verdict = v } ≡ judge x r
+    unfolding judge codeVerdict
+    code-judged v p = ap₂ {A = ℕ} {B = Verdict} {C = Judged} (λ a v. record { area = a; verdict = v }) placed
+        (is-verdict i r well p ∙ ap (onCode (λ i. verdictOf i r) Verdict.IllFormed) (sym said))
 
-    pub code-next : (n : ℕ) → n ≡ cond (unbroken i) (image (next i (bit r))) r → n ≡ codeNext x r
+    known : (b : Bool) → whole i ≡ b → cond b (image (next i (bit r))) r ≡ codeNext x r
     unfolding codeNext
-    code-next n p = p ∙ ap (onCode (λ i. cond (unbroken i) (image (next i (bit r))) r) r) (sym said)
+    known b h =
+        ap (λ (b : Bool). cond b (image (next i (bit r))) r) (sym h ∙ whole-right i well)
+        ∙ ap (onCode (λ i. cond (unbroken i) (image (next i (bit r))) r) r) (sym said)
 
-  module _ (g : y ≡ Bad) where
+    pub code-next : whole i ≡ true → (n : ℕ) → n ≡ image (next i (bit r)) → n ≡ codeNext x r
+    code-next h n p = p ∙ known true h
+
+    pub gap-next : whole i ≡ false → r ≡ codeNext x r
+    gap-next h = known false h
+
+  module _ (r : ℕ) (g : l .reading ≡ Bad) where
     nothing : readCode x ≡ Bad
-    nothing = sym e ∙ g
+    nothing = sym read ∙ g
 
     pub bad-moved : Moved.IllFormed ≡ codeMoved x r
     unfolding codeMoved
     bad-moved = ap (onCode (λ i. movedOf i r) Moved.IllFormed) (sym nothing)
 
-    pub bad-verdict : Verdict.IllFormed ≡ codeVerdict x r
-    unfolding codeVerdict
-    bad-verdict = ap (onCode (λ i. verdictOf i r) Verdict.IllFormed) (sym nothing)
+    pub bad-judged : record { area = l .area; verdict = Verdict.IllFormed } ≡ judge x r
+    unfolding judge codeVerdict
+    bad-judged = ap₂ {A = ℕ} {B = Verdict} {C = Judged} (λ a v. record { area = a; verdict = v }) placed (ap (onCode (λ i. verdictOf i r) Verdict.IllFormed) (sym nothing))
 
     pub bad-next : r ≡ codeNext x r
     unfolding codeNext
     bad-next = ap (onCode (λ i. cond (unbroken i) (image (next i (bit r))) r) r) (sym nothing)
 
--- the same with the area
-module _ (x : Code) (r : ℕ) (l : Located) (e : l ≡ locate x) where
-  pub reads : l .reading ≡ readCode x
-  unfolding locate
-  reads = ap (λ (l : Located). l .reading) e
-
-  placed : l .area ≡ onCode (λ i. image (area i)) 0 (readCode x)
-  unfolding locate
-  placed = ap (λ (l : Located). l .area) e
-
-  judged-as : (v : Verdict) → v ≡ codeVerdict x r → record { area = l .area; verdict = v } ≡ judge x r
-  unfolding judge
-  judged-as v p = ap₂ {A = ℕ} {B = Verdict} {C = Judged} (λ a v. record { area = a; verdict = v }) placed p
-
-  module _ (i : Instruction) (g : l .reading ≡ Good i) where
-    pub given : (wellFormed i ≡ true) × (l .area ≡ image (area i))
-    given = (well x r (l .reading) reads i g, placed ∙ ap (onCode (λ i. image (area i)) 0) (sym reads ∙ g))
-
-    pub code-judged : (v : Verdict) → v ≡ judged (clauses i) (bit r) → record { area = l .area; verdict = v } ≡ judge x r
-    code-judged v p = judged-as v (code-verdict x r (l .reading) reads i g v (is-verdict i r (given .0) p))
-
-  pub bad-judged : l .reading ≡ Bad → record { area = l .area; verdict = Verdict.IllFormed } ≡ judge x r
-  bad-judged g = judged-as Verdict.IllFormed (bad-verdict x r (l .reading) reads g)
-
--- a success that is not judged
-module _ (i : Instruction) (r : ℕ) (w : wellFormed i ≡ true) where
-  pub without-gap : whole i ≡ true → (n : ℕ) → n ≡ image (next i (bit r)) → n ≡ cond (unbroken i) (image (next i (bit r))) r
-  without-gap h n p = p ∙ ap (λ (b : Bool). cond b (image (next i (bit r))) r) (sym h ∙ whole-right i w)
-
-  pub with-gap : whole i ≡ false → r ≡ cond (unbroken i) (image (next i (bit r))) r
-  with-gap h = ap (λ (b : Bool). cond b (image (next i (bit r))) r) (sym h ∙ whole-right i w)
+pub verdict-in : (x : Code) (r : ℕ) (j : Judged) → j ≡ judge x r → j .verdict ≡ codeVerdict x r
+unfolding judge
+verdict-in x r j e = ap (λ (j : Judged). j .verdict) e
 
 -- rotating keeps the record
 pub rotated : (i : Instruction) → i ≡ Rotate → (r : ℕ) → r < 2 ^ 64 → r ≡ image (next i (bit r))

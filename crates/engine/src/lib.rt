@@ -1,13 +1,13 @@
 // What an instruction or a car event does to a record: whether it is allowed or why not, and the next record.
 ghost use mathlib.Core.Path.{_≡_};
-ghost use mathlib.Core.Bool.{true, cond};
+ghost use mathlib.Core.Bool.{true};
 ghost use Rattle.bits.specs.Bits.{bit, image};
 ghost use Rattle.rules.specs.declared.Event.the-variants.{EndDone};
 ghost use Rattle.rules.specs.Rules.{wellFormed, area, clauses, next};
 ghost use Rattle.rules.specs.Events.{inTurn, possible, placesOpen, after};
 ghost use Rattle.rules.specs.Verdicts.{judged, verdictOf, movedOf, drivenOf, codeVerdict, codeMoved};
 ghost use Rattle.rows.specs.Private.{whole};
-ghost use Rattle.engine.specs.Judged.{judge, unbroken, codeNext};
+ghost use Rattle.engine.specs.Judged.{judge, codeNext};
 use rules::Area;
 use rules::Code;
 use rules::Driven;
@@ -133,22 +133,16 @@ pub fn moved(i: Instruction, r: u64) -> Moved
 pub fn code_moved(x: Code, r: u64) -> Moved
     ensures { λ m. ⌜ m ≡ codeMoved x r ⌝ }
 {
-    match rules::read(x) {
-        Reading::Good(i) => moved(i, r),
+    let l = areas::locate(x);
+    let a = l.area;
+    let y = l.reading;
+    match y {
+        Reading::Good(i) => stepped(i, a, r),
         Reading::Bad => Moved::IllFormed,
     }
 }
 
-pub fn code_verdict(x: Code, r: u64) -> Verdict
-    ensures { λ v. ⌜ v ≡ codeVerdict x r ⌝ }
-{
-    match rules::read(x) {
-        Reading::Good(i) => verdict(i, r),
-        Reading::Bad => Verdict::IllFormed,
-    }
-}
-
-// The area and the verdict of five bytes, read once; bytes that say no instruction have no area.
+// The area and the verdict of five bytes; bytes that say no instruction have no area.
 pub struct Judged {
     pub area: u64,
     pub verdict: Verdict,
@@ -170,6 +164,14 @@ pub fn judge(x: Code, r: u64) -> Judged
             verdict: Verdict::IllFormed,
         },
     }
+}
+
+// The verdict alone.
+pub fn code_verdict(x: Code, r: u64) -> Verdict
+    ensures { λ v. ⌜ v ≡ codeVerdict x r ⌝ }
+{
+    let j = judge(x, r);
+    j.verdict
 }
 
 // The belts or rows that an instruction names leave no gap.
@@ -200,28 +202,21 @@ fn whole(i: Instruction) -> bool
     }
 }
 
-// The record after a well-formed instruction, whether it is allowed or not; where belts or rows leave a gap the record stays.
-fn done(i: Instruction, r: u64) -> u64
-    requires { ⌜ wellFormed i ≡ true ⌝ }
-    ensures { λ n. ⌜ n ≡ cond (unbroken i) (image (next i (bit r))) r ⌝ }
+// The record after the instruction that five bytes say, whether it is allowed or not: for callers who know that it is. Where belts or rows
+// leave a gap, and for bad bytes, the record stays.
+pub fn code_next(x: Code, r: u64) -> u64
+    ensures { λ n. ⌜ n ≡ codeNext x r ⌝ }
 {
-    match areas::area(i) {
-        Area::Mask(a) => {
+    let l = areas::locate(x);
+    let a = l.area;
+    let y = l.reading;
+    match y {
+        Reading::Good(i) => {
             if whole(i) {
                 return next(i, a, r);
             }
             r
         }
-        Area::IllFormed => r,
-    }
-}
-
-// The same of five bytes, for callers who know that it is allowed; bad bytes change nothing.
-pub fn code_next(x: Code, r: u64) -> u64
-    ensures { λ n. ⌜ n ≡ codeNext x r ⌝ }
-{
-    match rules::read(x) {
-        Reading::Good(i) => done(i, r),
         Reading::Bad => r,
     }
 }

@@ -1,27 +1,43 @@
 -- `engine::code_next` meets its contract, by what the bytes say. Assumes nothing.
-use Rattle.engine.proofs.Answers.{well, code-next, bad-next}
+use Rattle.engine.proofs.Answers.{well, area-is, code-next, gap-next, bad-next}
+use mathlib.Core.Path.{sym, _∙_}
 use borrow.Author.Needs.{needs}
 use Rattle.engine.proofs.code_next.Statement.{statement}
 use Rattle.engine.proofs.code_next.Tie as tie
 
-read-requires : tie.Need-read-requires
-read-requires c κs = search needs
+locate-requires : tie.Need-locate-requires
+locate-requires c κs = search needs
 
-enum-known-i : tie.Need-enum-known-i
-enum-known-i c = search needs
+enum-known-y : tie.Need-enum-known-y
+enum-known-y c = search needs
 
-done-requires : tie.Need-done-requires
-done-requires c κs = well (c .before .before .before .before .args .x) (c .before .before .before .before .args .r) (c .before .before .before .read .result) (c .before .before .before .read .ensures) _ (c .before .i .given .1)
+whole-requires : tie.Need-whole-requires
+whole-requires c κs = well (c .before .before .before .before .args .x) (c .before .before .before .locate .result) (c .before .before .before .locate .ensures) (c .before .before .before .before .args .r) _ (c .before .y .given .1)
+
+next-requires : tie.Need-next-requires
+next-requires c κs = (well (c .before .before .before .before .before .before .args .x) (c .before .before .before .before .before .locate .result) (c .before .before .before .before .before .locate .ensures) (c .before .before .before .before .before .before .args .r) _ (c .before .before .before .y .given .1), sym (c .before .whole .ensures) ∙ c .if1 .taken, area-is (c .before .before .before .before .before .before .args .x) (c .before .before .before .before .before .locate .result) (c .before .before .before .before .before .locate .ensures) (c .before .before .before .before .before .before .args .r) _ (c .before .before .before .y .given .1))
+
+returns : tie.Need-returns
+returns c = code-next (c .before .before .before .before .before .before .before .args .x) (c .before .before .before .before .before .before .locate .result) (c .before .before .before .before .before .before .locate .ensures) (c .before .before .before .before .before .before .before .args .r) _ (c .before .before .before .before .y .given .1) (sym (c .before .before .whole .ensures) ∙ c .before .if1 .taken) _ (c .next .ensures)
 
 enum-told : tie.Need-enum-told
 enum-told c = search needs
 
-returns : tie.Need-returns
-returns c = code-next (c .before .before .before .before .before .args .x) (c .before .before .before .before .before .args .r) (c .before .before .before .before .read .result) (c .before .before .before .before .read .ensures) _ (c .before .before .i .given .1) _ (c .done .ensures)
-
 returns-2 : tie.Need-returns-2
-returns-2 c = bad-next (c .before .before .before .args .x) (c .before .before .before .args .r) (c .before .before .read .result) (c .before .before .read .ensures) (c .enum-told .given .1)
+returns-2 c = gap-next (c .before .before .before .before .before .before .args .x) (c .before .before .before .before .before .locate .result) (c .before .before .before .before .before .locate .ensures) (c .before .before .before .before .before .before .args .r) _ (c .before .before .before .y .given .1) (sym (c .before .whole .ensures) ∙ c .if1 .left)
+
+returns-3 : tie.Need-returns-3
+returns-3 c = bad-next (c .before .before .before .args .x) (c .before .before .locate .result) (c .before .before .locate .ensures) (c .before .before .before .args .r) (c .enum-told .given .1)
 
 pub code-next-spec : {M : Type 1} → statement M
 code-next-spec =
-    tie.close (tie.spec read-requires enum-known-i done-requires enum-told returns returns-2)
+    tie.close
+    (tie.spec
+    locate-requires
+    enum-known-y
+    whole-requires
+    next-requires
+    returns
+    enum-told
+    returns-2
+    returns-3)

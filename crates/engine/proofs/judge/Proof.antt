@@ -1,5 +1,5 @@
 -- `engine::judge` meets its contract, by what the bytes say. Assumes nothing.
-use Rattle.engine.proofs.Answers.{given, code-judged, bad-judged}
+use Rattle.engine.proofs.Answers.{well, area-is, code-judged, bad-judged}
 use borrow.Author.Needs.{needs}
 use Rattle.engine.proofs.judge.Statement.{statement}
 use Rattle.engine.proofs.judge.Tie as tie
@@ -11,16 +11,16 @@ enum-known-y : tie.Need-enum-known-y
 enum-known-y c = search needs
 
 told-requires : tie.Need-told-requires
-told-requires c κs = given (c .before .before .before .before .args .x) (c .before .before .before .before .args .r) (c .before .before .before .locate .result) (c .before .before .before .locate .ensures) _ (c .before .y .given .1)
+told-requires c κs = (well (c .before .before .before .before .args .x) (c .before .before .before .locate .result) (c .before .before .before .locate .ensures) (c .before .before .before .before .args .r) _ (c .before .y .given .1), area-is (c .before .before .before .before .args .x) (c .before .before .before .locate .result) (c .before .before .before .locate .ensures) (c .before .before .before .before .args .r) _ (c .before .y .given .1))
 
 enum-told : tie.Need-enum-told
 enum-told c = search needs
 
 returns : tie.Need-returns
-returns c = code-judged (c .before .before .before .before .before .args .x) (c .before .before .before .before .before .args .r) (c .before .before .before .before .locate .result) (c .before .before .before .before .locate .ensures) _ (c .before .before .y .given .1) _ (c .told .ensures)
+returns c = code-judged (c .before .before .before .before .before .args .x) (c .before .before .before .before .locate .result) (c .before .before .before .before .locate .ensures) (c .before .before .before .before .before .args .r) _ (c .before .before .y .given .1) _ (c .told .ensures)
 
 returns-2 : tie.Need-returns-2
-returns-2 c = bad-judged (c .before .before .before .args .x) (c .before .before .before .args .r) (c .before .before .locate .result) (c .before .before .locate .ensures) (c .enum-told .given .1)
+returns-2 c = bad-judged (c .before .before .before .args .x) (c .before .before .locate .result) (c .before .before .locate .ensures) (c .before .before .before .args .r) (c .enum-told .given .1)
 
 pub judge-spec : {M : Type 1} → statement M
 judge-spec =
