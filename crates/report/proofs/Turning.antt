@@ -41,7 +41,7 @@ unfolding countTurn
 as-count-turn t s buf end {w} {counts} {have} {after} (says, leaves) (holds, front) =
     let held = ap (λ (r : Counted). holding (r .used) end buf) says in (
       ap₂ (λ (r : Counted) (n : ℕ). record { station = r .station; have = n; full = r .full; stop = r .stop; failed = false }) says
-      (holds ∙ ap (λ (h : Holding). h .says) held),
+          (holds ∙ ap (λ (h : Holding). h .says) held),
       leaves,
       front ∙ ap (λ (h : Holding). h .leaves) held,
     )
@@ -127,9 +127,9 @@ module _ {counts : List ℕ} {b : Between} {before : List ℕ} (so : SoFar count
     unfolding countTurn holding
     by-bytes {r} {last} {buf} (says, leaves, front) = (
       λ q _. ended (piece ∷ [])
-      (one-more []
-      ∙ ap (λ (t : Bool). cond t (tallyIn w) (countFed (w .leaves) (w .says .station) rest [])) (sym (ap (λ (x : Between). x .stop) says) ∙ q)
-      ∙ ap₂ (λ (l : List ℕ) (n : ℕ). record { totals = totalsOf l; full = n }) (sym leaves) (sym (ap (λ (x : Between). x .full) says))),
+          (one-more []
+          ∙ ap (λ (t : Bool). cond t (tallyIn w) (countFed (w .leaves) (w .says .station) rest [])) (sym (ap (λ (x : Between). x .stop) says) ∙ q)
+          ∙ ap₂ (λ (l : List ℕ) (n : ℕ). record { totals = totalsOf l; full = n }) (sym leaves) (sym (ap (λ (x : Between). x .full) says))),
       λ q. record {
         pieces = so .pieces ++ (piece ∷ []);
         on = λ more.
@@ -147,8 +147,8 @@ module _ {counts : List ℕ} {b : Between} {before : List ℕ} (so : SoFar count
   unfolding closeTurn countFed
   by-end read (_, kept) {r} {last} (says, leaves, front) = (
     λ _ _. ended []
-    (ap (countEnd (totalsOf counts) (b .station)) (sym kept)
-    ∙ ap₂ (λ (l : List ℕ) (n : ℕ). record { totals = totalsOf l; full = n }) (sym leaves) (sym (ap (λ (x : Between). x .full) says))),
+        (ap (countEnd (totalsOf counts) (b .station)) (sym kept)
+        ∙ ap₂ (λ (l : List ℕ) (n : ℕ). record { totals = totalsOf l; full = n }) (sym leaves) (sym (ap (λ (x : Between). x .full) says))),
     λ q. clash (ap (λ (x : Between). x .stop) says) q,
   )
 

@@ -98,7 +98,7 @@ pub rooms-count-the-week : RoomsCountTheWeek
 rooms-count-the-week totals station h l rs a = (
   counted totals station h l rs a .counted,
   after-all (begun totals station) (begun-lent totals station l) rs a
-  ∙ ap (λ (s : Station). stationAfter s (messagesIn rs)) (begun-start totals station l),
+      ∙ ap (λ (s : Station). stationAfter s (messagesIn rs)) (begun-start totals station l),
 )
 
 -- ---- the week

@@ -97,6 +97,12 @@ pub same-held : (c : List ℕ) {h g : Happened} {p : ℕ} {last : List ℕ} → 
     → Holds (countedIn (totalsOf c) h) p last → Holds (countedIn (totalsOf c) g) p last
 same-held c e held = rw (← e) held
 
+-- what is counted by value, where the numbers alone are lent
+pub held-by : (c : List ℕ) {h g : Happened} {r : Tally} → h ≡ g → r ≡ countedIn (totalsOf c) h → Holds (countedIn (totalsOf c) g) (r .full) (r .totals .counts)
+held-by c e f =
+    let same = f ∙ ap (countedIn (totalsOf c)) e in
+    record { full = ap (λ (k : Tally). k .full) same; counts = ap (λ (k : Tally). k .totals .counts) same }
+
 -- so far `at` bytes of the input are taken, and a count from here on is what is left of the whole
 pub record Midway (input : List ℕ) (before : List ℕ) (s₀ : Station) (counts : List ℕ) (s : Station) (at : ℕ) : Type 0 where
   pub within : at ≤ length input

@@ -15,6 +15,8 @@ use floor::masks::DRIVE_OUT;
 use garage::Station;
 use totals::Happened;
 use totals::NOTHING;
+use totals::Tally;
+use totals::Totals;
 use wire::Frame;
 use wire::What;
 
@@ -196,12 +198,27 @@ pub fn happened(s: Station, m: &[u8]) -> Happened
     x.happened
 }
 
+// One set of totals brought up to date with what happened: it is lent to totals::count, and goes on from there.
+fn brought_up(t: Totals, h: Happened) -> Tally
+    ensures { λ r. ⌜ r ≡ countedIn t h ⌝ }
+{
+    let mut totals = t;
+    let full = totals::count(&mut totals, h);
+    Tally { totals, full }
+}
+
 // Counts the first message of m, as it is before the station answers it. NOTHING is told; or the place of the first total that is full, and
 // all stay as they were.
 pub fn count_message(counts: &mut [u32; 52], s: Station, m: &[u8]) -> u8
     ensures { λ p. ⌜ Holds (countedIn (totalsOf (now (counts .entry))) (happened s (now (m .entry)))) p (now (counts .exit)) ⌝ }
 {
-    totals::count_at(counts, happened(s, m))
+    let before = *counts;
+    let t = Totals { counts: before };
+    let c = brought_up(t, happened(s, m));
+    let totals = c.totals;
+    let after = totals.counts;
+    *counts = after;
+    c.full
 }
 
 // ---- a run of messages
