@@ -1,5 +1,5 @@
-// The bits of the record, as numbers of bits and as masks. Code above goes by these names; it writes numbers of bits itself only for the
-// ends of the rows (`belts`) and in whole images (the start record, those of the programs that run examples).
+// The bits of the record, as numbers of bits and as masks. Code above goes by these names; it writes numbers of bits itself only for whole
+// kinds of places (`engine`'s masks) and in whole images (the start record, those of the programs that run examples).
 
 // The first slot of a shuttle, the car on the raised lift, the low digit of the lift's height.
 pub const FIRST_SLOT: u8 = 40;
