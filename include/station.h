@@ -152,7 +152,7 @@ enum {
 };
 
 /* The bytes of stack that a call may take on x86-64, below the frame that makes it. No theorem says so: it is measured on many calls, and
- * added up over the archive's instructions for every path, which comes to 1016 for station_message and less for the others; the C library's
+ * added up over the archive's instructions for every path, which comes to 920 for station_message and less for the others; the C library's
  * memcpy and the like are left out. The desk's entries and the report's take more: DESK_STACK_MOST and REPORT_STACK_MOST. */
 enum { STATION_STACK_MOST = 1024 };
 

@@ -1,6 +1,6 @@
 //! The most stack that a function can take on any path: `paths PROCESSOR FOLDER NAME..` adds up what the compiler says of each function's
-//! frame (the .su files of tools/board) along the calls in its assembly (the .s files beside them), and writes each name with the bytes, its
-//! own return address included where the processor has it on the stack. A frame whose size is not fixed, a call by a pointer and a circle
+//! frame (the .su files of tools/board) along the calls in its assembly (the .s files beside them), and writes each name with the bytes. On x86-64
+//! tests/host/frames.rs does it. A frame whose size is not fixed, a call by a pointer and a circle
 //! of calls are failures. Jumps by a pointer are taken for the tables of a switch: the modules have no pointers to functions.
 
 use std::collections::{BTreeMap, BTreeSet};
@@ -14,21 +14,17 @@ struct Function {
     unread: Option<String>,
 }
 
-/// How a processor's assembly calls: the words for a call and for a last jump, those for a call by a pointer, what a call itself
-/// puts on the stack, and what a function may use below its frame.
+/// How a processor's assembly calls: the words for a call and for a last jump, and those for a call by a pointer.
 struct Processor {
     calls: &'static [&'static str],
     by_pointer: &'static [&'static str],
-    pushed: u64,
-    below: u64,
 }
 
 fn processor(name: &str) -> Processor {
     match name {
-        "cortex-m4" => Processor { calls: &["bl", "b", "b.w"], by_pointer: &["blx"], pushed: 0, below: 0 },
-        "rv32" => Processor { calls: &["call", "tail", "j"], by_pointer: &["jalr"], pushed: 0, below: 0 },
-        "aarch64" => Processor { calls: &["bl", "b"], by_pointer: &["blr"], pushed: 0, below: 0 },
-        "x86-64" => Processor { calls: &["callq", "jmp", "calll", "call"], by_pointer: &[], pushed: 8, below: 128 },
+        "cortex-m4" => Processor { calls: &["bl", "b", "b.w"], by_pointer: &["blx"] },
+        "rv32" => Processor { calls: &["call", "tail", "j"], by_pointer: &["jalr"] },
+        "aarch64" => Processor { calls: &["bl", "b"], by_pointer: &["blr"] },
         _ => panic!("{name} is no processor of this tool"),
     }
 }
@@ -70,7 +66,7 @@ fn read(folder: &Path, by: &Processor) -> Files {
             let mut words = line.split_whitespace();
             let (Some(word), Some(operand)) = (words.next(), words.next()) else { continue };
             let Some(function) = all.get_mut(&own) else { continue };
-            if by.by_pointer.contains(&word) || by.pushed > 0 && word.starts_with("call") && operand.starts_with('*') {
+            if by.by_pointer.contains(&word) {
                 function.unread = Some(line.trim().to_string());
             } else if by.calls.contains(&word) && !operand.starts_with(['.', '*']) {
                 function.calls.insert(bare(operand.trim_end_matches("@PLT")));
@@ -88,15 +84,15 @@ const LIBRARY: [&str; 5] = ["memcpy", "memmove", "memset", "memcmp", "__aeabi_ul
 fn most(files: &Files, by: &Processor, from: Option<usize>, name: &str, above: &[&str]) -> Result<u64, String> {
     let has = |&at: &usize| files[at].contains_key(name);
     let Some(at) = from.filter(has).or_else(|| (0..files.len()).find(has)) else {
-        return if LIBRARY.contains(&name) { Ok(by.pushed + by.below) } else { Err(format!("{name} is not there")) };
+        return if LIBRARY.contains(&name) { Ok(0) } else { Err(format!("{name} is not there")) };
     };
     let function = &files[at][name];
     if let Some(why) = &function.unread { return Err(format!("{name} has {why}")); }
     if above.contains(&name) { return Err(format!("{name} calls itself")); }
     let above = [above, &[name]].concat();
-    let mut below = by.below;
+    let mut below = 0;
     for called in function.calls.iter().filter(|&called| called != name) { below = below.max(most(files, by, Some(at), called, &above)?); }
-    Ok(by.pushed + function.frame + below)
+    Ok(function.frame + below)
 }
 
 fn main() {
