@@ -2,6 +2,7 @@
 
 #[path = "../tests/host/reference.rs"]
 mod reference;
+#[allow(dead_code)] // only the mixed traffic is written
 #[path = "../tests/host/traffic.rs"]
 mod traffic;
 
