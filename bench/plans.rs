@@ -1,23 +1,17 @@
 //! How many plans of 64 sets of eight instructions are judged in a second, by the station's entry and by the reference, in turns: `plans`.
 //! All of them are accepted, so that every set is looked at. Prints the best of seven rounds of each.
 
-#[path = "../tests/host/plan_reference.rs"]
-mod plan_reference;
 #[path = "../tests/host/plan_traffic.rs"]
 mod plan_traffic;
 #[path = "../hosts/rust/src/raw/plan.rs"]
 mod raw;
-#[path = "../tests/host/reference.rs"]
-mod reference;
-#[path = "../tests/host/traffic.rs"]
-mod traffic;
 
-use plan_reference::MOST_SETS;
 use plan_traffic::{after_all, Draft};
-use reference::{Parts, START};
+use shared::plan_reference::{self, MOST_SETS};
+use shared::reference::{Parts, START};
+use shared::traffic::{allowed_set, Numbers};
 use std::hint::black_box;
 use std::time::Instant;
-use traffic::{allowed_set, Numbers};
 
 const PLANS: usize = 16;
 const AGAIN: usize = 40;
