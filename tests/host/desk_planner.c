@@ -76,7 +76,7 @@ static void drive(const char *what, uint8_t event, uint32_t card) {
 static void must_refuse(const char *what, unsigned number, uint32_t answer, const uint8_t *before) {
     if (STATION_NUMBER(answer) != number || STATION_PLACE(answer) != STATION_NOWHERE || memcmp(room, before, sizeof room) != 0)
         stop(what);
-    printf("refused with %u (%s): %s\n", number, words(number), what);
+    printf("refused with %u (%s): %s\n", number, station_words(number), what);
 }
 
 static void must_not_begin(const char *what, uint32_t card, unsigned number) {
@@ -118,7 +118,7 @@ static void gets_stuck(const char *what, Instruction i) {
 static void must_keep_off(Instruction i) {
     uint32_t answer = desk_request(room, sizeof room, 1, i.five, sizeof i.five);
     if (STATION_NUMBER(answer) != STATION_SET_APART) stop("what is set apart is touched");
-    printf("refused with %u (%s): ", STATION_SET_APART, words(STATION_SET_APART));
+    printf("refused with %u (%s): ", STATION_SET_APART, station_words(STATION_SET_APART));
     say_instruction(&i);
 }
 

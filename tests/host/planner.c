@@ -39,7 +39,7 @@ static bool allows(Instruction i, unsigned reason) {
         must("question", answer);
         return true;
     }
-    printf("not now, %u (%s): ", reason, words(reason));
+    printf("not now, %u (%s): ", reason, station_words(reason));
     say_instruction(&i);
     return false;
 }
@@ -53,7 +53,7 @@ static void must_refuse(Instruction i, unsigned number) {
         printf("stopped: %u was asked about and %u answered, not %u\n", STATION_NUMBER(asked), STATION_NUMBER(answer), number);
         exit(1);
     }
-    printf("refused with %u (%s): ", number, words(number));
+    printf("refused with %u (%s): ", number, station_words(number));
     say_instruction(&i);
 }
 
@@ -137,7 +137,7 @@ static void must_keep_off(Instruction i, Instruction j) {
         printf("stopped: answered %u at %u\n", STATION_NUMBER(answer), STATION_PLACE(answer));
         exit(1);
     }
-    printf("refused with %u (%s) at 1: ", STATION_SET_APART, words(STATION_SET_APART));
+    printf("refused with %u (%s) at 1: ", STATION_SET_APART, station_words(STATION_SET_APART));
     say_instruction(&j);
 }
 

@@ -4,6 +4,7 @@
 
 #include "desk.h"
 #include "drawing.h"
+#include "station_words.h"
 
 #include <inttypes.h>
 #include <stdio.h>
@@ -26,46 +27,6 @@ static inline Instruction shuttles(int side, int rows, int toward) { return code
 static inline Instruction lift(int height) { return code(GARAGE_LIFT, height, 0, 0, 0); }
 
 /* ---- in words */
-
-static const char *const numbers[] = {
-    [STATION_TAKEN] = "taken",
-    [STATION_TOO_FEW_BYTES] = "fewer bytes than the message says",
-    [STATION_BAD_LENGTH] = "length below 2, above 43, or not the kind's",
-    [STATION_UNKNOWN_KIND] = "unknown kind",
-    [STATION_BAD_FIELD] = "a field out of range",
-    [STATION_TOO_MANY] = "more than eight instructions",
-    [STATION_SET_OUTSTANDING] = "a set is outstanding",
-    [STATION_EMPTY_SET] = "empty set",
-    [STATION_OVERLAP] = "overlap",
-    [STATION_EVENT_IMPOSSIBLE] = "event impossible",
-    [STATION_NO_SET] = "no set is outstanding",
-    [STATION_NOT_IN_SET] = "not in the set",
-    [STATION_ALREADY_ANSWERED] = "already answered",
-    [STATION_UNSOUND] = "image not sound",
-    [STATION_UNFIT] = "station unfit",
-    [STATION_NO_ROOM] = "room too small",
-    [STATION_NOTHING_NAMED] = "nothing named",
-    [STATION_GAP] = "a gap between those named",
-    [STATION_NOT_AVAILABLE] = "not available",
-    [STATION_NOT_FREE] = "no free place to move to",
-    [STATION_ODD_COUNT] = "odd count: a car would be torn",
-    [STATION_HALF_MOVE] = "half move in row 2 or 3",
-    [STATION_SAME_HEIGHT] = "already at that height",
-    [STATION_NOT_AT_ROTATION] = "not at rotation height",
-    [STATION_CELLS_NOT_FREE] = "cells not free for the tilt or the rotation",
-    [STATION_LATE] = "late: of a set before the present one",
-    [STATION_NOT_ISSUED] = "of a set that was not issued",
-    [STATION_OUT_OF_TURN] = "out of turn",
-    [STATION_SET_APART] = "a part is set apart",
-    [DESK_ZERO_NUMBER] = "number zero",
-    [DESK_KNOWN_NUMBER] = "number already in the garage, or given twice",
-    [DESK_WRONG_COUNT] = "not that many numbers",
-};
-
-static inline const char *words(unsigned number) {
-    const char *found = number < sizeof numbers / sizeof *numbers ? numbers[number] : NULL;
-    return found != NULL ? found : "?";
-}
 
 static const char *const belts_of_row_1[] = {"left shuttle's", "left", "lift's", "right", "right shuttle's"};
 static const char *const belts_of_others[] = {"left shuttle's", "middle", "right shuttle's"};
@@ -119,7 +80,7 @@ static inline void say_instruction(const Instruction *i) {
 static inline void must(const char *call, uint32_t answer) {
     unsigned number = STATION_NUMBER(answer);
     if (number == STATION_TAKEN) return;
-    printf("stopped: %s is refused with %u (%s)", call, number, words(number));
+    printf("stopped: %s is refused with %u (%s)", call, number, station_words(number));
     if (STATION_PLACE(answer) != STATION_NOWHERE) printf(" at instruction %u", STATION_PLACE(answer));
     putchar('\n');
     exit(1);

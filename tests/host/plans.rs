@@ -26,27 +26,27 @@ fn returned(Verdict { number, set }: Verdict) -> u32 { u32::from(number) + 256 *
 /// What a plan can be told as a whole, and of a set of it, with the words of the program's line.
 const OF_THE_PLAN: [(u8, &str); 6] = [
     (0, "accepted"),
-    (1, "fewer bytes than the plan says"),
-    (4, "a wish that is neither 0 nor 1, or bytes left over"),
+    (1, "fewer bytes than it says"),
+    (4, "a field out of range: a wish that is neither 0 nor 1, or bytes left over"),
     (15, "image not sound"),
     (35, "more than 64 sets"),
     (36, "wish not met"),
 ];
 const OF_A_SET: [(u8, &str); 14] = [
-    (4, "a field out of range, or a spare byte not zero"),
+    (4, "a field out of range"),
     (5, "more than eight instructions"),
     (7, "empty set"),
     (8, "overlap"),
     (20, "nothing named"),
-    (21, "gap"),
+    (21, "a gap between those named"),
     (22, "not available"),
-    (23, "end, next row or slot below not free or not there"),
-    (24, "odd count"),
+    (23, "no free place to move to"),
+    (24, "odd count: a car would be torn"),
     (25, "half move in row 2 or 3"),
-    (26, "same height"),
+    (26, "already at that height"),
     (27, "not at rotation height"),
-    (28, "cells not free for tilt or rotation"),
-    (31, "the lift in an area while a drive is under way"),
+    (28, "cells not free for the tilt or the rotation"),
+    (31, "out of turn: the lift in an area while a drive is under way"),
 ];
 
 /// The program's line.
