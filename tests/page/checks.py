@@ -215,7 +215,7 @@ def motors_play(page, url):
 
 
 def night_log(page, url):
-    text = re.search(r"cat >~/night.log <<'end'\n(.*?)end\n", (ROOT / "README.md").read_text(), re.DOTALL)[1]
+    text = re.search(r"cat >~/night.log <<'end'\n(.*?)end\n", (ROOT / "docs/FIRST-HOUR.md").read_text(), re.DOTALL)[1]
     same(len(text.splitlines()), 4, "lines of the night log")
     page.open(url)
     page.click("#tab-log")

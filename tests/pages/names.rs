@@ -59,7 +59,7 @@ fn main() {
                 eprintln!("names: {page}:{}: {what}", number + 1);
                 faults += 1;
             };
-            let beside: HashSet<_> = links(line).into_iter().flat_map(|(text, _)| between(text, '`')).collect();
+            let beside: HashSet<_> = between(line, '`').collect();
             for (text, target) in links(line) {
                 let path = folder.join(target.split('#').next().unwrap_or_default());
                 let file = path.to_string_lossy();

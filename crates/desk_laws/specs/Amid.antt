@@ -24,6 +24,7 @@ abbrev pub deskInterrupted : List DeskCall → List DeskCall
 deskInterrupted [] = []
 deskInterrupted (c ∷ l) = desk.ask ∷ desk.event 0 0 ∷ c ∷ deskInterrupted l
 
+-- such lists exist for every desk and every list of calls
 abbrev pub DeskAmidExists : Type 0
 DeskAmidExists = (d : Desk) (l : List DeskCall) → DeskAmid d l (deskInterrupted l)
 

@@ -110,6 +110,7 @@ downWithSeven = desk.event 1 7 ∷ desk.event 3 0 ∷ desk.request 1 ((4 ∷ 2 �
 abbrev pub isDown : DeskCall
 isDown = desk.reports (record { issue = 0; number = 0; ending = 1 })
 
+-- with that result the number goes from the raised lift to the lift's cells
 abbrev pub FollowHappens : Type 0
 FollowHappens =
     let d = calls startDesk downWithSeven in

@@ -33,6 +33,7 @@ use Rattle.garage_laws.specs.Jams.{stuck, jamAt, has, finished, Chosen}
 
 -- ---- 1. It always answers: a refused call leaves the station as it was
 
+-- a call that is rejected leaves the station as it was, whatever station and call
 abbrev pub RefusedUntouched : Type 0
 RefusedUntouched = (s : Station) (c : Call) → (said s c ≡ 0 → ⊥) → left s c ≡ s
 

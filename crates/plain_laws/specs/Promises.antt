@@ -80,6 +80,7 @@ pub record Same : Type 0 where
   pub result : (s : Station) (r : Report) → SoundStation s → packedOutcome (plainResulted (plainOf s) r) ≡ resulted s r
   pub event : (s : Station) (e : ℕ) → SoundStation s → packedOutcome (plainEvented (plainOf s) e) ≡ evented s e
 
+-- the plain engine and the packed one say the same on every sound record, of instructions, sets, results and events
 abbrev pub SameAsPacked : Type 0
 SameAsPacked = Same
 

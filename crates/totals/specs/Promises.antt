@@ -49,5 +49,6 @@ pub record Stops (hs : List Happened) (c : Tally) : Type 0 where
   pub totals : c .totals ≡ countedAll blank before .totals
   pub first : IsLeast size (λ p. ltb most (tally (nameAt p) (before ++ last ∷ []))) (c .full)
 
+-- where one is full, the count has stopped so
 abbrev pub FullStops : Type 0
 FullStops = (hs : List Happened) → (countedAll blank hs .full ≡ nothing → ⊥) → Stops hs (countedAll blank hs)
