@@ -1,5 +1,5 @@
-//! Every name on the given pages is there: the file that a link names exists, and what is marked as a name in the link's text is defined
-//! in that file. A theorem that is linked in proofs/ and proves a statement that has a name must prove one that its own line of
+//! Every name on the given pages is there: the file that a link names exists, so does the heading that it names in a page, and what is marked
+//! as a name in the link's text is defined in that file. A theorem that is linked in proofs/ and proves a statement that has a name must prove one that its own line of
 //! the page names.
 use std::collections::HashSet;
 use std::fs;
@@ -9,13 +9,24 @@ use std::process::exit;
 /// The parts of a line between two marks.
 fn between(text: &str, mark: char) -> impl Iterator<Item = &str> { text.split(mark).skip(1).step_by(2) }
 
+/// Whether a page has a heading that a link to it names: in small letters, with - for a blank, and without signs.
+fn has_heading(page: &str, anchor: &str) -> bool {
+    let mut code = false;
+    page.lines().any(|line| {
+        code ^= line.starts_with("```");
+        let words = line.trim_start_matches('#').trim().to_lowercase();
+        let kept = words.chars().filter(|c| c.is_alphanumeric() || "-_ ".contains(*c)).map(|c| if c == ' ' { '-' } else { c });
+        !code && line.starts_with('#') && kept.eq(anchor.chars())
+    })
+}
+
 /// The links of a line: text and target, web addresses left out.
 fn links(line: &str) -> Vec<(&str, &str)> {
     let mut found = Vec::new();
     for (at, _) in line.match_indices("](") {
         let text = line[..at].rsplit_once('[').map_or("", |(_, text)| text);
         let target = line[at + 2..].split(')').next().unwrap_or_default();
-        if !target.contains("://") && !target.starts_with('#') { found.push((text, target)); }
+        if !target.contains("://") { found.push((text, target)); }
     }
     found
 }
@@ -61,13 +72,15 @@ fn main() {
             };
             let beside: HashSet<_> = between(line, '`').collect();
             for (text, target) in links(line) {
-                let path = folder.join(target.split('#').next().unwrap_or_default());
+                let (file, anchor) = target.split_once('#').unwrap_or((target, ""));
+                let path = if file.is_empty() { Path::new(&page).to_path_buf() } else { folder.join(file) };
                 let file = path.to_string_lossy();
                 if !path.exists() {
                     fault(format!("{target} is not there"));
                     continue;
                 }
                 let content = fs::read_to_string(&path).unwrap_or_default();
+                if file.ends_with(".md") && !anchor.is_empty() && !has_heading(&content, anchor) { fault(format!("{target} has no such heading")); }
                 for name in between(text, '`').filter(|name| !name.contains('/')) {
                     names += 1;
                     if path.is_file() && !defines(&file, &content, name, &beside) { fault(format!("{target} does not have `{name}`")); }
