@@ -1,14 +1,8 @@
 //! How many drawings are written and read in a second, by the station's entries and by the reference, in turns: `drawings`. The records are
 //! sound ones of every sort, so that every drawing is written and every text is taken. Prints the best of seven rounds of each.
 
-#[allow(dead_code)] // wrong references are not timed
-#[path = "../tests/host/drawer.rs"]
-mod drawer;
-#[path = "../tests/host/drawing_traffic.rs"]
-mod drawing_traffic;
-
-use drawer::{Drawer, ENTRIES, REFERENCE};
-use drawing_traffic::sound_record;
+use entries::drawer::{Drawer, ENTRIES, REFERENCE};
+use shared::drawing_traffic::sound_record;
 use shared::traffic::Numbers;
 use std::hint::black_box;
 use std::time::Instant;

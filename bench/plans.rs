@@ -1,15 +1,11 @@
 //! How many plans of 64 sets of eight instructions are judged in a second, by the station's entry and by the reference, in turns: `plans`.
 //! All of them are accepted, so that every set is looked at. Prints the best of seven rounds of each.
 
-#[path = "../tests/host/plan_traffic.rs"]
-mod plan_traffic;
-#[path = "../hosts/rust/src/raw/plan.rs"]
-mod raw;
-
-use plan_traffic::{after_all, Draft};
-use shared::plan_reference::{self, MOST_SETS};
-use shared::reference::{Parts, START};
+use reference::plan::{self, MOST_SETS};
+use reference::{Parts, START};
+use shared::plan_traffic::{after_all, Draft};
 use shared::traffic::{allowed_set, Numbers};
+use station::raw::plan as raw;
 use std::hint::black_box;
 use std::time::Instant;
 
@@ -19,7 +15,7 @@ const AGAIN: usize = 40;
 fn by_station(plan: &[u8]) -> u32 { unsafe { raw::plan_judge(plan.as_ptr(), plan.len()) } }
 
 fn by_reference(plan: &[u8]) -> u32 {
-    let told = plan_reference::judge(plan);
+    let told = plan::judge(plan);
     u32::from(told.number) + 256 * u32::from(told.set)
 }
 

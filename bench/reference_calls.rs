@@ -1,9 +1,6 @@
 //! Times the reference's calls as bench/entries.c times the entries, each on the same station and arguments, lent as bytes. With a
 //! name, only those calls are made and nothing is printed.
 
-#[path = "../tests/host/reference.rs"]
-mod reference;
-
 use reference::{answer, Answer, Call, Instruction, Station, START};
 use std::hint::black_box;
 use std::time::Instant;

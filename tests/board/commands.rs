@@ -1,7 +1,7 @@
-//! Commands for the program that makes calls as it is told to (tests/host/entries.c), kept as bytes, and a run of them under an emulator
+//! Commands for the program that makes calls as it is told to (tests/entries/entries.c), kept as bytes, and a run of them under an emulator
 //! that counts each call's instructions.
 
-use shared::command::{self, ENTRIES};
+use reference::command::{self, ENTRIES};
 use shared::trials::{self, Given, Trial};
 
 /// The command that these bytes are.

@@ -6,8 +6,8 @@
 mod commands;
 
 use shared::calls::{any_call, lent_station};
-use shared::command::ENTRIES;
-use shared::reference::Station;
+use reference::command::ENTRIES;
+use reference::Station;
 use shared::traffic::{self, Numbers};
 use shared::trials::{Given, Trial};
 use std::process::exit;

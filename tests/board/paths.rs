@@ -1,6 +1,6 @@
 //! The most stack that a function can take on any path: `paths PROCESSOR FOLDER NAME..` adds up what the compiler says of each function's
 //! frame (the .su files of tools/board) along the calls in its assembly (the .s files beside them), and writes each name with the bytes. On x86-64
-//! tests/host/frames.rs does it. A frame whose size is not fixed, a call by a pointer and a circle
+//! tests/differential/src/frames.rs does it. A frame whose size is not fixed, a call by a pointer and a circle
 //! of calls are failures. Jumps by a pointer are taken for the tables of a switch: the modules have no pointers to functions.
 
 use std::collections::{BTreeMap, BTreeSet};

@@ -6,8 +6,8 @@
 mod commands;
 
 use shared::calls::{any_call, lent_station};
-use shared::command::ENTRIES;
-use shared::reference::{Parts, Station};
+use reference::command::ENTRIES;
+use reference::{Parts, Station};
 use shared::traffic::{self, any_five, good_five, Numbers};
 use shared::trials::Given;
 

@@ -1,15 +1,21 @@
 //! The words for people: instructions as the texts of plans and of the panel have them (docs/PLANS.md, docs/PANEL.md), read and written, and
 //! records in hexadecimal.
-#![allow(dead_code)] // each program uses its own part of this module
 
-// Numbers as the messages have them, by the places of their words.
+/// Rows, from number 1 on.
 pub const ROWS: [&str; 3] = ["1", "2", "3"];
+/// The belts of row 1, by their bits.
 pub const BELTS_OF_ROW_1: [&str; 5] = ["left-shuttle", "left", "lift", "right", "right-shuttle"];
+/// The belts of rows 2 and 3, by their bits.
 pub const BELTS: [&str; 3] = ["left-shuttle", "middle", "right-shuttle"];
+/// Toward which columns or rows, by their numbers; the same below.
 pub const WAYS: [&str; 2] = ["lower", "higher"];
+/// How far belts go.
 pub const SIZES: [&str; 2] = ["half", "full"];
+/// The sides of the shuttles.
 pub const SIDES: [&str; 2] = ["left", "right"];
+/// How a shuttle stands.
 pub const ORIENTATIONS: [&str; 2] = ["lowered", "tilted"];
+/// The heights of the lift.
 pub const HEIGHTS: [&str; 3] = ["street", "rotation", "basement"];
 const INSTRUCTIONS: [&str; 5] = ["belts", "shuttles", "tilt", "lift", "rotate"];
 
@@ -28,6 +34,7 @@ fn listed(names: &[&str]) -> String {
 pub struct Words<'a>(Vec<&'a str>);
 
 impl<'a> Words<'a> {
+    /// The words of a line.
     pub fn of(line: &'a str) -> Self {
         Words(line.split(|letter: char| letter.is_whitespace() || letter == ',').filter(|word| !word.is_empty()).rev().collect())
     }
@@ -46,6 +53,7 @@ impl<'a> Words<'a> {
         Some(at as u8)
     }
 
+    /// The place of the next word among some, or what is wrong with it.
     pub fn one_of(&mut self, names: &[&str]) -> Result<u8, Wrong> { self.among(names).ok_or_else(|| self.wrong(&listed(names))) }
 
     /// Of all that come next, a bit for each name; the words that may follow them are told too where neither comes.
@@ -62,6 +70,7 @@ impl<'a> Words<'a> {
     /// All that are left, as one.
     pub fn rest(&mut self) -> String { self.0.drain(..).rev().collect() }
 
+    /// That no word is left.
     pub fn end(&self) -> Result<(), Wrong> {
         self.0.last().map_or(Ok(()), |word| Err(format!("`{word}` and what follows it is more than the line can say")))
     }

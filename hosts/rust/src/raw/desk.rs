@@ -1,5 +1,4 @@
 //! The desk's entries as the archive has them (include/desk.h).
-#![allow(dead_code)] // each program uses its own part of this module
 
 unsafe extern "C" {
     /// Writes the start desk.
