@@ -12,7 +12,9 @@ use std::time::Instant;
 const PLANS: usize = 16;
 const AGAIN: usize = 40;
 
-fn by_station(plan: &[u8]) -> u32 { unsafe { raw::plan_judge(plan.as_ptr(), plan.len()) } }
+fn by_station(plan: &[u8]) -> u32 {
+    unsafe { raw::plan_judge(plan.as_ptr(), plan.len()) }
+}
 
 fn by_reference(plan: &[u8]) -> u32 {
     let told = plan::judge(plan);
@@ -38,7 +40,9 @@ fn long_plan(numbers: &mut Numbers) -> Option<Vec<u8>> {
 fn timed(plans: &[Vec<u8>], judge: fn(&[u8]) -> u32) -> f64 {
     let begun = Instant::now();
     for _ in 0..AGAIN {
-        for plan in plans { black_box(judge(black_box(plan))); }
+        for plan in plans {
+            black_box(judge(black_box(plan)));
+        }
     }
     begun.elapsed().as_secs_f64()
 }
@@ -53,5 +57,10 @@ fn main() {
         ours = ours.min(timed(&plans, by_station));
     }
     let each = (PLANS * AGAIN) as f64;
-    println!("plans of 64 sets of eight: reference {:.0} a second, station {:.0}, {:.2} times its time", each / theirs, each / ours, ours / theirs);
+    println!(
+        "plans of 64 sets of eight: reference {:.0} a second, station {:.0}, {:.2} times its time",
+        each / theirs,
+        each / ours,
+        ours / theirs
+    );
 }

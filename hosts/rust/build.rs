@@ -63,4 +63,6 @@ fn built() -> PathBuf {
 }
 
 /// When a file was last written, if it is there.
-fn written(file: &Path) -> Option<SystemTime> { fs::metadata(file).and_then(|about| about.modified()).ok() }
+fn written(file: &Path) -> Option<SystemTime> {
+    fs::metadata(file).and_then(|about| about.modified()).ok()
+}

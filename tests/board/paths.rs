@@ -52,15 +52,20 @@ type Files = Vec<BTreeMap<String, Function>>;
 fn read(folder: &Path, by: &Processor) -> Files {
     let mut files = Vec::new();
     for file in std::fs::read_dir(folder).expect("a folder").map(|file| file.expect("a file").path()) {
-        if file.extension().is_none_or(|suffix| suffix != "s") { continue; }
-        let text = |suffix: &str| std::fs::read_to_string(file.with_extension(suffix)).unwrap_or_else(|why| panic!("{}: {why}", file.display()));
+        if file.extension().is_none_or(|suffix| suffix != "s") {
+            continue;
+        }
+        let text =
+            |suffix: &str| std::fs::read_to_string(file.with_extension(suffix)).unwrap_or_else(|why| panic!("{}: {why}", file.display()));
         let mut all = frames(&text("su"));
         let mut own = String::new();
         for line in text("s").lines() {
             let bare = |name: &str| name.trim_matches('"').to_string();
             if !line.starts_with([' ', '\t']) {
                 let label = line.split_whitespace().next().and_then(|word| word.strip_suffix(':')).map_or(String::new(), bare);
-                if all.contains_key(&label) { own = label; }
+                if all.contains_key(&label) {
+                    own = label;
+                }
                 continue;
             }
             let mut words = line.split_whitespace();
@@ -87,11 +92,17 @@ fn most(files: &Files, by: &Processor, from: Option<usize>, name: &str, above: &
         return if LIBRARY.contains(&name) { Ok(0) } else { Err(format!("{name} is not there")) };
     };
     let function = &files[at][name];
-    if let Some(why) = &function.unread { return Err(format!("{name} has {why}")); }
-    if above.contains(&name) { return Err(format!("{name} calls itself")); }
+    if let Some(why) = &function.unread {
+        return Err(format!("{name} has {why}"));
+    }
+    if above.contains(&name) {
+        return Err(format!("{name} calls itself"));
+    }
     let above = [above, &[name]].concat();
     let mut below = 0;
-    for called in function.calls.iter().filter(|&called| called != name) { below = below.max(most(files, by, Some(at), called, &above)?); }
+    for called in function.calls.iter().filter(|&called| called != name) {
+        below = below.max(most(files, by, Some(at), called, &above)?);
+    }
     Ok(function.frame + below)
 }
 

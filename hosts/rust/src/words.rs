@@ -54,21 +54,31 @@ impl<'a> Words<'a> {
     }
 
     /// The place of the next word among some, or what is wrong with it.
-    pub fn one_of(&mut self, names: &[&str]) -> Result<u8, Wrong> { self.among(names).ok_or_else(|| self.wrong(&listed(names))) }
+    pub fn one_of(&mut self, names: &[&str]) -> Result<u8, Wrong> {
+        self.among(names).ok_or_else(|| self.wrong(&listed(names)))
+    }
 
     /// Of all that come next, a bit for each name; the words that may follow them are told too where neither comes.
     fn all_of(&mut self, names: &[&str], then: &[&str]) -> Result<u8, Wrong> {
         let mut mask = 0;
         while let Some(at) = self.among(names) {
-            if mask >> at & 1 == 1 { return Err(format!("`{}` stands twice", names[usize::from(at)])); }
+            if mask >> at & 1 == 1 {
+                return Err(format!("`{}` stands twice", names[usize::from(at)]));
+            }
             mask |= 1 << at;
         }
         let follows = self.0.last().is_some_and(|word| then.contains(word));
-        if follows { Ok(mask) } else { Err(self.wrong(&listed(&[names, then].concat()))) }
+        if follows {
+            Ok(mask)
+        } else {
+            Err(self.wrong(&listed(&[names, then].concat())))
+        }
     }
 
     /// All that are left, as one.
-    pub fn rest(&mut self) -> String { self.0.drain(..).rev().collect() }
+    pub fn rest(&mut self) -> String {
+        self.0.drain(..).rev().collect()
+    }
 
     /// That no word is left.
     pub fn end(&self) -> Result<(), Wrong> {
@@ -78,13 +88,21 @@ impl<'a> Words<'a> {
 
 /// The bytes of a record, the lowest first, from sixteen digits.
 pub fn record_in(digits: &str) -> Option<[u8; 8]> {
-    if digits.len() != 16 || !digits.bytes().all(|digit| digit.is_ascii_hexdigit()) { return None; }
+    if digits.len() != 16 || !digits.bytes().all(|digit| digit.is_ascii_hexdigit()) {
+        return None;
+    }
     let byte = |at: usize| u8::from_str_radix(&digits[2 * at..2 * at + 2], 16).unwrap_or(0);
     Some(std::array::from_fn(byte))
 }
 
 /// The belts of a row.
-pub fn belts_of(row: u8) -> &'static [&'static str] { if row == 1 { &BELTS_OF_ROW_1 } else { &BELTS } }
+pub fn belts_of(row: u8) -> &'static [&'static str] {
+    if row == 1 {
+        &BELTS_OF_ROW_1
+    } else {
+        &BELTS
+    }
+}
 
 /// An instruction's five bytes.
 pub fn instruction(words: &mut Words) -> Result<[u8; 5], Wrong> {
@@ -113,7 +131,9 @@ pub fn instruction(words: &mut Words) -> Result<[u8; 5], Wrong> {
 }
 
 /// The word of a number.
-pub fn word(names: &[&'static str], at: u8) -> &'static str { names.get(usize::from(at)).copied().unwrap_or("?") }
+pub fn word(names: &[&'static str], at: u8) -> &'static str {
+    names.get(usize::from(at)).copied().unwrap_or("?")
+}
 
 /// The names whose bits a mask has.
 pub fn named(names: &[&'static str], mask: u8) -> Vec<&'static str> {

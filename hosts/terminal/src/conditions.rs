@@ -35,12 +35,18 @@ struct Asked {
     alone: String,
 }
 
-fn asked(words: impl Into<String>, asks: Asks, alone: impl Into<String>) -> Asked { Asked { words: words.into(), asks, alone: alone.into() } }
+fn asked(words: impl Into<String>, asks: Asks, alone: impl Into<String>) -> Asked {
+    Asked { words: words.into(), asks, alone: alone.into() }
+}
 
 /// What a mask names.
 fn all_named(names: &[&'static str], mask: u8) -> String {
     let all = named(names, mask);
-    if all.is_empty() { "none is named".to_string() } else { format!("named: {}", all.join(", ")) }
+    if all.is_empty() {
+        "none is named".to_string()
+    } else {
+        format!("named: {}", all.join(", "))
+    }
 }
 
 /// The same, and behind it what it leaves out between two that it names.
@@ -48,12 +54,18 @@ fn with_gaps(names: &[&'static str], mask: u8) -> String {
     let inside = |at: u32| mask >> at & 1 == 0 && mask & ((1 << at) - 1) != 0 && mask >> at != 0;
     let gaps: Vec<&str> = (0..).zip(names).filter(|(at, _)| inside(*at)).map(|(_, name)| *name).collect();
     let all = all_named(names, mask);
-    if gaps.is_empty() { all } else { format!("{all}; between them: {}", gaps.join(", ")) }
+    if gaps.is_empty() {
+        all
+    } else {
+        format!("{all}; between them: {}", gaps.join(", "))
+    }
 }
 
 /// The row that shuttles would move into, in words, where there is none.
 fn no_next_row(mask: u8, toward: u8) -> String {
-    if mask == 0 { return "no row is named".to_string(); }
+    if mask == 0 {
+        return "no row is named".to_string();
+    }
     format!("there is no row {} than row {}", word(&WAYS, toward), if toward == 0 { 1 } else { 3 })
 }
 
@@ -108,7 +120,9 @@ pub const CELLS: u8 = 40;
 pub const SLOTS: std::ops::Range<u8> = 40..52;
 pub const LIFT: u8 = 52;
 
-pub fn has(image: u64, at: u8) -> bool { image >> at & 1 == 1 }
+pub fn has(image: u64, at: u8) -> bool {
+    image >> at & 1 == 1
+}
 
 /// Some numbers, from three that follow each other on as a range.
 fn numbers(all: &[u8]) -> String {
@@ -120,7 +134,9 @@ fn numbers(all: &[u8]) -> String {
 }
 
 /// Some cells by their numbers.
-pub fn cells(all: &[u8]) -> String { format!("{} {}", if all.len() == 1 { "cell" } else { "cells" }, numbers(all)) }
+pub fn cells(all: &[u8]) -> String {
+    format!("{} {}", if all.len() == 1 { "cell" } else { "cells" }, numbers(all))
+}
 
 /// What some cells are, where they should be free, or an even number of them occupied; and whether they are not.
 fn of_cells(image: u64, all: &[u8], even: bool) -> (String, bool) {
@@ -147,14 +163,22 @@ fn of_slot(image: u64, slot: u8, wanted: bool) -> (String, bool) {
 }
 
 /// Where the lift is.
-pub fn of_lift(image: u64) -> String { format!("lift at {}", word(&HEIGHTS, (image >> 53 & 3) as u8)) }
+pub fn of_lift(image: u64) -> String {
+    format!("lift at {}", word(&HEIGHTS, (image >> 53 & 3) as u8))
+}
 
 /// Cells in groups: those that follow each other; of a lift that leaves the basement its own two and those on either side.
 fn groups(parts: u64, asks: Asks) -> Vec<Vec<u8>> {
     let all: Vec<u8> = (0..CELLS).filter(|&cell| has(parts, cell)).collect();
     match asks {
         Asks::Whole => [11..13, 0..11, 13..20].map(|group| all.iter().copied().filter(|cell| group.contains(cell)).collect()).into(),
-        Asks::Even => if all.is_empty() { Vec::new() } else { vec![all] },
+        Asks::Even => {
+            if all.is_empty() {
+                Vec::new()
+            } else {
+                vec![all]
+            }
+        }
         _ => all.chunk_by(|one, next| one + 1 == *next).map(<[u8]>::to_vec).collect(),
     }
 }
@@ -185,10 +209,27 @@ fn decided(asked: &Asked, condition: &Condition, image: u64) -> Vec<String> {
         return lines;
     }
     let basement = image >> 53 & 3 == 2;
-    if condition.parts.lift() { line((of_lift(image), match asked.asks { Asks::There => !basement, asks => asks == Asks::Height })); }
-    for slot in SLOTS.filter(|&slot| condition.parts.has(slot)) { line(of_slot(image, slot, asked.asks == Asks::There)); }
+    if condition.parts.lift() {
+        line((
+            of_lift(image),
+            match asked.asks {
+                Asks::There => !basement,
+                asks => asks == Asks::Height,
+            },
+        ));
+    }
+    for slot in SLOTS.filter(|&slot| condition.parts.has(slot)) {
+        line(of_slot(image, slot, asked.asks == Asks::There));
+    }
     for (at, group) in groups(condition.parts.0, asked.asks).iter().enumerate() {
-        line(of_cells(image, group, match asked.asks { Asks::Whole => at > 0, asks => asks == Asks::Even }));
+        line(of_cells(
+            image,
+            group,
+            match asked.asks {
+                Asks::Whole => at > 0,
+                asks => asks == Asks::Even,
+            },
+        ));
     }
     lines
 }

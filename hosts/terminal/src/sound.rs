@@ -8,7 +8,9 @@ const SIDES: [&str; 2] = ["left", "right"];
 const POSITIONS: [u64; 6] = [3, 1 << 20, 1 << 30, 3 << 18, 1 << 29, 1 << 39];
 const LIFT_CELLS: u64 = 3 << 11;
 
-fn has(image: u64, bit: usize) -> bool { image >> bit & 1 == 1 }
+fn has(image: u64, bit: usize) -> bool {
+    image >> bit & 1 == 1
+}
 
 /// Row 1's cells that stand side by side and are an odd number: a car has two.
 fn halves(image: u64) -> Vec<String> {
@@ -30,8 +32,12 @@ fn shuttles(image: u64) -> Vec<String> {
     for (side, name) in SIDES.iter().enumerate() {
         let count = |from: usize| (image >> (from + 3 * side) & 7).count_ones();
         let (lowered, tilted) = (count(40), count(46));
-        if lowered + tilted != 3 { found.push(format!("the {name} side has {} shuttles, and should have 3", lowered + tilted)); }
-        if tilted > 1 { found.push(format!("the {name} side has {tilted} tilted shuttles, and at most 1 may be")); }
+        if lowered + tilted != 3 {
+            found.push(format!("the {name} side has {} shuttles, and should have 3", lowered + tilted));
+        }
+        if tilted > 1 {
+            found.push(format!("the {name} side has {tilted} tilted shuttles, and at most 1 may be"));
+        }
     }
     found
 }
@@ -40,7 +46,11 @@ fn shuttles(image: u64) -> Vec<String> {
 pub fn hints(image: u64) -> Vec<String> {
     let (height, raised, coming, going) = (image >> 53 & 3, has(image, 52), has(image, 55), has(image, 56));
     let mut found = [halves(image), shuttles(image)].concat();
-    let mut hint = |amiss: bool, words: &str| if amiss { found.push(words.to_string()); };
+    let mut hint = |amiss: bool, words: &str| {
+        if amiss {
+            found.push(words.to_string());
+        }
+    };
     hint(height == 3, "the lift's height is 3, and there are 0 to 2");
     hint(image & LIFT_CELLS != 0 && height != BASEMENT, "cells 11 and 12 are the lift's: occupied, and the lift is not in the basement");
     hint(raised && height == BASEMENT, "bit 52, a car on the raised lift, and the lift is in the basement");

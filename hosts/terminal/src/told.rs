@@ -6,7 +6,9 @@ use std::io::{self, Write};
 use std::process::ExitCode;
 
 /// What a number says, whether the table has it or not.
-pub fn number_in_words(number: u8) -> &'static str { Number::try_from(number).map_or("not a number of the table", Number::words) }
+pub fn number_in_words(number: u8) -> &'static str {
+    Number::try_from(number).map_or("not a number of the table", Number::words)
+}
 
 /// Why a stream failed, in words.
 pub fn failed(stream: &str, why: io::Error) -> Wrong {

@@ -4,11 +4,11 @@
 //! it can give, and no other; those that say why an instruction isn't allowed, every reason of each opcode on sound records. Each call
 //! must have been made on handed-in stations of every sort that handed.rs tells apart, and calls must have met all that filling.rs lists.
 
-use shared::calls::{any_call, lent_station};
 use reference::command::{self, ENTRIES};
+use reference::{read_call, Call, Station, REASONS};
+use shared::calls::{any_call, lent_station};
 use shared::filling;
 use shared::handed::{self, handed, Handed};
-use reference::{read_call, Call, Station, REASONS};
 use shared::traffic::{self, Numbers};
 use shared::trials::{self, Given, Trial};
 use std::collections::{BTreeMap, BTreeSet};
@@ -35,7 +35,11 @@ fn filled(given: &Given) -> Option<filling::Met> {
     };
     let before = Station::from_bytes(given.room.first_chunk()?);
     let number = { before }.take(call).number;
-    if number == UNFIT { None } else { filling::met(&before, call, number) }
+    if number == UNFIT {
+        None
+    } else {
+        filling::met(&before, call, number)
+    }
 }
 
 /// The trial of a command, by the reference.
@@ -73,7 +77,9 @@ pub fn main(words: &[String]) {
         seen[entry].insert(number);
         reasons[entry].extend(trial.of_it.reason);
         filled.extend(trial.of_it.filled);
-        if let Some(handed) = trial.of_it.handed.filter(|handed| handed.shown_by(number)) { *met[entry].entry(handed).or_insert(0) += 1; }
+        if let Some(handed) = trial.of_it.handed.filter(|handed| handed.shown_by(number)) {
+            *met[entry].entry(handed).or_insert(0) += 1;
+        }
     });
     for ((entry, numbers), seen) in ENTRIES.iter().zip(&seen) {
         if !numbers.is_empty() && !seen.iter().eq(*numbers) {
@@ -83,7 +89,9 @@ pub fn main(words: &[String]) {
     }
     let telling = ENTRIES.iter().zip(&reasons).filter(|((_, numbers), _)| REASONS.iter().any(|(_, reason)| numbers.contains(reason)));
     for ((entry, _), reasons) in telling {
-        if !traffic::every_reason(entry, reasons) { exit(1); }
+        if !traffic::every_reason(entry, reasons) {
+            exit(1);
+        }
         println!("entries: {entry} gave {} pairs of opcode and reason on sound records, all that can come", reasons.len());
     }
     for ((entry, _), met) in ENTRIES.iter().zip(&met).filter(|((_, numbers), _)| numbers.contains(&UNFIT)) {
@@ -91,9 +99,15 @@ pub fn main(words: &[String]) {
             eprintln!("{entry} was not called on every sort of handed-in station, but on {met:?}");
             exit(1);
         }
-        println!("entries: {entry} was called on handed-in stations of {} sorts, on each {} times or more", met.len(), met.values().min().unwrap_or(&0));
+        println!(
+            "entries: {entry} was called on handed-in stations of {} sorts, on each {} times or more",
+            met.len(),
+            met.values().min().unwrap_or(&0)
+        );
     }
-    if !filling::every_filling("entries", &filled) { exit(1); }
+    if !filling::every_filling("entries", &filled) {
+        exit(1);
+    }
     println!("entries: {} ways to meet places that are kept open, or more cars than leave them so, all that there are", filled.len());
     println!("entries: {} commands, each answer and room as the reference's; every number that each entry can give came", trials.len());
 }

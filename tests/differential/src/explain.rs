@@ -10,13 +10,13 @@ mod logs;
 mod shown;
 
 use held::{held, plain, views, Beside};
-use shown::paragraphs;
+use reference::{serve, serve_on, sound, Station};
 use shared::child::run_on as run;
 use shared::page::blocks;
-use reference::{serve, serve_on, sound, Station};
 use shared::sound_records::every_five;
 use shared::texts::words;
 use shared::traffic::{damaged_input, input, near_record, request, Numbers};
+use shown::paragraphs;
 use std::process::exit;
 
 /// Messages of one long input.
@@ -43,7 +43,9 @@ fn damaged(explain: &str, inputs: u64, beside: &mut Beside) -> usize {
     let mut found = 0;
     for seed in 0..inputs {
         let bytes = damaged_input(seed, 12);
-        if bytes.len() >= 4 && matches!(bytes[2], 128 | 129) && bytes[3] == 0 { continue; } // a recording of answers
+        if bytes.len() >= 4 && matches!(bytes[2], 128 | 129) && bytes[3] == 0 {
+            continue;
+        } // a recording of answers
         beside.station = Station::start();
         let (answers, used, on) = serve_on(&mut Station::start(), &bytes, true);
         let (shown, told, well) = text(explain, &bytes);
@@ -91,9 +93,11 @@ fn examples(explain: &str, page: &str) -> usize {
     let content = std::fs::read_to_string(page).expect("the page is there");
     let (mut got, mut count, mut failed) = ((String::new(), String::new(), true), [0; 3], 0);
     for (line, mark, block) in blocks(&content, &["explain", "shown", "told"]) {
-        let mut same = |got: &str| if got != block {
-            failed += 1;
-            eprintln!("{page}:{line}: expected\n{block}\ngot\n{got}");
+        let mut same = |got: &str| {
+            if got != block {
+                failed += 1;
+                eprintln!("{page}:{line}: expected\n{block}\ngot\n{got}");
+            }
         };
         match mark {
             "explain" => {
@@ -102,8 +106,15 @@ fn examples(explain: &str, page: &str) -> usize {
                 got = text(&format!("{explain}{words}"), input.as_bytes());
                 count[0] += 1;
             }
-            "shown" => { same(&got.0); count[1] += 1; }
-            _ => { same(&got.1); assert!(!got.2, "{page}:{line}: the status is 0"); count[2] += 1; }
+            "shown" => {
+                same(&got.0);
+                count[1] += 1;
+            }
+            _ => {
+                same(&got.1);
+                assert!(!got.2, "{page}:{line}: the status is 0");
+                count[2] += 1;
+            }
         }
     }
     if failed > 0 || count[0] == 0 || count[1] != count[0] || count[2] == 0 {

@@ -54,7 +54,9 @@ impl Function {
             // a call or a jump; a jump within the function is left out below
             _ if word == "call" || word.starts_with('j') => {
                 match operands.split_once(" <").and_then(|(to, _)| u64::from_str_radix(to, 16).ok()) {
-                    Some(to) => { self.goes_to.insert(to); }
+                    Some(to) => {
+                        self.goes_to.insert(to);
+                    }
                     None => self.unread = Some(instruction.to_string()),
                 }
             }
@@ -81,14 +83,22 @@ fn functions(text: &str) -> Functions {
 fn bound(all: &Functions, at: u64, above: &[u64]) -> Result<i64, String> {
     let function = all.get(&at).ok_or(format!("{at:x} is not there"))?;
     let name = &function.name;
-    if name.ends_with("@plt") { return Ok(WORD + RED_ZONE); }
-    if let Some(instruction) = &function.unread { return Err(format!("{name} has {instruction}")); }
-    if above.contains(&at) { return Err(format!("{name} calls itself")); }
+    if name.ends_with("@plt") {
+        return Ok(WORD + RED_ZONE);
+    }
+    if let Some(instruction) = &function.unread {
+        return Err(format!("{name} has {instruction}"));
+    }
+    if above.contains(&at) {
+        return Err(format!("{name} calls itself"));
+    }
     let above = [above, &[at]].concat();
     let mut below = function.below;
     for to in &function.goes_to {
         let (&called, _) = all.range(..=*to).next_back().ok_or(format!("{name} goes to {to:x}"))?;
-        if called != at { below = below.max(bound(all, called, &above)?); }
+        if called != at {
+            below = below.max(bound(all, called, &above)?);
+        }
     }
     Ok(WORD + function.frame + below)
 }
@@ -106,8 +116,14 @@ pub fn main(words: &[String]) {
         let at = all.iter().find(|(_, function)| function.name == entry).map(|(&at, _)| at);
         match at.ok_or("it is not there".to_string()).and_then(|at| bound(&all, at, &[])) {
             Ok(most) if most <= limit => bounds.push((entry, most)),
-            Ok(most) => { eprintln!("{entry} can take {most} bytes of stack, which is above {limit}"); exit(1); }
-            Err(why) => { eprintln!("{entry}: {why}"); exit(1); }
+            Ok(most) => {
+                eprintln!("{entry} can take {most} bytes of stack, which is above {limit}");
+                exit(1);
+            }
+            Err(why) => {
+                eprintln!("{entry}: {why}");
+                exit(1);
+            }
         }
     }
     assert!(!bounds.is_empty(), "the header has no entries");

@@ -3,8 +3,8 @@
 //! were not issued, and any. What the program writes must be what the reference answers, and each set's issue the next one. Each of
 //! these distances must have come, before the count starts over and after.
 
-use shared::pipes::{answer_in, answers, messages_in};
 use reference::{read_call, Call, START};
+use shared::pipes::{answer_in, answers, messages_in};
 use shared::traffic::{image, message, request, result, Numbers, BEHIND};
 use std::collections::BTreeSet;
 use std::process::exit;
@@ -39,11 +39,17 @@ fn input(sets: usize) -> Vec<u8> {
         bytes.extend(request(&SET.concat()));
         bytes.extend(astray(&mut numbers, present));
         bytes.extend(result(present, first, numbers.below(2) as u8));
-        if numbers.one_in(4) { bytes.extend(between(&mut numbers)); }
+        if numbers.one_in(4) {
+            bytes.extend(between(&mut numbers));
+        }
         bytes.extend(astray(&mut numbers, present));
         bytes.extend(result(present, 1 - first, numbers.below(2) as u8));
-        if numbers.one_in(4) { bytes.extend(astray(&mut numbers, present)); }
-        if numbers.one_in(4) { bytes.extend(between(&mut numbers)); }
+        if numbers.one_in(4) {
+            bytes.extend(astray(&mut numbers, present));
+        }
+        if numbers.one_in(4) {
+            bytes.extend(between(&mut numbers));
+        }
     }
     bytes
 }
@@ -62,7 +68,9 @@ fn issued(input: &[u8], output: &[u8]) -> (usize, BTreeSet<(bool, u16, u8)>) {
             }
             Call::Result { issue, .. } if matches!(answer.number, 29 | 30) => {
                 let behind = present.wrapping_sub(issue);
-                if BEHIND.contains(&behind) { came.insert((sets > ROUND, behind, answer.number)); }
+                if BEHIND.contains(&behind) {
+                    came.insert((sets > ROUND, behind, answer.number));
+                }
             }
             _ => {}
         }
@@ -86,5 +94,7 @@ pub fn main(words: &[String]) {
         eprintln!("issues: {sets} sets were issued, of {FEWEST} or more; results from afar that came: {came:?}");
         exit(1);
     }
-    println!("issues: {sets} sets on one station, each answer as the reference's; before the count starts over and after, {BEHIND:?} behind");
+    println!(
+        "issues: {sets} sets on one station, each answer as the reference's; before the count starts over and after, {BEHIND:?} behind"
+    );
 }

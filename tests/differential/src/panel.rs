@@ -3,9 +3,9 @@
 //! number that each entry can give must come, and every reason of each opcode that the next record is refused for.
 
 use reference::command;
-use shared::panel_calls::{any_call, reason};
 use reference::panel_command::{self, ENTRIES, NEXT};
 use reference::Station;
+use shared::panel_calls::{any_call, reason};
 use shared::traffic::{self, every_reason, framed_message, Numbers};
 use shared::trials::{self, Trial};
 use std::collections::BTreeSet;
@@ -37,7 +37,9 @@ pub fn main(words: &[String]) {
     let (mut seen, mut reasons) = (vec![BTreeSet::new(); ENTRIES.len()], BTreeSet::new());
     trials::run(&ENTRIES, &trials, limit, program, |trial, number| {
         seen[usize::from(trial.entry)].insert(number);
-        if trial.entry == NEXT { reasons.extend(trial.of_it); }
+        if trial.entry == NEXT {
+            reasons.extend(trial.of_it);
+        }
     });
     for ((entry, numbers), seen) in ENTRIES.iter().zip(&seen) {
         if !seen.iter().eq(*numbers) {
@@ -45,7 +47,12 @@ pub fn main(words: &[String]) {
             exit(1);
         }
     }
-    if !every_reason("panel", &reasons) { exit(1); }
-    println!("panel: {} commands, each answer and room as the reference's; every number of each entry, {} pairs of opcode and reason",
-        trials.len(), reasons.len());
+    if !every_reason("panel", &reasons) {
+        exit(1);
+    }
+    println!(
+        "panel: {} commands, each answer and room as the reference's; every number of each entry, {} pairs of opcode and reason",
+        trials.len(),
+        reasons.len()
+    );
 }

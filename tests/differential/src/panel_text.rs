@@ -4,16 +4,18 @@
 //! `panel` is an input, and of the blocks behind it one marked `shown` is all that is written, one marked `told` what is told on standard
 //! error; every reason from 20 to 28 must be a verdict there.
 
+use reference::{cars, Instruction, REASON_NUMBERS, START};
 use shared::child::run_on as run;
 use shared::page::blocks;
-use reference::{cars, Instruction, REASON_NUMBERS, START};
 use shared::sound_records::{every_five, SoundRecords};
 use shared::texts::{listed, words};
 use shared::traffic::Numbers;
 use std::collections::BTreeSet;
 use std::process::exit;
 
-fn hexadecimal(image: u64) -> String { image.to_le_bytes().map(|byte| format!("{byte:02X}")).join(" ") }
+fn hexadecimal(image: u64) -> String {
+    image.to_le_bytes().map(|byte| format!("{byte:02X}")).join(" ")
+}
 
 /// A floor as it is shown: its drawing, its image, and how many cars it has.
 struct Floor {
@@ -36,11 +38,19 @@ fn floor<'a>(lines: &mut impl Iterator<Item = &'a str>) -> Option<Floor> {
 /// The parts that a line names, as a number; none where the instruction's words are told.
 fn parts_in(line: &str) -> u64 {
     let cells = line.strip_prefix("cells ").or(line.strip_prefix("cell "));
-    if let Some(cells) = cells.and_then(|rest| listed(rest.split_once(": ")?.0)) { return cells.iter().fold(0, |all, cell| all | 1 << cell); }
-    if line.starts_with("lift at ") { return 1 << 52; }
+    if let Some(cells) = cells.and_then(|rest| listed(rest.split_once(": ")?.0)) {
+        return cells.iter().fold(0, |all, cell| all | 1 << cell);
+    }
+    if line.starts_with("lift at ") {
+        return 1 << 52;
+    }
     let Some((place, what)) = line.split_once(": ") else { return 0 };
     let Some((side, row)) = place.split_once(" row ") else { return 0 };
-    let side = match side { "left" => 0, "right" => 3, _ => return 0 };
+    let side = match side {
+        "left" => 0,
+        "right" => 3,
+        _ => return 0,
+    };
     let row: u32 = row.parse().expect("a row");
     1 << (39 + side + row + if what.contains("tilted") { 6 } else { 0 })
 }
@@ -92,7 +102,9 @@ fn shown<'a>(lines: &mut std::iter::Peekable<impl Iterator<Item = &'a str>>) -> 
     let verdict: u8 = lines.next()?.strip_prefix("verdict ")?.split_once(':')?.0.parse().ok()?;
     lines.next_if_eq(&"");
     let after = if verdict == 0 { Some(floor(lines)?) } else { None };
-    if verdict == 0 { lines.next_if_eq(&""); }
+    if verdict == 0 {
+        lines.next_if_eq(&"");
+    }
     Some(Shown { words, conditions, verdict, after })
 }
 
@@ -191,7 +203,10 @@ fn wrong_texts() -> Vec<(String, String)> {
 
 pub fn main(given: &[String]) {
     let [_, panel, page] = &given[..] else { panic!("usage: panel_text PANEL PAGE") };
-    let text = |input: &str| { let (output, told, well) = run(panel, input.as_bytes()); (String::from_utf8_lossy(&output).into_owned(), told, well) };
+    let text = |input: &str| {
+        let (output, told, well) = run(panel, input.as_bytes());
+        (String::from_utf8_lossy(&output).into_owned(), told, well)
+    };
     let mut failed = 0;
     let mut same = |what: &str, got: String, expected: String| {
         if got != expected {
@@ -216,7 +231,9 @@ pub fn main(given: &[String]) {
     let (alike, wrong) = (same_texts(), wrong_texts());
     let expected = text(&alike[0]);
     assert!(expected.2 && expected.0.matches("verdict 0").count() == 2, "both are allowed");
-    for input in &alike { same(&format!("{input:?}"), format!("{:?}", text(input)), format!("{expected:?}")); }
+    for input in &alike {
+        same(&format!("{input:?}"), format!("{:?}", text(input)), format!("{expected:?}"));
+    }
     for (input, told) in &wrong {
         // a bad floor ends the session; a bad line leaves the floor, and the lines behind it are tried
         let (output, heard, well) = text(&format!("{input}{}", if input.starts_with(DRAWN) { "rotate\n" } else { "" }));
@@ -230,20 +247,34 @@ pub fn main(given: &[String]) {
     for (line, mark, block) in blocks(&content, &["panel", "shown", "told"]) {
         let place = format!("{page}:{line}");
         match mark {
-            "panel" => { got = text(&block); examples[0] += 1; }
+            "panel" => {
+                got = text(&block);
+                examples[0] += 1;
+            }
             "shown" => {
                 verdicts.extend(block.lines().filter_map(|line| line.strip_prefix("verdict ")?.split_once(':')?.0.parse::<u8>().ok()));
                 same(&place, got.0.clone(), block);
                 examples[1] += 1;
             }
-            _ => { same(&place, got.1.clone(), block); examples[2] += 1; }
+            _ => {
+                same(&place, got.1.clone(), block);
+                examples[2] += 1;
+            }
         }
     }
     let missing: Vec<u8> = REASON_NUMBERS.filter(|number| !verdicts.contains(number)).collect();
     same(page, format!("no example of {missing:?}"), "no example of []".to_string());
-    if failed > 0 || examples[0] != examples[1] || examples[2] == 0 { exit(1); }
-    println!("panel_text: {} instructions on {floors} floors and those after them, {allowed} allowed, each shown as the reference says",
-        floors * fives.len());
-    println!("panel_text: {} texts that mean the same, {} wrong ones; {} examples of {page}, verdicts {verdicts:?}",
-        alike.len(), wrong.len(), examples[0]);
+    if failed > 0 || examples[0] != examples[1] || examples[2] == 0 {
+        exit(1);
+    }
+    println!(
+        "panel_text: {} instructions on {floors} floors and those after them, {allowed} allowed, each shown as the reference says",
+        floors * fives.len()
+    );
+    println!(
+        "panel_text: {} texts that mean the same, {} wrong ones; {} examples of {page}, verdicts {verdicts:?}",
+        alike.len(),
+        wrong.len(),
+        examples[0]
+    );
 }

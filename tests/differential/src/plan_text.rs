@@ -10,7 +10,9 @@ use std::process::exit;
 
 /// The first lines, and the bytes that they become with so many sets.
 const HEAD: &str = "image start\nwish without a car\n";
-fn head(wish: u8, sets: u8) -> Vec<u8> { [&[0, 0, 0, 0, 0, 0x1B, 0x09, 0][..], &[0; 8], &[wish, sets]].concat() }
+fn head(wish: u8, sets: u8) -> Vec<u8> {
+    [&[0, 0, 0, 0, 0, 0x1B, 0x09, 0][..], &[0; 8], &[wish, sets]].concat()
+}
 
 /// Every instruction, in two sets.
 fn every_instruction() -> (String, Vec<u8>) {
@@ -22,7 +24,10 @@ fn every_instruction() -> (String, Vec<u8>) {
     for half in all.chunks(136) {
         text += "\n";
         bytes.push(136);
-        for (five, words) in half { text += &format!("{words}\n"); bytes.extend(five); }
+        for (five, words) in half {
+            text += &format!("{words}\n");
+            bytes.extend(five);
+        }
     }
     (text, bytes)
 }
@@ -92,7 +97,10 @@ fn wrong_texts() -> Vec<(String, String)> {
     all.extend([
         (String::new(), told(1, "the text ends before its `image`") + &told(1, "the text ends before its `wish`")),
         ("image start\n# and then\n".to_string(), told(3, "the text ends before its `wish`")),
-        ("wish with a car\nimage start".to_string(), told(1, "expected `image`, found `wish`") + &told(2, "expected `wish`, found `image`")),
+        (
+            "wish with a car\nimage start".to_string(),
+            told(1, "expected `image`, found `wish`") + &told(2, "expected `wish`, found `image`"),
+        ),
         ("image 00 00\nwish with car\n".to_string(), hex("0000") + &told(2, "expected `a`, found `car`")),
         ("image 00000000001B090x\nwish with a car\n".to_string(), hex("00000000001B090x")),
         ("image +0+0+0+0+0+0+0+0\nwish with a car\n".to_string(), hex("+0+0+0+0+0+0+0+0")),
@@ -140,7 +148,9 @@ pub fn main(given: &[String]) {
         }
     }
     let [plans, bytes, wrong, verdicts] = examples;
-    if plans == 0 || verdicts == 0 || wrong == 0 || failed > 0 { exit(1); }
+    if plans == 0 || verdicts == 0 || wrong == 0 || failed > 0 {
+        exit(1);
+    }
     println!("plan_text: {} texts with 272 instructions and {} wrong ones, each as it must be", texts.len(), wrong_texts.len());
     println!("plan_text: {plans} plans of {page}, {bytes} with their bytes, {verdicts} with the judge's word, {wrong} with wrong lines");
 }

@@ -6,11 +6,11 @@
 //! kept open, of jams and of lift runs beside others in row 1. In the long inputs, after each message, every choice is looked at of which stuck instructions
 //! finished (jams.rs), and with each set that has a lift run beside others, of which of them are done (lifts.rs).
 
-use shared::pipes::{answer_in, answers, messages_in};
 use reference::{
-    self, answer, answer_at, cars, read_call, read_message, sound, write_message, Answer, Call, Instruction, Message, Station, BEGIN_IN, BEGIN_OUT,
-    DONE, END_DONE, END_NOT_DONE, FAILED, REASON_NUMBERS, START, STUCK,
+    self, answer, answer_at, cars, read_call, read_message, sound, write_message, Answer, Call, Instruction, Message, Station, BEGIN_IN,
+    BEGIN_OUT, DONE, END_DONE, END_NOT_DONE, FAILED, REASON_NUMBERS, START, STUCK,
 };
+use shared::pipes::{answer_in, answers, messages_in};
 use shared::{drives, filling, jams, lifts, traffic};
 use std::collections::BTreeSet;
 use std::process::exit;
@@ -158,14 +158,23 @@ fn jamming() {
     // the whole area of a belt, from its result on and when its set has closed; the record stays, and it is answered
     assert_eq!((station.request(2, &[belt, tilt].concat()).number, station.result(0, 0, STUCK), station.record), (0, answer(0), START));
     assert_eq!((station.apart_number(), [FAILED, DONE, STUCK].map(|ending| station.result(0, 0, ending).number)), (middle, [13; 3]));
-    assert_eq!((station.result(0, 0, 3), station.result(0, 1, DONE), station.count, station.apart_number()), (answer(4), answer(0), 0, middle));
+    assert_eq!(
+        (station.result(0, 0, 3), station.result(0, 1, DONE), station.count, station.apart_number()),
+        (answer(4), answer(0), 0, middle)
+    );
     // the least that touches it is told, before an overlap and whatever the record allows; 31 comes before it
     assert_eq!(station.request(4, &[tilt, tilt, [1, 2, 7, 0, 0], belt].concat()), answer_at(32, 2));
     assert_eq!((station.request(2, &[up, turn].concat()), station.request(1, &[4, 3, 0, 0, 0])), (answer_at(8, 1), answer_at(4, 0)));
-    assert_eq!((station.event(BEGIN_IN), station.request(2, &[belt, down].concat()), station.event(END_NOT_DONE)), (answer(0), answer(31), answer(0)));
+    assert_eq!(
+        (station.event(BEGIN_IN), station.request(2, &[belt, down].concat()), station.event(END_NOT_DONE)),
+        (answer(0), answer(31), answer(0))
+    );
     // the lift has one bit; a begin is told of it before that it is impossible, and an end that none is under way
     assert_eq!((station.request(1, &up).number, station.result(1, 0, DONE), station.request(1, &turn).number), (0, answer(0), 0));
-    assert_eq!((station.event(BEGIN_IN), station.result(2, 0, STUCK), station.apart_number()), (answer(6), answer(0), middle | 1 << 52 | 0xE700));
+    assert_eq!(
+        (station.event(BEGIN_IN), station.result(2, 0, STUCK), station.apart_number()),
+        (answer(6), answer(0), middle | 1 << 52 | 0xE700)
+    );
     assert_eq!([BEGIN_IN, BEGIN_OUT, END_DONE, END_NOT_DONE].map(|event| station.event(event).number), [32, 32, 31, 31]);
     let slots = Instruction::read([2, 1, 1, 0, 1]).map(|shuttle| shuttle.area().number());
     assert_eq!(slots, Some(3 << 18 | 1 << 29 | 0b11 << 43), "the slots of rows 1 and 2 on the right, and their cells");
@@ -174,7 +183,11 @@ fn jamming() {
     assert_eq!((station.image(START, 0), station.apart_number(), station.request(1, &belt).number), (answer(0), 0, 0));
     assert_eq!((station.image(START, 1), station.result(3, 0, FAILED), station.apart_number()), (answer(6), answer(0), 0));
     // handed in: any parts are fit, also beside a driver in the lift, who can't leave it then; no bit above the lift's is
-    let parts = |number| { let mut bytes = Station { record: START | 1 << 55, ..Station::start() }.to_bytes(); bytes[52..].copy_from_slice(&u64::to_le_bytes(number)); Station::from_bytes(&bytes) };
+    let parts = |number| {
+        let mut bytes = Station { record: START | 1 << 55, ..Station::start() }.to_bytes();
+        bytes[52..].copy_from_slice(&u64::to_le_bytes(number));
+        Station::from_bytes(&bytes)
+    };
     let mut lift = parts(1 << 52);
     assert_eq!((lift.event(END_DONE), lift.event(BEGIN_IN), parts((1 << 53) - 1).ask()), (answer(32), answer(31), answer(0)));
     assert!((53..64).all(|bit| parts(1 << bit).ask() == answer(16) && parts(1 << bit).to_bytes()[52..] == u64::to_le_bytes(1 << bit)));
@@ -198,7 +211,9 @@ fn beside_the_lift() {
     let taken = |set: &[[u8; 5]], order: &[u8]| {
         let mut station = Station { record: LOADED, ..Station::start() };
         assert_eq!(station.request(set.len() as u8, &set.concat()), answer(0), "{set:?}");
-        for &number in order { assert_eq!(station.result(0, number, DONE), answer(0), "{set:?} {order:?}"); }
+        for &number in order {
+            assert_eq!(station.result(0, number, DONE), answer(0), "{set:?} {order:?}");
+        }
         station
     };
     let after = [[0, 1, 2, 3, 4], [4, 3, 2, 1, 0], [1, 3, 0, 2, 4]].map(|order| taken(&[up, left, right, shuttle, tilt], &order).record);
@@ -214,7 +229,10 @@ fn beside_the_lift() {
     let mut station = taken(&[left, tilt], &[1]);
     assert_eq!((station.result(0, 0, STUCK), station.apart_number(), station.request(1, &up).number), (answer(0), 0x7FC, 0));
     assert_eq!((station.result(1, 0, STUCK), station.apart_number()), (answer(0), 1 << 52 | 0x1FFC));
-    assert_eq!((station.request(1, &left), station.request(1, &lift_belt), station.request(2, &[right, shuttle].concat()).number), (answer_at(32, 0), answer_at(32, 0), 0));
+    assert_eq!(
+        (station.request(1, &left), station.request(1, &lift_belt), station.request(2, &[right, shuttle].concat()).number),
+        (answer_at(32, 0), answer_at(32, 0), 0)
+    );
     // handed in, both in one set are fit
     let mut both = Station { record: LOADED, count: 2, ..Station::start() };
     both.set[..10].copy_from_slice(&[up, left].concat());
@@ -237,7 +255,10 @@ fn places_kept_open() {
     // from 26 a car comes in, which makes 27; the next one waits, also when the lift has taken it down and come up empty
     let mut station = with(two_less);
     assert_eq!([BEGIN_IN, END_DONE, BEGIN_IN].map(|event| station.event(event)), [answer(0), answer(0), answer(10)]);
-    assert_eq!((cars(station.record), station.event(BEGIN_OUT), station.event(END_DONE), station.record), (Some(27), answer(0), answer(0), two_less));
+    assert_eq!(
+        (cars(station.record), station.event(BEGIN_OUT), station.event(END_DONE), station.record),
+        (Some(27), answer(0), answer(0), two_less)
+    );
     // out of turn, set apart and impossible are told before it, and a bad field and a set with the lift before these
     let mut down = with(most);
     assert_eq!((down.request(1, &[4, 1, 0, 0, 0]).number, down.event(BEGIN_IN), down.event(0)), (0, answer(6), answer(4)));
@@ -246,7 +267,10 @@ fn places_kept_open() {
     assert_eq!((with(most | 1 << 55).event(BEGIN_IN), with(most | 1 << 52).event(BEGIN_IN)), (answer(31), answer(10)));
     // an image may have more, with a drive-in under way too, whose end is taken
     let mut station = Station::start();
-    assert_eq!((station.image(most | 1 << 55, 0), station.event(END_NOT_DONE), station.event(BEGIN_IN)), (answer(0), answer(0), answer(33)));
+    assert_eq!(
+        (station.image(most | 1 << 55, 0), station.event(END_NOT_DONE), station.event(BEGIN_IN)),
+        (answer(0), answer(0), answer(33))
+    );
     assert_eq!((station.image(most | 1 << 55, 0), station.event(END_DONE), cars(station.record)), (answer(0), answer(0), Some(29)));
     assert_eq!((station.event(BEGIN_OUT), station.event(END_DONE), cars(station.record)), (answer(0), answer(0), Some(28)));
     assert_eq!((station.image(0x0040_3FFF_FFFF_FFFF, 0), cars(station.record), station.event(BEGIN_IN)), (answer(0), Some(30), answer(10)));
@@ -314,12 +338,21 @@ pub fn main(words: &[String]) {
         eprintln!("the numbers that came are {seen:?}, expected {wanted:?}");
         exit(1);
     }
-    if !traffic::every_reason("program", &reasons) || !drives::every_drive("program", &met) || !jams::every_jam("program", &jams_met) { exit(1); }
-    if !lifts::every_lift("program", &lifts_met) || !filling::every_filling("program", &filled) { exit(1); }
+    if !traffic::every_reason("program", &reasons) || !drives::every_drive("program", &met) || !jams::every_jam("program", &jams_met) {
+        exit(1);
+    }
+    if !lifts::every_lift("program", &lifts_met) || !filling::every_filling("program", &filled) {
+        exit(1);
+    }
     println!("program: {compared} inputs, {} messages in the long ones, each answer as the reference's; numbers {seen:?}", 2 * messages);
     println!("program: {} pairs of opcode and reason, all that can come", reasons.len());
     println!("program: {} ways to meet a drive and {} to meet a jam, all that there are", met.len(), jams_met.len());
     println!("program: {} ways to meet places that are kept open, or more cars than leave them so, all that there are", filled.len());
-    println!("program: {} ways for a lift run to meet others of row 1, all that there are; {lift_choices} choices of which of a set are done", lifts_met.len());
-    println!("program: {choices} choices of which stuck instructions finished, of up to {most} at once, each with a layout of the same cars");
+    println!(
+        "program: {} ways for a lift run to meet others of row 1, all that there are; {lift_choices} choices of which of a set are done",
+        lifts_met.len()
+    );
+    println!(
+        "program: {choices} choices of which stuck instructions finished, of up to {most} at once, each with a layout of the same cars"
+    );
 }

@@ -3,9 +3,9 @@
 //! one: what the program prints must be the reference's report. Every total that can be raised from the start must have been, and no
 //! other: answers 16 and 17 can't come.
 
+use reference::week::{report_with, totals, Total, Week, EXAMPLES};
 use shared::pipes::answers;
 use shared::traffic;
-use reference::week::{report_with, totals, Total, Week, EXAMPLES};
 use std::collections::BTreeSet;
 use std::process::exit;
 
@@ -30,7 +30,9 @@ fn same(program: &str, name: &str, input: &[u8], seed: u64, came: &mut BTreeSet<
         eprintln!("report: {name}, {} bytes with seed {seed}:", input.len());
         let (expected, got) = (week.report(), String::from_utf8_lossy(&got).into_owned());
         expected.lines().zip(got.lines()).filter(|(a, b)| a != b).for_each(|(a, b)| eprintln!("  {b}, expected {a}"));
-        if expected.lines().count() != got.lines().count() { eprintln!("  the whole is {got:?}"); }
+        if expected.lines().count() != got.lines().count() {
+            eprintln!("  the whole is {got:?}");
+        }
     }
     right
 }
@@ -51,8 +53,12 @@ pub fn main(words: &[String]) {
     let wrong = inputs.iter().zip(1..).filter(|((name, input), seed)| !same(program, name, input, *seed, &mut came)).count();
     let wanted: BTreeSet<Total> = totals().filter(|total| !matches!(total, Total::Answer(16 | 17))).collect();
     let amiss: Vec<String> = came.symmetric_difference(&wanted).map(Total::to_string).collect();
-    if !amiss.is_empty() { eprintln!("report: totals that were never raised, or can't be: {amiss:?}"); }
-    if wrong > 0 || !amiss.is_empty() { exit(1); }
+    if !amiss.is_empty() {
+        eprintln!("report: totals that were never raised, or can't be: {amiss:?}");
+    }
+    if wrong > 0 || !amiss.is_empty() {
+        exit(1);
+    }
     println!("report: {} inputs, {} messages in the long ones, each report as the reference's", inputs.len(), 2 * messages);
     println!("report: {} totals raised, all that can be", came.len());
 }

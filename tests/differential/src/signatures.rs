@@ -129,7 +129,9 @@ pub fn main(words: &[String]) {
             let text = read(in_rust);
             let block = text.split_once("extern \"C\" {").and_then(|(_, rest)| rest.split_once('}')).expect("a block of entries").0;
             let other_rust = differences(in_rust, &source, &functions(block, "pub fn ", host_parameter));
-            if other_c || other_rust { exit(1); }
+            if other_c || other_rust {
+                exit(1);
+            }
             println!("signatures: {} entries, as the source has them in {in_c} and {in_rust}", source.len());
         }
         _ => panic!("usage: signatures SOURCE HEADER [HOST]"),

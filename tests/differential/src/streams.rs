@@ -34,8 +34,12 @@ const SOME: usize = 100_001;
 
 /// What is done in the program's process before it starts: nothing but the system's own way with a pipe that nobody reads, or no
 /// signal for that, or files that can't grow and no signal for that.
-fn as_usual() { unsafe { signal(SIGPIPE, 0) }; }
-fn no_pipe_signal() { unsafe { signal(SIGPIPE, 1) }; }
+fn as_usual() {
+    unsafe { signal(SIGPIPE, 0) };
+}
+fn no_pipe_signal() {
+    unsafe { signal(SIGPIPE, 1) };
+}
 fn small_files() {
     const FILE_SIZE: i32 = 1;
     unsafe {
@@ -73,14 +77,20 @@ fn start(program: &Program, input: impl Into<Stdio>, output: impl Into<Stdio>, b
 }
 
 /// Sends a signal to the program and what it has started, or to the one process.
-fn signal_all(child: &Child, number: i32) { unsafe { kill(-(child.id() as i32), number) }; }
-fn signal_one(child: &Child, number: i32) { unsafe { kill(child.id() as i32, number) }; }
+fn signal_all(child: &Child, number: i32) {
+    unsafe { kill(-(child.id() as i32), number) };
+}
+fn signal_one(child: &Child, number: i32) {
+    unsafe { kill(child.id() as i32, number) };
+}
 
 /// Writes an input in pieces of so many bytes, with a pause after each, until it ends or no one reads any more.
 fn sender(mut to: impl Write + Send + 'static, input: Vec<u8>, piece: usize, pause: Duration) -> JoinHandle<()> {
     thread::spawn(move || {
         for part in input.chunks(piece) {
-            if to.write_all(part).is_err() { break; }
+            if to.write_all(part).is_err() {
+                break;
+            }
             sleep(pause);
         }
     })
@@ -118,7 +128,13 @@ fn held(program: &Program, child: Child, case: Case) -> bool {
     let right = case.got == case.expected && status == Some(case.status) && words == told;
     if !right {
         let same = case.got.iter().zip(&case.expected).take_while(|(a, b)| a == b).count();
-        eprintln!("{}, {}: {} bytes came, {} expected, the first {same} the same", program.name, case.name, case.got.len(), case.expected.len());
+        eprintln!(
+            "{}, {}: {} bytes came, {} expected, the first {same} the same",
+            program.name,
+            case.name,
+            case.got.len(),
+            case.expected.len()
+        );
         eprintln!("  status {status:?}, expected {}; standard error {words:?}, expected {told:?}", case.status);
     }
     right
@@ -188,7 +204,9 @@ fn slow_reader(program: &Program) -> bool {
 fn pieces(program: &Program, name: &'static str, waits: bool, messages: Vec<u8>, piece: usize, pause: Duration) -> bool {
     let (input, to) = io::pipe().expect("a pipe");
     let (mut from, output) = io::pipe().expect("a pipe");
-    if !waits { never_waits(&input); }
+    if !waits {
+        never_waits(&input);
+    }
     let child = start(program, input, output, as_usual);
     let sent = sender(to, messages.clone(), piece, pause);
     let mut got = Vec::new();

@@ -22,10 +22,14 @@ struct Known {
 }
 
 impl Known {
-    fn lift_run(&self) -> bool { self.five[0] == 4 }
+    fn lift_run(&self) -> bool {
+        self.five[0] == 4
+    }
 
     /// Whether the two overlap; then whether they would.
-    fn meets(&self, other: &Known) -> [bool; 2] { [0, 1].map(|at| self.areas[at].meet(&other.areas[at])) }
+    fn meets(&self, other: &Known) -> [bool; 2] {
+        [0, 1].map(|at| self.areas[at].meet(&other.areas[at]))
+    }
 }
 
 fn instructions() -> Vec<Known> {
@@ -57,7 +61,9 @@ fn done(mut room: Room, order: [u8; 2]) -> Room {
 }
 
 /// How many are true, at each place.
-fn count(totals: &mut [usize; 2], which: [bool; 2]) { totals.iter_mut().zip(which).for_each(|(total, is)| *total += usize::from(is)); }
+fn count(totals: &mut [usize; 2], which: [bool; 2]) {
+    totals.iter_mut().zip(which).for_each(|(total, is)| *total += usize::from(is));
+}
 
 fn told(what: &str, [all, all_once]: [usize; 2], [lift, lift_once]: [usize; 2]) {
     println!("{what}: {all}, of which {lift} with a lift run; with all of row 1 in its area {all_once} and {lift_once}");
@@ -76,7 +82,9 @@ pub fn main(words: &[String]) {
             }
             pairs += 1;
             count(&mut overlapping, meets);
-            if first.lift_run() || second.lift_run() { count(&mut with_lift, meets); }
+            if first.lift_run() || second.lift_run() {
+                count(&mut with_lift, meets);
+            }
         }
         // beside a lift run may stand what doesn't have the lift: by the bytes, all but lift runs, rotations and belts that name its belt
         let names_lift = matches!(first.five, [1, 1, mask, ..] if mask >> 2 & 1 == 1) || first.five[0] >= 4;
@@ -98,9 +106,13 @@ pub fn main(words: &[String]) {
                 let (number, _, taken) = asked(room, first, second);
                 assert_eq!(number, if apart[0] { 0 } else { 8 }, "{:?} and {:?} on {record:#018x}", first.five, second.five);
                 count(&mut together, apart);
-                if !first.lift_run() && !second.lift_run() { continue; }
+                if !first.lift_run() && !second.lift_run() {
+                    continue;
+                }
                 count(&mut with_lift, apart);
-                if apart[0] { assert_eq!(done(taken, [0, 1]), done(taken, [1, 0]), "{:?} and {:?} on {record:#018x}", first.five, second.five); }
+                if apart[0] {
+                    assert_eq!(done(taken, [0, 1]), done(taken, [1, 0]), "{:?} and {:?} on {record:#018x}", first.five, second.five);
+                }
             }
         }
     }

@@ -6,11 +6,13 @@ use std::collections::HashSet;
 use std::hash::{BuildHasherDefault, Hasher};
 use std::ops::Range;
 
-use station::raw::{panel as panel_raw, station as raw};
 use reduced::{bit, cars, drive_under_way, sound, Instruction, Station, BEGIN_IN, BEGIN_OUT, DRIVE_IN, END_DONE, END_NOT_DONE, START};
+use station::raw::{panel as panel_raw, station as raw};
 
 /// The cars of an image of the whole floor by the station's own code; none where it isn't sound.
-fn garage_cars(image: u64) -> Option<u32> { Some(unsafe { raw::garage_cars(image) }).filter(|&cars| cars != 255) }
+fn garage_cars(image: u64) -> Option<u32> {
+    Some(unsafe { raw::garage_cars(image) }).filter(|&cars| cars != 255)
+}
 
 /// The same by walking its rows.
 fn walked_cars(image: u64) -> Option<u32> {
@@ -35,7 +37,9 @@ fn fillings(cars: fn(u64) -> Option<u32>, record: u64, cells: &Range<u32>) -> By
 fn both(one: ByCars, other: ByCars) -> ByCars {
     let mut ways = [0; MOST + 1];
     for (cars, found) in one.iter().enumerate().filter(|(_, found)| **found > 0) {
-        for (more, beside) in other.iter().enumerate().filter(|(_, beside)| **beside > 0) { ways[cars + more] += found * beside; }
+        for (more, beside) in other.iter().enumerate().filter(|(_, beside)| **beside > 0) {
+            ways[cars + more] += found * beside;
+        }
     }
     ways
 }
@@ -63,7 +67,9 @@ fn sound_records(cars: fn(u64) -> Option<u32>, row_1: Range<u32>, others: [Range
 /// All of them, without a drive under way and with one.
 fn in_all(records: &[ByCars; 32]) -> Counts {
     let mut totals = [0; 2];
-    for (lift, by_cars) in (0u64..).zip(records) { totals[usize::from(drive_under_way(lift << 52))] += by_cars.iter().sum::<u64>(); }
+    for (lift, by_cars) in (0u64..).zip(records) {
+        totals[usize::from(drive_under_way(lift << 52))] += by_cars.iter().sum::<u64>();
+    }
     totals
 }
 
@@ -92,7 +98,9 @@ fn whole_floor(records: &[ByCars; 32]) {
     let (mut within, mut beyond) = (0, 0);
     for (lift, by_cars) in (0u64..).zip(records) {
         let coming = usize::from(bit(lift << 52, DRIVE_IN));
-        for (cars, found) in by_cars.iter().enumerate() { *if cars + coming <= 27 { &mut within } else { &mut beyond } += found; }
+        for (cars, found) in by_cars.iter().enumerate() {
+            *if cars + coming <= 27 { &mut within } else { &mut beyond } += found;
+        }
     }
     println!("counts: {within} sound records with at most 27 cars in or on their way in, {beyond} with more");
     assert_eq!((within, beyond), (807_425_532_386, 7_710));
@@ -128,8 +136,12 @@ fn drawings(records: &[ByCars; 32]) {
 struct Spread(u64);
 
 impl Hasher for Spread {
-    fn finish(&self) -> u64 { self.0 }
-    fn write(&mut self, bytes: &[u8]) { bytes.iter().for_each(|&byte| self.write_u64(byte.into())) }
+    fn finish(&self) -> u64 {
+        self.0
+    }
+    fn write(&mut self, bytes: &[u8]) {
+        bytes.iter().for_each(|&byte| self.write_u64(byte.into()))
+    }
     fn write_u64(&mut self, word: u64) {
         let mixed = (self.0 ^ word).wrapping_mul(0x9E37_79B9_7F4A_7C15);
         self.0 = mixed ^ mixed >> 29;
@@ -145,7 +157,8 @@ type Steps = [u64; 8];
 /// drive, leaves the lift alone; and every event that is taken. The paper's steps are those from records with no drive under way, where a
 /// car's coming or going is one step: here it is the begin, whose done end leads to where the paper's step does.
 fn reduced_floor() -> (Records, Counts<Steps>) {
-    let bytes = (1..=5u8).flat_map(|op| (0..4u8).flat_map(move |a| (0..32u8).flat_map(move |b| (0..4u8).map(move |cd| [op, a, b, cd >> 1, cd & 1]))));
+    let bytes = (1..=5u8)
+        .flat_map(|op| (0..4u8).flat_map(move |a| (0..32u8).flat_map(move |b| (0..4u8).map(move |cd| [op, a, b, cd >> 1, cd & 1]))));
     let instructions: Vec<_> = bytes.filter_map(|five| Some((usize::from(five[0]) - 1, Instruction::read(five)?))).collect();
     assert_eq!(instructions.len(), 272);
     let beside_a_drive: Vec<_> = instructions.iter().copied().filter(|(_, one)| !one.takes_lift()).collect();
@@ -163,7 +176,9 @@ fn reduced_floor() -> (Records, Counts<Steps>) {
         });
         for (kind, next) in moved.chain(driven) {
             steps[usize::from(drive)][kind] += 1;
-            if seen.insert(next) { waiting.push(next); }
+            if seen.insert(next) {
+                waiting.push(next);
+            }
         }
     }
     (seen, steps)

@@ -11,11 +11,11 @@ mod traffic;
 
 use met::{every_one, Met};
 use reference::command::{self, Command};
-use reference::desk_command::{self, call, ASK, ENTRIES, IMAGE, LEAVING, RESULT, START, WHERE};
-use shared::desk_handed::{self, handed, made, Handed};
 use reference::desk::Desk;
-use shared::filling;
+use reference::desk_command::{self, call, ASK, ENTRIES, IMAGE, LEAVING, RESULT, START, WHERE};
 use reference::{Call, Instruction, STUCK};
+use shared::desk_handed::{self, handed, made, Handed};
+use shared::filling;
 use shared::traffic::{damaged_station, Numbers};
 use shared::trials::{self, room_for, Given, Trial};
 use station::raw::desk as desk_raw;
@@ -89,8 +89,12 @@ impl Watched {
             IMAGE => desk.image(given.image, given.apart, given.first, &cards).number,
             _ => 0,
         };
-        if number == 0 && given.entry == RESULT && given.second == STUCK { self.stuck.extend(held); }
-        if number == 0 && given.entry == IMAGE { self.stuck.clear(); }
+        if number == 0 && given.entry == RESULT && given.second == STUCK {
+            self.stuck.extend(held);
+        }
+        if number == 0 && given.entry == IMAGE {
+            self.stuck.clear();
+        }
         self.seen.extend(desk.cars.iter().map(|car| car.card).chain(desk.coming));
         number
     }
@@ -119,7 +123,9 @@ impl Watched {
         let gone: Vec<u32> = self.seen.iter().copied().filter(|&card| !self.desk.knows(card)).collect();
         let here = self.desk.cars.iter().map(|car| car.card).chain(self.desk.coming);
         let mut asked: Vec<u32> = here.chain([0, numbers.next() as u32]).collect();
-        if !gone.is_empty() { asked.push(gone[numbers.below(gone.len() as u64) as usize]); }
+        if !gone.is_empty() {
+            asked.push(gone[numbers.below(gone.len() as u64) as usize]);
+        }
         for &card in &asked {
             let (answer, _, _) = compared(at, &Given { entry: WHERE, card, ..Given::default() }, bytes);
             let told = self.desk.whereabouts(card).map(|(stand, last)| (stand.told(), last));
@@ -203,7 +209,9 @@ fn commands(count: usize, limit: u32, program: &[String], seen: &mut [BTreeSet<u
     trials::run(&ENTRIES, &trials, limit, program, |trial, number| {
         seen[usize::from(trial.entry)].insert(number);
         let sort = trial.of_it.filter(|sort| sort.shown_by(number));
-        if let Some(sort) = sort { *sorts[usize::from(trial.entry)].entry(sort).or_insert(0) += 1; }
+        if let Some(sort) = sort {
+            *sorts[usize::from(trial.entry)].entry(sort).or_insert(0) += 1;
+        }
     });
     for ((entry, _), sorts) in ENTRIES.iter().zip(&sorts).filter(|((_, numbers), _)| numbers.contains(&UNFIT)) {
         let missing: Vec<_> = desk_handed::ALL.iter().filter(|sort| !sorts.contains_key(sort)).collect();
@@ -223,7 +231,9 @@ pub fn main(words: &[String]) {
     let mut seen = vec![BTreeSet::new(); ENTRIES.len()];
     commands(number(count), number(limit) as u32, program, &mut seen);
     let (met, full, questions, choices) = long_run(38, number(calls), &mut seen);
-    if !every_one(&met) || !filling::every_filling("desk", &full) { exit(1); }
+    if !every_one(&met) || !filling::every_filling("desk", &full) {
+        exit(1);
+    }
     println!("desk: {calls} calls, {questions} questions of where a car is and which is leaving, {choices} choices of what finished");
     println!("desk: {} ways to meet a card's number, and {} to meet places that are kept open, all that there are", met.len(), full.len());
     for ((entry, numbers), seen) in ENTRIES.iter().zip(&seen) {
@@ -234,4 +244,3 @@ pub fn main(words: &[String]) {
     }
     println!("desk: every number that each entry can give came");
 }
-

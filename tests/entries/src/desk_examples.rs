@@ -1,7 +1,6 @@
 //! Runs the worked examples of a page on the desk's entries: `desk_examples PAGE`. In each block marked `desk` a line with `>` is a call on
 //! one desk, and the next line, with `<`, what it must answer; names in both are those of the headers.
 
-
 use station::raw::desk as desk_raw;
 use std::collections::HashMap;
 use std::process::exit;
@@ -104,5 +103,7 @@ pub fn main(words: &[String]) {
         }
     }
     println!("examples: {blocks} of {page}, {calls} calls, {failed} wrong");
-    if calls == 0 || failed > 0 { exit(1); }
+    if calls == 0 || failed > 0 {
+        exit(1);
+    }
 }

@@ -1,6 +1,5 @@
 //! Whoever writes and reads drawings: the entries, the reference, and the reference with a fault that is chosen.
 
-
 use reference::drawing;
 use station::raw::drawing as raw;
 

@@ -9,10 +9,10 @@ mod examples;
 
 use entries::drawer::{Drawer, ENTRIES, REFERENCE, WRONG};
 use examples::{drawn_ones, refused_ones, spelled_ones};
-use shared::drawing_traffic::{any_record, changed_text, drawable_record, faulty_text, lift_settings, lines_of, sound_record, DAMAGES};
 use reference::drawing::{begins_hex, drawn, hex_line, image_in, record_in, LINES, NOT_A_DRAWING, NO_ROOM, UNSOUND};
-use shared::pipes;
 use reference::{sound, NO_PLACE, START};
+use shared::drawing_traffic::{any_record, changed_text, drawable_record, faulty_text, lift_settings, lines_of, sound_record, DAMAGES};
+use shared::pipes;
 use shared::traffic::{any_bytes, Numbers};
 use std::collections::{BTreeMap, BTreeSet};
 use std::process::exit;
@@ -43,7 +43,10 @@ impl Call {
 
     /// As the host in C takes it; a call that is refused may write nothing.
     fn told(&self) -> Vec<u8> {
-        let (reads, image, text) = match &self.given { Given::Record(image) => (0, *image, &[][..]), Given::Text(text) => (1, 0, &text[..]) };
+        let (reads, image, text) = match &self.given {
+            Given::Record(image) => (0, *image, &[][..]),
+            Given::Text(text) => (1, 0, &text[..]),
+        };
         let sizes = [text.len() as u32, self.room.len() as u32].map(u32::to_le_bytes).concat();
         let taken = u8::from(self.by(&REFERENCE).0 as u8 == 0);
         [&[reads, taken], &image.to_le_bytes()[..], &sizes, text, &self.room].concat()
@@ -69,24 +72,33 @@ const NOT_SOUND: &str = "draw: 15: the record is not sound\n";
 const LONGEST_HEX: usize = 65536;
 
 fn bad_line(place: u8) -> String {
-    if usize::from(place) == LINES { return "draw: 41, place 6: text after the last line\n".to_string(); }
+    if usize::from(place) == LINES {
+        return "draw: 41, place 6: text after the last line\n".to_string();
+    }
     format!("draw: 41, place {place}: not a drawing; line {} is the first bad one\n", place + 1)
 }
 
 /// All that it can tell, of an image in hex or of a drawing; nothing where it is taken.
 fn all_lines() -> BTreeSet<(bool, String)> {
     let either = ["", NOT_SOUND].into_iter().flat_map(|line| [(true, line.to_string()), (false, line.to_string())]);
-    either.chain([NOT_HEX, TOO_LONG].map(|line| (true, line.to_string()))).chain((0..=LINES as u8).map(|place| (false, bad_line(place)))).collect()
+    either
+        .chain([NOT_HEX, TOO_LONG].map(|line| (true, line.to_string())))
+        .chain((0..=LINES as u8).map(|place| (false, bad_line(place))))
+        .collect()
 }
 
-fn is_hex(input: &[u8]) -> bool { input.first().is_some_and(|&first| begins_hex(first)) }
+fn is_hex(input: &[u8]) -> bool {
+    input.first().is_some_and(|&first| begins_hex(first))
+}
 
 /// What the program writes, what it tells, and whether its status is 0.
 fn of_program(input: &[u8]) -> (Vec<u8>, String, bool) {
     let written = if is_hex(input) && input.len() > LONGEST_HEX {
         Err(TOO_LONG.to_string())
     } else if is_hex(input) {
-        image_in(input).ok_or(NOT_HEX.to_string()).and_then(|image| if sound(image) { Ok(drawn(image)) } else { Err(NOT_SOUND.to_string()) })
+        image_in(input)
+            .ok_or(NOT_HEX.to_string())
+            .and_then(|image| if sound(image) { Ok(drawn(image)) } else { Err(NOT_SOUND.to_string()) })
     } else {
         record_in(input).map(hex_line).map_err(|said| if said.number == UNSOUND { NOT_SOUND.to_string() } else { bad_line(said.place) })
     };
@@ -120,7 +132,9 @@ impl Run {
 
     fn fault(&mut self, who: &str, given: &Given, got: String, expected: String) {
         self.wrong += 1;
-        if self.wrong > 5 { return; }
+        if self.wrong > 5 {
+            return;
+        }
         match given {
             Given::Record(image) => eprintln!("drawings: {who}, record {image:#018X}: {got}, expected {expected}"),
             Given::Text(text) => eprintln!("drawings: {who}, {:?}: {got}, expected {expected}", String::from_utf8_lossy(text)),
@@ -135,7 +149,10 @@ impl Run {
             self.fault(["the entry", "the host in C"][by], &call.given, told(&got), told(&expected));
         }
         let [number, place, ..] = got.0.to_le_bytes();
-        let what = match call.given { Given::Record(_) => "a record", Given::Text(_) => "a text" };
+        let what = match call.given {
+            Given::Record(_) => "a record",
+            Given::Text(_) => "a text",
+        };
         *self.came[by].entry((what, number, place)).or_default() += 1;
         expected.0
     }
@@ -151,7 +168,9 @@ impl Run {
         let got = call.by(&ENTRIES);
         self.find(|wrong| call.by(wrong) != got);
         let said = self.held(0, &call, got);
-        if keep || self.numbers.one_in(self.share) { self.kept.push(call); }
+        if keep || self.numbers.one_in(self.share) {
+            self.kept.push(call);
+        }
         said
     }
 
@@ -159,7 +178,9 @@ impl Run {
     fn read(&mut self, text: &[u8], keep: bool) -> u8 {
         let more = [0, 0, 1, 40][self.numbers.below(4) as usize];
         let said = self.made(Given::Text(text.to_vec()), 8 + more, keep);
-        if let 0 | UNSOUND = said as u8 { self.shown(text, said as u8); }
+        if let 0 | UNSOUND = said as u8 {
+            self.shown(text, said as u8);
+        }
         said.to_le_bytes()[1]
     }
 
@@ -168,7 +189,9 @@ impl Run {
         let text = String::from_utf8_lossy(text);
         let lines: Vec<&str> = text.lines().collect();
         self.ways.insert(format!("lift line {} told {number}", lines[5]));
-        if number != 0 { return; }
+        if number != 0 {
+            return;
+        }
         self.ways.insert(format!("{} bytes", text.len()));
         for (line, at) in lines[..5].iter().zip(0..) {
             self.ways.extend(line.chars().zip(0..).map(|(sign, place)| format!("line {at} has {sign} at {place}")));
@@ -181,12 +204,24 @@ impl Run {
         let more = self.numbers.below(40) as usize;
         let said = self.made(Given::Record(image), 66 + more, all_rooms);
         let (taken, size) = (said as u8 == 0, (said >> 16) as usize);
-        let rooms = if all_rooms { 0..67 } else if taken { size - 1..size + 1 } else { 0..0 };
-        for room in rooms { self.made(Given::Record(image), room, all_rooms); }
-        if !taken { return; }
+        let rooms = if all_rooms {
+            0..67
+        } else if taken {
+            size - 1..size + 1
+        } else {
+            0..0
+        };
+        for room in rooms {
+            self.made(Given::Record(image), room, all_rooms);
+        }
+        if !taken {
+            return;
+        }
         let text = drawn(image).into_bytes();
         self.read(&text, all_rooms);
-        for room in if all_rooms { 0..8 } else { 0..0 } { self.made(Given::Text(text.clone()), room, true); }
+        for room in if all_rooms { 0..8 } else { 0..0 } {
+            self.made(Given::Text(text.clone()), room, true);
+        }
     }
 
     /// Every way of damage at every line of a sound record's drawing.
@@ -228,15 +263,24 @@ impl Run {
         self.programs += 1;
         let (expected, hex) = (of_program(input), is_hex(input));
         let got = pipes::run(program, input, self.programs as u64);
-        if got != expected { self.fault("the program", &Given::Text(input.to_vec()), format!("{got:?}"), format!("{expected:?}")); }
-        if hex { self.find(|wrong| (wrong.image_in)(input) != image_in(input)); }
+        if got != expected {
+            self.fault("the program", &Given::Text(input.to_vec()), format!("{got:?}"), format!("{expected:?}"));
+        }
+        if hex {
+            self.find(|wrong| (wrong.image_in)(input) != image_in(input));
+        }
         self.by_program.insert((hex, got.1));
     }
 
     /// Whether all came that can, and nothing else; if not, says what is amiss.
     fn complete(&self) -> bool {
         let mut right = self.wrong == 0;
-        let mut same = |what: &str, amiss: Vec<String>| if !amiss.is_empty() { right = false; eprintln!("drawings: {what}: {amiss:?}"); };
+        let mut same = |what: &str, amiss: Vec<String>| {
+            if !amiss.is_empty() {
+                right = false;
+                eprintln!("drawings: {what}: {amiss:?}");
+            }
+        };
         let every = all_told();
         for (came, by) in self.came.iter().zip(["the entries", "the host in C"]) {
             let came: BTreeSet<Told> = came.keys().copied().collect();
@@ -288,7 +332,12 @@ fn examples(run: &mut Run) -> Vec<Vec<u8>> {
     }
     // long inputs: hex with as many blanks as there may be and with one more, a drawing with much behind it, a line that doesn't end
     let (hex, text) = (hex_line(START), drawn(START));
-    let long = [hex.clone() + &" ".repeat(LONGEST_HEX - hex.len()), hex + &" ".repeat(LONGEST_HEX), text + &"\n".repeat(LONGEST_HEX), ".".repeat(200_000)];
+    let long = [
+        hex.clone() + &" ".repeat(LONGEST_HEX - hex.len()),
+        hex + &" ".repeat(LONGEST_HEX),
+        text + &"\n".repeat(LONGEST_HEX),
+        ".".repeat(200_000),
+    ];
     inputs.extend(long.map(String::into_bytes));
     inputs
 }
@@ -299,7 +348,9 @@ fn cut_anywhere(run: &mut Run) {
         let image = 0x0009_1B22_0020_0003 | setting;
         run.both_ways(image, true);
         let text = [drawn(image).as_bytes(), b"\nmore"].concat();
-        for end in 0..=text.len() { run.read(&text[..end], true); }
+        for end in 0..=text.len() {
+            run.read(&text[..end], true);
+        }
     }
 }
 
@@ -316,17 +367,27 @@ pub fn main(words: &[String]) {
         run.both_ways(other, false);
         run.read(drawn(drawable).as_bytes(), false);
         let texts = [faulty_text, changed_text].map(|made| made(&mut run.numbers, image));
-        texts.iter().for_each(|text| { run.read(text, false); });
-        if at % 50 == 0 { run.damaged(image); }
-        if at % 400 == 0 { inputs.extend(texts.into_iter().chain([image, other].map(|image| hex_line(image).into_bytes()))); }
+        texts.iter().for_each(|text| {
+            run.read(text, false);
+        });
+        if at % 50 == 0 {
+            run.damaged(image);
+        }
+        if at % 400 == 0 {
+            inputs.extend(texts.into_iter().chain([image, other].map(|image| hex_line(image).into_bytes())));
+        }
     }
     let most = run.by_host(&host.join(" "));
     if most > number(stack) {
         eprintln!("drawings: a call took {most} bytes of stack, which is above {stack}");
         exit(1);
     }
-    for input in &inputs { run.program(program, input); }
-    if !run.complete() { exit(1); }
+    for input in &inputs {
+        run.program(program, input);
+    }
+    if !run.complete() {
+        exit(1);
+    }
     let [calls, by_host] = run.came.each_ref().map(|came| came.values().sum::<usize>());
     let count = |told: &dyn Fn(&Told) -> bool| run.came[0].iter().filter(|(key, _)| told(key)).map(|(_, often)| often).sum::<usize>();
     let (drawings, read) = (count(&|told| *told == ("a record", 0, NO_PLACE)), count(&|told| *told == ("a text", 0, NO_PLACE)));

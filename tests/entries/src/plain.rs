@@ -10,11 +10,11 @@ mod engines;
 
 use engines::Left;
 use reference::command::Command;
+use reference::panel_command::{self, CARS, CARS_SIZE, CONDITION, CONDITION_SIZE, ENTRIES, EVENT, NEXT, RECORD, REQUEST, RESULT};
+use reference::{cars, read_call, Call, Instruction, Station};
 use shared::handed::{self, handed, Handed};
 use shared::panel_calls::{any_call, given_by, reason};
-use reference::panel_command::{self, CARS, CARS_SIZE, CONDITION, CONDITION_SIZE, ENTRIES, EVENT, NEXT, RECORD, REQUEST, RESULT};
 use shared::pipes::messages_in;
-use reference::{cars, read_call, Call, Instruction, Station};
 use shared::sound_records::{every_five, SoundRecords};
 use shared::traffic::{self, every_reason, framed_message, Numbers};
 use shared::trials::Given;
@@ -35,7 +35,20 @@ fn reference_call(given: &Given) -> Left {
 fn wrong_call(fault: &Fault, given: &Given) -> Left {
     let &Given { entry, first, second, issue, image, apart, card, ref input, .. } = given;
     engines::on_copies(given, |room, output| {
-        fault.with(|| wrong::panel_command::call(&mut wrong::command::Command { entry, first, second, issue, image, apart, card, room, input, output }))
+        fault.with(|| {
+            wrong::panel_command::call(&mut wrong::command::Command {
+                entry,
+                first,
+                second,
+                issue,
+                image,
+                apart,
+                card,
+                room,
+                input,
+                output,
+            })
+        })
     })
 }
 
@@ -92,22 +105,33 @@ impl Run {
         self.calls[entry] += 1;
         self.seen[entry].insert(number);
         self.reasons[entry].extend(reason(given.entry, &given.input, answer));
-        if given.entry > RESULT { return; }
+        if given.entry > RESULT {
+            return;
+        }
         let Some(station) = given.room.first_chunk().map(Station::from_bytes) else { return };
-        if let Some(sort) = handed(&station).filter(|sort| sort.shown_by(number)) { *self.sorts[entry].entry(sort).or_insert(0) += 1; }
-        if given.entry == EVENT && number != UNFIT { self.filled.extend(filling::met(&station, Call::Event(given.first), number)); }
+        if let Some(sort) = handed(&station).filter(|sort| sort.shown_by(number)) {
+            *self.sorts[entry].entry(sort).or_insert(0) += 1;
+        }
+        if given.entry == EVENT && number != UNFIT {
+            self.filled.extend(filling::met(&station, Call::Event(given.first), number));
+        }
     }
 
     /// One instruction on a sound record: each condition and one past them, of which the first that fails must be what the next record is
     /// refused for; and that record.
     fn instruction(&mut self, image: u64, five: [u8; 5], more: usize) {
-        let asked = |entry, first, size| Given { entry, first, image, input: five.to_vec(), output: vec![0xA5; size + more], ..Given::default() };
+        let asked =
+            |entry, first, size| Given { entry, first, image, input: five.to_vec(), output: vec![0xA5; size + more], ..Given::default() };
         let mut told = None;
         for at in 0.. {
             let (_, _, bytes) = self.compared(&asked(CONDITION, at, CONDITION_SIZE));
             let [there, holds, why, ..] = bytes[..] else { panic!("{bytes:?} are too few") };
-            if there == 0 { break; }
-            if holds == 0 { told = told.or(Some(why)); }
+            if there == 0 {
+                break;
+            }
+            if holds == 0 {
+                told = told.or(Some(why));
+            }
             self.conditions.insert((five[0], if five[0] == 3 { five[3] } else { 0 }, at, holds == 1));
         }
         let (answer, _, _) = self.compared(&asked(NEXT, 0, RECORD));
@@ -118,7 +142,9 @@ impl Run {
 
     /// Every instruction on a record, and its cars.
     fn record(&mut self, image: u64, fives: &[[u8; 5]], more: usize) {
-        for &five in fives { self.instruction(image, five, more); }
+        for &five in fives {
+            self.instruction(image, five, more);
+        }
         let (answer, _, _) = self.compared(&Given { entry: CARS, image, output: vec![0xA5; CARS_SIZE + more], ..Given::default() });
         assert_eq!(Some(answer >> 16), cars(image), "the cars of {image:#018x}");
     }
@@ -126,7 +152,12 @@ impl Run {
     /// Whether all came that can, and nothing else; if not, says what is amiss.
     fn complete(&self) -> bool {
         let mut right = true;
-        let mut held = |is: bool, what: String| if !is { right = false; eprintln!("plain: {what}") };
+        let mut held = |is: bool, what: String| {
+            if !is {
+                right = false;
+                eprintln!("plain: {what}")
+            }
+        };
         for ((entry, numbers), seen) in ENTRIES.iter().zip(&self.seen) {
             held(seen.iter().eq(*numbers), format!("{entry} gave {seen:?}, expected {numbers:?}"));
         }
@@ -167,7 +198,9 @@ fn beside(run: &mut Run, calls: usize) {
     for _ in 0..calls {
         let message = framed_message(&mut numbers, &station);
         traffic::after(&mut station, &message);
-        if let Some(given) = any_call(&mut numbers, &station) { run.compared(&given); }
+        if let Some(given) = any_call(&mut numbers, &station) {
+            run.compared(&given);
+        }
     }
 }
 
@@ -177,17 +210,29 @@ pub fn main(words: &[String]) {
     let (mut run, input) = (Run::new(), traffic::input(0, number(messages)));
     // the wrong references are found out by the first two, and then no longer asked
     let (fives, sound_records, mut numbers) = (every_five(), SoundRecords::new(), Numbers(240));
-    for at in 0..number(records) { run.record(sound_records.any(&mut numbers), &fives, at % 3); }
+    for at in 0..number(records) {
+        run.record(sound_records.any(&mut numbers), &fives, at % 3);
+    }
     beside(&mut run, number(calls));
     life(&mut run, &input);
     let (jams, lifts) = (jams::met_in(&input).0, lifts::met_in(&input).0);
     let met = drives::every_drive("plain", &run.drives) && jams::every_jam("plain", &jams) && lifts::every_lift("plain", &lifts);
-    if !run.complete() || !met { exit(1); }
+    if !run.complete() || !met {
+        exit(1);
+    }
     let calls: Vec<_> = ENTRIES.iter().map(|entry| entry.0).zip(run.calls).collect();
-    println!("plain: {} calls by the plain engine, the packed one and the reference, no difference: {calls:?}", run.calls.iter().sum::<usize>());
+    println!(
+        "plain: {} calls by the plain engine, the packed one and the reference, no difference: {calls:?}",
+        run.calls.iter().sum::<usize>()
+    );
     println!("plain: every number of each entry, {} pairs of opcode and reason, {} conditions that held and failed, {} sorts of handed-in stations",
         run.reasons[usize::from(NEXT)].len(), run.conditions.len() / 2, handed::ALL.len());
-    println!("plain: {} ways to meet a drive, {} a jam, {} a lift run beside others, {} places that are kept open, all that there are",
-        run.drives.len(), jams.len(), lifts.len(), run.filled.len());
+    println!(
+        "plain: {} ways to meet a drive, {} a jam, {} a lift run beside others, {} places that are kept open, all that there are",
+        run.drives.len(),
+        jams.len(),
+        lifts.len(),
+        run.filled.len()
+    );
     println!("plain: {} wrong references found out", all_of("plain").count());
 }

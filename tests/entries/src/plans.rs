@@ -6,20 +6,24 @@
 mod examples;
 
 use examples::{examples, ways, WAYS};
-use shared::pipes;
-use shared::plan_traffic::any_plan;
 use reference::plan::{judge, Verdict, NO_SET};
 use reference::START;
+use shared::pipes;
+use shared::plan_traffic::any_plan;
 use shared::traffic::Numbers;
 use station::raw::plan as raw;
 use std::collections::{BTreeMap, BTreeSet};
 use std::process::exit;
 use wrong::fault::{all_of, Fault};
 
-fn plan_judge(plan: &[u8]) -> u32 { unsafe { raw::plan_judge(plan.as_ptr(), plan.len()) } }
+fn plan_judge(plan: &[u8]) -> u32 {
+    unsafe { raw::plan_judge(plan.as_ptr(), plan.len()) }
+}
 
 /// What the entry returns: the number, and 256 times the set.
-fn returned(Verdict { number, set }: Verdict) -> u32 { u32::from(number) + 256 * u32::from(set) }
+fn returned(Verdict { number, set }: Verdict) -> u32 {
+    u32::from(number) + 256 * u32::from(set)
+}
 
 /// What a plan can be told as a whole, and of a set of it, with the words of the program's line.
 const OF_THE_PLAN: [(u8, &str); 6] = [
@@ -71,7 +75,9 @@ struct Run {
 impl Run {
     fn fault(&mut self, name: &str, plan: &[u8], got: &str, expected: Verdict) {
         self.wrong += 1;
-        if self.wrong > 5 { return; }
+        if self.wrong > 5 {
+            return;
+        }
         eprintln!("plans: {name}, {} bytes: {got}, expected {expected:?}", plan.len());
         eprintln!("  {:02X?}", &plan[..plan.len().min(400)]);
     }
@@ -84,11 +90,18 @@ impl Run {
     fn by_entry(&mut self, name: &str, plan: &[u8]) -> Verdict {
         let expected = judge(plan);
         let got = plan_judge(plan);
-        if got != returned(expected) { self.fault(name, plan, &format!("the entry returned {got}"), expected); }
+        if got != returned(expected) {
+            self.fault(name, plan, &format!("the entry returned {got}"), expected);
+        }
         self.count(0, expected);
         self.ways.extend(ways(plan, expected));
         let told = (got as u8, (got >> 8) as u8);
-        self.unfound.retain(|fault| fault.with(|| { let wrong = wrong::plan::judge(plan); (wrong.number, wrong.set) == told }));
+        self.unfound.retain(|fault| {
+            fault.with(|| {
+                let wrong = wrong::plan::judge(plan);
+                (wrong.number, wrong.set) == told
+            })
+        });
         expected
     }
 
@@ -96,7 +109,9 @@ impl Run {
         let expected = judge(plan);
         let got = pipes::answers(program, plan, seed);
         let wrote = String::from_utf8_lossy(&got);
-        if wrote != line(expected) { self.fault(name, plan, &format!("the program wrote {wrote:?}"), expected); }
+        if wrote != line(expected) {
+            self.fault(name, plan, &format!("the program wrote {wrote:?}"), expected);
+        }
         self.count(1, expected);
     }
 
@@ -105,10 +120,14 @@ impl Run {
         let input: Vec<u8> = plans.iter().flat_map(|plan| [&(plan.len() as u32).to_le_bytes(), &plan[..]].concat()).collect();
         let output = pipes::answers(host, &input, 1);
         let numbers: Vec<u32> = output.chunks_exact(4).map(|four| u32::from_le_bytes(*four.first_chunk().expect("four"))).collect();
-        if numbers.len() != 2 * plans.len() { self.fault("the host in C", &[], "another number of answers", judge(&[])); }
+        if numbers.len() != 2 * plans.len() {
+            self.fault("the host in C", &[], "another number of answers", judge(&[]));
+        }
         for (plan, told) in plans.iter().zip(numbers.chunks_exact(2)) {
             let expected = judge(plan);
-            if told[0] != returned(expected) { self.fault("the host in C", plan, &format!("it was returned {}", told[0]), expected); }
+            if told[0] != returned(expected) {
+                self.fault("the host in C", plan, &format!("it was returned {}", told[0]), expected);
+            }
         }
         numbers.iter().skip(1).step_by(2).copied().max().unwrap_or(0)
     }
@@ -116,7 +135,12 @@ impl Run {
     /// Whether all came that can, and nothing else; if not, says what is amiss.
     fn complete(&self) -> bool {
         let mut right = self.wrong == 0;
-        let mut same = |what: &str, amiss: Vec<String>| if !amiss.is_empty() { right = false; eprintln!("plans: {what}: {amiss:?}"); };
+        let mut same = |what: &str, amiss: Vec<String>| {
+            if !amiss.is_empty() {
+                right = false;
+                eprintln!("plans: {what}: {amiss:?}");
+            }
+        };
         let wanted: BTreeSet<_> = OF_THE_PLAN.map(|row| (row.0, false)).into_iter().chain(OF_A_SET.map(|row| (row.0, true))).collect();
         for (came, by) in self.came.iter().zip(["the entry", "the program"]) {
             let came: BTreeSet<_> = came.keys().copied().collect();
@@ -124,7 +148,8 @@ impl Run {
             let amiss = came.symmetric_difference(&wanted).map(told);
             same(&format!("numbers that {by} never told, or can't"), amiss.collect());
         }
-        let missing = |all: Vec<&str>, came: &BTreeSet<&str>| all.into_iter().filter(|one| !came.contains(one)).map(str::to_string).collect();
+        let missing =
+            |all: Vec<&str>, came: &BTreeSet<&str>| all.into_iter().filter(|one| !came.contains(one)).map(str::to_string).collect();
         same("ways that never came", missing(WAYS.to_vec(), &self.ways));
         same("wrong references that were not found out", self.unfound.iter().map(|fault| fault.name.to_string()).collect());
         right
@@ -139,7 +164,9 @@ pub fn main(words: &[String]) {
     for (name, plan, verdict) in examples() {
         assert_eq!(judge(&plan), verdict, "{name}");
         run.by_entry(name, &plan);
-        if !name.starts_with("cut") || plan.len() % 7 == 3 { to_program.push((name, plan.clone())); }
+        if !name.starts_with("cut") || plan.len() % 7 == 3 {
+            to_program.push((name, plan.clone()));
+        }
         kept.push(plan);
     }
     let (mut numbers, mut record, mut told) = (Numbers(9), START, BTreeMap::new());
@@ -149,19 +176,35 @@ pub fn main(words: &[String]) {
         let verdict = run.by_entry("made", &plan);
         let often = told.entry((verdict.number, verdict.set != NO_SET)).or_insert(0);
         *often += 1;
-        if *often <= 3 { to_program.push(("made", plan.clone())); }
-        if at % number(share) == 0 { kept.push(plan); }
+        if *often <= 3 {
+            to_program.push(("made", plan.clone()));
+        }
+        if at % number(share) == 0 {
+            kept.push(plan);
+        }
     }
     let most = run.by_host(&host.join(" "), &kept);
     if most > number(stack) {
         eprintln!("plans: a call took {most} bytes of stack, which is above {stack}");
         exit(1);
     }
-    for ((name, plan), seed) in to_program.iter().zip(1..) { run.by_program(program, name, plan, seed); }
-    if !run.complete() { exit(1); }
+    for ((name, plan), seed) in to_program.iter().zip(1..) {
+        run.by_program(program, name, plan, seed);
+    }
+    if !run.complete() {
+        exit(1);
+    }
     let accepted = run.came[0][&(0, false)];
-    println!("plans: {} judged by the entry ({accepted} accepted), {} by the host in C, {} by the program, each as the reference says",
-        run.came[0].values().sum::<usize>(), kept.len(), to_program.len());
-    println!("plans: {} numbers, {} ways to come by them, all that there are; {} wrong references found out; at most {most} bytes of stack",
-        OF_THE_PLAN.len() + OF_A_SET.len() - 1, WAYS.len(), all_of("plan").count());
+    println!(
+        "plans: {} judged by the entry ({accepted} accepted), {} by the host in C, {} by the program, each as the reference says",
+        run.came[0].values().sum::<usize>(),
+        kept.len(),
+        to_program.len()
+    );
+    println!(
+        "plans: {} numbers, {} ways to come by them, all that there are; {} wrong references found out; at most {most} bytes of stack",
+        OF_THE_PLAN.len() + OF_A_SET.len() - 1,
+        WAYS.len(),
+        all_of("plan").count()
+    );
 }

@@ -3,17 +3,18 @@
 //! short; the text, which must be what the program prints. Every total that a message can raise must have been full once, and told; been
 //! one before its end and reached it; and, where another can be full before it, not told.
 
-
-use shared::pipes;
 use reference::places::{self, held, place, put, told, written, BAD_FIELD, NO_PLACE, NO_ROOM, PLACES, SIZE, TAKEN};
-use reference::Station;
-use shared::traffic::{self, any_bytes, any_message, damaged_station, Numbers};
 use reference::week::{full, happened, totals, Happened, Total, Week};
+use reference::Station;
+use shared::pipes;
+use shared::traffic::{self, any_bytes, any_message, damaged_station, Numbers};
 use station::raw::{report, station as raw};
 use std::collections::BTreeSet;
 use std::process::exit;
 
-fn report_start(room: &mut [u8]) -> u32 { unsafe { report::report_start(room.as_mut_ptr(), room.len()) } }
+fn report_start(room: &mut [u8]) -> u32 {
+    unsafe { report::report_start(room.as_mut_ptr(), room.len()) }
+}
 
 fn report_message(room: &mut [u8], station: &[u8], message: &[u8]) -> u32 {
     unsafe { report::report_message(room.as_mut_ptr(), room.len(), station.as_ptr(), station.len(), message.as_ptr(), message.len()) }
@@ -23,7 +24,9 @@ fn report_lines(room: &[u8], full: u8, out: &mut [u8]) -> u32 {
     unsafe { report::report_lines(room.as_ptr(), room.len(), full, out.as_mut_ptr(), out.len()) }
 }
 
-fn station_start(room: &mut [u8]) -> u32 { unsafe { raw::station_start(room.as_mut_ptr(), room.len()) } }
+fn station_start(room: &mut [u8]) -> u32 {
+    unsafe { raw::station_start(room.as_mut_ptr(), room.len()) }
+}
 
 fn station_message(room: &mut [u8], message: &[u8], reply: &mut [u8]) -> u32 {
     unsafe { raw::station_message(room.as_mut_ptr(), room.len(), message.as_ptr(), message.len(), reply.as_mut_ptr(), reply.len()) }
@@ -166,16 +169,27 @@ fn texts(numbers: &mut Numbers) {
         let mut week = Week::default();
         for total in totals() {
             let bits = numbers.below(33);
-            week.set(total, match round { 0 => 0, 1 => u32::MAX, _ => ((numbers.next() & 0xFFFF_FFFF) >> (32 - bits)) as u32 });
+            week.set(
+                total,
+                match round {
+                    0 => 0,
+                    1 => u32::MAX,
+                    _ => ((numbers.next() & 0xFFFF_FFFF) >> (32 - bits)) as u32,
+                },
+            );
         }
         put(&week, &mut room);
         let text = week.report();
         assert!(text.len() <= TEXT, "a report of {} bytes", text.len());
         let lengths = if round < 2 { 0..text.len() + 3 } else { text.len() - 2..text.len() + 3 };
-        for length in lengths { text_in(numbers, &room, NO_PLACE, &text, length); }
+        for length in lengths {
+            text_in(numbers, &room, NO_PLACE, &text, length);
+        }
         for total in totals() {
             let text = full(total);
-            for length in text.len() - 1..text.len() + 2 { text_in(numbers, &room, place(total), &text, length); }
+            for length in text.len() - 1..text.len() + 2 {
+                text_in(numbers, &room, place(total), &text, length);
+            }
         }
     }
 }
@@ -236,7 +250,11 @@ pub fn main(words: &[String]) {
     // the largest number of cars is never too large, and no message is told of a room; an unknown kind counts under its answer alone
     let can: BTreeSet<Total> = totals().filter(|total| !matches!(total, Total::MostCars | Total::Answer(17))).collect();
     let after_another: BTreeSet<Total> = can.iter().filter(|total| !matches!(total, Total::Kind(_) | Total::Answer(3))).copied().collect();
-    let all = [("told as full", &met.told, &can), ("raised to its end", &met.reached, &can), ("full behind another", &met.behind, &after_another)];
+    let all = [
+        ("told as full", &met.told, &can),
+        ("raised to its end", &met.reached, &can),
+        ("full behind another", &met.behind, &after_another),
+    ];
     for (what, met, can) in all {
         let amiss: Vec<String> = met.symmetric_difference(can).map(Total::to_string).collect();
         if !amiss.is_empty() {

@@ -15,10 +15,14 @@ static ALL: &[Fault] = &include!(concat!(env!("OUT_DIR"), "/faults"));
 static CHOSEN: AtomicUsize = AtomicUsize::new(0);
 
 /// The number of the chosen fault, or 0.
-pub fn chosen() -> usize { CHOSEN.load(Relaxed) }
+pub fn chosen() -> usize {
+    CHOSEN.load(Relaxed)
+}
 
 /// The faults of a list.
-pub fn all_of(list: &str) -> impl Iterator<Item = &'static Fault> + '_ { ALL.iter().filter(move |fault| fault.list == list) }
+pub fn all_of(list: &str) -> impl Iterator<Item = &'static Fault> + '_ {
+    ALL.iter().filter(move |fault| fault.list == list)
+}
 
 impl Fault {
     /// What a call returns while the references have this fault.
@@ -30,5 +34,7 @@ impl Fault {
     }
 
     /// Gives the references this fault, from now on.
-    pub fn choose(&self) { CHOSEN.store(self.at, Relaxed) }
+    pub fn choose(&self) {
+        CHOSEN.store(self.at, Relaxed)
+    }
 }

@@ -1,8 +1,8 @@
 //! The side of drawing_harness.c. Nothing is handed in that has sorts.
 
-use crate::Side;
 use crate::judged::command::Command;
 use crate::judged::drawing::{read, write, NOT_A_DRAWING, NO_ROOM, UNSOUND};
+use crate::Side;
 
 /// The entries for drawings, as drawing_harness.c numbers them.
 pub struct Drawing;
@@ -12,7 +12,9 @@ const READ: u8 = 1;
 
 impl Side for Drawing {
     #[cfg(feature = "wrong")]
-    fn list(&self) -> &'static str { "drawing" }
+    fn list(&self) -> &'static str {
+        "drawing"
+    }
 
     fn call(&self, lent: &mut Command) -> u32 {
         match lent.entry {
@@ -21,11 +23,17 @@ impl Side for Drawing {
         }
     }
 
-    fn handed(&self, _: &Command) -> u8 { 0 }
+    fn handed(&self, _: &Command) -> u8 {
+        0
+    }
 
-    fn sorts(&self) -> u8 { 0 }
+    fn sorts(&self) -> u8 {
+        0
+    }
 
-    fn shows(&self, _: u8, _: u8) -> bool { false }
+    fn shows(&self, _: u8, _: u8) -> bool {
+        false
+    }
 
     fn gives(&self, entry: u8, number: u8) -> bool {
         match entry {

@@ -94,26 +94,36 @@ impl Command {
 /// # Safety
 /// Each run is valid for its size, and overlaps no other; the same below.
 #[no_mangle]
-pub unsafe extern "C" fn reference_call(of: u8, given: &Command) -> u32 { side(of).call(&mut given.lent()) }
+pub unsafe extern "C" fn reference_call(of: u8, given: &Command) -> u32 {
+    side(of).call(&mut given.lent())
+}
 
 /// The sort of what is handed in that a call is made on.
 ///
 /// # Safety
 /// As above.
 #[no_mangle]
-pub unsafe extern "C" fn reference_handed(of: u8, given: &Command) -> u8 { side(of).handed(&given.lent()) }
+pub unsafe extern "C" fn reference_handed(of: u8, given: &Command) -> u8 {
+    side(of).handed(&given.lent())
+}
 
 /// How many sorts there are.
 #[no_mangle]
-pub extern "C" fn reference_sorts(of: u8) -> u8 { side(of).sorts() }
+pub extern "C" fn reference_sorts(of: u8) -> u8 {
+    side(of).sorts()
+}
 
 /// Whether an answer shows that a call was made on something of a sort.
 #[no_mangle]
-pub extern "C" fn reference_shows(of: u8, sort: u8, number: u8) -> bool { side(of).shows(sort, number) }
+pub extern "C" fn reference_shows(of: u8, sort: u8, number: u8) -> bool {
+    side(of).shows(sort, number)
+}
 
 /// Whether an entry can answer with a number.
 #[no_mangle]
-pub extern "C" fn reference_gives(of: u8, entry: u8, number: u8) -> bool { side(of).gives(entry, number) }
+pub extern "C" fn reference_gives(of: u8, entry: u8, number: u8) -> bool {
+    side(of).gives(entry, number)
+}
 
 /// Told of each call of an entry: what it was given, and what it left and returned.
 ///

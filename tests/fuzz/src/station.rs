@@ -1,7 +1,7 @@
 //! The side of harness.c.
 
-use crate::{Command, Side};
 use crate::judged::{command, panel_command, places};
+use crate::{Command, Side};
 use reference::REASONS;
 use shared::handed;
 
@@ -15,7 +15,9 @@ const PLAIN_AT: u8 = REPORT_START + 3;
 
 impl Side for Station {
     #[cfg(feature = "wrong")]
-    fn list(&self) -> &'static str { "station" }
+    fn list(&self) -> &'static str {
+        "station"
+    }
 
     fn call(&self, lent: &mut command::Command) -> u32 {
         match lent.entry {
@@ -35,7 +37,9 @@ impl Side for Station {
         handed::ALL.iter().position(|&one| Some(one) == sort).map_or(self.sorts(), |at| at as u8)
     }
 
-    fn sorts(&self) -> u8 { handed::ALL.len() as u8 }
+    fn sorts(&self) -> u8 {
+        handed::ALL.len() as u8
+    }
 
     fn shows(&self, sort: u8, number: u8) -> bool {
         handed::ALL.get(usize::from(sort)).is_some_and(|sort| sort.shown_by(number))
@@ -64,4 +68,6 @@ pub unsafe extern "C" fn reference_reason(given: &Command, answer: u32) -> u16 {
 
 /// Whether an opcode can be refused with a number for what a sound record is.
 #[no_mangle]
-pub extern "C" fn reference_refuses(opcode: u8, number: u8) -> bool { REASONS.contains(&(opcode, number)) }
+pub extern "C" fn reference_refuses(opcode: u8, number: u8) -> bool {
+    REASONS.contains(&(opcode, number))
+}

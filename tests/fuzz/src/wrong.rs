@@ -2,9 +2,9 @@
 //! until one finds it out: until it says that something else is returned or left than the entry did. The run ends when all are found out,
 //! and tells those that are not. The environment's WRONG names one to take the right reference's place instead.
 
-use crate::Side;
 use crate::judged::command::Command;
 use crate::judged::fault::{all_of, Fault};
+use crate::Side;
 use std::sync::{Mutex, OnceLock};
 
 extern "C" {

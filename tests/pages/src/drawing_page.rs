@@ -42,5 +42,7 @@ pub fn main(given: &[String]) {
     let all: Vec<_> = pages.iter().map(|page| examples(program, page)).collect();
     let [both_ways, refused, wrong] = [0, 1, 2].map(|which| all.iter().map(|counts| counts[which]).sum::<usize>());
     println!("drawing_page: {both_ways} drawings of {pages:?} both ways, {refused} refusals, {wrong} wrong");
-    if all.iter().any(|counts| counts[0] == 0) || refused == 0 || wrong > 0 { exit(1); }
+    if all.iter().any(|counts| counts[0] == 0) || refused == 0 || wrong > 0 {
+        exit(1);
+    }
 }

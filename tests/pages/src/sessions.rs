@@ -21,11 +21,15 @@ fn answers(program: &str, words: &[&str], input: &[u8]) -> Vec<u8> {
 /// What it writes for the inputs between restarts.
 fn all_answers(program: &str, inputs: &[Vec<u8>]) -> Vec<u8> {
     let [first, others @ ..] = inputs else { return Vec::new() };
-    if others.is_empty() { return answers(program, &[], first); }
+    if others.is_empty() {
+        return answers(program, &[], first);
+    }
     let path = std::env::temp_dir().join(format!("sessions.{}", std::process::id()));
     let journal = path.to_str().expect("a name");
     let mut all = answers(program, &["--new", journal], first);
-    for input in others { all.extend(answers(program, &[journal], input)); }
+    for input in others {
+        all.extend(answers(program, &[journal], input));
+    }
     std::fs::remove_file(journal).expect("the journal goes");
     all
 }
@@ -35,7 +39,9 @@ pub fn main(words: &[String]) {
     let text = std::fs::read_to_string(page).expect("the page is there");
     let mut all: Vec<(usize, Vec<Vec<u8>>, Vec<u8>)> = Vec::new();
     for (at, mark, block) in blocks(&text, &["session", "session on", "report"]) {
-        if mark != "session on" { all.push((at, vec![Vec::new()], Vec::new())); }
+        if mark != "session on" {
+            all.push((at, vec![Vec::new()], Vec::new()));
+        }
         let (end, inputs, expected) = all.last_mut().expect("a session to go on with");
         *end = at;
         for line in block.lines() {
@@ -57,5 +63,7 @@ pub fn main(words: &[String]) {
         }
     }
     println!("sessions: {} of {page}, {failed} wrong", all.len());
-    if all.is_empty() || failed > 0 { exit(1); }
+    if all.is_empty() || failed > 0 {
+        exit(1);
+    }
 }

@@ -2,12 +2,14 @@
 //! plan's image, all of them succeeding, one set after the other, with whatever can go beside what. The plan must have as many sets as it
 //! takes to bring a car onto the belt of row 3, and its last record must have one there.
 
-use shared::planned::{planned, SETS};
 use reference::{belt_cells, bit, Instruction, Parts, LARGEST_SET};
+use shared::planned::{planned, SETS};
 use shared::sound_records::every_five;
 use std::collections::HashSet;
 
-fn parked(image: u64) -> bool { belt_cells(3, 1).any(|cell| bit(image, cell)) }
+fn parked(image: u64) -> bool {
+    belt_cells(3, 1).any(|cell| bit(image, cell))
+}
 
 /// The instructions that a record allows and that change it, each with its area.
 fn moves(all: &[(Instruction, Parts)], image: u64) -> Vec<(Instruction, Parts)> {
@@ -17,9 +19,13 @@ fn moves(all: &[(Instruction, Parts)], image: u64) -> Vec<(Instruction, Parts)> 
 /// Every record that is left by a set of these moves, of which some are made and `taken` is what they touch.
 fn sets(moves: &[(Instruction, Parts)], made: usize, taken: Parts, image: u64, found: &mut HashSet<u64>) {
     found.insert(image);
-    if made == LARGEST_SET { return; }
+    if made == LARGEST_SET {
+        return;
+    }
     for (at, (one, area)) in moves.iter().enumerate() {
-        if !area.meet(&taken) { sets(&moves[at + 1..], made + 1, taken.and(*area), one.next(image), found); }
+        if !area.meet(&taken) {
+            sets(&moves[at + 1..], made + 1, taken.and(*area), one.next(image), found);
+        }
     }
 }
 
@@ -31,7 +37,9 @@ pub fn main(given: &[String]) {
     let (mut image, mut rest) = (start, &bytes[SETS..]);
     while let [count, behind @ ..] = rest {
         let (set, others) = behind.split_at(usize::from(*count) * 5);
-        for five in set.chunks(5) { image = Instruction::read(five.try_into().expect("five bytes")).expect("an instruction").next(image); }
+        for five in set.chunks(5) {
+            image = Instruction::read(five.try_into().expect("five bytes")).expect("an instruction").next(image);
+        }
         rest = others;
     }
     assert!(parked(image) && !parked(start), "{plan}: no car comes to row 3");
@@ -40,7 +48,9 @@ pub fn main(given: &[String]) {
     let (mut known, mut last, mut count) = (HashSet::from([start]), vec![start], 0);
     while !last.iter().any(|&image| parked(image)) {
         let mut found = HashSet::new();
-        for &image in &last { sets(&moves(&all, image), 0, Parts::NONE, image, &mut found); }
+        for &image in &last {
+            sets(&moves(&all, image), 0, Parts::NONE, image, &mut found);
+        }
         last = found.into_iter().filter(|image| known.insert(*image)).collect();
         assert!(!last.is_empty(), "{plan}: no sets park the car");
         count += 1;

@@ -11,7 +11,9 @@ fn bytes(line: &str) -> Vec<u8> {
     line[1..].split_whitespace().map(|byte| u8::from_str_radix(byte, 16).expect("a byte in hexadecimal")).collect()
 }
 
-fn hex(bytes: &[u8]) -> String { bytes.iter().map(|byte| format!("{byte:02X}")).collect::<Vec<_>>().join(" ") + "\n" }
+fn hex(bytes: &[u8]) -> String {
+    bytes.iter().map(|byte| format!("{byte:02X}")).collect::<Vec<_>>().join(" ") + "\n"
+}
 
 /// The instructions of a plan's text: its lines without comments and without the two that say the record and the wish.
 fn instructions(plan: &str) -> impl Iterator<Item = &str> {

@@ -55,17 +55,23 @@ pub fn said(Answer { number, place, issue }: Answer) -> u32 {
     u32::from_le_bytes([number, place, low, high])
 }
 
-pub fn put(room: &mut [u8], bytes: &[u8]) { room[..bytes.len()].copy_from_slice(bytes) }
+pub fn put(room: &mut [u8], bytes: &[u8]) {
+    room[..bytes.len()].copy_from_slice(bytes)
+}
 
 /// The station that the first bytes of a room are; of a room that is too short any, since its call is refused.
-fn station_in(room: &[u8]) -> Station { room.first_chunk().map_or(Station::start(), Station::from_bytes) }
+fn station_in(room: &[u8]) -> Station {
+    room.first_chunk().map_or(Station::start(), Station::from_bytes)
+}
 
 /// A call on the lent station, which is written back if the call is taken.
 fn on_station(room: &mut [u8], bytes_for_all: bool, call: impl FnOnce(&mut Station) -> Answer) -> Answer {
     lent(room.len() >= Station::SIZE, bytes_for_all, || {
         let mut station = station_in(room);
         let answer = call(&mut station);
-        if answer.number == 0 { put(room, &station.to_bytes()); }
+        if answer.number == 0 {
+            put(room, &station.to_bytes());
+        }
         answer
     })
 }
@@ -80,7 +86,9 @@ fn ask(room: &[u8], shown: &mut [u8]) -> Answer {
     lent(room.len() >= Station::SIZE && shown.len() >= SHOWN, true, || {
         let mut station = station_in(room);
         let answer = station.ask();
-        if answer.number == 0 { put(shown, &station.shown()); }
+        if answer.number == 0 {
+            put(shown, &station.shown());
+        }
         answer
     })
 }
@@ -100,7 +108,9 @@ fn message(room: &mut [u8], message: &[u8], output: &mut [u8]) -> Answer {
     let mut station = station_in(room);
     let (answer, bytes) = reply(&mut station, message);
     lent(room.len() >= Station::SIZE && output.len() >= bytes.len(), true, || {
-        if answer.number == 0 { put(room, &station.to_bytes()); }
+        if answer.number == 0 {
+            put(room, &station.to_bytes());
+        }
         put(output, &bytes);
         answer
     })
@@ -115,12 +125,16 @@ fn verdict(image: u64, five: &[u8]) -> (Answer, Option<u64>) {
     }
 }
 
-fn allowed(image: u64, five: &[u8]) -> Answer { lent(true, five.len() >= CODE, || verdict(image, five).0) }
+fn allowed(image: u64, five: &[u8]) -> Answer {
+    lent(true, five.len() >= CODE, || verdict(image, five).0)
+}
 
 fn next(image: u64, five: &[u8], output: &mut [u8]) -> Answer {
     lent(output.len() >= RECORD, five.len() >= CODE, || {
         let (answer, after) = verdict(image, five);
-        if let Some(after) = after { put(output, &after.to_le_bytes()); }
+        if let Some(after) = after {
+            put(output, &after.to_le_bytes());
+        }
         answer
     })
 }
@@ -143,7 +157,9 @@ fn overlap(one: &[u8], other: &[u8]) -> Answer {
 /// is fit; of the questions on any image, those on a sound one count.
 pub fn reason_told(command: &Command, answer: u32) -> Option<(u8, u8)> {
     let [number, place, ..] = answer.to_le_bytes();
-    if !REASON_NUMBERS.contains(&number) { return None; }
+    if !REASON_NUMBERS.contains(&number) {
+        return None;
+    }
     let at = match command.entry {
         1 => CODE * usize::from(place),
         6 => 5 + CODE * usize::from(place),
@@ -157,7 +173,10 @@ pub fn reason_told(command: &Command, answer: u32) -> Option<(u8, u8)> {
 pub fn call(command: &mut Command) -> u32 {
     let &mut Command { entry, first, second, issue, image, apart, ref mut room, input, ref mut output, .. } = command;
     said(match entry {
-        0 => on_station(room, true, |station| { *station = Station::start(); answer(0) }),
+        0 => on_station(room, true, |station| {
+            *station = Station::start();
+            answer(0)
+        }),
         1 => request(room, first, input),
         2 => on_station(room, true, |station| station.event(first)),
         3 => on_station(room, true, |station| station.result(issue, first, second)),

@@ -54,7 +54,9 @@ impl Stand {
     }
 
     /// Its place as it is told: of two half cells the lower.
-    pub fn told(&self) -> u8 { self.place(LIFT_CAR) }
+    pub fn told(&self) -> u8 {
+        self.place(LIFT_CAR)
+    }
 
     fn place(&self, raised: u32) -> u8 {
         match self {
@@ -65,14 +67,18 @@ impl Stand {
 }
 
 /// Whether a cell is one of these belts'.
-fn runs(row: u8, mask: u8, cell: u32) -> bool { (0..5).any(|belt| mask >> belt & 1 == 1 && belt_cells(row, belt).contains(&cell)) }
+fn runs(row: u8, mask: u8, cell: u32) -> bool {
+    (0..5).any(|belt| mask >> belt & 1 == 1 && belt_cells(row, belt).contains(&cell))
+}
 
 /// Where the cars of a sound record stand, row by row; the raised lift last.
 pub fn layout(record: u64) -> Vec<Stand> {
     let (mut stands, mut cell) = (Vec::new(), ROW_1.start);
     while cell < ROW_1.end {
         let width = if bit(record, cell) { 2 } else { 0 };
-        if width > 0 { stands.push(Over(cell..cell + width)); }
+        if width > 0 {
+            stands.push(Over(cell..cell + width));
+        }
         cell += width.max(1);
     }
     stands.extend(OTHER_ROWS.into_iter().flatten().filter(|&cell| bit(record, cell)).map(|cell| Over(cell..cell + 1)));
@@ -81,10 +87,14 @@ pub fn layout(record: u64) -> Vec<Stand> {
 }
 
 /// Whether some numbers have one twice.
-fn twice(cards: &[u32]) -> bool { cards.iter().collect::<BTreeSet<_>>().len() < cards.len() }
+fn twice(cards: &[u32]) -> bool {
+    cards.iter().collect::<BTreeSet<_>>().len() < cards.len()
+}
 
 /// How many numbers an image comes with.
-pub fn wanted(image: u64) -> usize { layout(image).len() + usize::from(bit(image, DRIVE_IN)) }
+pub fn wanted(image: u64) -> usize {
+    layout(image).len() + usize::from(bit(image, DRIVE_IN))
+}
 
 /// The station, the cars in its garage, and the number of one whose driver is still coming in.
 #[derive(Clone, Debug, PartialEq, Eq)]
@@ -102,30 +112,42 @@ const AT_DRIVE: usize = 41;
 impl Desk {
     pub const SIZE: usize = Station::SIZE + 4 * PLACES;
 
-    pub fn start() -> Self { Desk { station: Station::start(), cars: Vec::new(), coming: None } }
+    pub fn start() -> Self {
+        Desk { station: Station::start(), cars: Vec::new(), coming: None }
+    }
 
-    pub fn request(&mut self, count: u8, bytes: &[u8]) -> Answer { self.station.request(count, bytes) }
+    pub fn request(&mut self, count: u8, bytes: &[u8]) -> Answer {
+        self.station.request(count, bytes)
+    }
 
     /// A success carries cars along; nothing else does.
     pub fn result(&mut self, issue: u16, number: u8, outcome: u8) -> Answer {
         let done = self.station.held().nth(number.into()).filter(|_| outcome == DONE);
         let answer = self.station.result(issue, number, outcome);
-        if let (Some(done), 0) = (done, answer.number) { self.carry(&done); }
+        if let (Some(done), 0) = (done, answer.number) {
+            self.carry(&done);
+        }
         answer
     }
 
     /// An instruction has taken along what it takes along.
-    pub fn carry(&mut self, by: &Instruction) { self.cars.iter_mut().for_each(|car| car.stand = car.stand.carried(by)) }
+    pub fn carry(&mut self, by: &Instruction) {
+        self.cars.iter_mut().for_each(|car| car.stand = car.stand.carried(by))
+    }
 
     /// Whether a number is in the garage, or on its way into it.
-    pub fn knows(&self, card: u32) -> bool { self.coming == Some(card) || self.cars.iter().any(|car| car.card == card) }
+    pub fn knows(&self, card: u32) -> bool {
+        self.coming == Some(card) || self.cars.iter().any(|car| car.card == card)
+    }
 
     /// A drive-in brings its card's number when it begins; after the station's own refusals it must be a number, and not be known. The
     /// number is the car's once the drive has ended with the car there, and is dropped if it hasn't.
     pub fn event(&mut self, event: u8, card: u32) -> Answer {
         let mut station = self.station;
         let told = station.event(event);
-        if told.number != 0 { return told; }
+        if told.number != 0 {
+            return told;
+        }
         match event {
             BEGIN_IN if card == 0 => return answer(37),
             BEGIN_IN if self.knows(card) => return answer(38),
@@ -146,10 +168,18 @@ impl Desk {
     pub fn image(&mut self, image: u64, apart: u64, count: u8, cards: &[u32]) -> Answer {
         let mut station = self.station;
         let told = station.image(image, apart);
-        if told.number != 0 { return told; }
-        if usize::from(count) != wanted(image) { return answer(39); }
-        if cards.contains(&0) { return answer(37); }
-        if twice(cards) { return answer(38); }
+        if told.number != 0 {
+            return told;
+        }
+        if usize::from(count) != wanted(image) {
+            return answer(39);
+        }
+        if cards.contains(&0) {
+            return answer(37);
+        }
+        if twice(cards) {
+            return answer(38);
+        }
         self.cars = layout(image).into_iter().zip(cards).map(|(stand, &card)| Car { card, stand }).collect();
         self.coming = cards.get(self.cars.len()).copied();
         self.station = station;
@@ -193,7 +223,9 @@ impl Desk {
     /// The desk that some bytes are; none where they are no station or their numbers are not those of its cars.
     pub fn from_bytes(bytes: &[u8; Self::SIZE]) -> Option<Self> {
         let station = Station::from_bytes(bytes.first_chunk()?);
-        if !station.fit() { return None; }
+        if !station.fit() {
+            return None;
+        }
         let number = |four: &[u8]| four.iter().rev().fold(0, |all, &byte| all << 8 | u32::from(byte));
         let mut numbers: Vec<u32> = bytes[Station::SIZE..].chunks_exact(4).map(number).collect();
         let mut taken = |place: usize| std::mem::take(&mut numbers[place]);

@@ -37,7 +37,9 @@ fn on_desk(room: &mut [u8], bytes_for_all: bool, call: impl FnOnce(&mut Desk) ->
     lent(room.len() >= Desk::SIZE, bytes_for_all, || {
         let Some(mut desk) = room.first_chunk().and_then(Desk::from_bytes) else { return answer(16) };
         let answer = call(&mut desk);
-        if answer.number == 0 { put(room, &desk.to_bytes()); }
+        if answer.number == 0 {
+            put(room, &desk.to_bytes());
+        }
         answer
     })
 }
@@ -71,7 +73,10 @@ fn told_where(desk: &Desk, card: u32) -> Answer {
 pub fn call(command: &mut Command) -> u32 {
     let &mut Command { entry, first, second, issue, image: record, apart, card, ref mut room, input, ref mut output } = command;
     said(match entry {
-        START => lent(room.len() >= Desk::SIZE, true, || { put(room, &Desk::start().to_bytes()); answer(0) }),
+        START => lent(room.len() >= Desk::SIZE, true, || {
+            put(room, &Desk::start().to_bytes());
+            answer(0)
+        }),
         REQUEST => on_desk(room, first > 8 || input.len() >= CODE * usize::from(first), |desk| desk.request(first, input)),
         EVENT => on_desk(room, true, |desk| desk.event(first, card)),
         RESULT => on_desk(room, true, |desk| desk.result(issue, first, second)),

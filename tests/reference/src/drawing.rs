@@ -23,11 +23,17 @@ pub struct Said {
 
 impl Said {
     /// As the entries return it.
-    pub fn returned(self) -> u32 { u32::from(self.number) + 256 * u32::from(self.place) + 65536 * u32::from(self.size) }
+    pub fn returned(self) -> u32 {
+        u32::from(self.number) + 256 * u32::from(self.place) + 65536 * u32::from(self.size)
+    }
 }
 
-fn said(number: u8) -> Said { Said { number, place: NO_PLACE, size: 0 } }
-fn bad_line(place: u8) -> Said { Said { place, ..said(NOT_A_DRAWING) } }
+fn said(number: u8) -> Said {
+    Said { number, place: NO_PLACE, size: 0 }
+}
+fn bad_line(place: u8) -> Said {
+    Said { place, ..said(NOT_A_DRAWING) }
+}
 
 // ---- A record as text
 
@@ -38,19 +44,31 @@ const RIGHT: u32 = 1;
 const HEIGHT: u32 = 53;
 
 /// Where a shuttle's slot stands: lowered before tilted, left before right, then rows, here from 0.
-fn slot(orientation: u32, side: u32, row: u32) -> u32 { 40 + 6 * orientation + 3 * side + row }
+fn slot(orientation: u32, side: u32, row: u32) -> u32 {
+    40 + 6 * orientation + 3 * side + row
+}
 
 /// The cells of the three floor lines.
-fn rows() -> [Range<u32>; 3] { [0..20, 20..30, 30..40] }
+fn rows() -> [Range<u32>; 3] {
+    [0..20, 20..30, 30..40]
+}
 
 pub const HEIGHTS: [&str; 3] = ["street", "rotation", "basement"];
 /// No drive under way, one in, one out.
 pub const DRIVES: [&str; 3] = ["", " in", " out"];
 pub const CAR: &str = " car";
 
-fn mark(occupied: bool) -> char { if occupied { '#' } else { '.' } }
+fn mark(occupied: bool) -> char {
+    if occupied {
+        '#'
+    } else {
+        '.'
+    }
+}
 
-fn floor_line(image: u64, cells: Range<u32>) -> String { cells.map(|cell| mark(bit(image, cell))).collect() }
+fn floor_line(image: u64, cells: Range<u32>) -> String {
+    cells.map(|cell| mark(bit(image, cell))).collect()
+}
 
 /// What is there in each row of a side.
 fn shuttle_line(image: u64, side: u32) -> String {
@@ -66,7 +84,13 @@ fn shuttle_line(image: u64, side: u32) -> String {
 fn lift_line(image: u64) -> String {
     let height = HEIGHTS.get((image >> HEIGHT & 3) as usize).copied().unwrap_or_default();
     let car = if bit(image, LIFT_CAR) { CAR } else { "" };
-    let drive = if bit(image, DRIVE_IN) { DRIVES[1] } else if bit(image, DRIVE_OUT) { DRIVES[2] } else { DRIVES[0] };
+    let drive = if bit(image, DRIVE_IN) {
+        DRIVES[1]
+    } else if bit(image, DRIVE_OUT) {
+        DRIVES[2]
+    } else {
+        DRIVES[0]
+    };
     [height, car, drive].concat()
 }
 
@@ -79,9 +103,13 @@ pub fn drawn(image: u64) -> String {
 
 /// Writes a record: 15 where it isn't sound, then 17 where the room is shorter than the text.
 pub fn write(image: u64, room: &mut [u8]) -> Said {
-    if !sound(image) { return said(UNSOUND); }
+    if !sound(image) {
+        return said(UNSOUND);
+    }
     let text = drawn(image);
-    if room.len() < text.len() { return said(NO_ROOM); }
+    if room.len() < text.len() {
+        return said(NO_ROOM);
+    }
     room[..text.len()].copy_from_slice(text.as_bytes());
     Said { size: text.len() as u16, ..said(0) }
 }
@@ -90,7 +118,9 @@ pub fn write(image: u64, room: &mut [u8]) -> Said {
 
 /// The bits of a floor line: as many marks as there are cells.
 fn floor_bits(line: &[u8], cells: Range<u32>) -> Option<u64> {
-    if line.len() != cells.len() { return None; }
+    if line.len() != cells.len() {
+        return None;
+    }
     cells.zip(line).try_fold(0, |bits, (cell, mark)| match mark {
         b'#' => Some(bits | 1 << cell),
         b'.' => Some(bits),
@@ -100,7 +130,9 @@ fn floor_bits(line: &[u8], cells: Range<u32>) -> Option<u64> {
 
 /// The bits of a side's line: a letter for each row.
 fn shuttle_bits(line: &[u8], side: u32) -> Option<u64> {
-    if line.len() != 3 { return None; }
+    if line.len() != 3 {
+        return None;
+    }
     (0..).zip(line).try_fold(0, |bits, (row, letter)| match letter {
         b'L' => Some(bits | 1 << slot(LOWERED, side, row)),
         b'T' => Some(bits | 1 << slot(TILTED, side, row)),
@@ -147,14 +179,20 @@ pub fn record_in(mut text: &[u8]) -> Result<u64, Said> {
         let line = next_line(&mut text);
         image |= line.and_then(|line| bits_of(place, line)).ok_or(bad_line(place))?;
     }
-    if !text.is_empty() { return Err(bad_line(PAST_THE_LAST)); }
-    if !sound(image) { return Err(said(UNSOUND)); }
+    if !text.is_empty() {
+        return Err(bad_line(PAST_THE_LAST));
+    }
+    if !sound(image) {
+        return Err(said(UNSOUND));
+    }
     Ok(image)
 }
 
 /// Reads a drawing: 17 before all else where the room is shorter than a record.
 pub fn read(text: &[u8], room: &mut [u8]) -> Said {
-    if room.len() < 8 { return said(NO_ROOM); }
+    if room.len() < 8 {
+        return said(NO_ROOM);
+    }
     match record_in(text) {
         Ok(image) => {
             room[..8].copy_from_slice(&image.to_le_bytes());
@@ -170,15 +208,21 @@ pub fn read(text: &[u8], room: &mut [u8]) -> Said {
 pub const BLANKS: &[u8] = b" \t\r\n";
 
 /// Whether an input that begins so is an image in hex and no drawing.
-pub fn begins_hex(first: u8) -> bool { first.is_ascii_hexdigit() || BLANKS.contains(&first) }
+pub fn begins_hex(first: u8) -> bool {
+    first.is_ascii_hexdigit() || BLANKS.contains(&first)
+}
 
 /// The image of sixteen digits with blanks anywhere: two digits a byte, the lowest byte first.
 pub fn image_in(text: &[u8]) -> Option<u64> {
     let digits: Vec<u8> = text.iter().copied().filter(|byte| !BLANKS.contains(byte)).collect();
-    if digits.len() != 16 { return None; }
+    if digits.len() != 16 {
+        return None;
+    }
     let value = |digit: u8| char::from(digit).to_digit(16).map(u64::from);
     digits.chunks(2).rev().try_fold(0, |image, two| Some(image << 8 | value(two[0])? << 4 | value(two[1])?))
 }
 
 /// An image as the program writes it.
-pub fn hex_line(image: u64) -> String { image.to_le_bytes().map(|byte| format!("{byte:02X}")).join(" ") + "\n" }
+pub fn hex_line(image: u64) -> String {
+    image.to_le_bytes().map(|byte| format!("{byte:02X}")).join(" ") + "\n"
+}

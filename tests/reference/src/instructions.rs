@@ -32,23 +32,42 @@ const OUT_OF_TURN: u8 = 31; // the lift, while a drive is under way
 
 /// What each opcode is refused for where a sound record doesn't allow it: all pairs of opcode and number that there are.
 pub const REASONS: [(u8, u8); 18] = [
-    (1, HALF_MOVE), (1, NOTHING_NAMED), (1, GAP), (1, NOT_AVAILABLE), (1, NO_WAY), (1, ODD),
-    (2, NOTHING_NAMED), (2, GAP), (2, NOT_AVAILABLE), (2, ODD), (2, NO_WAY),
-    (3, NOT_AVAILABLE), (3, CELLS_TAKEN), (3, NO_WAY),
-    (4, SAME_HEIGHT), (4, ODD),
-    (5, NOT_AT_ROTATION), (5, CELLS_TAKEN),
+    (1, HALF_MOVE),
+    (1, NOTHING_NAMED),
+    (1, GAP),
+    (1, NOT_AVAILABLE),
+    (1, NO_WAY),
+    (1, ODD),
+    (2, NOTHING_NAMED),
+    (2, GAP),
+    (2, NOT_AVAILABLE),
+    (2, ODD),
+    (2, NO_WAY),
+    (3, NOT_AVAILABLE),
+    (3, CELLS_TAKEN),
+    (3, NO_WAY),
+    (4, SAME_HEIGHT),
+    (4, ODD),
+    (5, NOT_AT_ROTATION),
+    (5, CELLS_TAKEN),
 ];
 
 /// Their numbers.
 pub const REASON_NUMBERS: RangeInclusive<u8> = NOTHING_NAMED..=CELLS_TAKEN;
 
 /// A condition: where it fails, its number is told.
-fn holds(condition: bool, number: u8) -> Result<(), u8> { condition.then_some(()).ok_or(number) }
+fn holds(condition: bool, number: u8) -> Result<(), u8> {
+    condition.then_some(()).ok_or(number)
+}
 
-pub fn named(mask: u8, at: u32) -> bool { bit(mask.into(), at) }
+pub fn named(mask: u8, at: u32) -> bool {
+    bit(mask.into(), at)
+}
 
 /// The lowest and the highest bit named, if any is.
-fn ends(mask: u8) -> Option<(u32, u32)> { Some((mask.trailing_zeros(), mask.checked_ilog2()?)) }
+fn ends(mask: u8) -> Option<(u32, u32)> {
+    Some((mask.trailing_zeros(), mask.checked_ilog2()?))
+}
 
 /// The cells from the lowest named belt to the highest.
 fn span(row: u8, mask: u8) -> Range<u32> {
@@ -56,10 +75,18 @@ fn span(row: u8, mask: u8) -> Range<u32> {
 }
 
 /// How far a belt move shifts: two cells for a full move in row 1, else one.
-fn shift(row: u8, size: u8) -> u32 { if row == 1 && size == FULL { 2 } else { 1 } }
+fn shift(row: u8, size: u8) -> u32 {
+    if row == 1 && size == FULL {
+        2
+    } else {
+        1
+    }
+}
 
 /// The rows a shuttle mask names; bit 0 is row 1.
-fn rows(mask: u8) -> impl Iterator<Item = u8> { (1..=3).filter(move |&row| named(mask, u32::from(row) - 1)) }
+fn rows(mask: u8) -> impl Iterator<Item = u8> {
+    (1..=3).filter(move |&row| named(mask, u32::from(row) - 1))
+}
 
 /// The row one toward d, if there is one.
 fn next_row(row: u8, d: u8) -> Option<u8> {
@@ -102,7 +129,13 @@ impl Instruction {
                 let area = area.and_cells(belt_cells(row, belt));
                 match shuttle_side(row, belt) {
                     Some(side) => area.and_slot(side, row, LOWERED),
-                    None => if (row, belt) == (1, 2) { area.and(Parts::LIFT) } else { area },
+                    None => {
+                        if (row, belt) == (1, 2) {
+                            area.and(Parts::LIFT)
+                        } else {
+                            area
+                        }
+                    }
                 }
             }),
             // The named slots and for each the one a row toward d; lowered, their cells too.
@@ -110,13 +143,21 @@ impl Instruction {
                 let reached = rows(mask).flat_map(|row| [Some(row), next_row(row, d)]).flatten();
                 reached.fold(Parts::NONE, |area, row| {
                     let area = area.and_slot(side, row, orientation);
-                    if orientation == LOWERED { area.and_cells(position(side, row)) } else { area }
+                    if orientation == LOWERED {
+                        area.and_cells(position(side, row))
+                    } else {
+                        area
+                    }
                 })
             }
             // Both slots and the cells of the position; from lowered, the side's three lowered slots.
             Tilt { side, row, orientation } => {
                 let both = Parts::NONE.and_cells(position(side, row)).and_slot(side, row, LOWERED).and_slot(side, row, TILTED);
-                if orientation == LOWERED { (1..=3).fold(both, |area, row| area.and_slot(side, row, LOWERED)) } else { both }
+                if orientation == LOWERED {
+                    (1..=3).fold(both, |area, row| area.and_slot(side, row, LOWERED))
+                } else {
+                    both
+                }
             }
             // The lift and its two cells. What can go beside it leaves an even count even, so the row need not stop for it.
             Lift { .. } => Parts::LIFT.and_cells(LIFT_CELLS),
@@ -126,10 +167,14 @@ impl Instruction {
     }
 
     /// Whether the lift is in its area.
-    pub fn takes_lift(&self) -> bool { self.area().lift }
+    pub fn takes_lift(&self) -> bool {
+        self.area().lift
+    }
 
     /// Whether the instruction is allowed on this record. (Ill-formed: never.)
-    pub fn allowed(&self, image: u64) -> bool { self.judge(image).is_ok() }
+    pub fn allowed(&self, image: u64) -> bool {
+        self.judge(image).is_ok()
+    }
 
     /// Whether the instruction is allowed on this record, or else the number of the first of its conditions that fails, in the
     /// paper's order. (Ill-formed: that of a bad field.)
@@ -176,10 +221,8 @@ impl Instruction {
             // number of cells occupied on either side of it, so that no car is torn.
             Lift { height: to } => {
                 holds(height(image) != to, SAME_HEIGHT)?;
-                let whole = || {
-                    free(image, LIFT_CELLS)
-                        || even(image, ROW_1.start..LIFT_CELLS.start) && even(image, LIFT_CELLS.end..ROW_1.end)
-                };
+                let whole =
+                    || free(image, LIFT_CELLS) || even(image, ROW_1.start..LIFT_CELLS.start) && even(image, LIFT_CELLS.end..ROW_1.end);
                 holds(height(image) != BASEMENT || whole(), ODD)
             }
             // At rotation height, the six cells beside the lift free.
@@ -216,12 +259,16 @@ impl Instruction {
             Shuttles { side, mask, orientation, d } => {
                 for row in rows(mask) {
                     after = with(after, slot(side, row, orientation), false);
-                    if orientation == LOWERED { after = with_all(after, position(side, row), false); }
+                    if orientation == LOWERED {
+                        after = with_all(after, position(side, row), false);
+                    }
                 }
                 for (row, to) in rows(mask).filter_map(|row| Some((row, next_row(row, d)?))) {
                     after = with(after, slot(side, to, orientation), true);
                     let car = !free(image, position(side, row));
-                    if orientation == LOWERED { after = with_all(after, position(side, to), car); }
+                    if orientation == LOWERED {
+                        after = with_all(after, position(side, to), car);
+                    }
                 }
             }
             // The shuttle has the other orientation.

@@ -24,14 +24,14 @@ pub mod plan;
 mod reduced;
 pub mod week;
 
-pub use floor::{LIFT_CELLS, OTHER_ROWS, ROW_1};
 use floor::{LEFT_BELT, RIGHT_BELT};
-#[cfg(feature = "reduced")]
-use reduced as floor;
-pub use instructions::{Condition, Instruction, REASONS, REASON_NUMBERS};
+pub use floor::{LIFT_CELLS, OTHER_ROWS, ROW_1};
 use instructions::{areas, named, overlap, read_set};
+pub use instructions::{Condition, Instruction, REASONS, REASON_NUMBERS};
 pub use messages::{answer_message, read_call, read_message, serve, serve_on, shown_message, stream, write_message, Message, Refused};
 pub use parts::Parts;
+#[cfg(feature = "reduced")]
+use reduced as floor;
 
 /// What a call answers: a number of the table, the place of the instruction that it names or none, and the issue of a set that was
 /// taken; with all that isn't a request taken, 0.
@@ -63,15 +63,31 @@ pub const DRIVE_OUT: u32 = 56;
 /// With so many cars no drive-in begins: what places are left are kept open, to move cars by.
 const FILLED: u32 = 27;
 
-pub fn bit(image: u64, at: u32) -> bool { image >> at & 1 == 1 }
-fn with(image: u64, at: u32, value: bool) -> u64 { image & !(1 << at) | u64::from(value) << at }
-fn with_all(image: u64, cells: Range<u32>, value: bool) -> u64 { cells.fold(image, |now, cell| with(now, cell, value)) }
-fn occupied(image: u64, cells: Range<u32>) -> u32 { cells.map(|cell| u32::from(bit(image, cell))).sum() }
-fn free(image: u64, mut cells: Range<u32>) -> bool { cells.all(|cell| !bit(image, cell)) }
-fn even(image: u64, cells: Range<u32>) -> bool { occupied(image, cells) % 2 == 0 }
-fn height(image: u64) -> u8 { (image >> 53 & 3) as u8 }
+pub fn bit(image: u64, at: u32) -> bool {
+    image >> at & 1 == 1
+}
+fn with(image: u64, at: u32, value: bool) -> u64 {
+    image & !(1 << at) | u64::from(value) << at
+}
+fn with_all(image: u64, cells: Range<u32>, value: bool) -> u64 {
+    cells.fold(image, |now, cell| with(now, cell, value))
+}
+fn occupied(image: u64, cells: Range<u32>) -> u32 {
+    cells.map(|cell| u32::from(bit(image, cell))).sum()
+}
+fn free(image: u64, mut cells: Range<u32>) -> bool {
+    cells.all(|cell| !bit(image, cell))
+}
+fn even(image: u64, cells: Range<u32>) -> bool {
+    occupied(image, cells) % 2 == 0
+}
+fn height(image: u64) -> u8 {
+    (image >> 53 & 3) as u8
+}
 /// Whether a driver is still in the lift, coming or going.
-pub fn drive_under_way(image: u64) -> bool { bit(image, DRIVE_IN) || bit(image, DRIVE_OUT) }
+pub fn drive_under_way(image: u64) -> bool {
+    bit(image, DRIVE_IN) || bit(image, DRIVE_OUT)
+}
 
 /// The cells of a belt, counted from the left: five belts in row 1, three in rows 2 and 3.
 pub fn belt_cells(row: u8, belt: u32) -> Range<u32> {
@@ -101,7 +117,14 @@ fn shuttle_side(row: u8, belt: u32) -> Option<u8> {
 
 /// The cells of a shuttle's position.
 pub fn position(side: u8, row: u8) -> Range<u32> {
-    belt_cells(row, match (side, row) { (0, _) => 0, (_, 1) => 4, _ => 2 })
+    belt_cells(
+        row,
+        match (side, row) {
+            (0, _) => 0,
+            (_, 1) => 4,
+            _ => 2,
+        },
+    )
 }
 
 /// The bit of a shuttle's slot: lowered before tilted, left before right, then rows from 1.
@@ -110,7 +133,9 @@ fn slot(side: u8, row: u8, orientation: u8) -> u32 {
 }
 
 /// Sound: cars can be laid out over exactly the occupied cells; shuttles and lift agree with them.
-pub fn sound(image: u64) -> bool { cars(image).is_some() }
+pub fn sound(image: u64) -> bool {
+    cars(image).is_some()
+}
 
 /// The number of cars in a sound record's layout; nothing for one that isn't sound.
 pub fn cars(image: u64) -> Option<u32> {
@@ -158,11 +183,21 @@ pub fn cars(image: u64) -> Option<u32> {
 /// A call on the station, its fields as they came.
 #[derive(Clone, Copy, Debug, PartialEq, Eq)]
 pub enum Call<'a> {
-    Request { count: u8, bytes: &'a [u8] },
+    Request {
+        count: u8,
+        bytes: &'a [u8],
+    },
     Event(u8),
-    Result { issue: u16, number: u8, outcome: u8 },
+    Result {
+        issue: u16,
+        number: u8,
+        outcome: u8,
+    },
     /// A record, and what is set apart by whoever sends it.
-    Image { image: u64, apart: u64 },
+    Image {
+        image: u64,
+        apart: u64,
+    },
     Ask,
 }
 
@@ -189,13 +224,19 @@ pub struct Station {
     pub apart: Result<Parts, u64>,
 }
 
-pub fn answer(number: u8) -> Answer { answer_at(number, NO_PLACE) }
-pub fn answer_at(number: u8, place: u8) -> Answer { Answer { number, place, issue: 0 } }
+pub fn answer(number: u8) -> Answer {
+    answer_at(number, NO_PLACE)
+}
+pub fn answer_at(number: u8, place: u8) -> Answer {
+    Answer { number, place, issue: 0 }
+}
 
 impl Station {
     pub const SIZE: usize = 60;
 
-    pub fn start() -> Self { Station { record: START, count: 0, answered: 0, set: [0; 40], next_issue: 0, apart: Ok(Parts::NONE) } }
+    pub fn start() -> Self {
+        Station { record: START, count: 0, answered: 0, set: [0; 40], next_issue: 0, apart: Ok(Parts::NONE) }
+    }
 
     /// Record sound; up to eight instructions, all well-formed; marks on no others, and not on every
     /// one of a set; unused places zero; not both a drive under way and a set with the lift in an area;
@@ -214,7 +255,9 @@ impl Station {
             && self.apart.is_ok()
     }
 
-    fn all_marks(&self) -> u8 { (0..8).filter(|&at| at < self.count).fold(0, |marks, at| marks | 1 << at) }
+    fn all_marks(&self) -> u8 {
+        (0..8).filter(|&at| at < self.count).fold(0, |marks, at| marks | 1 << at)
+    }
 
     pub fn held(&self) -> impl Iterator<Item = Instruction> + '_ {
         self.set.chunks_exact(5).take(self.count.into()).filter_map(|five| Instruction::read(*five.first_chunk()?))
@@ -226,38 +269,64 @@ impl Station {
     }
 
     /// Whether the outstanding set has the lift in an area, answered or not.
-    fn holds_lift(&self) -> bool { self.held().any(|instruction| instruction.takes_lift()) }
+    fn holds_lift(&self) -> bool {
+        self.held().any(|instruction| instruction.takes_lift())
+    }
 
     /// Whether the garage is as full as it may get; a car that is still coming is none of it yet.
-    fn filled(&self) -> bool { cars(self.record).is_some_and(|cars| cars >= FILLED) }
+    fn filled(&self) -> bool {
+        cars(self.record).is_some_and(|cars| cars >= FILLED)
+    }
 
     /// Whether some parts share any with what is set apart.
-    pub fn is_apart(&self, parts: &Parts) -> bool { self.apart.is_ok_and(|apart| apart.meet(parts)) }
+    pub fn is_apart(&self, parts: &Parts) -> bool {
+        self.apart.is_ok_and(|apart| apart.meet(parts))
+    }
 
     /// What is set apart, as the number that shows it.
-    pub fn apart_number(&self) -> u64 { self.apart.map_or_else(|number| number, |apart| apart.number()) }
+    pub fn apart_number(&self) -> u64 {
+        self.apart.map_or_else(|number| number, |apart| apart.number())
+    }
 
     /// The issue of the set taken last, which is the outstanding one's.
-    pub fn present_issue(&self) -> u16 { self.next_issue.checked_sub(1).unwrap_or(u16::MAX) }
+    pub fn present_issue(&self) -> u16 {
+        self.next_issue.checked_sub(1).unwrap_or(u16::MAX)
+    }
 
     /// By how many sets an issue lies behind the present one, counted backward and round the end.
     fn behind(&self, issue: u16) -> u32 {
         let (present, given) = (u32::from(self.present_issue()), u32::from(issue));
-        if given <= present { present - given } else { present + ISSUES - given }
+        if given <= present {
+            present - given
+        } else {
+            present + ISSUES - given
+        }
     }
 
     // The calls; where an ask is taken, the image asked for is `record`, and beside it what is set apart.
-    pub fn request(&mut self, count: u8, bytes: &[u8]) -> Answer { self.take(Call::Request { count, bytes }) }
-    pub fn event(&mut self, event: u8) -> Answer { self.take(Call::Event(event)) }
+    pub fn request(&mut self, count: u8, bytes: &[u8]) -> Answer {
+        self.take(Call::Request { count, bytes })
+    }
+    pub fn event(&mut self, event: u8) -> Answer {
+        self.take(Call::Event(event))
+    }
     pub fn result(&mut self, issue: u16, number: u8, outcome: u8) -> Answer {
         self.take(Call::Result { issue, number, outcome })
     }
-    pub fn image(&mut self, image: u64, apart: u64) -> Answer { self.take(Call::Image { image, apart }) }
-    pub fn ask(&mut self) -> Answer { self.take(Call::Ask) }
+    pub fn image(&mut self, image: u64, apart: u64) -> Answer {
+        self.take(Call::Image { image, apart })
+    }
+    pub fn ask(&mut self) -> Answer {
+        self.take(Call::Ask)
+    }
 
     /// Any call; a station that isn't fit refuses before all else.
     pub fn take(&mut self, call: Call) -> Answer {
-        if self.fit() { self.take_fit(call) } else { answer(16) }
+        if self.fit() {
+            self.take_fit(call)
+        } else {
+            answer(16)
+        }
     }
 
     /// A call on a station known to be fit: a started one is, and every call keeps it so.
@@ -284,20 +353,34 @@ impl Station {
     /// of their areas, and each is allowed on the record, which stays as it is; of those that are not, the
     /// least tells why. Taken, it has the issue whose turn it is.
     fn take_request(&mut self, count: u8, bytes: &[u8]) -> Answer {
-        if self.count != 0 { return answer(6); }
-        if count > 8 { return answer(5); }
-        if count == 0 { return answer(7); }
+        if self.count != 0 {
+            return answer(6);
+        }
+        if count > 8 {
+            return answer(5);
+        }
+        if count == 0 {
+            return answer(7);
+        }
         let Some(bytes) = bytes.get(..5 * usize::from(count)) else { return answer(1) };
         let set = match read_set(bytes) {
             Ok(set) => set,
             Err(place) => return answer_at(4, place),
         };
         let areas = &areas(set.into_iter().take(count.into()))[..count.into()];
-        if drive_under_way(self.record) && areas.iter().any(|area| area.lift) { return answer(31); }
-        if let Some(place) = areas.iter().position(|area| self.is_apart(area)) { return answer_at(32, place as u8); }
-        if let Some(place) = overlap(areas) { return answer_at(8, place as u8); }
+        if drive_under_way(self.record) && areas.iter().any(|area| area.lift) {
+            return answer(31);
+        }
+        if let Some(place) = areas.iter().position(|area| self.is_apart(area)) {
+            return answer_at(32, place as u8);
+        }
+        if let Some(place) = overlap(areas) {
+            return answer_at(8, place as u8);
+        }
         for (place, instruction) in (0..count).zip(&set) {
-            if let Err(number) = instruction.judge(self.record) { return answer_at(number, place); }
+            if let Err(number) = instruction.judge(self.record) {
+                return answer_at(number, place);
+            }
         }
         self.count = count;
         self.set[..bytes.len()].copy_from_slice(bytes);
@@ -312,18 +395,32 @@ impl Station {
     /// lift is set apart. And of what could begin else, a drive-in does not while there are too many cars already;
     /// its end asks for no number of them.
     fn take_event(&mut self, event: u8) -> Answer {
-        if !matches!(event, BEGIN_IN | BEGIN_OUT | END_DONE | END_NOT_DONE) { return answer(4); }
-        if self.holds_lift() { return answer(6); }
+        if !matches!(event, BEGIN_IN | BEGIN_OUT | END_DONE | END_NOT_DONE) {
+            return answer(4);
+        }
+        if self.holds_lift() {
+            return answer(6);
+        }
         let begins = matches!(event, BEGIN_IN | BEGIN_OUT);
-        if begins == drive_under_way(self.record) { return answer(31); }
-        if self.is_apart(&Parts::LIFT) { return answer(32); }
+        if begins == drive_under_way(self.record) {
+            return answer(31);
+        }
+        if self.is_apart(&Parts::LIFT) {
+            return answer(32);
+        }
         if begins {
             let comes = event == BEGIN_IN;
-            if height(self.record) != STREET || bit(self.record, LIFT_CAR) == comes { return answer(10); }
-            if comes && self.filled() { return answer(33); }
+            if height(self.record) != STREET || bit(self.record, LIFT_CAR) == comes {
+                return answer(10);
+            }
+            if comes && self.filled() {
+                return answer(33);
+            }
             self.record = with(self.record, if comes { DRIVE_IN } else { DRIVE_OUT }, true);
         } else {
-            if event == END_DONE { self.record = with(self.record, LIFT_CAR, bit(self.record, DRIVE_IN)); }
+            if event == END_DONE {
+                self.record = with(self.record, LIFT_CAR, bit(self.record, DRIVE_IN));
+            }
             self.record = with_all(self.record, DRIVE_IN..DRIVE_OUT + 1, false);
         }
         answer(0)
@@ -334,17 +431,27 @@ impl Station {
     /// area is set apart. With the last result nothing is held or marked any more, but what is set apart stays
     /// so. It must be of the outstanding set: one of up to 32767 sets before is late, any other was not issued.
     fn take_result(&mut self, issue: u16, number: u8, outcome: u8) -> Answer {
-        if !matches!(outcome, FAILED | DONE | STUCK) { return answer(4); }
-        if self.count == 0 { return answer(11); }
+        if !matches!(outcome, FAILED | DONE | STUCK) {
+            return answer(4);
+        }
+        if self.count == 0 {
+            return answer(11);
+        }
         match self.behind(issue) {
             0 => {}
             1..=32767 => return answer(29),
             _ => return answer(30),
         }
         let Some(instruction) = self.held().nth(number.into()) else { return answer(12) };
-        if named(self.answered, number.into()) { return answer(13); }
-        if outcome == DONE { self.record = instruction.next(self.record); }
-        if outcome == STUCK { self.apart = self.apart.map(|apart| apart.and(instruction.area())); }
+        if named(self.answered, number.into()) {
+            return answer(13);
+        }
+        if outcome == DONE {
+            self.record = instruction.next(self.record);
+        }
+        if outcome == STUCK {
+            self.apart = self.apart.map(|apart| apart.and(instruction.area()));
+        }
         self.answered |= 1 << number;
         if self.answered == self.all_marks() {
             *self = Station { record: self.record, next_issue: self.next_issue, apart: self.apart, ..Self::start() };
@@ -353,7 +460,9 @@ impl Station {
     }
 
     /// What an ask shows: the record, then what is set apart.
-    pub fn shown(&self) -> [u8; 16] { (u128::from(self.apart_number()) << 64 | u128::from(self.record)).to_le_bytes() }
+    pub fn shown(&self) -> [u8; 16] {
+        (u128::from(self.apart_number()) << 64 | u128::from(self.record)).to_le_bytes()
+    }
 
     /// Record, count, marks, set, next issue, what is set apart; each number with its lowest byte first.
     pub fn to_bytes(&self) -> [u8; Self::SIZE] {
@@ -390,7 +499,11 @@ pub fn set_told(bytes: &[u8]) -> Answer {
 /// 1 where fewer bytes are lent than the call says, and only then is the call looked at: 16 if it has
 /// a station, and the call's own.
 pub fn lent(room_for_all: bool, bytes_for_all: bool, call: impl FnOnce() -> Answer) -> Answer {
-    if !room_for_all { return answer(17); }
-    if !bytes_for_all { return answer(1); }
+    if !room_for_all {
+        return answer(17);
+    }
+    if !bytes_for_all {
+        return answer(1);
+    }
     call()
 }

@@ -26,7 +26,9 @@ fn frame(input: &[u8]) -> Result<(u16, &[u8], usize), Refused> {
     let refused = |number| Err(Refused { answer: answer(number), took: None });
     let &[low, high, ref rest @ ..] = input else { return refused(1) };
     let length = usize::from(u16::from_le_bytes([low, high]));
-    if !(2..=43).contains(&length) { return refused(2); }
+    if !(2..=43).contains(&length) {
+        return refused(2);
+    }
     match rest.get(..length) {
         Some(&[low, high, ref body @ ..]) => Ok((u16::from_le_bytes([low, high]), body, 2 + length)),
         _ => refused(1),
@@ -43,7 +45,9 @@ fn call_body(kind: u16, body: &[u8]) -> Result<Call<'_>, Answer> {
             Err(place) => Err(answer_at(4, place)),
         },
         (2, &[event @ (BEGIN_IN | BEGIN_OUT | END_DONE | END_NOT_DONE)]) => Ok(Call::Event(event)),
-        (3, &[low, high, number, outcome @ (FAILED | DONE | STUCK)]) => Ok(Call::Result { issue: u16::from_le_bytes([low, high]), number, outcome }),
+        (3, &[low, high, number, outcome @ (FAILED | DONE | STUCK)]) => {
+            Ok(Call::Result { issue: u16::from_le_bytes([low, high]), number, outcome })
+        }
         (2, [_]) | (3, [_, _, _, _]) => Err(answer(4)),
         (4, _) if body.len() == 16 => {
             let (image, apart) = two_numbers(body);
@@ -106,7 +110,9 @@ pub fn answer_message(answer: Answer) -> [u8; 8] {
 }
 
 /// A record's bytes, then those of what is set apart.
-fn image_body(image: u64, apart: u64) -> [u8; 16] { ((u128::from(apart) << 64) | u128::from(image)).to_le_bytes() }
+fn image_body(image: u64, apart: u64) -> [u8; 16] {
+    ((u128::from(apart) << 64) | u128::from(image)).to_le_bytes()
+}
 
 /// The message that tells a station's record and what is set apart.
 pub fn shown_message(station: &Station) -> [u8; 20] {
@@ -121,9 +127,7 @@ pub fn shown_message(station: &Station) -> [u8; 20] {
 pub fn write_message(message: &Message, room: &mut [u8]) -> Result<usize, Answer> {
     let (kind, fields, set): (u16, &[u8], &[u8]) = match *message {
         Message::Call(Call::Request { count, .. }) if count > 8 => return Err(answer(5)),
-        Message::Call(Call::Request { count, bytes }) => {
-            (1, &[count], bytes.get(..5 * usize::from(count)).ok_or(answer(1))?)
-        }
+        Message::Call(Call::Request { count, bytes }) => (1, &[count], bytes.get(..5 * usize::from(count)).ok_or(answer(1))?),
         Message::Call(Call::Event(event)) => (2, &[event], &[]),
         Message::Call(Call::Result { issue, number, outcome }) => {
             let [low, high] = issue.to_le_bytes();
@@ -179,7 +183,9 @@ fn run(
 }
 
 /// All the program answers to the whole of an input.
-pub fn serve(input: &[u8]) -> Vec<u8> { serve_on(&mut Station::start(), input, true).0 }
+pub fn serve(input: &[u8]) -> Vec<u8> {
+    serve_on(&mut Station::start(), input, true).0
+}
 
 /// The same on a station as it is, of an input that has ended or hasn't: the answers, the bytes used up and whether to go on.
 pub fn serve_on(station: &mut Station, input: &[u8], ended: bool) -> (Vec<u8>, usize, bool) {
@@ -205,7 +211,9 @@ pub fn stream(mut input: impl Read, mut output: impl Write) -> io::Result<()> {
         output.write_all(&answers)?;
         output.flush()?;
         answers.clear();
-        if read == 0 || !on { return Ok(()); }
+        if read == 0 || !on {
+            return Ok(());
+        }
         buffer.copy_within(used..filled, 0);
         kept = filled - used;
     }

@@ -46,7 +46,9 @@ fn bytes_of(Condition { holds, number, parts }: &Condition) -> [u8; CONDITION_SI
 fn condition(image: u64, five: &[u8], at: u8, output: &mut [u8]) -> Answer {
     lent(output.len() >= CONDITION_SIZE, five.len() >= CODE, || {
         let Some(instruction) = five.first_chunk().and_then(|&five| Instruction::read(five)) else { return answer(4) };
-        if !sound(image) { return answer(UNSOUND); }
+        if !sound(image) {
+            return answer(UNSOUND);
+        }
         put(output, &instruction.conditions(image).get(usize::from(at)).map_or(NONE_THERE, bytes_of));
         answer(0)
     })
@@ -57,7 +59,9 @@ pub fn walk(image: u64) -> Vec<u8> {
     let (mut begins, mut other_half) = (Vec::new(), false);
     for cell in ROW_1 {
         other_half = bit(image, cell) && !other_half;
-        if other_half { begins.push(cell as u8); }
+        if other_half {
+            begins.push(cell as u8);
+        }
     }
     begins.extend(OTHER_ROWS.into_iter().flatten().filter(|&cell| bit(image, cell)).map(|cell| cell as u8));
     begins.extend(bit(image, LIFT_CAR).then_some(LIFT_CAR as u8));
@@ -67,7 +71,9 @@ pub fn walk(image: u64) -> Vec<u8> {
 /// The places of the cars, zeros behind them; their number is told where an answer has its issue.
 fn cars(image: u64, output: &mut [u8]) -> Answer {
     lent(output.len() >= CARS_SIZE, true, || {
-        if !sound(image) { return answer(UNSOUND); }
+        if !sound(image) {
+            return answer(UNSOUND);
+        }
         let (begins, mut bytes) = (walk(image), [0; CARS_SIZE]);
         put(&mut bytes, &begins);
         put(output, &bytes);
@@ -77,7 +83,9 @@ fn cars(image: u64, output: &mut [u8]) -> Answer {
 
 /// The station's question, of a sound record alone; where too few bytes are lent, that is told first.
 fn next(given: &mut Command) -> u32 {
-    if given.output.len() >= RECORD && given.input.len() >= CODE && !sound(given.image) { return said(answer(UNSOUND)); }
+    if given.output.len() >= RECORD && given.input.len() >= CODE && !sound(given.image) {
+        return said(answer(UNSOUND));
+    }
     given.entry = STATIONS_NEXT;
     command::call(given)
 }

@@ -18,7 +18,9 @@ impl Parts {
     pub const LIFT: Parts = Parts { lift: true, ..Parts::NONE };
 
     /// These and some cells.
-    pub fn and_cells(self, cells: Range<u32>) -> Parts { Parts { cells: cells.fold(self.cells, |all, cell| all | 1 << cell), ..self } }
+    pub fn and_cells(self, cells: Range<u32>) -> Parts {
+        Parts { cells: cells.fold(self.cells, |all, cell| all | 1 << cell), ..self }
+    }
 
     /// These and a shuttle's slot.
     pub fn and_slot(self, side: u8, row: u8, orientation: u8) -> Parts {
@@ -36,14 +38,20 @@ impl Parts {
     }
 
     /// The number that shows them.
-    pub fn number(&self) -> u64 { self.cells | u64::from(self.slots) << SLOTS_AT | u64::from(self.lift) << LIFT_AT }
+    pub fn number(&self) -> u64 {
+        self.cells | u64::from(self.slots) << SLOTS_AT | u64::from(self.lift) << LIFT_AT
+    }
 
     /// The bits of a record that they are: the lift is its car and the two of its height.
-    pub fn record_bits(&self) -> u64 { self.number() | if self.lift { 3 << (LIFT_AT + 1) } else { 0 } }
+    pub fn record_bits(&self) -> u64 {
+        self.number() | if self.lift { 3 << (LIFT_AT + 1) } else { 0 }
+    }
 
     /// The parts that a number shows; or the number, where it has a bit above the lift's.
     pub fn shown_by(number: u64) -> Result<Parts, u64> {
-        if number >> LIFT_AT > 1 { return Err(number); }
+        if number >> LIFT_AT > 1 {
+            return Err(number);
+        }
         let (cells, slots) = (number % (1 << SLOTS_AT), number % (1 << LIFT_AT) >> SLOTS_AT);
         Ok(Parts { cells, slots: slots as u16, lift: number >> LIFT_AT == 1 })
     }

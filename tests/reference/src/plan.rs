@@ -23,7 +23,9 @@ pub struct Verdict {
 }
 
 /// Of the plan as a whole.
-fn whole(number: u8) -> Verdict { Verdict { number, set: NO_SET } }
+fn whole(number: u8) -> Verdict {
+    Verdict { number, set: NO_SET }
+}
 
 /// A plan as its bytes say it.
 pub struct Plan<'a> {
@@ -47,7 +49,9 @@ fn next_number(rest: &mut &[u8]) -> Result<u64, u8> {
     Ok(next(rest, 8)?.iter().rev().fold(0, |number, &byte| number << 8 | u64::from(byte)))
 }
 
-fn next_byte(rest: &mut &[u8]) -> Result<u8, u8> { Ok(next(rest, 1)?[0]) }
+fn next_byte(rest: &mut &[u8]) -> Result<u8, u8> {
+    Ok(next(rest, 1)?[0])
+}
 
 impl<'a> Plan<'a> {
     /// Reads all the bytes: 1 where some are missing, then 4 for a wish that is neither and for bytes that are left over.
@@ -60,8 +64,12 @@ impl<'a> Plan<'a> {
             let size = next_byte(rest)?;
             sets.push((size, next(rest, 5 * usize::from(size))?));
         }
-        if wish > 1 { return Err(BAD_FIELD); }
-        if !rest.is_empty() { return Err(BAD_FIELD); }
+        if wish > 1 {
+            return Err(BAD_FIELD);
+        }
+        if !rest.is_empty() {
+            return Err(BAD_FIELD);
+        }
         Ok(Plan { image, apart, wish, sets })
     }
 }
@@ -69,25 +77,37 @@ impl<'a> Plan<'a> {
 /// What a set would be told on a record with none outstanding and nothing set apart, or the record after it, all of it succeeding.
 fn after_set(record: u64, count: u8, bytes: &[u8]) -> Result<u64, u8> {
     let answer = Station { record, ..Station::start() }.request(count, bytes);
-    if answer.number != 0 { return Err(answer.number); }
+    if answer.number != 0 {
+        return Err(answer.number);
+    }
     let set = bytes.chunks_exact(5).filter_map(|five| Instruction::read(*five.first_chunk()?));
     Ok(set.fold(record, |record, instruction| instruction.next(record)))
 }
 
 /// Whether the lift is at street, with a car on it or without one: bit 52, whoever may be driving.
-fn meets(record: u64, wish: u8) -> bool { record >> 53 & 3 == 0 && record >> 52 & 1 == u64::from(wish) }
+fn meets(record: u64, wish: u8) -> bool {
+    record >> 53 & 3 == 0 && record >> 52 & 1 == u64::from(wish)
+}
 
 fn try_out(bytes: &[u8]) -> Result<(), Verdict> {
     let plan = Plan::read(bytes).map_err(whole)?;
-    if !sound(plan.image) || plan.apart != 0 { return Err(whole(UNSOUND)); }
-    if plan.sets.len() > MOST_SETS { return Err(whole(TOO_MANY_SETS)); }
+    if !sound(plan.image) || plan.apart != 0 {
+        return Err(whole(UNSOUND));
+    }
+    if plan.sets.len() > MOST_SETS {
+        return Err(whole(TOO_MANY_SETS));
+    }
     let mut record = plan.image;
     for (set, (count, bytes)) in (0..).zip(plan.sets) {
         record = after_set(record, count, bytes).map_err(|number| Verdict { number, set })?;
     }
-    if !meets(record, plan.wish) { return Err(whole(WISH_NOT_MET)); }
+    if !meets(record, plan.wish) {
+        return Err(whole(WISH_NOT_MET));
+    }
     Ok(())
 }
 
 /// What a plan is told.
-pub fn judge(bytes: &[u8]) -> Verdict { try_out(bytes).err().unwrap_or(whole(0)) }
+pub fn judge(bytes: &[u8]) -> Verdict {
+    try_out(bytes).err().unwrap_or(whole(0))
+}

@@ -7,7 +7,15 @@ use std::fmt::{self, Display, Formatter};
 
 /// A total: messages of a kind, answers with a number, results taken by the instruction's op, drives done, the most cars.
 #[derive(Clone, Copy, Debug, PartialEq, Eq, PartialOrd, Ord)]
-pub enum Total { Kind(u8), Answer(u8), Done(u8), Failed(u8), CarsIn, CarsOut, MostCars }
+pub enum Total {
+    Kind(u8),
+    Answer(u8),
+    Done(u8),
+    Failed(u8),
+    CarsIn,
+    CarsOut,
+    MostCars,
+}
 use Total::{Answer, CarsIn, CarsOut, Done, Failed, Kind, MostCars};
 
 impl Display for Total {
@@ -25,7 +33,9 @@ impl Display for Total {
 }
 
 /// The numbers that an answer can have.
-fn in_force() -> impl Iterator<Item = u8> { (0..=8).chain(10..=13).chain(15..=17).chain(20..=33) }
+fn in_force() -> impl Iterator<Item = u8> {
+    (0..=8).chain(10..=13).chain(15..=17).chain(20..=33)
+}
 
 /// The totals that a report has a line for, in its order.
 pub fn totals() -> impl Iterator<Item = Total> {
@@ -60,11 +70,14 @@ pub fn happened(station: &mut Station, input: &[u8]) -> Happened {
     let taken = call.filter(|_| number == 0);
     let mut raised: Vec<Total> = kind_read(input).map(Kind).into_iter().collect();
     // an ask that is taken is answered with the image, which has no number
-    if taken != Some(Call::Ask) { raised.push(Answer(number)); }
+    if taken != Some(Call::Ask) {
+        raised.push(Answer(number));
+    }
     match taken {
         Some(Call::Result { number, outcome, .. }) => {
             let op = before.set[5 * usize::from(number)];
-            raised.push(if outcome == crate::DONE { Done(op) } else { Failed(op) }); // what is stuck has failed
+            raised.push(if outcome == crate::DONE { Done(op) } else { Failed(op) });
+            // what is stuck has failed
         }
         // a drive that is done has brought a car or taken one away
         Some(Call::Event(END_DONE)) => raised.push(if cars(station.record) > cars(before.record) { CarsIn } else { CarsOut }),
@@ -78,16 +91,26 @@ pub fn happened(station: &mut Station, input: &[u8]) -> Happened {
 pub struct Week(BTreeMap<Total, u32>);
 
 impl Week {
-    pub fn get(&self, total: Total) -> u32 { self.0.get(&total).copied().unwrap_or(0) }
+    pub fn get(&self, total: Total) -> u32 {
+        self.0.get(&total).copied().unwrap_or(0)
+    }
 
     pub fn set(&mut self, total: Total, value: u32) {
-        if value == 0 { self.0.remove(&total); } else { self.0.insert(total, value); }
+        if value == 0 {
+            self.0.remove(&total);
+        } else {
+            self.0.insert(total, value);
+        }
     }
 
     /// Counts what happened; or nothing of it, where a total can't be raised: then it is told, the first of them.
     pub fn count(&mut self, happened: &Happened) -> Result<(), Total> {
-        if let Some(&full) = happened.raised.iter().filter(|&&total| self.get(total) == u32::MAX).min() { return Err(full); }
-        for &total in &happened.raised { *self.0.entry(total).or_default() += 1; }
+        if let Some(&full) = happened.raised.iter().filter(|&&total| self.get(total) == u32::MAX).min() {
+            return Err(full);
+        }
+        for &total in &happened.raised {
+            *self.0.entry(total).or_default() += 1;
+        }
         self.set(MostCars, self.get(MostCars).max(happened.cars));
         Ok(())
     }
@@ -104,14 +127,20 @@ impl Week {
     }
 
     /// The totals that are not 0.
-    pub fn nonzero(&self) -> impl Iterator<Item = Total> + '_ { self.0.keys().copied() }
+    pub fn nonzero(&self) -> impl Iterator<Item = Total> + '_ {
+        self.0.keys().copied()
+    }
 
     /// The report: a line for each total.
-    pub fn report(&self) -> String { totals().map(|total| format!("{total} {}\n", self.get(total))).collect() }
+    pub fn report(&self) -> String {
+        totals().map(|total| format!("{total} {}\n", self.get(total))).collect()
+    }
 }
 
 /// What is printed where a total is full.
-pub fn full(total: Total) -> String { format!("full {total}\n") }
+pub fn full(total: Total) -> String {
+    format!("full {total}\n")
+}
 
 // ---- Examples --------------------------------------------------------------------------------------
 
@@ -132,7 +161,9 @@ const NO_CARS: [u8; 20] = image([0, 0, 0, 0, 0, 0x1B, 0x09, 0], 0);
 const A_CELL_APART: [u8; 20] = image([0, 0, 0, 0, 0, 0x1B, 0x09, 0], 1);
 const WITHOUT_WHAT_IS_APART: [u8; 12] = [10, 0, 4, 0, 0, 0, 0, 0, 0, 0x1B, 0x09, 0];
 
-const fn lift(height: u8) -> [u8; 10] { [8, 0, 1, 0, 1, 4, height, 0, 0, 0] }
+const fn lift(height: u8) -> [u8; 10] {
+    [8, 0, 1, 0, 1, 4, height, 0, 0, 0]
+}
 
 /// An image, and the lowest byte of what it sets apart.
 const fn image([a, b, c, d, e, f, g, h]: [u8; 8], apart: u8) -> [u8; 20] {
@@ -140,7 +171,9 @@ const fn image([a, b, c, d, e, f, g, h]: [u8; 8], apart: u8) -> [u8; 20] {
 }
 
 /// The result of a set's instruction.
-const fn result(issue: u8, number: u8, outcome: u8) -> [u8; 8] { [6, 0, 3, 0, issue, 0, number, outcome] }
+const fn result(issue: u8, number: u8, outcome: u8) -> [u8; 8] {
+    [6, 0, 3, 0, issue, 0, number, outcome]
+}
 
 /// Inputs, each with the totals that it has by the papers' words, but for those that are 0.
 pub const EXAMPLES: &[(&str, &[&[u8]], &str)] = &[
@@ -159,8 +192,11 @@ pub const EXAMPLES: &[(&str, &[&[u8]], &str)] = &[
     ("length 44", &[&ASK, &[44, 0, 1, 0], &[0; 42], &ASK], "kind-5 1 answer-2 1"),
     ("length 258", &[&[2, 1, 5, 0], &ASK], "answer-2 1"),
     ("not the kind's length", &[&[3, 0, 5, 0, 0], &[4, 0, 3, 0, 0, 1], &ASK], "kind-3 1 kind-5 2 answer-2 2"),
-    ("a count above eight, a bad field, an empty set", &[&[3, 0, 1, 0, 9], &[3, 0, 2, 0, 5], &[3, 0, 1, 0, 0]],
-        "kind-1 2 kind-2 1 answer-4 1 answer-5 1 answer-7 1"),
+    (
+        "a count above eight, a bad field, an empty set",
+        &[&[3, 0, 1, 0, 9], &[3, 0, 2, 0, 5], &[3, 0, 1, 0, 0]],
+        "kind-1 2 kind-2 1 answer-4 1 answer-5 1 answer-7 1",
+    ),
     // an image that is told has no number
     ("asks", &[&ASK, &ASK], "kind-5 2"),
     // a car counts with a done end; a drive that ends without it, or that is refused, counts nothing
@@ -172,27 +208,56 @@ pub const EXAMPLES: &[(&str, &[&[u8]], &str)] = &[
     // a result counts by the op of its own instruction, which the last result of a set takes away
     ("done and failed", &[&BELT, &result(0, 0, 1), &BELT, &result(1, 0, 0)], "kind-1 2 kind-3 2 answer-0 4 done-1 1 failed-1 1"),
     ("another order", &[&BELT_AND_TILT, &result(0, 1, 1), &result(0, 0, 0)], "kind-1 1 kind-3 2 answer-0 3 done-3 1 failed-1 1"),
-    ("shuttles, lift and rotation",
+    (
+        "shuttles, lift and rotation",
         &[&SHUTTLE, &result(0, 0, 0), &lift(1), &result(1, 0, 1), &ROTATE, &result(2, 0, 1), &ROTATE, &result(3, 0, 0)],
-        "kind-1 4 kind-3 4 answer-0 8 done-4 1 done-5 1 failed-2 1 failed-5 1"),
+        "kind-1 4 kind-3 4 answer-0 8 done-4 1 done-5 1 failed-2 1 failed-5 1",
+    ),
     // one that is refused counts as a message and as an answer alone
     ("late", &[&BELT, &result(0, 0, 1), &BELT, &result(0, 0, 1)], "kind-1 2 kind-3 2 answer-0 3 answer-29 1 done-1 1"),
     ("not issued", &[&BELT, &result(1, 0, 1)], "kind-1 1 kind-3 1 answer-0 1 answer-30 1"),
-    ("refused results", &[&result(0, 0, 1), &BELT_AND_TILT, &result(0, 2, 1), &result(0, 1, 0), &result(0, 1, 1), &result(0, 0, 3)],
-        "kind-1 1 kind-3 5 answer-0 2 answer-4 1 answer-11 1 answer-12 1 answer-13 1 failed-3 1"),
+    (
+        "refused results",
+        &[&result(0, 0, 1), &BELT_AND_TILT, &result(0, 2, 1), &result(0, 1, 0), &result(0, 1, 1), &result(0, 0, 3)],
+        "kind-1 1 kind-3 5 answer-0 2 answer-4 1 answer-11 1 answer-12 1 answer-13 1 failed-3 1",
+    ),
     // what is stuck has failed, and its second result is none; what touches it is refused until an image clears it
-    ("stuck", &[&BELT_AND_TILT, &result(0, 0, 2), &result(0, 0, 1), &result(0, 1, 0), &BELT, &SHUTTLE, &result(1, 0, 1), &A_CELL_APART, &NO_CARS, &BELT],
-        "kind-1 4 kind-3 4 kind-4 2 answer-0 7 answer-13 1 answer-15 1 answer-32 1 done-2 1 failed-1 1 failed-3 1"),
-    ("a lift that is stuck", &[&lift(1), &result(0, 0, 2), &BEGIN_IN, &DONE, &ROTATE], "kind-1 2 kind-2 2 kind-3 1 answer-0 2 answer-31 1 answer-32 2 failed-4 1"),
+    (
+        "stuck",
+        &[
+            &BELT_AND_TILT,
+            &result(0, 0, 2),
+            &result(0, 0, 1),
+            &result(0, 1, 0),
+            &BELT,
+            &SHUTTLE,
+            &result(1, 0, 1),
+            &A_CELL_APART,
+            &NO_CARS,
+            &BELT,
+        ],
+        "kind-1 4 kind-3 4 kind-4 2 answer-0 7 answer-13 1 answer-15 1 answer-32 1 done-2 1 failed-1 1 failed-3 1",
+    ),
+    (
+        "a lift that is stuck",
+        &[&lift(1), &result(0, 0, 2), &BEGIN_IN, &DONE, &ROTATE],
+        "kind-1 2 kind-2 2 kind-3 1 answer-0 2 answer-31 1 answer-32 2 failed-4 1",
+    ),
     // with 27 cars no more come in; one that was under way does, and counts
-    ("places kept open", &[&MANY_CARS, &BEGIN_IN, &MOST_CARS_COMING, &DONE, &BEGIN_IN, &BEGIN_OUT, &DONE, &BEGIN_IN],
-        "kind-2 6 kind-4 2 answer-0 5 answer-10 1 answer-33 2 cars-in 1 cars-out 1 most-cars 29"),
+    (
+        "places kept open",
+        &[&MANY_CARS, &BEGIN_IN, &MOST_CARS_COMING, &DONE, &BEGIN_IN, &BEGIN_OUT, &DONE, &BEGIN_IN],
+        "kind-2 6 kind-4 2 answer-0 5 answer-10 1 answer-33 2 cars-in 1 cars-out 1 most-cars 29",
+    ),
     ("an image of another length", &[&WITHOUT_WHAT_IS_APART], "kind-4 1 answer-2 1"),
     // the most cars are the largest number after any message, also of an image, and stay so when cars go
     ("images", &[&TWO_CARS, &HALF_A_CAR, &NO_CARS], "kind-4 3 answer-0 2 answer-15 1 most-cars 2"),
     ("an image that is refused", &[&BELT, &TWO_CARS], "kind-1 1 kind-4 1 answer-0 1 answer-6 1"),
-    ("a car moves and is one", &[&BEGIN_IN, &DONE, &lift(2), &result(0, 0, 1), &ASK],
-        "kind-1 1 kind-2 2 kind-3 1 kind-5 1 answer-0 4 done-4 1 cars-in 1 most-cars 1"),
+    (
+        "a car moves and is one",
+        &[&BEGIN_IN, &DONE, &lift(2), &result(0, 0, 1), &ASK],
+        "kind-1 1 kind-2 2 kind-3 1 kind-5 1 answer-0 4 done-4 1 cars-in 1 most-cars 1",
+    ),
 ];
 
 /// The whole report with these totals.

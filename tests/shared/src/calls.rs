@@ -1,9 +1,9 @@
 //! Calls of the station's entries with all that they are given, for runs that compare them: on lent stations, and questions on records.
 
 use crate::handed;
-use reference::Station;
 use crate::traffic::{self, any_bytes, Numbers};
 use crate::trials::{room_for, Given};
+use reference::Station;
 
 /// A station to lend: mostly the one that there is, else one that is handed in or damaged.
 pub fn lent_station(numbers: &mut Numbers, station: &Station) -> Station {
@@ -22,7 +22,9 @@ pub fn station_call(numbers: &mut Numbers, station: &Station) -> Given {
         1 | 2 => {
             let count = if numbers.one_in(12) { numbers.byte() } else { numbers.below(4) as u8 };
             let mut set: Vec<u8> = (0..count.min(9)).flat_map(|_| traffic::any_five(numbers)).collect();
-            if numbers.one_in(10) { set.truncate(numbers.below(set.len() as u64 + 1) as usize); }
+            if numbers.one_in(10) {
+                set.truncate(numbers.below(set.len() as u64 + 1) as usize);
+            }
             Given { entry: 1, first: count, room, input: set, ..Given::default() }
         }
         3 => {
@@ -59,7 +61,11 @@ pub fn message_call(numbers: &mut Numbers, station: &Station) -> Given {
 pub fn sets_call(numbers: &mut Numbers) -> Given {
     let cut = |numbers: &mut Numbers| {
         let mut five = traffic::any_five(numbers).to_vec();
-        if numbers.one_in(12) { five.truncate(numbers.below(5) as usize) } else if numbers.one_in(4) { five.push(numbers.byte()) }
+        if numbers.one_in(12) {
+            five.truncate(numbers.below(5) as usize)
+        } else if numbers.one_in(4) {
+            five.push(numbers.byte())
+        }
         five
     };
     let (one, other) = (cut(numbers), cut(numbers));
@@ -76,7 +82,9 @@ pub fn record_call(numbers: &mut Numbers, record: u64) -> Given {
     let image = if numbers.one_in(3) { record } else { traffic::near_record(numbers, record) };
     let refused = if numbers.one_in(4) { traffic::refused_five(numbers, image) } else { None };
     let mut five = refused.unwrap_or_else(|| traffic::any_five(numbers)).to_vec();
-    if numbers.one_in(20) { five.truncate(numbers.below(5) as usize); }
+    if numbers.one_in(20) {
+        five.truncate(numbers.below(5) as usize);
+    }
     let size = if numbers.one_in(20) { numbers.below(8) } else { 8 + numbers.below(3) } as usize;
     match numbers.below(5) {
         0 => Given { entry: 7, image, ..Given::default() },

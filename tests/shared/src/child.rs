@@ -14,7 +14,9 @@ pub fn run<'a>(program: &str, pieces: impl Iterator<Item = &'a [u8]> + Send) -> 
         all.spawn(move || {
             // the program may stop before the input ends: then the pipe is closed
             for piece in pieces {
-                if pipe.write_all(piece).is_err() { break; }
+                if pipe.write_all(piece).is_err() {
+                    break;
+                }
             }
         });
         child.wait_with_output().expect("the program ends")
@@ -23,4 +25,6 @@ pub fn run<'a>(program: &str, pieces: impl Iterator<Item = &'a [u8]> + Send) -> 
 }
 
 /// The same for an input that is given at once.
-pub fn run_on(program: &str, input: &[u8]) -> (Vec<u8>, String, bool) { run(program, std::iter::once(input)) }
+pub fn run_on(program: &str, input: &[u8]) -> (Vec<u8>, String, bool) {
+    run(program, std::iter::once(input))
+}

@@ -1,13 +1,18 @@
 //! Desks that are handed in, not reached by calls: what their numbers have that decides whether they are fit, so that a run can say that it
 //! was called on all there is. Each has one such thing, and all else about it is as it must be.
 
+use crate::traffic::Numbers;
 use reference::desk::{layout, Car, Desk, Stand, PLACES};
 use reference::{bit, sound, Parts, Station, DRIVE_IN, LIFT_CAR, LIFT_CELLS};
-use crate::traffic::Numbers;
 
 /// A place of a lent desk: a cell of row 1, of row 2 or 3, the raised lift, and where a number waits.
 #[derive(Clone, Copy, Debug, PartialEq, Eq, PartialOrd, Ord)]
-pub enum Place { First, Other, Lift, Drive }
+pub enum Place {
+    First,
+    Other,
+    Lift,
+    Drive,
+}
 use Place::{Drive, First, Lift, Other};
 
 /// What a handed-in desk has.
@@ -82,25 +87,34 @@ fn put_at(bytes: &mut [u8; Desk::SIZE], place: usize, number: u32) {
 
 /// The places of a record's cars in a lent desk, and the one that waits.
 fn bearing(record: u64) -> Vec<usize> {
-    let stands = layout(record).into_iter().map(|stand| match stand { Stand::Over(cells) => cells.start as usize, Stand::Raised => 40 });
+    let stands = layout(record).into_iter().map(|stand| match stand {
+        Stand::Over(cells) => cells.start as usize,
+        Stand::Raised => 40,
+    });
     stands.chain(bit(record, DRIVE_IN).then_some(41)).collect()
 }
 
 /// What a desk's bytes have, if it is one of these.
 pub fn handed(bytes: &[u8; Desk::SIZE]) -> Option<Handed> {
     let station = Station::from_bytes(bytes.first_chunk()?);
-    if !sound(station.record) { return None; }
+    if !sound(station.record) {
+        return None;
+    }
     let bearing = bearing(station.record);
-    let faults: Vec<Handed> = (0..PLACES).filter_map(|place| match (bearing.contains(&place), number_at(bytes, place)) {
-        (true, 0) => Some(Without(kind(place))),
-        (true, number) => {
-            let mut earlier = (0..place).filter(|earlier| bearing.contains(earlier));
-            earlier.find(|&earlier| number_at(bytes, earlier) == number).map(|earlier| Twice(kind(earlier), kind(place)))
-        }
-        (false, 0) => None,
-        (false, number) if place < 20 && bit(station.record, place as u32) => Some(Upper { own: number_at(bytes, place - 1) == number }),
-        (false, _) => Some(Beside(kind(place))),
-    }).collect();
+    let faults: Vec<Handed> = (0..PLACES)
+        .filter_map(|place| match (bearing.contains(&place), number_at(bytes, place)) {
+            (true, 0) => Some(Without(kind(place))),
+            (true, number) => {
+                let mut earlier = (0..place).filter(|earlier| bearing.contains(earlier));
+                earlier.find(|&earlier| number_at(bytes, earlier) == number).map(|earlier| Twice(kind(earlier), kind(place)))
+            }
+            (false, 0) => None,
+            (false, number) if place < 20 && bit(station.record, place as u32) => {
+                Some(Upper { own: number_at(bytes, place - 1) == number })
+            }
+            (false, _) => Some(Beside(kind(place))),
+        })
+        .collect();
     let half = |place: &usize| {
         let is_apart = |cell: usize| station.is_apart(&Parts::NONE.and_cells(cell as u32..cell as u32 + 1));
         let (lower, upper) = (is_apart(*place), is_apart(place + 1));
@@ -115,7 +129,9 @@ pub fn handed(bytes: &[u8; Desk::SIZE]) -> Option<Handed> {
 }
 
 /// One of some, if there is any.
-fn one_of<T: Copy>(numbers: &mut Numbers, some: &[T]) -> Option<T> { some.get(numbers.below(some.len().max(1) as u64) as usize).copied() }
+fn one_of<T: Copy>(numbers: &mut Numbers, some: &[T]) -> Option<T> {
+    some.get(numbers.below(some.len().max(1) as u64) as usize).copied()
+}
 
 /// The bytes of a desk that has one of these, which is picked beforehand, so that none is rare; made from another desk in some tries.
 pub fn made(numbers: &mut Numbers, desk: &Desk) -> Option<[u8; Desk::SIZE]> {
@@ -130,7 +146,9 @@ fn at_street(numbers: &mut Numbers, desk: &Desk, drive: bool) -> Desk {
     let beside = |car: &&Car| car.stand != Stand::Raised && car.stand != Stand::Over(LIFT_CELLS);
     let mut cars: Vec<Car> = desk.cars.iter().filter(beside).cloned().collect();
     let card = numbers.next() as u32;
-    if !drive { cars.push(Car { card, stand: Stand::Raised }); }
+    if !drive {
+        cars.push(Car { card, stand: Stand::Raised });
+    }
     Desk { station, cars, coming: drive.then_some(card) }
 }
 

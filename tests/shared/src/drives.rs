@@ -5,34 +5,69 @@ use std::collections::BTreeSet;
 
 /// Which drive is under way by an image; both is what no sound one says.
 #[derive(Clone, Copy, Debug, PartialEq, Eq, PartialOrd, Ord)]
-pub enum Drive { No, In, Out, Both }
+pub enum Drive {
+    No,
+    In,
+    Out,
+    Both,
+}
 use Drive::{Both, In, No, Out};
 
 /// The set that is outstanding: none, one that leaves the lift alone, one with the lift in an area.
 #[derive(Clone, Copy, Debug, PartialEq, Eq, PartialOrd, Ord)]
-pub enum Outstanding { Nothing, Others, WithLift }
+pub enum Outstanding {
+    Nothing,
+    Others,
+    WithLift,
+}
 use Outstanding::{Nothing, Others, WithLift};
 
 /// Where a requested set first has the lift in an area.
 #[derive(Clone, Copy, Debug, PartialEq, Eq, PartialOrd, Ord)]
-pub enum Lift { Nowhere, First, Later }
+pub enum Lift {
+    Nowhere,
+    First,
+    Later,
+}
 
 /// A call's share of drives, and its answer; a reason why an instruction isn't allowed stands as the first of them.
 #[derive(Clone, Copy, Debug, PartialEq, Eq, PartialOrd, Ord)]
 pub enum Met {
-    Event { event: u8, drive: Drive, outstanding: Outstanding, number: u8 },
+    Event {
+        event: u8,
+        drive: Drive,
+        outstanding: Outstanding,
+        number: u8,
+    },
     /// A well-formed request during a drive, and what it would be told without one.
-    Request { drive: Drive, lift: Lift, without: u8, number: u8 },
+    Request {
+        drive: Drive,
+        lift: Lift,
+        without: u8,
+        number: u8,
+    },
     /// A result taken during a drive, by the opcode.
-    Result { drive: Drive, opcode: u8, outcome: u8 },
+    Result {
+        drive: Drive,
+        opcode: u8,
+        outcome: u8,
+    },
     /// An image that is taken, or refused for its drive alone: which drive it says, at which height, and with a car on the lift or not.
-    Image { drive: Drive, says: Drive, height: u8, car: bool, number: u8 },
+    Image {
+        drive: Drive,
+        says: Drive,
+        height: u8,
+        car: bool,
+        number: u8,
+    },
 }
 
 /// Bits 55 and 56 of an image.
 const DRIVES: u64 = 3 << 55;
 
-fn drive_of(image: u64) -> Drive { [No, In, Out, Both][(image >> 55 & 3) as usize] }
+fn drive_of(image: u64) -> Drive {
+    [No, In, Out, Both][(image >> 55 & 3) as usize]
+}
 
 fn instructions(bytes: &[u8]) -> impl Iterator<Item = Instruction> + '_ {
     bytes.chunks_exact(5).filter_map(|five| Instruction::read(*five.first_chunk()?))
@@ -80,7 +115,11 @@ fn all() -> BTreeSet<Met> {
         let begins = event < END_DONE;
         all.insert(Met::Event { event, drive: No, outstanding: WithLift, number: 6 });
         for outstanding in [Nothing, Others] {
-            let idle: &[u8] = match event { BEGIN_IN => &[0, 10, 32, 33], BEGIN_OUT => &[0, 10, 32], _ => &[31] };
+            let idle: &[u8] = match event {
+                BEGIN_IN => &[0, 10, 32, 33],
+                BEGIN_OUT => &[0, 10, 32],
+                _ => &[31],
+            };
             all.extend(idle.iter().map(|&number| Met::Event { event, drive: No, outstanding, number }));
             all.extend([In, Out].map(|drive| Met::Event { event, drive, outstanding, number: if begins { 31 } else { 0 } }));
         }
@@ -97,7 +136,12 @@ fn all() -> BTreeSet<Met> {
     }
     for drive in [No, In, Out] {
         for (height, car) in [(0, false), (0, true), (1, false), (1, true), (2, false)] {
-            let sound_one = |says| match says { No => true, In => (height, car) == (0, false), Out => (height, car) == (0, true), Both => false };
+            let sound_one = |says| match says {
+                No => true,
+                In => (height, car) == (0, false),
+                Out => (height, car) == (0, true),
+                Both => false,
+            };
             let number = |says| if sound_one(says) { 0 } else { 15 };
             all.extend([No, In, Out, Both].map(|says| Met::Image { drive, says, height, car, number: number(says) }));
         }
@@ -108,6 +152,8 @@ fn all() -> BTreeSet<Met> {
 /// Whether all was met that there is, and nothing else; if not, says what is amiss.
 pub fn every_drive(who: &str, met: &BTreeSet<Met>) -> bool {
     let amiss: Vec<_> = met.symmetric_difference(&all()).copied().collect();
-    if !amiss.is_empty() { eprintln!("{who}: what was never met of drives, or can't be: {amiss:?}"); }
+    if !amiss.is_empty() {
+        eprintln!("{who}: what was never met of drives, or can't be: {amiss:?}");
+    }
     amiss.is_empty()
 }

@@ -8,11 +8,23 @@ use std::collections::BTreeSet;
 /// A call's share of them; the cars are those that it finds, or of an image those that it brings.
 #[derive(Clone, Copy, Debug, PartialEq, Eq, PartialOrd, Ord)]
 pub enum Met {
-    Begin { cars: u32, number: u8 },
+    Begin {
+        cars: u32,
+        number: u8,
+    },
     /// Another event that is taken, and whether a car was coming.
-    Event { cars: u32, event: u8, coming: bool },
+    Event {
+        cars: u32,
+        event: u8,
+        coming: bool,
+    },
     /// An image that is taken: the lift's height, whether a car is raised on it, whether a drive is under way.
-    Image { cars: u32, height: u64, raised: bool, drive: bool },
+    Image {
+        cars: u32,
+        height: u64,
+        raised: bool,
+        drive: bool,
+    },
 }
 
 /// From so many cars on it is looked at what a call meets.
@@ -46,7 +58,9 @@ fn all() -> BTreeSet<Met> {
     for cars in MANY..=EMPTY_MOST + 1 {
         all.extend([BEGIN_OUT, END_DONE, END_NOT_DONE].map(|event| Met::Event { cars, event, coming: false }));
     }
-    for (height, raised, most) in [(0, false, EMPTY_MOST), (0, true, EMPTY_MOST + 1), (1, false, EMPTY_MOST), (1, true, EMPTY_MOST + 1), (2, false, EMPTY_MOST + 2)] {
+    for (height, raised, most) in
+        [(0, false, EMPTY_MOST), (0, true, EMPTY_MOST + 1), (1, false, EMPTY_MOST), (1, true, EMPTY_MOST + 1), (2, false, EMPTY_MOST + 2)]
+    {
         let drives: &[bool] = if height == 0 { &[false, true] } else { &[false] };
         all.extend((MANY..=most).flat_map(|cars| drives.iter().map(move |&drive| Met::Image { cars, height, raised, drive })));
     }
@@ -56,12 +70,16 @@ fn all() -> BTreeSet<Met> {
 /// Whether this was met and nothing else; if not, says what is amiss.
 fn exactly(who: &str, met: &BTreeSet<Met>, wanted: &BTreeSet<Met>) -> bool {
     let amiss: Vec<_> = met.symmetric_difference(wanted).copied().collect();
-    if !amiss.is_empty() { eprintln!("{who}: what was never met of places kept open, or can't be: {amiss:?}"); }
+    if !amiss.is_empty() {
+        eprintln!("{who}: what was never met of places kept open, or can't be: {amiss:?}");
+    }
     amiss.is_empty()
 }
 
 /// Whether all was met that there is.
-pub fn every_filling(who: &str, met: &BTreeSet<Met>) -> bool { exactly(who, met, &all()) }
+pub fn every_filling(who: &str, met: &BTreeSet<Met>) -> bool {
+    exactly(who, met, &all())
+}
 
 /// Whether all was met that there is of events, for a run whose entries take no images.
 pub fn every_event(who: &str, met: &BTreeSet<Met>) -> bool {

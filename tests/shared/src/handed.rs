@@ -1,8 +1,8 @@
 //! Stations that are handed in, not reached by calls: what their sets have that decides whether they are fit, so that a run can say that
 //! it was called on all there is. Each has one such thing, and all else about it is as it must be.
 
-use reference::{drive_under_way, sound, Instruction, Parts, Station};
 use crate::traffic::{allowed_set, good_five, Numbers};
+use reference::{drive_under_way, sound, Instruction, Parts, Station};
 
 /// What a handed-in station has.
 #[derive(Clone, Copy, Debug, PartialEq, Eq, PartialOrd, Ord)]
@@ -56,14 +56,18 @@ impl Handed {
 /// What a station has, if it is one of these.
 pub fn handed(station: &Station) -> Option<Handed> {
     let Ok(apart) = station.apart else { return Station { apart: Ok(Parts::NONE), ..*station }.fit().then_some(Above) };
-    if drive_under_way(station.record) && apart.lift { return station.fit().then_some(Driver); }
+    if drive_under_way(station.record) && apart.lift {
+        return station.fit().then_some(Driver);
+    }
     let (held, count): (Vec<Instruction>, usize) = (station.held().collect(), station.count.into());
     let formed = sound(station.record)
         && (1..=8).contains(&count)
         && held.len() == count
         && usize::from(station.answered) + 1 < 1 << count
         && station.set[5 * count..].iter().all(|&byte| byte == 0);
-    if !formed { return None; }
+    if !formed {
+        return None;
+    }
     let waits = |at: usize| station.answered >> at & 1 == 0;
     let barred = |waiting| (0..count).any(|at| waits(at) == waiting && !held[at].allowed(station.record));
     let pairs = (0..count).flat_map(|later| (0..later).map(move |earlier| (earlier, later)));
@@ -80,7 +84,8 @@ pub fn handed(station: &Station) -> Option<Handed> {
         (None, [], false) if (0..count).any(|at| waits(at) && apart.meet(&held[at].area())) => Some(Jammed),
         (None, [], false) => {
             let (row_1, waiting) = (Parts::NONE.and_cells(0..20), held.iter().enumerate().filter(|(at, _)| waits(*at)));
-            let (lifts, others): (Vec<&Instruction>, Vec<&Instruction>) = waiting.map(|(_, one)| one).partition(|one| matches!(one, Instruction::Lift { .. }));
+            let (lifts, others): (Vec<&Instruction>, Vec<&Instruction>) =
+                waiting.map(|(_, one)| one).partition(|one| matches!(one, Instruction::Lift { .. }));
             (!lifts.is_empty() && others.iter().any(|one| one.area().meet(&row_1))).then_some(Beside)
         }
         _ => None,
@@ -91,13 +96,17 @@ pub fn handed(station: &Station) -> Option<Handed> {
 pub fn made(numbers: &mut Numbers, station: &Station) -> Option<Station> {
     let wanted = ALL[numbers.below(ALL.len() as u64) as usize];
     let mut record = station.record & !(3 << 55);
-    if let Drive { .. } | Driver = wanted { record |= 1 << (55 + (record >> 52 & 1)); }
+    if let Drive { .. } | Driver = wanted {
+        record |= 1 << (55 + (record >> 52 & 1));
+    }
     let alone = match wanted {
         Above => Some(Station { apart: Err(1 << (53 + numbers.below(11)) | numbers.next() >> 12), ..*station }),
         Driver => Some(Station { record, apart: Ok(Parts::LIFT), next_issue: station.next_issue, ..Station::start() }),
         _ => None,
     };
-    if alone.is_some() { return alone.filter(|alone| handed(alone) == Some(wanted)); }
+    if alone.is_some() {
+        return alone.filter(|alone| handed(alone) == Some(wanted));
+    }
     let wanted_others = 1 + numbers.below(4) as usize;
     let others = allowed_set(numbers, record, Parts::NONE, wanted_others);
     (0..100).find_map(|_| {

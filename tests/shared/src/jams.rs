@@ -39,7 +39,9 @@ impl Watched {
         let before = self.station;
         let number = self.station.take(call).number;
         let jam = !self.stuck.is_empty();
-        if number == 0 && before.count == 0 { self.of_the_set = 0; }
+        if number == 0 && before.count == 0 {
+            self.of_the_set = 0;
+        }
         match call {
             Call::Request { .. } if number == 0 && jam => {
                 self.sets = self.sets.saturating_add(1);
@@ -57,17 +59,20 @@ impl Watched {
                 (self.of_the_set, self.sets) = (self.of_the_set | 1 << at, 0);
                 Some(Met::Stuck { opcode: before.set[5 * usize::from(at)], closes: self.station.count == 0 })
             }
-            Call::Result { number: at, outcome: ending, .. } if number == 13 && self.of_the_set >> at & 1 == 1 => Some(Met::Again { ending, number }),
+            Call::Result { number: at, outcome: ending, .. } if number == 13 && self.of_the_set >> at & 1 == 1 => {
+                Some(Met::Again { ending, number })
+            }
             Call::Result { outcome: ending, .. } if number == 0 && self.sets > 0 => Some(Met::Ended { ending }),
             Call::Event(event) if jam => Some(Met::Event { event, lift: before.is_apart(&Parts::LIFT), number }),
             Call::Image { image, apart } if apart == 0 || sound(image) => {
-                if number == 0 { (self.stuck, self.sets) = (Vec::new(), 0); }
+                if number == 0 {
+                    (self.stuck, self.sets) = (Vec::new(), 0);
+                }
                 Some(Met::Image { before: jam, sets: apart != 0, number })
             }
             _ => None,
         }
     }
-
 }
 
 /// Looks at every choice of which of some instructions finish on a record: one after the other, forward and backward, each must be allowed at
@@ -117,7 +122,11 @@ fn all() -> BTreeSet<Met> {
         let begins = event <= BEGIN_OUT;
         // no drive is under way while the lift is set apart; the set in which it got stuck may still be outstanding
         let stuck: &[u8] = if begins { &[6, 32] } else { &[6, 31] };
-        let beside: &[u8] = match event { BEGIN_IN => &[0, 6, 10, 31, 33], BEGIN_OUT => &[0, 6, 10, 31], _ => &[0, 6, 31] };
+        let beside: &[u8] = match event {
+            BEGIN_IN => &[0, 6, 10, 31, 33],
+            BEGIN_OUT => &[0, 6, 10, 31],
+            _ => &[0, 6, 31],
+        };
         all.extend(stuck.iter().map(|&number| Met::Event { event, lift: true, number }));
         all.extend(beside.iter().map(|&number| Met::Event { event, lift: false, number }));
     }
@@ -131,6 +140,8 @@ fn all() -> BTreeSet<Met> {
 /// Whether all was met that there is, and nothing else; if not, says what is amiss.
 pub fn every_jam(who: &str, met: &BTreeSet<Met>) -> bool {
     let amiss: Vec<_> = met.symmetric_difference(&all()).copied().collect();
-    if !amiss.is_empty() { eprintln!("{who}: what was never met of jams, or can't be: {amiss:?}"); }
+    if !amiss.is_empty() {
+        eprintln!("{who}: what was never met of jams, or can't be: {amiss:?}");
+    }
     amiss.is_empty()
 }

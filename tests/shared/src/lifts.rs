@@ -8,7 +8,11 @@ use std::collections::BTreeSet;
 
 /// What stands in row 1 beside the lift: belts, shuttles or a tilt, and on the right or not.
 #[derive(Clone, Copy, Debug, PartialEq, Eq, PartialOrd, Ord)]
-pub enum What { Belts, Shuttles, Tilt }
+pub enum What {
+    Belts,
+    Shuttles,
+    Tilt,
+}
 use What::{Belts, Shuttles, Tilt};
 type Beside = (What, bool);
 
@@ -33,12 +37,18 @@ const LEFT: u64 = (1 << 11) - 1;
 const RIGHT: u64 = ROW_1 & !LEFT & !LIFT_CELLS;
 const ODD_COUNT: u8 = 24;
 
-fn odd(record: u64, cells: u64) -> bool { (record & cells).count_ones() % 2 == 1 }
+fn odd(record: u64, cells: u64) -> bool {
+    (record & cells).count_ones() % 2 == 1
+}
 
-fn lift_run(one: &Instruction) -> bool { matches!(one, Instruction::Lift { .. }) }
+fn lift_run(one: &Instruction) -> bool {
+    matches!(one, Instruction::Lift { .. })
+}
 
 /// Whether a lift run from this record reads the counts: out of the basement with its cells not free.
-fn counted(record: u64) -> bool { record >> 53 & 3 == 2 && record & LIFT_CELLS != 0 }
+fn counted(record: u64) -> bool {
+    record >> 53 & 3 == 2 && record & LIFT_CELLS != 0
+}
 
 /// Where an instruction stands beside a lift run in row 1.
 fn beside(one: &Instruction) -> Option<Beside> {
@@ -79,7 +89,10 @@ impl Watched {
             }
             Call::Request { bytes, .. } if told.number == ODD_COUNT => (refused(before.record, bytes, told.place.into()), 0),
             Call::Result { number, outcome, .. } if told.number == 0 => (self.ended(number.into(), outcome), 0),
-            Call::Image { .. } if told.number == 0 => { self.stuck.clear(); (Vec::new(), 0) }
+            Call::Image { .. } if told.number == 0 => {
+                self.stuck.clear();
+                (Vec::new(), 0)
+            }
             _ => (Vec::new(), 0),
         }
     }
@@ -92,7 +105,9 @@ impl Watched {
             let stuck = self.stuck.iter().filter_map(|(one, record)| moving(one, *record));
             met.extend(stuck.map(|beside| Met::PastJam { beside, counted: counted(self.record) }));
         }
-        if self.stuck.iter().any(|(one, _)| lift_run(one)) { met.extend(moved().map(|beside| Met::PastLift { beside })); }
+        if self.stuck.iter().any(|(one, _)| lift_run(one)) {
+            met.extend(moved().map(|beside| Met::PastLift { beside }));
+        }
         let together = lift && moved().next().is_some();
         (met, if together { every_choice(self.record, &self.set, &[]) } else { 0 })
     }
@@ -108,7 +123,9 @@ impl Watched {
         });
         let met = met.collect();
         self.endings.push((number, ending));
-        if ending == STUCK { self.stuck.push((one, record)); }
+        if ending == STUCK {
+            self.stuck.push((one, record));
+        }
         met
     }
 }
@@ -116,7 +133,9 @@ impl Watched {
 /// What a set met whose instruction at a place was refused for an odd count.
 fn refused(record: u64, bytes: &[u8], place: usize) -> Vec<Met> {
     let set: Vec<Instruction> = bytes.chunks_exact(5).filter_map(|five| Instruction::read(*five.first_chunk()?)).collect();
-    if !lift_run(&set[place]) { return Vec::new(); }
+    if !lift_run(&set[place]) {
+        return Vec::new();
+    }
     let allowed = set.iter().enumerate().filter(|(_, one)| one.allowed(record));
     let (left, right) = (odd(record, LEFT), odd(record, RIGHT));
     allowed.filter_map(|(at, one)| Some(Met::Odd { beside: beside(one)?, left, right, lift_first: place < at })).collect()
@@ -155,6 +174,8 @@ fn all() -> BTreeSet<Met> {
 /// Whether all was met that there is, and nothing else; if not, says what is amiss.
 pub fn every_lift(who: &str, met: &BTreeSet<Met>) -> bool {
     let amiss: Vec<_> = met.symmetric_difference(&all()).copied().collect();
-    if !amiss.is_empty() { eprintln!("{who}: what was never met of lift runs beside others, or can't be: {amiss:?}"); }
+    if !amiss.is_empty() {
+        eprintln!("{who}: what was never met of lift runs beside others, or can't be: {amiss:?}");
+    }
     amiss.is_empty()
 }

@@ -8,9 +8,14 @@ pub fn blocks<'a>(page: &'a str, marks: &[&str]) -> Vec<(usize, &'a str, String)
             (None, Some(mark)) => inside = Some((mark, String::new())),
             (Some(_), Some(_)) => {
                 let (mark, text) = inside.take().expect("a block");
-                if marks.contains(&mark) { found.push((at, mark, text)); }
+                if marks.contains(&mark) {
+                    found.push((at, mark, text));
+                }
             }
-            (Some((_, text)), None) => { text.push_str(line); text.push('\n'); }
+            (Some((_, text)), None) => {
+                text.push_str(line);
+                text.push('\n');
+            }
             (None, None) => {}
         }
     }

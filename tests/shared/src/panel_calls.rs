@@ -1,9 +1,9 @@
 //! Calls of the plain station's entries and of the panel's, for runs that compare them, and what an answer tells.
 use crate::calls::{lent_station, record_call, station_call};
-use reference::panel_command::{CARS, CARS_SIZE, CONDITION, CONDITION_SIZE, EVENT, NEXT, RECORD, REQUEST, RESULT, STATIONS};
-use reference::{Call, Station, REASON_NUMBERS};
 use crate::traffic::{any_bytes, Numbers};
 use crate::trials::Given;
+use reference::panel_command::{CARS, CARS_SIZE, CONDITION, CONDITION_SIZE, EVENT, NEXT, RECORD, REQUEST, RESULT, STATIONS};
+use reference::{Call, Station, REASON_NUMBERS};
 
 /// A call of the station's that the plain one has too, on some bytes.
 #[allow(dead_code)] // commands alone don't come by messages
@@ -21,7 +21,11 @@ pub fn any_call(numbers: &mut Numbers, station: &Station) -> Option<Given> {
     let lent = lent_station(numbers, station);
     if numbers.one_in(3) {
         let question = record_call(numbers, lent.record);
-        let (entry, size) = match numbers.below(3) { 0 => (CONDITION, CONDITION_SIZE), 1 => (NEXT, RECORD), _ => (CARS, CARS_SIZE) };
+        let (entry, size) = match numbers.below(3) {
+            0 => (CONDITION, CONDITION_SIZE),
+            1 => (NEXT, RECORD),
+            _ => (CARS, CARS_SIZE),
+        };
         let size = if numbers.one_in(10) { numbers.below(size as u64) as usize } else { size + numbers.below(3) as usize };
         let first = if numbers.one_in(8) { numbers.byte() } else { numbers.below(7) as u8 };
         return Some(Given { entry, first, output: any_bytes(numbers, size), ..question });

@@ -1,8 +1,8 @@
 //! Seeded plans: good ones, and ones with a fault. What is plausible next is judged by the reference.
 #![allow(dead_code)] // each driver uses its own part of this module
 
-use reference::{Instruction, Parts, LARGEST_SET, START};
 use crate::traffic::{allowed_set, any_bytes, any_five, near_record, refused_five, Numbers};
+use reference::{Instruction, Parts, LARGEST_SET, START};
 
 /// A plan in parts, of which any may be wrong.
 #[derive(Clone)]
@@ -27,7 +27,9 @@ impl Draft {
     }
 
     /// The record after all its sets.
-    pub fn last(&self) -> u64 { after_all(self.image, self.sets.iter().map(|set| &set[..])) }
+    pub fn last(&self) -> u64 {
+        after_all(self.image, self.sets.iter().map(|set| &set[..]))
+    }
 }
 
 /// The record after some sets, each instruction that is one succeeding.
@@ -36,8 +38,12 @@ pub fn after_all<'a>(image: u64, sets: impl Iterator<Item = &'a [u8]>) -> u64 {
     instructions.fold(image, |record, one| one.next(record))
 }
 
-fn at_street(record: u64) -> bool { record >> 53 & 3 == 0 }
-fn car_on_lift(record: u64) -> u8 { (record >> 52 & 1) as u8 }
+fn at_street(record: u64) -> bool {
+    record >> 53 & 3 == 0
+}
+fn car_on_lift(record: u64) -> u8 {
+    (record >> 52 & 1) as u8
+}
 
 /// How many sets: mostly few, now and then as many as there may be.
 fn some_sets(numbers: &mut Numbers) -> usize {
@@ -63,7 +69,9 @@ pub fn good_plan(numbers: &mut Numbers, image: u64, sets: usize, wanted: Option<
         let mut set = if last && up.asked(record).is_ok() { UP.to_vec() } else { Vec::new() };
         let taken = if set.is_empty() { Parts::NONE } else { up.area() };
         set.extend(allowed_set(numbers, record, taken, wanted - set.len() / 5));
-        if set.is_empty() { break; }
+        if set.is_empty() {
+            break;
+        }
         record = after_all(record, [&set[..]].into_iter());
         draft.sets.push(set);
     }
@@ -84,11 +92,15 @@ pub fn next_image(numbers: &mut Numbers, record: u64) -> u64 {
 }
 
 /// A place among so many.
-fn any_of(numbers: &mut Numbers, size: usize) -> usize { numbers.below(size.max(1) as u64) as usize }
+fn any_of(numbers: &mut Numbers, size: usize) -> usize {
+    numbers.below(size.max(1) as u64) as usize
+}
 
 /// One of its sets, put to what is changed there; a plan without sets gets one.
 fn in_a_set(numbers: &mut Numbers, draft: &mut Draft, change: impl FnOnce(&mut Numbers, u64, &mut Vec<u8>)) {
-    if draft.sets.is_empty() { draft.sets.push(Vec::new()); }
+    if draft.sets.is_empty() {
+        draft.sets.push(Vec::new());
+    }
     let at = any_of(numbers, draft.sets.len());
     let record = after_all(draft.image, draft.sets[..at].iter().map(|set| &set[..]));
     change(numbers, record, &mut draft.sets[at]);
@@ -101,24 +113,35 @@ pub fn spoil(numbers: &mut Numbers, draft: &mut Draft) {
         0..=5 => in_a_set(numbers, draft, |numbers, record, set| {
             let Some(five) = refused_five(numbers, record) else { return };
             let at = 5 * any_of(numbers, set.len() / 5 + 1);
-            if set.len() == 5 * LARGEST_SET || numbers.one_in(2) { set.clear(); }
+            if set.len() == 5 * LARGEST_SET || numbers.one_in(2) {
+                set.clear();
+            }
             let at = at.min(set.len());
             set.splice(at..at, five);
         }),
         // a byte of one, or one put in the place of another
         6 | 7 => in_a_set(numbers, draft, |numbers, _, set| {
-            if !set.is_empty() { let at = any_of(numbers, set.len()); set[at] = numbers.byte(); }
+            if !set.is_empty() {
+                let at = any_of(numbers, set.len());
+                set[at] = numbers.byte();
+            }
         }),
         8 => in_a_set(numbers, draft, |numbers, _, set| {
             let (five, at) = (any_five(numbers), 5 * any_of(numbers, set.len() / 5));
             set.splice(at..(at + 5).min(set.len()), five);
         }),
         // one twice
-        9 | 10 => in_a_set(numbers, draft, |_, _, set| { if let Some(&five) = set.first_chunk::<5>() { set.extend(five); } }),
+        9 | 10 => in_a_set(numbers, draft, |_, _, set| {
+            if let Some(&five) = set.first_chunk::<5>() {
+                set.extend(five);
+            }
+        }),
         // the lift, which a driver may be in
         11 => in_a_set(numbers, draft, |numbers, _, set| set.extend([4, numbers.below(3) as u8, 0, 0, 0])),
         // one that is left out, so that what follows may not be allowed
-        12 => in_a_set(numbers, draft, |_, _, set| { set.truncate(set.len().saturating_sub(5)); }),
+        12 => in_a_set(numbers, draft, |_, _, set| {
+            set.truncate(set.len().saturating_sub(5));
+        }),
         // none, or more than eight
         13 => in_a_set(numbers, draft, |_, _, set| set.clear()),
         14 => in_a_set(numbers, draft, |numbers, _, set| {
@@ -143,9 +166,18 @@ pub fn spoil(numbers: &mut Numbers, draft: &mut Draft) {
 pub fn damage(numbers: &mut Numbers, bytes: &mut Vec<u8>) {
     match numbers.below(6) {
         0 => bytes.truncate(any_of(numbers, bytes.len())),
-        1 => { let cut = any_of(numbers, 7); bytes.truncate(bytes.len().saturating_sub(cut)); }
-        2 => { let more = 1 + any_of(numbers, 6); bytes.extend(any_bytes(numbers, more)); }
-        3 => { let at = any_of(numbers, bytes.len()); bytes[at] = numbers.byte(); }
+        1 => {
+            let cut = any_of(numbers, 7);
+            bytes.truncate(bytes.len().saturating_sub(cut));
+        }
+        2 => {
+            let more = 1 + any_of(numbers, 6);
+            bytes.extend(any_bytes(numbers, more));
+        }
+        3 => {
+            let at = any_of(numbers, bytes.len());
+            bytes[at] = numbers.byte();
+        }
         4 => bytes[17] = bytes[17].wrapping_add(1 + 254 * numbers.below(2) as u8),
         _ => bytes[16] = numbers.byte(),
     }
@@ -159,9 +191,13 @@ pub fn any_plan(numbers: &mut Numbers, record: u64) -> (Vec<u8>, u64) {
     let mut draft = good_plan(numbers, image, sets, eight);
     let last = draft.last();
     if !numbers.one_in(4) {
-        for _ in 0..1 + numbers.below(2) { spoil(numbers, &mut draft); }
+        for _ in 0..1 + numbers.below(2) {
+            spoil(numbers, &mut draft);
+        }
     }
     let mut bytes = draft.bytes();
-    if numbers.one_in(6) { damage(numbers, &mut bytes); }
+    if numbers.one_in(6) {
+        damage(numbers, &mut bytes);
+    }
     (bytes, last)
 }

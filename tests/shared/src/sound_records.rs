@@ -1,10 +1,11 @@
 //! What long runs go through: every instruction, and sound records, each as likely as another.
-use reference::{sound, Instruction};
 use crate::traffic::Numbers;
+use reference::{sound, Instruction};
 
 /// The five bytes of each of the 272 well-formed instructions.
 pub fn every_five() -> Vec<[u8; 5]> {
-    let bytes = (1..=5u8).flat_map(|op| (0..4u8).flat_map(move |a| (0..32u8).flat_map(move |b| (0..4u8).map(move |cd| [op, a, b, cd >> 1, cd & 1]))));
+    let bytes = (1..=5u8)
+        .flat_map(|op| (0..4u8).flat_map(move |a| (0..32u8).flat_map(move |b| (0..4u8).map(move |cd| [op, a, b, cd >> 1, cd & 1]))));
     let fives: Vec<[u8; 5]> = bytes.filter(|&five| Instruction::read(five).is_some()).collect();
     assert_eq!(fives.len(), 272);
     fives
@@ -27,7 +28,9 @@ impl SoundRecords {
         loop {
             let pick = |numbers: &mut Numbers, from: &[u64]| from[numbers.below(from.len() as u64) as usize];
             let record = pick(numbers, &self.rows) | numbers.below(1 << 20) << 20 | pick(numbers, &self.uppers);
-            if sound(record) { return record; }
+            if sound(record) {
+                return record;
+            }
         }
     }
 }

@@ -1,6 +1,8 @@
 //! Instructions in words, as the page of plans has them, and lists of numbers.
 
-fn name(names: &[&'static str], at: u8) -> &'static str { names[usize::from(at)] }
+fn name(names: &[&'static str], at: u8) -> &'static str {
+    names[usize::from(at)]
+}
 
 /// The names whose bits a mask has.
 fn named(names: &[&str], mask: u8) -> String {

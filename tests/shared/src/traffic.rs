@@ -2,8 +2,7 @@
 //! What is plausible next is judged by the reference station, which takes each message as it is made.
 
 use reference::{
-    cars, drive_under_way, Instruction, Parts, Station, BEGIN_IN, BEGIN_OUT, DONE, END_DONE, END_NOT_DONE, FAILED, REASONS, START,
-    STUCK,
+    cars, drive_under_way, Instruction, Parts, Station, BEGIN_IN, BEGIN_OUT, DONE, END_DONE, END_NOT_DONE, FAILED, REASONS, START, STUCK,
 };
 use std::collections::BTreeSet;
 
@@ -23,15 +22,23 @@ impl Numbers {
         z ^ (z >> 31)
     }
 
-    pub fn below(&mut self, n: u64) -> u64 { self.next() % n }
+    pub fn below(&mut self, n: u64) -> u64 {
+        self.next() % n
+    }
 
-    pub fn one_in(&mut self, n: u64) -> bool { self.below(n) == 0 }
+    pub fn one_in(&mut self, n: u64) -> bool {
+        self.below(n) == 0
+    }
 
-    pub fn byte(&mut self) -> u8 { self.next() as u8 }
+    pub fn byte(&mut self) -> u8 {
+        self.next() as u8
+    }
 }
 
 /// Bytes that stand for room: any at all.
-pub fn any_bytes(numbers: &mut Numbers, size: usize) -> Vec<u8> { (0..size).map(|_| numbers.byte()).collect() }
+pub fn any_bytes(numbers: &mut Numbers, size: usize) -> Vec<u8> {
+    (0..size).map(|_| numbers.byte()).collect()
+}
 
 /// Five bytes of a well-formed instruction: of eight, three move belts, two shuttles, and one each tilts, moves the lift or turns it;
 /// of those that move belts, half are in row 1.
@@ -61,7 +68,9 @@ pub fn any_five(numbers: &mut Numbers) -> [u8; 5] {
 /// Whether each opcode was refused for all of its reasons, and no other; if not, says what is amiss.
 pub fn every_reason(who: &str, came: &BTreeSet<(u8, u8)>) -> bool {
     let amiss: Vec<_> = came.symmetric_difference(&REASONS.into()).copied().collect();
-    if !amiss.is_empty() { eprintln!("{who}: pairs of opcode and number that never came, or can't come: {amiss:?}"); }
+    if !amiss.is_empty() {
+        eprintln!("{who}: pairs of opcode and number that never came, or can't come: {amiss:?}");
+    }
     amiss.is_empty()
 }
 
@@ -78,7 +87,9 @@ pub fn allowed_set(numbers: &mut Numbers, record: u64, mut taken: Parts, wanted:
     let mut bytes = Vec::new();
     let lift_too = !drive_under_way(record) || numbers.one_in(4);
     for _ in 0..40 * wanted {
-        if bytes.len() == 5 * wanted { break; }
+        if bytes.len() == 5 * wanted {
+            break;
+        }
         let five = good_five(numbers);
         let instruction = Instruction::read(five).expect("good_five is well formed");
         let area = instruction.area();
@@ -102,7 +113,9 @@ pub fn request(bytes: &[u8]) -> Vec<u8> {
     message(1, &body)
 }
 
-pub fn image(record: u64, apart: u64) -> Vec<u8> { message(4, &[record.to_le_bytes(), apart.to_le_bytes()].concat()) }
+pub fn image(record: u64, apart: u64) -> Vec<u8> {
+    message(4, &[record.to_le_bytes(), apart.to_le_bytes()].concat())
+}
 
 pub fn result(issue: u16, number: u8, outcome: u8) -> Vec<u8> {
     let [low, high] = issue.to_le_bytes();
@@ -122,10 +135,17 @@ fn request_among(numbers: &mut Numbers, record: u64, fives: &[[u8; 5]], taken: P
 
 /// A shuttle move that carries a car to row 1 or from it, or a tilt there, that is allowed and doesn't touch what is taken; found in some tries.
 fn beside_the_lift(numbers: &mut Numbers, record: u64, taken: Parts) -> Option<[u8; 5]> {
-    let found = |five: &[u8; 5]| Instruction::read(*five).is_some_and(|one| {
-        let there = match five[0] { 2 => one.next(record) ^ record, 3 => one.area().number(), _ => 0 } & ROW_1 != 0;
-        there && one.allowed(record) && !taken.meet(&one.area())
-    });
+    let found = |five: &[u8; 5]| {
+        Instruction::read(*five).is_some_and(|one| {
+            let there = match five[0] {
+                2 => one.next(record) ^ record,
+                3 => one.area().number(),
+                _ => 0,
+            } & ROW_1
+                != 0;
+            there && one.allowed(record) && !taken.meet(&one.area())
+        })
+    };
     (0..100).map(|_| good_five(numbers)).find(found)
 }
 
@@ -136,7 +156,9 @@ pub fn refused_request(numbers: &mut Numbers, record: u64, wanted: usize) -> Opt
 }
 
 /// Whether a car stands on the lift in the basement, whole or half.
-fn on_the_lift(record: u64) -> bool { record >> 53 & 3 == 2 && record >> 11 & 3 != 0 }
+fn on_the_lift(record: u64) -> bool {
+    record >> 53 & 3 == 2 && record >> 11 & 3 != 0
+}
 
 /// A request: mostly one that is allowed, of one to three instructions, now and then of up to eight. Of what is set apart it mostly touches
 /// nothing. Where a car stands on the lift in the basement, whole or half, the lift is often to go up, beside others.
@@ -144,7 +166,9 @@ fn some_request(numbers: &mut Numbers, station: &Station) -> Vec<u8> {
     let (record, apart) = (station.record, if numbers.one_in(8) { Parts::NONE } else { station.apart.unwrap_or(Parts::NONE) });
     let wanted = if numbers.one_in(12) { 8 } else { 1 + numbers.below(3) as usize };
     let refused = if numbers.one_in(24) { refused_request(numbers, record, wanted) } else { None };
-    if let Some(request) = refused { return request; }
+    if let Some(request) = refused {
+        return request;
+    }
     if on_the_lift(record) && numbers.one_in(2) {
         let mut fives = vec![[4, numbers.below(2) as u8, 0, 0, 0]];
         fives.extend(beside_the_lift(numbers, record, apart));
@@ -153,7 +177,9 @@ fn some_request(numbers: &mut Numbers, station: &Station) -> Vec<u8> {
     let mut bytes = allowed_set(numbers, record, apart, wanted);
     if numbers.one_in(8) {
         for _ in 0..=numbers.below(2) {
-            if bytes.len() < 40 { bytes.extend_from_slice(&any_five(numbers)); }
+            if bytes.len() < 40 {
+                bytes.extend_from_slice(&any_five(numbers));
+            }
         }
     }
     request(&bytes)
@@ -172,7 +198,9 @@ pub fn some_issue(numbers: &mut Numbers, station: &Station) -> u16 {
 }
 
 /// Whether the motors are in a bad time: so many sets with jams follow so many without.
-fn jams(station: &Station) -> bool { station.next_issue >> 6 & 1 == 1 }
+fn jams(station: &Station) -> bool {
+    station.next_issue >> 6 & 1 == 1
+}
 
 /// How an instruction ended: mostly it is done; in a bad time one of five is stuck.
 fn some_ending(numbers: &mut Numbers, station: &Station) -> u8 {
@@ -232,7 +260,11 @@ pub fn crowded_record(numbers: &mut Numbers) -> u64 {
 /// with few; or any number.
 pub fn near_record(numbers: &mut Numbers, record: u64) -> u64 {
     match numbers.below(8) {
-        0 => match numbers.below(5) { 0 | 1 => crowded_record(numbers), 2 | 3 => record & !OTHER_ROWS, _ => numbers.next() },
+        0 => match numbers.below(5) {
+            0 | 1 => crowded_record(numbers),
+            2 | 3 => record & !OTHER_ROWS,
+            _ => numbers.next(),
+        },
         1 => record,
         2 => record ^ 3 << numbers.below(19),
         3 => record ^ 1 << (20 + numbers.below(20)),
@@ -265,9 +297,19 @@ pub fn framed_message(numbers: &mut Numbers, station: &Station) -> Vec<u8> {
         18 => some_request(numbers, station),
         19 => some_result(numbers, station),
         20..=26 => some_event(numbers, station.record),
-        27 => { let (record, apart) = near_image(numbers, station); image(record, apart) }
-        28 => { let bytes: Vec<u8> = (0..numbers.below(9)).flat_map(|_| any_five(numbers)).collect(); request(&bytes) }
-        29 => { let size = numbers.below(42) as usize; let body: Vec<u8> = (0..size).map(|_| numbers.byte()).collect(); message(numbers.below(7) as u8, &body) }
+        27 => {
+            let (record, apart) = near_image(numbers, station);
+            image(record, apart)
+        }
+        28 => {
+            let bytes: Vec<u8> = (0..numbers.below(9)).flat_map(|_| any_five(numbers)).collect();
+            request(&bytes)
+        }
+        29 => {
+            let size = numbers.below(42) as usize;
+            let body: Vec<u8> = (0..size).map(|_| numbers.byte()).collect();
+            message(numbers.below(7) as u8, &body)
+        }
         _ => message(5, &[]),
     };
     // damage inside the frame: a byte of the kind or the body
@@ -282,8 +324,12 @@ pub fn framed_message(numbers: &mut Numbers, station: &Station) -> Vec<u8> {
 pub fn any_message(numbers: &mut Numbers, station: &Station) -> Vec<u8> {
     let refused = if numbers.one_in(6) { refused_request(numbers, station.record, 2) } else { None };
     let mut message = refused.unwrap_or_else(|| framed_message(numbers, station));
-    if numbers.one_in(10) { message[0] = numbers.byte(); }
-    if numbers.one_in(10) { message.truncate(numbers.below(message.len() as u64 + 1) as usize); }
+    if numbers.one_in(10) {
+        message[0] = numbers.byte();
+    }
+    if numbers.one_in(10) {
+        message.truncate(numbers.below(message.len() as u64 + 1) as usize);
+    }
     let more = numbers.below(3) as usize;
     message.extend(any_bytes(numbers, more));
     message
@@ -299,7 +345,9 @@ pub fn damaged_station(numbers: &mut Numbers, station: &Station) -> Station {
             other.count = 1 + numbers.below(8) as u8;
             let waits = numbers.below(other.count.into());
             other.answered = if numbers.one_in(2) { 0 } else { numbers.byte() & 0xFF >> (8 - other.count) & !(1 << waits) };
-            if numbers.one_in(2) { other.record &= !(3 << 55); }
+            if numbers.one_in(2) {
+                other.record &= !(3 << 55);
+            }
             other.set = [0; 40];
             for at in 0..usize::from(other.count) {
                 other.set[5 * at..5 * at + 5].copy_from_slice(&good_five(numbers));
@@ -309,7 +357,13 @@ pub fn damaged_station(numbers: &mut Numbers, station: &Station) -> Station {
         3 => other.answered = numbers.byte(),
         4 => other.set[numbers.below(40) as usize] = numbers.byte(),
         // any parts are fit, and no bit above them is
-        6 => other.apart = Parts::shown_by(match numbers.below(4) { 0 => 1 << 52, 1 => 1 << numbers.below(64), _ => numbers.next() >> (11 + numbers.below(50)) }),
+        6 => {
+            other.apart = Parts::shown_by(match numbers.below(4) {
+                0 => 1 << 52,
+                1 => 1 << numbers.below(64),
+                _ => numbers.next() >> (11 + numbers.below(50)),
+            })
+        }
         // any next issue is fit; every other time one round the end
         5 => other.next_issue = (if numbers.one_in(2) { numbers.next() } else { 65535 + numbers.below(3) }) as u16,
         _ => other = Station { record: crowded_record(numbers), next_issue: station.next_issue, ..Station::start() },
@@ -343,7 +397,10 @@ pub fn damaged_input(seed: u64, messages: usize) -> Vec<u8> {
     let mut bytes = input(numbers.next(), messages);
     match numbers.below(4) {
         0 => bytes.truncate(numbers.below(bytes.len() as u64 + 1) as usize),
-        1 if !bytes.is_empty() => { let at = numbers.below(bytes.len() as u64) as usize; bytes[at] = numbers.byte(); }
+        1 if !bytes.is_empty() => {
+            let at = numbers.below(bytes.len() as u64) as usize;
+            bytes[at] = numbers.byte();
+        }
         2 => bytes.extend((0..numbers.below(50)).map(|_| numbers.byte())),
         _ => {}
     }

@@ -1,8 +1,8 @@
 //! Commands for the program that makes calls as it is told to (entries.c): each in bytes, with what the call must return and leave; and
 //! the run of them, in which each answer is held against that.
 
-use reference::command::Command;
 use crate::traffic::{any_bytes, Numbers};
+use reference::command::Command;
 use std::io::{BufReader, Read, Write};
 use std::process::{exit, Stdio};
 

@@ -18,7 +18,9 @@ struct Lines<R> {
 impl<R: BufRead> Lines<R> {
     fn next(&mut self) -> Result<Option<Vec<u8>>, Wrong> {
         let mut line = Vec::new();
-        if self.input.read_until(b'\n', &mut line).map_err(|why| failed("input", why))? == 0 { return Ok(None); }
+        if self.input.read_until(b'\n', &mut line).map_err(|why| failed("input", why))? == 0 {
+            return Ok(None);
+        }
         self.number += 1;
         Ok(Some(line))
     }
@@ -49,12 +51,18 @@ fn bad(line: usize, found: Option<&[u8]>) -> Wrong {
 }
 
 /// Whether a line is an image, and no drawing's.
-fn begins_image(line: &[u8]) -> bool { line.first().is_some_and(|first| first.is_ascii_hexdigit() || first.is_ascii_whitespace()) }
+fn begins_image(line: &[u8]) -> bool {
+    line.first().is_some_and(|first| first.is_ascii_hexdigit() || first.is_ascii_whitespace())
+}
 
 fn image_in(line: &[u8]) -> Result<Record, Wrong> {
     let digits: String = String::from_utf8_lossy(line).split_whitespace().collect();
     let record = words::record_in(&digits).map(Record::from_bytes).ok_or_else(|| bad(0, Some(line)))?;
-    if record.is_sound() { Ok(record) } else { Err(UNSOUND.to_string()) }
+    if record.is_sound() {
+        Ok(record)
+    } else {
+        Err(UNSOUND.to_string())
+    }
 }
 
 /// The record that a text draws, whatever its bytes are.
@@ -69,7 +77,9 @@ fn floor<R: BufRead>(lines: &mut Lines<R>) -> Result<Result<Record, (usize, Wron
     let mut text = Vec::new();
     loop {
         let Some(line) = lines.next()? else { return Ok(Err((lines.number + 1, bad(lines.number, None)))) };
-        if text.is_empty() && begins_image(&line) { return Ok(image_in(&line).map_err(|why| (1, why))); }
+        if text.is_empty() && begins_image(&line) {
+            return Ok(image_in(&line).map_err(|why| (1, why)));
+        }
         text.extend(&line);
         let why = match read(&text) {
             Ok(record) => return Ok(Ok(record)),
@@ -92,14 +102,18 @@ fn show_floor(out: &mut impl Write, record: Record) -> io::Result<()> {
     let cars: Vec<String> = record.places().expect("a sound record").into_iter().map(place).collect();
     let bytes = record.bytes().map(|byte| format!("{byte:02X}")).join(" ");
     write!(out, "{record}image {bytes}\ncars {}", cars.len())?;
-    if !cars.is_empty() { write!(out, ": {}", cars.join(", "))?; }
+    if !cars.is_empty() {
+        write!(out, ": {}", cars.join(", "))?;
+    }
     writeln!(out)
 }
 
 /// An instruction on a floor: its conditions, the verdict, and the floor after it, which is given; where it is refused, the same floor.
 fn explain(out: &mut impl Write, record: Record, instruction: Instruction) -> io::Result<Record> {
     writeln!(out, "\n{instruction}")?;
-    for line in explained(record, instruction).iter().flat_map(|condition| &condition.lines) { writeln!(out, "  {line}")?; }
+    for line in explained(record, instruction).iter().flat_map(|condition| &condition.lines) {
+        writeln!(out, "  {line}")?;
+    }
     match next(record, instruction) {
         Ok(next) => {
             writeln!(out, "verdict 0: {}\n", verdict(Number::Taken))?;
@@ -124,7 +138,9 @@ fn next(record: Record, instruction: Instruction) -> Result<Record, Refusal> {
 fn instruction_in(line: &[u8]) -> Result<Option<Instruction>, Wrong> {
     let line = String::from_utf8_lossy(line);
     let said = line.split('#').next().unwrap_or_default();
-    if said.trim().is_empty() { return Ok(None); }
+    if said.trim().is_empty() {
+        return Ok(None);
+    }
     said.parse().map(Some).map_err(|why: station::NoInstruction| why.to_string())
 }
 
@@ -158,7 +174,9 @@ fn session(input: impl BufRead, out: &mut impl Write) -> Result<bool, Wrong> {
 
 fn main() -> ExitCode {
     let words: Vec<_> = std::env::args_os().skip(1).collect();
-    if words.len() == 1 && words[0] == "--version" { return told_version("panel"); }
+    if words.len() == 1 && words[0] == "--version" {
+        return told_version("panel");
+    }
     if !words.is_empty() {
         eprintln!("panel: usage: panel < FLOOR-AND-INSTRUCTIONS");
         return ExitCode::from(2);

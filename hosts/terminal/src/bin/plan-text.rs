@@ -11,7 +11,9 @@ const START: [u8; 8] = [0, 0, 0, 0, 0, 0x1B, 0x09, 0];
 
 /// The starting record: `start`, or its eight bytes, the lowest first.
 fn image(words: &mut Words) -> Result<[u8; 8], Wrong> {
-    if words.among(&["start"]).is_some() { return Ok(START); }
+    if words.among(&["start"]).is_some() {
+        return Ok(START);
+    }
     let digits = words.rest();
     record_in(&digits).ok_or_else(|| format!("expected `start` or 16 digits in hexadecimal, found `{digits}`"))
 }
@@ -47,14 +49,20 @@ impl Plan {
             self.wish = Some(wish(words)?);
         } else {
             let five = instruction(words)?;
-            if !self.open { self.sets.push(Vec::new()); }
+            if !self.open {
+                self.sets.push(Vec::new());
+            }
             self.open = true;
             let sets = self.sets.len();
             let set = self.sets.last_mut().expect("it was put there");
             set.push(five);
             // the bytes that count them go no further; of the two the judge tells what is too many
-            if sets == 256 && set.len() == 1 { return Err("a plan's bytes can count 255 sets".to_string()); }
-            if set.len() == 256 { return Err("a set's bytes can count 255 instructions".to_string()); }
+            if sets == 256 && set.len() == 1 {
+                return Err("a plan's bytes can count 255 sets".to_string());
+            }
+            if set.len() == 256 {
+                return Err("a set's bytes can count 255 instructions".to_string());
+            }
         }
         words.end()
     }
@@ -82,9 +90,15 @@ fn bytes_of(text: &str) -> Result<Vec<u8>, Vec<(usize, Wrong)>> {
         }
     }
     for (name, missing) in [("image", plan.image.is_none()), ("wish", plan.wish.is_none())] {
-        if missing { wrong.push((text.lines().count() + 1, format!("the text ends before its `{name}`"))); }
+        if missing {
+            wrong.push((text.lines().count() + 1, format!("the text ends before its `{name}`")));
+        }
     }
-    if wrong.is_empty() { Ok(plan.bytes()) } else { Err(wrong) }
+    if wrong.is_empty() {
+        Ok(plan.bytes())
+    } else {
+        Err(wrong)
+    }
 }
 
 fn main() -> ExitCode {
@@ -92,7 +106,9 @@ fn main() -> ExitCode {
     let done = io::stdin().read_to_end(&mut text).and_then(|_| match bytes_of(&String::from_utf8_lossy(&text)) {
         Ok(bytes) => io::stdout().write_all(&bytes).map(|()| true),
         Err(wrong) => {
-            for (line, why) in wrong { eprintln!("plan-text: line {line}: {why}"); }
+            for (line, why) in wrong {
+                eprintln!("plan-text: line {line}: {why}");
+            }
             Ok(false)
         }
     });

@@ -1,10 +1,10 @@
 //! Cards that a log gives: where the explainer shows each beside a reference desk. Cars whose card the log does not give have numbers here
 //! that no log has, and must not be shown.
 
-use reference::desk::{layout, Desk};
 use super::shown::paragraphs;
-use reference::{bit, cars, read_call, Call, BEGIN_IN, DRIVE_IN};
 use super::text;
+use reference::desk::{layout, Desk};
+use reference::{bit, cars, read_call, Call, BEGIN_IN, DRIVE_IN};
 use shared::traffic::{framed_message, Numbers};
 
 /// Numbers from here on are of cars whose card is not known.
@@ -18,7 +18,9 @@ fn some_card(numbers: &mut Numbers, desk: &Desk, taken: &[u32]) -> u32 {
             2..=5 => 1 + numbers.below(999) as u32,
             _ => 1 + numbers.below((UNKNOWN - 1).into()) as u32,
         };
-        if !desk.knows(card) && !taken.contains(&card) { return card; }
+        if !desk.knows(card) && !taken.contains(&card) {
+            return card;
+        }
     }
 }
 
@@ -64,10 +66,14 @@ fn line(numbers: &mut Numbers, desk: &mut Desk) -> String {
     match read_call(&message) {
         Ok((Call::Event(BEGIN_IN), _)) => {
             let card = some_card(numbers, desk, &[]);
-            if card < UNKNOWN { lines += &format!("card {card}\n"); }
+            if card < UNKNOWN {
+                lines += &format!("card {card}\n");
+            }
             desk.event(BEGIN_IN, card);
         }
-        Ok((Call::Event(way), _)) => { desk.event(way, 0); }
+        Ok((Call::Event(way), _)) => {
+            desk.event(way, 0);
+        }
         Ok((Call::Image { image, apart }, _)) => {
             let listed = cars(image).is_some() && !numbers.one_in(4);
             let count = if cars(image).is_some() { layout(image).len() + usize::from(bit(image, DRIVE_IN)) } else { 0 };
@@ -77,11 +83,17 @@ fn line(numbers: &mut Numbers, desk: &mut Desk) -> String {
                 cards.push(if listed { card } else { UNKNOWN + at as u32 });
             }
             let word = |card: &u32| if *card < UNKNOWN { format!(" {card}") } else { " -".to_string() };
-            if listed { lines += &format!("cards{}\n", cards.iter().map(word).collect::<String>()); }
+            if listed {
+                lines += &format!("cards{}\n", cards.iter().map(word).collect::<String>());
+            }
             desk.image(image, apart, count as u8, &cards);
         }
-        Ok((Call::Request { count, bytes }, _)) => { desk.request(count, bytes); }
-        Ok((Call::Result { issue, number, outcome }, _)) => { desk.result(issue, number, outcome); }
+        Ok((Call::Request { count, bytes }, _)) => {
+            desk.request(count, bytes);
+        }
+        Ok((Call::Result { issue, number, outcome }, _)) => {
+            desk.result(issue, number, outcome);
+        }
         Ok((Call::Ask, _)) | Err(_) => {}
     }
     lines + &format!("> {}\n", message.iter().map(|byte| format!("{byte:02X}")).collect::<String>())

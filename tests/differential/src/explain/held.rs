@@ -1,10 +1,10 @@
 //! The explainer's text held against the reference: answers, reasons, and the floors after what was taken.
 
-use reference::drawing::drawn;
 use super::shown::{floor, paragraphs, parts_in, Floor, Told};
+use super::text;
+use reference::drawing::drawn;
 use reference::{cars, drive_under_way, read_call, sound, Call, Instruction, Parts, Station};
 use shared::sound_records::SoundRecords;
-use super::text;
 use shared::texts::words;
 use shared::traffic::Numbers;
 use std::collections::BTreeSet;
@@ -18,10 +18,14 @@ pub struct Beside {
 }
 
 /// Words that mean the same read the same.
-pub fn plain(words: &str) -> String { words.replace(',', "").replace(" row ", " rows ") }
+pub fn plain(words: &str) -> String {
+    words.replace(',', "").replace(" row ", " rows ")
+}
 
 /// Both slots of a shuttle as one, as the view marks them.
-fn slots_as_one(apart: u64) -> u64 { (apart | (apart >> 6 & 0x3F << 40)) & 0x3F_FFFF_FFFF_FFFF & !(0x3F << 46) & !(1 << 52) }
+fn slots_as_one(apart: u64) -> u64 {
+    (apart | (apart >> 6 & 0x3F << 40)) & 0x3F_FFFF_FFFF_FFFF & !(0x3F << 46) & !(1 << 52)
+}
 
 /// A floor that is shown is that of a record and what is set apart; gives the lines behind it.
 fn view<'a>(shown: &'a Floor, record: u64, apart: u64, place: &str) -> &'a [String] {
@@ -57,10 +61,14 @@ pub fn views(explain: &str, count: usize) {
 }
 
 impl Beside {
-    pub fn new() -> Self { Beside { station: Station::start(), endings: [None; 8], came: BTreeSet::new(), floors: 0 } }
+    pub fn new() -> Self {
+        Beside { station: Station::start(), endings: [None; 8], came: BTreeSet::new(), floors: 0 }
+    }
 
     fn set_lines(&self) -> Vec<String> {
-        if self.station.count == 0 { return vec!["no set is outstanding".to_string()]; }
+        if self.station.count == 0 {
+            return vec!["no set is outstanding".to_string()];
+        }
         let issue = self.station.present_issue();
         let one = |(five, at): (&[u8], usize)| {
             let state = self.endings[at].map_or("waits for its result", |ending| ["failed", "done", "stuck"][usize::from(ending)]);
@@ -83,10 +91,13 @@ impl Beside {
         let told = |prefix: &str| lines.iter().filter_map(|line| line.trim().strip_prefix(prefix)).map(str::to_string).collect::<Vec<_>>();
         match number {
             8 => {
-                let both: Vec<(String, u64)> = told("it overlaps ").iter().map(|line| {
-                    let (which, parts) = line.split_once(": both have ").expect("what both have");
-                    (which.split(':').next().unwrap_or_default().to_string(), parts_in(parts))
-                }).collect();
+                let both: Vec<(String, u64)> = told("it overlaps ")
+                    .iter()
+                    .map(|line| {
+                        let (which, parts) = line.split_once(": both have ").expect("what both have");
+                        (which.split(':').next().unwrap_or_default().to_string(), parts_in(parts))
+                    })
+                    .collect();
                 let shared = |(five, earlier): (&[u8; 5], usize)| (earlier.to_string(), area(five) & area(&fives[at]));
                 let expected: Vec<_> = fives[..at].iter().zip(0..).map(shared).filter(|(_, shared)| *shared != 0).collect();
                 assert_eq!(both, expected);
@@ -105,10 +116,13 @@ impl Beside {
             20..=28 => {
                 let conditions = read(&fives[at]).map_or(Vec::new(), |one| one.conditions(self.station.record));
                 let expected: Vec<u8> = conditions.iter().filter(|one| !one.holds).map(|one| one.number).collect();
-                let shown: Vec<u8> = lines.iter().filter_map(|line| {
-                    let (number, rest) = line.trim().split_once(' ')?;
-                    rest.starts_with("no  ").then(|| number.parse().ok())?
-                }).collect();
+                let shown: Vec<u8> = lines
+                    .iter()
+                    .filter_map(|line| {
+                        let (number, rest) = line.trim().split_once(' ')?;
+                        rest.starts_with("no  ").then(|| number.parse().ok())?
+                    })
+                    .collect();
                 assert_eq!((shown.first(), &shown), (Some(&number), &expected), "{lines:?}");
                 assert!(lines.iter().any(|line| line.ends_with(", at fault")), "{lines:?}");
             }
@@ -123,7 +137,9 @@ impl Beside {
             let lines: Vec<String> = lines.iter().map(|line| plain(line.strip_prefix("  ").unwrap_or(line))).collect();
             assert!(lines.windows(set.len()).any(|window| window == set), "{lines:?} has {set:?}");
         };
-        if matches!(number, 6 | 11 | 12 | 13 | 29 | 30) { outstanding(); }
+        if matches!(number, 6 | 11 | 12 | 13 | 29 | 30) {
+            outstanding();
+        }
         match *call {
             Call::Request { bytes, .. } => {
                 let fives: Vec<[u8; 5]> = bytes.chunks(5).map(|five| *five.first_chunk().expect("five")).collect();
@@ -165,7 +181,9 @@ impl Beside {
             Call::Result { number, outcome, .. } => self.endings[usize::from(number)] = Some(outcome),
             _ => {}
         }
-        if let Some(shown) = floor(&told.lines, "the floor:") { return self.floor(&shown, &place); }
+        if let Some(shown) = floor(&told.lines, "the floor:") {
+            return self.floor(&shown, &place);
+        }
         let same = (self.station.record, self.station.apart) == (before.record, before.apart);
         assert!(same && (matches!(call, Call::Image { .. } | Call::Ask) || told.lines.len() > 2), "{place}: no floor");
     }

@@ -2,13 +2,15 @@
 //! out, recordings of answers, and each wrong line and wrong word told.
 
 use super::shown::{paragraphs, Told};
-use shared::page::blocks;
-use reference::{read_call, serve, Call};
 use super::text;
+use reference::{read_call, serve, Call};
+use shared::page::blocks;
 use shared::traffic::input;
 use std::process::{Command, Stdio};
 
-fn hexadecimal(bytes: &[u8]) -> String { bytes.iter().map(|byte| format!("{byte:02X}")).collect::<Vec<_>>().join(" ") }
+fn hexadecimal(bytes: &[u8]) -> String {
+    bytes.iter().map(|byte| format!("{byte:02X}")).collect::<Vec<_>>().join(" ")
+}
 
 /// The messages of an input, each whole.
 fn messages(bytes: &[u8]) -> Vec<&[u8]> {
@@ -30,7 +32,9 @@ fn replies(told: &[Told]) -> Vec<u8> {
     told.iter().filter(|told| told.sent).flat_map(|told| told.reply.clone().unwrap_or_default()).collect()
 }
 
-fn has(told: &Told, words: &str) -> bool { told.lines.iter().any(|line| line.trim().starts_with(words)) }
+fn has(told: &Told, words: &str) -> bool {
+    told.lines.iter().any(|line| line.trim().starts_with(words))
+}
 
 /// Texts that mean the same messages: all in one stream as `od` writes them, one a line, several a line, with blanks, marks and comments.
 fn same_texts(sent: &[&[u8]]) -> Vec<String> {
@@ -158,10 +162,14 @@ fn wrong_texts() -> Vec<(String, &'static str)> {
         (text(&["card 17", "card 18", &format!("> {BEGIN}")]), "line 1: expected a begin in behind it"),
         (text(&["cards 17", &format!("> {BEGIN}")]), "line 1: expected an image behind it"),
         (text(&["card 17"]), "line 1: expected a begin in behind it"),
-        (text(&["cards 17 18", "> 12 00 04 00 00 00 00 01 00 1B 09 00 00 00 00 00 00 00 00 00"]),
-            "line 1: expected 1 cards, as many as the image has cars, found 2 (a desk would tell 39)"),
-        (text(&["cards 17", "> 12 00 04 00 00 00 00 01 00 1B 09 00 00 00 00 00 00 00 00 00", "card 17", &format!("> {BEGIN}")]),
-            "line 3: card 17 is in the garage already (a desk would tell 38)"),
+        (
+            text(&["cards 17 18", "> 12 00 04 00 00 00 00 01 00 1B 09 00 00 00 00 00 00 00 00 00"]),
+            "line 1: expected 1 cards, as many as the image has cars, found 2 (a desk would tell 39)",
+        ),
+        (
+            text(&["cards 17", "> 12 00 04 00 00 00 00 01 00 1B 09 00 00 00 00 00 00 00 00 00", "card 17", &format!("> {BEGIN}")]),
+            "line 3: card 17 is in the garage already (a desk would tell 38)",
+        ),
     ]
 }
 
@@ -169,10 +177,25 @@ fn wrong_texts() -> Vec<(String, &'static str)> {
 fn wrong_words() -> Vec<(Vec<&'static str>, &'static str)> {
     let usage = "usage: explain ";
     let mut all: Vec<(Vec<&str>, &str)> = [
-        &["--nonsense"][..], &["-q"], &["--from"], &["--from", "00"], &["--from", "00000000001B09000"], &["--issue"], &["--issue", "65536"],
-        &["--issue", "x"], &["--cards", "1"], &["--cards"], &["03 00 02 00 0"], &["0x03"], &[""], &["--hex", "03"], &["log.txt"],
+        &["--nonsense"][..],
+        &["-q"],
+        &["--from"],
+        &["--from", "00"],
+        &["--from", "00000000001B09000"],
+        &["--issue"],
+        &["--issue", "65536"],
+        &["--issue", "x"],
+        &["--cards", "1"],
+        &["--cards"],
+        &["03 00 02 00 0"],
+        &["0x03"],
+        &[""],
+        &["--hex", "03"],
+        &["log.txt"],
         &["--from", "00000000001B0900", "--cards", "0"],
-    ].map(|words| (words.to_vec(), usage)).into();
+    ]
+    .map(|words| (words.to_vec(), usage))
+    .into();
     all.push((vec!["--from", "01 00 00 00 00 1B 09 00"], "--from: not sound: cell 0 of row 1 is half a car"));
     all.push((vec!["--from", "00000000001B09000000000000002000"], "--from: what is set apart has a bit above 52"));
     all.push((vec!["--from", "00000000001B0900", "--cards", "1"], "--cards: expected 0, as many as the record has cars, found 1"));
@@ -193,7 +216,9 @@ pub fn all(explain: &str, page: &str) {
     for (input, expected) in &texts {
         let (shown, told, well) = text(&format!("{explain} --hex"), input.as_bytes());
         assert_eq!((told, well), (format!("explain: {expected}\n"), false), "{input}{shown}");
-        if input.starts_with(BEGIN) { assert!(has(&paragraphs(&shown)[0], "event 1 = 0x01, begin in"), "{shown}"); }
+        if input.starts_with(BEGIN) {
+            assert!(has(&paragraphs(&shown)[0], "event 1 = 0x01, begin in"), "{shown}");
+        }
     }
     for (wrong, expected) in &given {
         let (shown, told, status) = words(explain, wrong);

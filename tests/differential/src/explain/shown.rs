@@ -118,8 +118,12 @@ fn row(line: &[u8], cells: std::ops::Range<u32>) -> (u64, u64) {
         // a free cell has its mark in the middle, and blanks or a border around it
         let free = matches!(at(wide / 2), b'.' | b'!') && matches!(at(0), b' ' | b'|') && !second;
         let edge = if second { at(wide - 1) } else { at(0) };
-        if (if free { at(wide / 2) } else { edge }) == b'!' { apart |= 1 << cell; }
-        if !free { occupied |= 1 << cell; }
+        if (if free { at(wide / 2) } else { edge }) == b'!' {
+            apart |= 1 << cell;
+        }
+        if !free {
+            occupied |= 1 << cell;
+        }
         second = !free && !second && wide == 3;
     }
     (occupied, apart)
@@ -138,7 +142,9 @@ pub fn floor(lines: &[String], title: &str) -> Option<Floor> {
         let lowered = 40 + (at as u64 - 8) / 2;
         for (side, letter, mark) in [(0, line[6], line[7]), (1, line[73], line[72])] {
             letters[side].push(letter as char);
-            if mark == b'!' { apart |= 1 << (lowered + 3 * side as u64); }
+            if mark == b'!' {
+                apart |= 1 << (lowered + 3 * side as u64);
+            }
         }
     }
     let below = text[14..].iter().take_while(|line| !line.is_empty()).map(|line| line.to_string()).collect();

@@ -7,8 +7,16 @@ pub type Five = [u8; 5];
 
 /// The kinds as the table names them, its rows and its first columns; the last column is for two that have different sides.
 const KINDS: [&str; 10] = [
-    "belts 1", "belts 1, lift's too", "belts 2", "belts 3",
-    "shuttles lowered", "shuttles tilted", "tilt from lowered", "tilt from tilted", "lift", "rotate",
+    "belts 1",
+    "belts 1, lift's too",
+    "belts 2",
+    "belts 3",
+    "shuttles lowered",
+    "shuttles tilted",
+    "tilt from lowered",
+    "tilt from tilted",
+    "lift",
+    "rotate",
 ];
 const OTHER_SIDE: &str = "of the other side";
 
@@ -24,13 +32,26 @@ fn kind(five: &Five) -> Option<usize> {
     })
 }
 
-fn side(five: &Five) -> Option<u8> { matches!(five[0], 2 | 3).then_some(five[1]) }
+fn side(five: &Five) -> Option<u8> {
+    matches!(five[0], 2 | 3).then_some(five[1])
+}
 
 /// The rows that an instruction takes at a side: belts their row, where they name that side's shuttle belt; shuttles the rows that they
 /// name and those one on; a tilt its row.
 fn rows(five: &Five, at: u8) -> u8 {
     match *five {
-        [1, row, mask, ..] => (mask >> if at == 0 { 0 } else if row == 1 { 4 } else { 2 } & 1) << (row - 1),
+        [1, row, mask, ..] => {
+            (mask
+                >> if at == 0 {
+                    0
+                } else if row == 1 {
+                    4
+                } else {
+                    2
+                }
+                & 1)
+                << (row - 1)
+        }
         [2, side, mask, _, toward] if side == at => (mask | if toward == 1 { mask << 1 } else { mask >> 1 }) & 7,
         [3, side, row, ..] if side == at => 1 << (row - 1),
         _ => 0,

@@ -1,19 +1,29 @@
 //! What a desk's calls meet of card numbers, so that a long run can say that it met all there is: begins with every sort of number, ends,
 //! images with right and wrong numbers, cars that are carried and cars that are not, places that are told.
-use reference::desk_command::{CARDS_MOST, EVENT, IMAGE, RESULT};
 use reference::desk::{wanted, Desk, Stand};
+use reference::desk_command::{CARDS_MOST, EVENT, IMAGE, RESULT};
 use reference::{bit, BEGIN_IN, BEGIN_OUT, DONE, DRIVE_IN, END_DONE, END_NOT_DONE, FAILED, STUCK};
 use shared::trials::Given;
 use std::collections::BTreeSet;
 
 /// A number that is handed in: 0, a car's, the one whose drive-in is under way, one that was here and has left, or another.
 #[derive(Clone, Copy, Debug, PartialEq, Eq, PartialOrd, Ord)]
-pub enum Card { Zero, Known, Coming, Gone, New }
+pub enum Card {
+    Zero,
+    Known,
+    Coming,
+    Gone,
+    New,
+}
 use Card::{Coming, Gone, Known, New, Zero};
 
 /// Where a car stands: in row 1, in row 2 or 3, on the raised lift.
 #[derive(Clone, Copy, Debug, PartialEq, Eq, PartialOrd, Ord)]
-pub enum Kind { Pair, Single, Raised }
+pub enum Kind {
+    Pair,
+    Single,
+    Raised,
+}
 use Kind::{Pair, Raised, Single};
 
 /// The numbers of an image; what comes first of them is told.
@@ -21,29 +31,63 @@ use Kind::{Pair, Raised, Single};
 pub enum Numbers {
     /// More than can be; that many too many, or too few: with a 0 or one twice among them, or neither.
     Above,
-    More { bad: bool },
-    Fewer { bad: bool },
+    More {
+        bad: bool,
+    },
+    Fewer {
+        bad: bool,
+    },
     /// A 0, and also one twice or not.
-    Zero { twice: bool },
+    Zero {
+        twice: bool,
+    },
     /// One twice: of two cars, or of a car and the drive-in.
-    Twice { drive: bool },
+    Twice {
+        drive: bool,
+    },
     /// Right ones: none, some, and with that of a drive-in.
-    Right { some: bool, drive: bool },
+    Right {
+        some: bool,
+        drive: bool,
+    },
 }
 
 #[derive(Clone, Copy, Debug, PartialEq, Eq, PartialOrd, Ord)]
 pub enum Met {
     /// A begin of a drive-in, by its number: what the station alone would say, and what the desk says.
-    Begin { card: Card, alone: u8, number: u8 },
+    Begin {
+        card: Card,
+        alone: u8,
+        number: u8,
+    },
     /// Another event that is taken, by the number that it is handed; whether a car comes.
-    Event { event: u8, comes: bool, card: Card },
+    Event {
+        event: u8,
+        comes: bool,
+        card: Card,
+    },
     /// An image, by its numbers: what the station alone would say, and what the desk says.
-    Image { numbers: Numbers, alone: u8, number: u8 },
+    Image {
+        numbers: Numbers,
+        alone: u8,
+        number: u8,
+    },
     /// A car that an instruction carries; and one that it would have, had it been done.
-    Carried { opcode: u8, from: Kind, to: Kind },
-    Kept { opcode: u8, ending: u8, from: Kind },
+    Carried {
+        opcode: u8,
+        from: Kind,
+        to: Kind,
+    },
+    Kept {
+        opcode: u8,
+        ending: u8,
+        from: Kind,
+    },
     /// Where a car is told, and whether that is its last known place; and of which numbers there is none.
-    At { kind: Kind, last: bool },
+    At {
+        kind: Kind,
+        last: bool,
+    },
     NotHere(Card),
     /// Whether a card is leaving.
     Leaving(bool),
@@ -111,10 +155,12 @@ pub fn met(before: &Desk, card: Card, given: &Given, number: u8) -> Vec<Met> {
             done.carry(&one);
             let opcode = before.station.set[5 * usize::from(given.first)];
             let moves = before.cars.iter().zip(&done.cars).filter(|(from, to)| from.stand != to.stand);
-            moves.map(|(from, to)| match given.second {
-                DONE => Met::Carried { opcode, from: Kind::of(&from.stand), to: Kind::of(&to.stand) },
-                ending => Met::Kept { opcode, ending, from: Kind::of(&from.stand) },
-            }).collect()
+            moves
+                .map(|(from, to)| match given.second {
+                    DONE => Met::Carried { opcode, from: Kind::of(&from.stand), to: Kind::of(&to.stand) },
+                    ending => Met::Kept { opcode, ending, from: Kind::of(&from.stand) },
+                })
+                .collect()
         }
         _ => Vec::new(),
     }
@@ -159,6 +205,8 @@ fn all() -> BTreeSet<Met> {
 /// Whether all was met that there is, and nothing else; if not, says what is amiss.
 pub fn every_one(met: &BTreeSet<Met>) -> bool {
     let amiss: Vec<_> = met.symmetric_difference(&all()).copied().collect();
-    if !amiss.is_empty() { eprintln!("desk: what was never met of cards, or can't be: {amiss:?}"); }
+    if !amiss.is_empty() {
+        eprintln!("desk: what was never met of cards, or can't be: {amiss:?}");
+    }
     amiss.is_empty()
 }

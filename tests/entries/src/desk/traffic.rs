@@ -1,14 +1,16 @@
 //! Seeded traffic for a desk: the station's, with card numbers beside drives and images, right ones and wrong ones.
 #![allow(dead_code)] // each driver uses its own part of this module
 
-use reference::desk_command::{ASK, CARDS_MOST, EVENT, IMAGE, LEAVING, REQUEST, RESULT, START, WHERE};
 use reference::desk::{layout, Desk};
+use reference::desk_command::{ASK, CARDS_MOST, EVENT, IMAGE, LEAVING, REQUEST, RESULT, START, WHERE};
 use reference::{bit, read_call, sound, Call, BEGIN_IN, DRIVE_IN, LIFT_CAR};
 use shared::traffic::{any_bytes, framed_message, near_image, near_record, Numbers};
 use shared::trials::Given;
 
 /// Few enough numbers that one comes again when its car has left.
-fn from_few(numbers: &mut Numbers) -> u32 { 1 + numbers.below(60) as u32 }
+fn from_few(numbers: &mut Numbers) -> u32 {
+    1 + numbers.below(60) as u32
+}
 
 /// Any number but 0, some of them at the ends of what there are.
 fn any_card(numbers: &mut Numbers) -> u32 {
@@ -23,7 +25,11 @@ fn any_card(numbers: &mut Numbers) -> u32 {
 /// A number that a desk has, or has waiting; any where it has none.
 fn known_card(numbers: &mut Numbers, desk: &Desk) -> u32 {
     let known: Vec<u32> = desk.cars.iter().map(|car| car.card).chain(desk.coming).collect();
-    if known.is_empty() { from_few(numbers) } else { known[numbers.below(known.len() as u64) as usize] }
+    if known.is_empty() {
+        from_few(numbers)
+    } else {
+        known[numbers.below(known.len() as u64) as usize]
+    }
 }
 
 /// A card's number: 0, one that is there, waits or is nearly one of these, or any.
@@ -61,14 +67,22 @@ fn some_cards(numbers: &mut Numbers, desk: &Desk, image: u64) -> (u8, Vec<u8>) {
     if wrong & 1 != 0 {
         let to = if bit(image, DRIVE_IN) { cards.len() - 1 } else { any(numbers, &cards) };
         let from = any(numbers, &cards);
-        if from != to { cards[to] = cards[from]; }
+        if from != to {
+            cards[to] = cards[from];
+        }
     }
     if wrong & 2 != 0 {
         let at = any(numbers, &cards);
-        if let Some(card) = cards.get_mut(at) { *card = 0; }
+        if let Some(card) = cards.get_mut(at) {
+            *card = 0;
+        }
     }
     if wrong & 4 != 0 {
-        if numbers.one_in(2) { cards.push(any_card(numbers)); } else { cards.pop(); }
+        if numbers.one_in(2) {
+            cards.push(any_card(numbers));
+        } else {
+            cards.pop();
+        }
     }
     let mut count = cards.len() as u8;
     let mut bytes: Vec<u8> = cards.iter().flat_map(|card| card.to_le_bytes()).collect();
@@ -109,9 +123,15 @@ pub fn some_call(numbers: &mut Numbers, desk: &Desk) -> Given {
         let apart = if numbers.one_in(6) { 1 << numbers.below(64) } else { 0 };
         return image(numbers, desk, (record, apart));
     }
-    if pick == 1 { return Given { entry: WHERE, card: some_card(numbers, desk), ..Given::default() }; }
-    if pick == 3 { return Given { entry: EVENT, first: 1 + numbers.below(4) as u8, card: some_card(numbers, desk), ..Given::default() }; }
-    if pick == 2 { return Given { entry: LEAVING, output: any_bytes(numbers, 4), ..Given::default() }; }
+    if pick == 1 {
+        return Given { entry: WHERE, card: some_card(numbers, desk), ..Given::default() };
+    }
+    if pick == 3 {
+        return Given { entry: EVENT, first: 1 + numbers.below(4) as u8, card: some_card(numbers, desk), ..Given::default() };
+    }
+    if pick == 2 {
+        return Given { entry: LEAVING, output: any_bytes(numbers, 4), ..Given::default() };
+    }
     let message = framed_message(numbers, &desk.station);
     match read_call(&message) {
         Ok((Call::Request { count, bytes }, _)) => Given { entry: REQUEST, first: count, input: bytes.to_vec(), ..Given::default() },
@@ -136,7 +156,10 @@ pub fn any_call(numbers: &mut Numbers, desk: &Desk) -> Given {
         1 => of(ASK, 16),
         2 => of(WHERE, 0),
         3 => of(LEAVING, 4),
-        4 | 5 => { let record = sound_image(numbers, desk.station.record); image(numbers, desk, (record, 0)) }
+        4 | 5 => {
+            let record = sound_image(numbers, desk.station.record);
+            image(numbers, desk, (record, 0))
+        }
         _ => some_call(numbers, desk),
     };
     match (given.entry, numbers.below(6)) {

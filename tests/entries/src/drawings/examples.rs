@@ -11,7 +11,9 @@ const NO_CARS: &str = "....................";
 const FREE: &str = "..........";
 const EMPTY: Six = [NO_CARS, FREE, FREE, "LLT", "LLT", "street"];
 
-fn text(lines: Six) -> String { lines.map(|line| line.to_string() + "\n").concat() }
+fn text(lines: Six) -> String {
+    lines.map(|line| line.to_string() + "\n").concat()
+}
 
 /// Records and their drawings, both ways: the start and the examples of document 01 (P4 to P11), a car on the raised lift, drives under
 /// way, a garage with 28 cars and one with 30.
@@ -148,6 +150,7 @@ pub fn spelled_ones() -> Vec<(String, Option<u64>)> {
         format!("\n{}", text(EMPTY)),
         "B".to_string() + &text(EMPTY),
     ];
-    let unsound = [("01 00 00 00 00 1B 09 00", START | 1), ("FFFFFFFFffffffff", u64::MAX)].map(|(text, image)| (text.to_string(), Some(image)));
+    let unsound =
+        [("01 00 00 00 00 1B 09 00", START | 1), ("FFFFFFFFffffffff", u64::MAX)].map(|(text, image)| (text.to_string(), Some(image)));
     images.map(|text| (text, Some(car))).into_iter().chain(unsound).chain(none.map(|text| (text, None))).collect()
 }

@@ -38,10 +38,14 @@ pub fn plain(given: &Given) -> Left {
 pub fn packed(given: &Given, plain: u32) -> Option<Left> {
     let &Given { entry, first, second, issue, image, ref input, .. } = given;
     let (lent, length) = (input.as_ptr(), input.len());
-    if entry == CONDITION || entry >= CONDITION && plain as u8 == UNSOUND { return None; }
+    if entry == CONDITION || entry >= CONDITION && plain as u8 == UNSOUND {
+        return None;
+    }
     if entry == CARS {
         // where they stand the packed engine doesn't tell
-        if plain as u8 == 0 { assert_eq!(unsafe { raw::garage_cars(image) }, plain >> 16, "the cars of {image:#018x}"); }
+        if plain as u8 == 0 {
+            assert_eq!(unsafe { raw::garage_cars(image) }, plain >> 16, "the cars of {image:#018x}");
+        }
         return None;
     }
     Some(on_copies(given, |room, output| unsafe {

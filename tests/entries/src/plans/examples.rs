@@ -1,8 +1,8 @@
 //! Plans with what the papers say of them, and the ways in which a plan can be told something, so that a run can see that all came.
 
 use reference::plan::{Plan, Verdict, BAD_FIELD, CUT_SHORT, MOST_SETS, NO_SET, TOO_MANY_SETS, UNSOUND, WISH_NOT_MET};
-use shared::plan_traffic::{after_all, Draft};
 use reference::{sound, START};
+use shared::plan_traffic::{after_all, Draft};
 
 const WITHOUT: u8 = 0;
 const WITH: u8 = 1;
@@ -31,13 +31,21 @@ fn plan(image: u64, wish: u8, sets: &[&[Five]]) -> Draft {
 }
 
 /// The same set, so many times.
-fn again(image: u64, wish: u8, times: usize, set: &[Five]) -> Draft { plan(image, wish, &vec![set; times]) }
+fn again(image: u64, wish: u8, times: usize, set: &[Five]) -> Draft {
+    plan(image, wish, &vec![set; times])
+}
 
-fn told(number: u8) -> Verdict { Verdict { number, set: NO_SET } }
-fn refused(number: u8, set: u8) -> Verdict { Verdict { number, set } }
+fn told(number: u8) -> Verdict {
+    Verdict { number, set: NO_SET }
+}
+fn refused(number: u8, set: u8) -> Verdict {
+    Verdict { number, set }
+}
 
 /// Bytes behind a plan's.
-fn and(draft: Draft, more: &[u8]) -> Vec<u8> { [&draft.bytes(), more].concat() }
+fn and(draft: Draft, more: &[u8]) -> Vec<u8> {
+    [&draft.bytes(), more].concat()
+}
 
 /// By their names, plans and what each is told.
 pub fn examples() -> Vec<(&'static str, Vec<u8>, Verdict)> {
@@ -106,18 +114,41 @@ pub fn examples() -> Vec<(&'static str, Vec<u8>, Verdict)> {
 
 /// The ways that a run must have come by, with those that the numbers alone don't tell apart.
 pub const WAYS: [&str; 25] = [
-    "accepted without sets", "accepted with 64 sets of eight", "accepted while a driver comes", "accepted while a driver goes",
-    "cut in the head", "cut at a count", "cut in a set", "a wish that is neither", "bytes left over", "both of these",
-    "an image that isn't sound", "a part set apart", "65 sets", "255 sets",
-    "refused at the first set", "refused at the last of 64", "refused in between", "refused with another refused behind it",
-    "a field in a set", "the lift under a driver behind a set that passes", "more than eight with bytes for all",
-    "the lift below", "the lift at rotation", "a car is missing", "a car is there",
+    "accepted without sets",
+    "accepted with 64 sets of eight",
+    "accepted while a driver comes",
+    "accepted while a driver goes",
+    "cut in the head",
+    "cut at a count",
+    "cut in a set",
+    "a wish that is neither",
+    "bytes left over",
+    "both of these",
+    "an image that isn't sound",
+    "a part set apart",
+    "65 sets",
+    "255 sets",
+    "refused at the first set",
+    "refused at the last of 64",
+    "refused in between",
+    "refused with another refused behind it",
+    "a field in a set",
+    "the lift under a driver behind a set that passes",
+    "more than eight with bytes for all",
+    "the lift below",
+    "the lift at rotation",
+    "a car is missing",
+    "a car is there",
 ];
 
 /// In which of them a plan was told something.
 pub fn ways(bytes: &[u8], verdict: Verdict) -> Vec<&'static str> {
     let mut ways = Vec::new();
-    let mut way = |came: bool, name| if came { ways.push(name) };
+    let mut way = |came: bool, name| {
+        if came {
+            ways.push(name)
+        }
+    };
     let (image, sets) = (bytes.first_chunk().map_or(0, |eight| u64::from_le_bytes(*eight)), bytes.get(17).copied().unwrap_or(0));
     match (verdict.number, verdict.set) {
         (0, _) => {
@@ -128,7 +159,9 @@ pub fn ways(bytes: &[u8], verdict: Verdict) -> Vec<&'static str> {
         }
         (CUT_SHORT, _) => {
             let mut at = 18;
-            while let Some(count) = bytes.get(at) { at += 1 + 5 * usize::from(*count); }
+            while let Some(count) = bytes.get(at) {
+                at += 1 + 5 * usize::from(*count);
+            }
             way(bytes.len() < 18, "cut in the head");
             way(bytes.len() == at, "cut at a count");
             way(bytes.len() < at && at > 18, "cut in a set");

@@ -87,7 +87,8 @@ pub fn woven(source: &str, faults: &[Fault]) -> Result<String, String> {
 mod tests {
     use super::*;
 
-    const SOURCE: &str = "fn one() -> u8 { 1 }\n\nimpl A {\n    pub fn two(\n        self,\n    ) -> u8 {\n        let x = 2;\n        x\n    }\n}\n";
+    const SOURCE: &str =
+        "fn one() -> u8 { 1 }\n\nimpl A {\n    pub fn two(\n        self,\n    ) -> u8 {\n        let x = 2;\n        x\n    }\n}\n";
 
     fn edit(old: &str, new: &str) -> Edit {
         Edit { old: old.to_string(), new: new.to_string(), ..Edit::default() }

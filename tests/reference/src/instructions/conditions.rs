@@ -11,13 +11,19 @@ pub struct Condition {
 }
 
 /// One that the instruction's own words decide.
-fn by_the_words(holds: bool, number: u8) -> Condition { Condition { holds, number, parts: Parts::NONE } }
+fn by_the_words(holds: bool, number: u8) -> Condition {
+    Condition { holds, number, parts: Parts::NONE }
+}
 
 /// These cells as parts.
-fn parts_of(cells: &[u32]) -> Parts { cells.iter().fold(Parts::NONE, |parts, &cell| parts.and_cells(cell..cell + 1)) }
+fn parts_of(cells: &[u32]) -> Parts {
+    cells.iter().fold(Parts::NONE, |parts, &cell| parts.and_cells(cell..cell + 1))
+}
 
 /// How many of them are occupied.
-fn occupied_of(image: u64, cells: &[u32]) -> usize { cells.iter().filter(|&&cell| bit(image, cell)).count() }
+fn occupied_of(image: u64, cells: &[u32]) -> usize {
+    cells.iter().filter(|&&cell| bit(image, cell)).count()
+}
 
 /// Each of some cells is free.
 fn cells_free(image: u64, cells: &[u32], number: u8) -> Condition {
@@ -38,7 +44,9 @@ fn belts_available(image: u64, row: u8, belts: &[u32]) -> Condition {
             let there = slots_are(image, (side, LOWERED), &[row], true, NOT_AVAILABLE);
             Condition { holds: all.holds && there.holds, parts: all.parts.and(there.parts), ..all }
         }
-        None if (row, belt) == (1, 2) => Condition { holds: all.holds && height(image) == BASEMENT, parts: all.parts.and(Parts::LIFT), ..all },
+        None if (row, belt) == (1, 2) => {
+            Condition { holds: all.holds && height(image) == BASEMENT, parts: all.parts.and(Parts::LIFT), ..all }
+        }
         None => all,
     })
 }
@@ -46,7 +54,11 @@ fn belts_available(image: u64, row: u8, belts: &[u32]) -> Condition {
 /// The first of some, or the last, so many of them, toward d.
 fn end_of<T>(some: &[T], d: u8, many: usize) -> &[T] {
     let many = many.min(some.len());
-    if d == HIGHER { &some[some.len() - many..] } else { &some[..many] }
+    if d == HIGHER {
+        &some[some.len() - many..]
+    } else {
+        &some[..many]
+    }
 }
 
 impl Instruction {
@@ -69,7 +81,8 @@ impl Instruction {
             }
             Shuttles { side, mask, orientation, d } => {
                 let named: Vec<u8> = rows(mask).collect();
-                let whole = Condition { holds: even(image, position(side, 1)), number: ODD, parts: Parts::NONE.and_cells(position(side, 1)) };
+                let whole =
+                    Condition { holds: even(image, position(side, 1)), number: ODD, parts: Parts::NONE.and_cells(position(side, 1)) };
                 let next: Vec<u8> = end_of(&named, d, 1).iter().filter_map(|&row| next_row(row, d)).collect();
                 let vacant = slots_are(image, (side, orientation), &next, false, NO_WAY);
                 vec![
@@ -85,7 +98,10 @@ impl Instruction {
                 vec![slots_are(image, (side, LOWERED), &[1, 2, 3], true, NOT_AVAILABLE), cells_free(image, &cells, CELLS_TAKEN)]
             }
             Tilt { side, row, .. } => {
-                vec![slots_are(image, (side, TILTED), &[row], true, NOT_AVAILABLE), slots_are(image, (side, LOWERED), &[row], false, NO_WAY)]
+                vec![
+                    slots_are(image, (side, TILTED), &[row], true, NOT_AVAILABLE),
+                    slots_are(image, (side, LOWERED), &[row], false, NO_WAY),
+                ]
             }
             Lift { height: to } => {
                 let [left, right] = [ROW_1.start..LIFT_CELLS.start, LIFT_CELLS.end..ROW_1.end].map(|side| even(image, side));

@@ -16,13 +16,21 @@ const HALF: usize = 3;
 pub fn parts(all: Parts) -> String {
     let mut words = Vec::new();
     let occupied: Vec<u8> = (0..CELLS).filter(|&cell| all.has(cell)).collect();
-    if !occupied.is_empty() { words.push(cells(&occupied)); }
+    if !occupied.is_empty() {
+        words.push(cells(&occupied));
+    }
     words.extend(SLOTS.filter(|&slot| all.has(slot)).map(|slot| {
         let [side, row, tilted] = slot_words(slot);
         format!("the {tilted} slot {side} in row {row}")
     }));
-    if all.lift() { words.push("the lift".to_string()); }
-    if words.is_empty() { "nothing".to_string() } else { words.join("; ") }
+    if all.lift() {
+        words.push("the lift".to_string());
+    }
+    if words.is_empty() {
+        "nothing".to_string()
+    } else {
+        words.join("; ")
+    }
 }
 
 /// A line that is written at its columns.
@@ -31,12 +39,16 @@ struct Line(Vec<char>);
 impl Line {
     fn put(&mut self, at: usize, text: &str) {
         for (letter, at) in text.chars().zip(at..) {
-            if self.0.len() <= at { self.0.resize(at + 1, ' '); }
+            if self.0.len() <= at {
+                self.0.resize(at + 1, ' ');
+            }
             self.0[at] = letter;
         }
     }
 
-    fn text(self) -> String { self.0.into_iter().collect::<String>().trim_end().to_string() }
+    fn text(self) -> String {
+        self.0.into_iter().collect::<String>().trim_end().to_string()
+    }
 }
 
 /// A row of the view: the first of its cells, how many there are and how many half cells each is wide.
@@ -63,7 +75,9 @@ impl Row {
     }
 
     /// The last column of a cell.
-    fn end(&self, cell: u8) -> usize { self.column(cell) + HALF * self.wide - 1 }
+    fn end(&self, cell: u8) -> usize {
+        self.column(cell) + HALF * self.wide - 1
+    }
 
     fn numbers(&self) -> String {
         let mut line = Line(Vec::new());
@@ -102,15 +116,23 @@ impl Row {
         let (left, right) = (self.shuttle(floor, 0), self.shuttle(floor, 1));
         line.put(ends.0 - 3, &format!("{}{}", left.0, if left.1 { "!" } else { " " }));
         line.put(ends.1 + 2, &format!("{}{}", if right.1 { "!" } else { " " }, right.0));
-        for border in [self.column(self.first) + 2 * HALF, self.end(self.first + self.count - 1) - 2 * HALF] { line.put(border, "|"); }
-        if self.number == 1 { for cell in BORDERS { line.put(self.column(cell), "|"); } }
+        for border in [self.column(self.first) + 2 * HALF, self.end(self.first + self.count - 1) - 2 * HALF] {
+            line.put(border, "|");
+        }
+        if self.number == 1 {
+            for cell in BORDERS {
+                line.put(self.column(cell), "|");
+            }
+        }
         for cell in self.first..self.first + self.count {
             let mark = if floor.apart.has(cell) { "!" } else { "." };
             line.put(self.column(cell) + HALF * self.wide / 2, mark);
         }
         for &car in cars {
             let Place::Cell(begin) = car else { continue };
-            if !(self.first..self.first + self.count).contains(&begin) { continue; }
+            if !(self.first..self.first + self.count).contains(&begin) {
+                continue;
+            }
             let last = begin + if self.number == 1 { 1 } else { 0 };
             let (from, to) = (self.column(begin), self.end(last));
             let marks = [(begin, "["), (last, "]")].map(|(cell, mark)| if floor.apart.has(cell) { "!" } else { mark });
@@ -141,7 +163,9 @@ fn lift(floor: &Floor) -> String {
 
 /// The drive under way in words; nothing where there is none.
 pub fn drive(record: Record) -> Option<&'static str> {
-    if record.0 & DRIVE_IN != 0 { return Some("a drive-in is under way"); }
+    if record.0 & DRIVE_IN != 0 {
+        return Some("a drive-in is under way");
+    }
     (record.0 & DRIVE_OUT != 0).then_some("a drive-out is under way")
 }
 
@@ -153,22 +177,27 @@ pub fn lines(floor: &Floor, coming: Option<u32>) -> Vec<String> {
     };
     let mut lines: Vec<String> = drawing.lines().map(str::to_string).collect();
     lines.push(String::new());
-    for row in ROWS { lines.extend([row.numbers(), row.cells(floor, &cars)]); }
+    for row in ROWS {
+        lines.extend([row.numbers(), row.cells(floor, &cars)]);
+    }
     lines.push(String::new());
     lines.push(lift(floor));
     let waits = coming.map_or(String::new(), |card| format!(", card {card}"));
     lines.push(drive(floor.record).map_or("no drive is under way".to_string(), |drive| format!("{drive}{waits}")));
     lines.push(format!("set apart: {}", parts(floor.apart)));
-    let known = floor.cards.iter().map(|card| {
-        format!("card {} {}{}", card.card, place(card.place), if card.last_known { ", its last known place" } else { "" })
-    });
+    let known = floor
+        .cards
+        .iter()
+        .map(|card| format!("card {} {}{}", card.card, place(card.place), if card.last_known { ", its last known place" } else { "" }));
     lines.push(std::iter::once(format!("cars: {}", cars.len())).chain(known).collect::<Vec<_>>().join("; "));
     lines
 }
 
 /// The outstanding set in lines, with what is answered so far.
 pub fn outstanding(issue: u16, set: &[Held]) -> Vec<String> {
-    if set.is_empty() { return vec!["no set is outstanding".to_string()]; }
+    if set.is_empty() {
+        return vec!["no set is outstanding".to_string()];
+    }
     let one = |(held, at): (&Held, usize)| {
         let ending = held.ending.map_or("waits for its result", |ending| ENDINGS.get(usize::from(ending)).copied().unwrap_or("answered"));
         format!("  {at}: {}: {ending}", instruction(held.five))

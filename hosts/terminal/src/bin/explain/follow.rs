@@ -52,10 +52,14 @@ pub struct Follower {
 }
 
 /// The cars that an image's list of cards has to name: those of the record, and one whose drive-in is under way.
-pub fn named_cars(record: Record) -> usize { record.cars().unwrap_or(0) as usize + usize::from(record.0 & DRIVE_IN != 0) }
+pub fn named_cars(record: Record) -> usize {
+    record.cars().unwrap_or(0) as usize + usize::from(record.0 & DRIVE_IN != 0)
+}
 
 impl Follower {
-    fn start() -> Self { Follower { desk: *Desk::new().bytes(), endings: [None; 8], cards: BTreeMap::new(), last: 0 } }
+    fn start() -> Self {
+        Follower { desk: *Desk::new().bytes(), endings: [None; 8], cards: BTreeMap::new(), last: 0 }
+    }
 
     /// From a sound record on, with what is set apart there, the issue that the next set will have, and the cards of its cars.
     pub fn from(record: Record, apart: Parts, issue: u16, cards: Option<&Cards>) -> Self {
@@ -66,14 +70,22 @@ impl Follower {
         follower
     }
 
-    fn station(&self) -> [u8; Station::SIZE] { std::array::from_fn(|at| self.desk[at]) }
+    fn station(&self) -> [u8; Station::SIZE] {
+        std::array::from_fn(|at| self.desk[at])
+    }
 
-    pub fn record(&self) -> Record { Record(number_in(&self.desk[..8])) }
+    pub fn record(&self) -> Record {
+        Record(number_in(&self.desk[..8]))
+    }
 
-    pub fn apart(&self) -> Parts { Parts(number_in(&self.desk[APART])) }
+    pub fn apart(&self) -> Parts {
+        Parts(number_in(&self.desk[APART]))
+    }
 
     /// The outstanding set's issue; where none is, that of the last one.
-    pub fn present_issue(&self) -> u16 { u16::from_le_bytes([self.desk[50], self.desk[51]]).wrapping_sub(1) }
+    pub fn present_issue(&self) -> u16 {
+        u16::from_le_bytes([self.desk[50], self.desk[51]]).wrapping_sub(1)
+    }
 
     /// The outstanding set; empty where there is none.
     pub fn set(&self) -> Vec<Held> {
@@ -81,7 +93,9 @@ impl Follower {
         (0..usize::from(self.desk[8])).map(|at| Held { five: five(at), ending: self.endings[at] }).collect()
     }
 
-    fn number_at(&self, place: usize) -> u32 { number_in(&self.desk[Station::SIZE + 4 * place..][..4]) as u32 }
+    fn number_at(&self, place: usize) -> u32 {
+        number_in(&self.desk[Station::SIZE + 4 * place..][..4]) as u32
+    }
 
     /// The cards that are known, in the order of the cells.
     pub fn cards(&self) -> Vec<Known> {
@@ -99,15 +113,21 @@ impl Follower {
     }
 
     /// The card of a drive-in under way, where it is known.
-    pub fn coming(&self) -> Option<u32> { self.cards.get(&self.number_at(WAITS)).copied() }
+    pub fn coming(&self) -> Option<u32> {
+        self.cards.get(&self.number_at(WAITS)).copied()
+    }
 
-    pub fn floor(&self) -> Floor { Floor { record: self.record(), apart: self.apart(), cards: self.cards() } }
+    pub fn floor(&self) -> Floor {
+        Floor { record: self.record(), apart: self.apart(), cards: self.cards() }
+    }
 
     /// What a message is answered with, and the message that answers it. Cards go with a begin in or an image, if it is taken.
     pub fn take(&mut self, bytes: &[u8], message: &Message, cards: Option<&Cards>) -> (Answer, Vec<u8>) {
         let mut station = Station::from_bytes(&self.station()).expect("it is a station");
         let (answer, reply) = station.message(bytes);
-        if answer.taken() { self.took(message, cards); }
+        if answer.taken() {
+            self.took(message, cards);
+        }
         assert!(self.station() == *station.bytes(), "the desk's station is the station");
         (answer, reply)
     }
@@ -144,7 +164,9 @@ impl Follower {
     /// A number that no car has had, for the card if it is known. There are more of them than messages in any log.
     fn new_number(&mut self, card: Option<u32>) -> u32 {
         self.last += 1;
-        if let Some(card) = card { self.cards.insert(self.last, card); }
+        if let Some(card) = card {
+            self.cards.insert(self.last, card);
+        }
         self.last
     }
 }

@@ -25,7 +25,9 @@ pub struct Placed {
     pub item: Item,
 }
 
-fn bad_length(size: usize) -> Wrong { format!("expected a length from 2 to 43 = 0x002B, found {size} = 0x{size:04X}") }
+fn bad_length(size: usize) -> Wrong {
+    format!("expected a length from 2 to 43 = 0x002B, found {size} = 0x{size:04X}")
+}
 
 fn cut(bytes: &[u8]) -> Wrong {
     match bytes.len() {
@@ -45,10 +47,14 @@ pub struct Bytes<R> {
 
 impl<R: Read> Bytes<R> {
     /// A recording of one direction.
-    pub fn recorded(input: R) -> Self { Bytes { input, at: 0, answers: None, mixed: false } }
+    pub fn recorded(input: R) -> Self {
+        Bytes { input, at: 0, answers: None, mixed: false }
+    }
 
     /// Messages of either direction.
-    pub fn mixed(input: R) -> Self { Bytes { input, at: 0, answers: None, mixed: true } }
+    pub fn mixed(input: R) -> Self {
+        Bytes { input, at: 0, answers: None, mixed: true }
+    }
 
     fn more(&mut self, bytes: &mut Vec<u8>, count: usize) -> Result<bool, Wrong> {
         let read = (&mut self.input).take(count as u64).read_to_end(bytes).map_err(|why| failed("input", why))?;
@@ -59,12 +65,16 @@ impl<R: Read> Bytes<R> {
         let (at, mut bytes) = (format!("byte {}", self.at), Vec::new());
         let answered = self.answers.unwrap_or(false);
         if !self.more(&mut bytes, 2)? {
-            if bytes.is_empty() { return Ok(None); }
+            if bytes.is_empty() {
+                return Ok(None);
+            }
             let why = format!("{}, and the input ends", cut(&bytes));
             return Ok(Some(Placed { at, item: Item::Damaged { bytes, answered, why } }));
         }
         let size = length(&bytes);
-        if !LENGTHS.contains(&size) { return Ok(Some(Placed { at, item: Item::Damaged { bytes, answered, why: bad_length(size) } })); }
+        if !LENGTHS.contains(&size) {
+            return Ok(Some(Placed { at, item: Item::Damaged { bytes, answered, why: bad_length(size) } }));
+        }
         if !self.more(&mut bytes, size)? {
             let why = format!("{}, and the input ends", cut(&bytes));
             return Ok(Some(Placed { at, item: Item::Damaged { bytes, answered, why } }));
@@ -95,7 +105,9 @@ impl<R: BufRead> Hex<R> {
         Hex { input, line: 0, open: Open { bytes: Vec::new(), mark: None, line: 0 }, read: VecDeque::new(), ended: false }
     }
 
-    fn place(&mut self, line: usize, item: Item) { self.read.push_back(Placed { at: format!("line {line}"), item }); }
+    fn place(&mut self, line: usize, item: Item) {
+        self.read.push_back(Placed { at: format!("line {line}"), item });
+    }
 
     fn damaged(&mut self, line: usize, bytes: Vec<u8>, why: Wrong) {
         let answered = self.open.mark.unwrap_or(false);
@@ -104,7 +116,9 @@ impl<R: BufRead> Hex<R> {
 
     /// What is not whole can't become so any more.
     fn cut_off(&mut self, before: &str) -> bool {
-        if self.open.bytes.is_empty() { return false; }
+        if self.open.bytes.is_empty() {
+            return false;
+        }
         let (bytes, line) = (std::mem::take(&mut self.open.bytes), self.open.line);
         let why = format!("{}, and {before}", cut(&bytes));
         self.damaged(line, bytes, why);
@@ -113,8 +127,12 @@ impl<R: BufRead> Hex<R> {
 
     pub fn next(&mut self) -> Result<Option<Placed>, Wrong> {
         loop {
-            if let Some(item) = self.read.pop_front() { return Ok(Some(item)); }
-            if self.ended { return Ok(None); }
+            if let Some(item) = self.read.pop_front() {
+                return Ok(Some(item));
+            }
+            if self.ended {
+                return Ok(None);
+            }
             let mut line = Vec::new();
             if self.input.read_until(b'\n', &mut line).map_err(|why| failed("input", why))? == 0 {
                 self.ended = true;
@@ -128,11 +146,19 @@ impl<R: BufRead> Hex<R> {
     }
 
     fn take(&mut self, said: &str) {
-        if said.is_empty() { return; }
-        let mark = match said.as_bytes()[0] { b'>' => Some(false), b'<' => Some(true), _ => None };
+        if said.is_empty() {
+            return;
+        }
+        let mark = match said.as_bytes()[0] {
+            b'>' => Some(false),
+            b'<' => Some(true),
+            _ => None,
+        };
         let word = said.split_whitespace().next().unwrap_or_default();
         let own_line = mark.is_some() || matches!(word, "!" | "card" | "cards");
-        if own_line && self.cut_off(&format!("line {} begins another", self.line)) { return; }
+        if own_line && self.cut_off(&format!("line {} begins another", self.line)) {
+            return;
+        }
         match word {
             "!" => match said {
                 "!" => self.place(self.line, Item::Restarted),
@@ -148,7 +174,9 @@ impl<R: BufRead> Hex<R> {
 
     /// A line's digits, and the messages that are whole with them.
     fn digits(&mut self, said: &str, mark: Option<bool>) {
-        if self.open.bytes.is_empty() { self.open = Open { bytes: Vec::new(), mark, line: self.line }; }
+        if self.open.bytes.is_empty() {
+            self.open = Open { bytes: Vec::new(), mark, line: self.line };
+        }
         match bytes_in(said) {
             Ok(bytes) => self.open.bytes.extend(bytes),
             Err(why) => return self.damaged(self.line, Vec::new(), why),
@@ -159,7 +187,9 @@ impl<R: BufRead> Hex<R> {
                 let bytes = self.open.bytes[..2].to_vec();
                 return self.damaged(line, bytes, bad_length(size));
             }
-            if self.open.bytes.len() < 2 + size { break; }
+            if self.open.bytes.len() < 2 + size {
+                break;
+            }
             let rest = self.open.bytes.split_off(2 + size);
             let bytes = std::mem::replace(&mut self.open.bytes, rest);
             let answered = self.open.mark.unwrap_or_else(|| is_answer(&bytes));
@@ -175,7 +205,9 @@ pub fn bytes_in(said: &str) -> Result<Vec<u8>, Wrong> {
     if let Some(other) = digits.iter().find(|digit| !digit.is_ascii_hexdigit()) {
         return Err(format!("expected digits in hexadecimal, found `{}`", other.escape_default()));
     }
-    if digits.len() % 2 == 1 { return Err(format!("expected two digits for each byte, found {} digits", digits.len())); }
+    if digits.len() % 2 == 1 {
+        return Err(format!("expected two digits for each byte, found {} digits", digits.len()));
+    }
     let value = |digit: char| digit.to_digit(16).unwrap_or(0) as u8;
     Ok(digits.chunks_exact(2).map(|two| value(two[0]) << 4 | value(two[1])).collect())
 }
@@ -189,7 +221,9 @@ pub fn cards(said: &str, one: bool) -> Result<Cards, Wrong> {
     };
     let words = said.split(|letter: char| letter.is_whitespace() || letter == ',').filter(|word| !word.is_empty());
     let all = words.map(card).collect::<Result<Cards, Wrong>>()?;
-    if one && all.len() != 1 { return Err(format!("expected one card's number, found {}", all.len())); }
+    if one && all.len() != 1 {
+        return Err(format!("expected one card's number, found {}", all.len()));
+    }
     let twice = all.iter().enumerate().find(|(at, card)| card.is_some() && all[..*at].contains(card));
     twice.map_or(Ok(()), |(_, card)| Err(format!("card {} stands twice", card.unwrap_or(0))))?;
     Ok(all)

@@ -60,8 +60,12 @@ fn given(mut words: impl Iterator<Item = String>) -> Option<Given> {
 /// Where the log begins: the start, or the record that is given.
 fn begin(given: &Given) -> Result<Follower, Wrong> {
     let (record, apart) = given.from.unwrap_or((Record::START, Parts::NONE));
-    if !record.is_sound() { return Err(format!("--from: not sound: {}", hints(record.0).join("; "))); }
-    if apart.bits().any(|bit| bit > LIFT) { return Err("--from: what is set apart has a bit above 52".to_string()); }
+    if !record.is_sound() {
+        return Err(format!("--from: not sound: {}", hints(record.0).join("; ")));
+    }
+    if apart.bits().any(|bit| bit > LIFT) {
+        return Err("--from: what is set apart has a bit above 52".to_string());
+    }
     let (cars, listed) = (named_cars(record), given.cards.as_ref().map(Vec::len));
     if listed.is_some_and(|listed| listed != cars) {
         return Err(format!("--cards: expected {cars}, as many as the record has cars, found {}", listed.unwrap_or(0)));
@@ -87,7 +91,9 @@ fn explained(mut next: impl FnMut() -> Read, mut explainer: Explainer, out: &mut
     while let Some(placed) = next()? {
         let last = matches!(placed.item, Item::Damaged { .. });
         tell(explainer.item(placed))?;
-        if last { break; }
+        if last {
+            break;
+        }
     }
     tell(explainer.end())?;
     Ok(right)
@@ -99,9 +105,14 @@ fn main() -> ExitCode {
         ExitCode::from(status)
     };
     let words: Vec<String> = std::env::args().skip(1).collect();
-    if words == ["--version"] { return told_version("explain"); }
+    if words == ["--version"] {
+        return told_version("explain");
+    }
     let Some(given) = given(words.into_iter()) else { return told(USAGE, 2) };
-    let follower = match begin(&given) { Ok(follower) => follower, Err(why) => return told(&why, 2) };
+    let follower = match begin(&given) {
+        Ok(follower) => follower,
+        Err(why) => return told(&why, 2),
+    };
     let both_ways = given.hex || !given.digits.is_empty();
     let explainer = Explainer::new(follower, given.shows, both_ways);
     let out = &mut io::BufWriter::new(io::stdout().lock());

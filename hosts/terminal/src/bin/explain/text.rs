@@ -68,14 +68,18 @@ fn below(depth: usize, lines: impl IntoIterator<Item = String>) -> String {
 }
 
 /// A message's bytes, so many in a line that they fit a terminal.
-fn byte_lines(bytes: &[u8]) -> Vec<String> { bytes.chunks(24).map(hexadecimal).collect() }
+fn byte_lines(bytes: &[u8]) -> Vec<String> {
+    bytes.chunks(24).map(hexadecimal).collect()
+}
 
 fn image_line(record: Record, apart: Parts) -> String {
     format!("{}; set apart {}: {}", hexadecimal(&record.bytes()), hexadecimal(&apart.0.to_le_bytes()), parts(apart))
 }
 
 /// So many of something.
-fn some(count: usize, name: &str) -> String { format!("{count} {name}{}", if count == 1 { "" } else { "s" }) }
+fn some(count: usize, name: &str) -> String {
+    format!("{count} {name}{}", if count == 1 { "" } else { "s" })
+}
 
 /// An answer in words as its bytes have it, which may be no station's, with the instruction at its place where that is known.
 fn answer_line(number: u8, place: u8, issue: u16, fives: &[[u8; 5]]) -> String {
@@ -130,7 +134,9 @@ impl Explainer {
     }
 
     /// That cards were given and no begin in or image took them.
-    fn unused_cards(&mut self) -> Option<Wrong> { self.cards.take().map(|given| unused(&given)) }
+    fn unused_cards(&mut self) -> Option<Wrong> {
+        self.cards.take().map(|given| unused(&given))
+    }
 
     /// The cards that are given for a message, if they fit it, or why not.
     fn cards_for(&mut self, message: &Message) -> (Option<Cards>, Option<Wrong>) {
@@ -147,7 +153,11 @@ impl Explainer {
             }
             _ => Some(unused(&given)),
         };
-        if why.is_some() { (None, why) } else { (Some(given.all), None) }
+        if why.is_some() {
+            (None, why)
+        } else {
+            (Some(given.all), None)
+        }
     }
 
     /// What a message that was sent says.
@@ -175,12 +185,16 @@ impl Explainer {
         }
     }
 
-    fn set_lines(&self) -> Vec<String> { outstanding(self.station.present_issue(), &self.station.set()) }
+    fn set_lines(&self) -> Vec<String> {
+        outstanding(self.station.present_issue(), &self.station.set())
+    }
 
     /// The floor with the outstanding set; only that it is the same where it was shown last.
     fn floor(&mut self, depth: usize, title: &str) -> String {
         let lines = [floor_lines(&self.station.floor(), self.station.coming()), self.set_lines()].concat();
-        if lines == self.shown { return below(depth, [format!("{title}: the same")]); }
+        if lines == self.shown {
+            return below(depth, [format!("{title}: the same")]);
+        }
         let text = below(depth, [format!("{title}:")]) + &below(depth + 2, lines.clone());
         self.shown = lines;
         text
@@ -190,7 +204,9 @@ impl Explainer {
         let message = read(bytes);
         let (cards, wrong) = self.cards_for(&message);
         let mut text = String::new();
-        if self.sent == 0 && !self.shows.quiet { text += &(self.floor(0, "the log begins on this floor") + "\n"); }
+        if self.sent == 0 && !self.shows.quiet {
+            text += &(self.floor(0, "the log begins on this floor") + "\n");
+        }
         self.messages += 1;
         self.sent += 1;
         let (says, before) = (self.says(&message), (self.station.record(), self.station.apart()));
@@ -203,10 +219,14 @@ impl Explainer {
         told.push(reply_line(&reply, fives));
         if !answer.taken() {
             self.refused += 1;
-            if self.shows.quiet { text += &(self.floor(0, "the floor before the next message") + "\n"); }
+            if self.shows.quiet {
+                text += &(self.floor(0, "the floor before the next message") + "\n");
+            }
             text += &(head + &below(2, told) + &below(4, against(&self.station, &message, answer)));
             text += &below(2, [format!("to do: {}", to_do(&message, answer))]);
-            if self.shows.floors && !self.shows.quiet { text += &self.floor(2, "the floor"); }
+            if self.shows.floors && !self.shows.quiet {
+                text += &self.floor(2, "the floor");
+            }
         } else if !self.shows.quiet {
             text += &(head + &below(2, told));
             let moved = before != (self.station.record(), self.station.apart()) || matches!(message, Message::Image { .. } | Message::Ask);
@@ -217,14 +237,20 @@ impl Explainer {
                 self.shown.clear();
             }
         }
-        if self.both_ways { self.waiting.push_back(Waiting { number: self.messages, reply }); }
-        if !text.is_empty() { text.push('\n'); }
+        if self.both_ways {
+            self.waiting.push_back(Waiting { number: self.messages, reply });
+        }
+        if !text.is_empty() {
+            text.push('\n');
+        }
         Said { text, wrong }
     }
 
     /// What the log's answer is beside the station's, and whether it is another.
     fn held_against(&mut self, bytes: &[u8]) -> (Vec<String>, bool) {
-        if self.sent == 0 { return (Vec::new(), false); }
+        if self.sent == 0 {
+            return (Vec::new(), false);
+        }
         const MISSING: &str = "a message is missing from the log, or another station answered";
         let Some(at) = self.waiting.iter().take(AHEAD).position(|waiting| waiting.reply == bytes) else {
             let Some(first) = self.waiting.pop_front() else {
@@ -251,7 +277,9 @@ impl Explainer {
         let wrong = differs.then(|| format!("{at}: the answer of message {} is not the station's", self.messages));
         let refusal = matches!(read(bytes), Message::Answer { number, .. } if number != 0);
         self.refusals += usize::from(refusal);
-        if self.shows.quiet && !differs && !(refusal && self.sent == 0) { return Said { text: String::new(), wrong }; }
+        if self.shows.quiet && !differs && !(refusal && self.sent == 0) {
+            return Said { text: String::new(), wrong };
+        }
         let mut text = format!("message {}, {at}, answered\n", self.messages);
         text += &below(2, [byte_lines(bytes), vec![reply_line(bytes, &[])], lines].concat());
         // the floor of an image that isn't the station's own
@@ -276,7 +304,9 @@ impl Explainer {
             (0, _) => words = vec![format!("{answered}, {} of a refusal", self.refusals)],
             _ => words.push(format!("{answered} in the log, {} of them not the station's", self.differ)),
         }
-        if answers > 0 && !self.waiting.is_empty() { words.push(format!("{} without answer there", some(self.waiting.len(), "message"))); }
+        if answers > 0 && !self.waiting.is_empty() {
+            words.push(format!("{} without answer there", some(self.waiting.len(), "message")));
+        }
         Said { text: words.join("; ") + "\n", wrong }
     }
 }

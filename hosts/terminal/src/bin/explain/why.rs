@@ -8,13 +8,19 @@ use terminal::conditions::{explained, has, of_lift, LIFT};
 use terminal::sound::hints;
 
 /// The instruction of five bytes that the station has read.
-fn read(five: [u8; 5]) -> Instruction { Instruction::try_from(five).expect("an instruction") }
+fn read(five: [u8; 5]) -> Instruction {
+    Instruction::try_from(five).expect("an instruction")
+}
 
 /// An instruction's area, a bit for each part as what is set apart has them: the lift is 52 alone.
-fn area(five: [u8; 5]) -> Parts { Parts(read(five).area().expect("an instruction") & ((1 << (LIFT + 1)) - 1)) }
+fn area(five: [u8; 5]) -> Parts {
+    Parts(read(five).area().expect("an instruction") & ((1 << (LIFT + 1)) - 1))
+}
 
 /// The parts that both have.
-fn in_both(one: Parts, other: Parts) -> Parts { Parts(one.0 & other.0) }
+fn in_both(one: Parts, other: Parts) -> Parts {
+    Parts(one.0 & other.0)
+}
 
 /// The instructions that have the lift in their areas, in words.
 fn with_lift(fives: &[[u8; 5]]) -> Vec<String> {
@@ -22,12 +28,18 @@ fn with_lift(fives: &[[u8; 5]]) -> Vec<String> {
     fives.iter().zip(0..).filter(has_lift).map(|(five, at)| format!("with the lift in its area: {at}: {}", instruction(*five))).collect()
 }
 
-fn set_lines(station: &Follower) -> Vec<String> { outstanding(station.present_issue(), &station.set()) }
+fn set_lines(station: &Follower) -> Vec<String> {
+    outstanding(station.present_issue(), &station.set())
+}
 
-fn held(station: &Follower) -> Vec<[u8; 5]> { station.set().iter().map(|held| held.five).collect() }
+fn held(station: &Follower) -> Vec<[u8; 5]> {
+    station.set().iter().map(|held| held.five).collect()
+}
 
 /// The drive under way, or that there is none.
-fn drive_line(station: &Follower) -> String { drive(station.record()).unwrap_or("no drive is under way").to_string() }
+fn drive_line(station: &Follower) -> String {
+    drive(station.record()).unwrap_or("no drive is under way").to_string()
+}
 
 /// Of an instruction that overlaps earlier ones: each of these, and the parts that both have.
 fn overlaps(fives: &[[u8; 5]], place: usize) -> Vec<String> {
@@ -87,7 +99,9 @@ fn result(station: &Follower, issue: u16, number: u8) -> Vec<String> {
 }
 
 fn image(station: &Follower, record: Record, apart: Parts, number: u8) -> Vec<String> {
-    if number == 6 { return set_lines(station); }
+    if number == 6 {
+        return set_lines(station);
+    }
     let second = (!apart.is_empty()).then(|| "its second number is not 0: an image sets nothing apart".to_string());
     second.into_iter().chain(hints(record.0).into_iter().map(|hint| format!("hint: {hint}"))).collect()
 }
@@ -130,7 +144,10 @@ fn mend([op, _, _, orientation, _]: [u8; 5], number: u8) -> &'static str {
 
 /// What to do about an answer, in one line.
 pub fn to_do(message: &Message, answer: Answer) -> &'static str {
-    let event = match *message { Message::Event(way) => Some(matches!(way, BEGIN_IN | BEGIN_OUT)), _ => None };
+    let event = match *message {
+        Message::Event(way) => Some(matches!(way, BEGIN_IN | BEGIN_OUT)),
+        _ => None,
+    };
     match (answer.number as u8, message) {
         (0, _) => "go on",
         (1, _) => "send the whole message",
