@@ -86,7 +86,7 @@ fn read(folder: &Path, by: &Processor) -> Files {
 const LIBRARY: [&str; 5] = ["memcpy", "memmove", "memset", "memcmp", "__aeabi_uldivmod"];
 
 /// What a call of a function takes, made in a file (or from outside), or why that can't be said.
-fn most(files: &Files, by: &Processor, from: Option<usize>, name: &str, above: &[&str]) -> Result<u64, String> {
+fn most(files: &Files, from: Option<usize>, name: &str, above: &[&str]) -> Result<u64, String> {
     let has = |&at: &usize| files[at].contains_key(name);
     let Some(at) = from.filter(has).or_else(|| (0..files.len()).find(has)) else {
         return if LIBRARY.contains(&name) { Ok(0) } else { Err(format!("{name} is not there")) };
@@ -101,7 +101,7 @@ fn most(files: &Files, by: &Processor, from: Option<usize>, name: &str, above: &
     let above = [above, &[name]].concat();
     let mut below = 0;
     for called in function.calls.iter().filter(|&called| called != name) {
-        below = below.max(most(files, by, Some(at), called, &above)?);
+        below = below.max(most(files, Some(at), called, &above)?);
     }
     Ok(function.frame + below)
 }
@@ -109,10 +109,9 @@ fn most(files: &Files, by: &Processor, from: Option<usize>, name: &str, above: &
 fn main() {
     let words: Vec<String> = std::env::args().collect();
     let [_, named, folder, names @ ..] = &words[..] else { panic!("usage: paths PROCESSOR FOLDER NAME..") };
-    let by = processor(named);
-    let files = read(Path::new(folder), &by);
+    let files = read(Path::new(folder), &processor(named));
     for name in names {
-        match most(&files, &by, None, name, &[]) {
+        match most(&files, None, name, &[]) {
             Ok(bytes) => println!("{name} {bytes}"),
             Err(why) => {
                 eprintln!("paths: {named}: {name}: {why}");

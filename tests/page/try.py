@@ -20,7 +20,7 @@ ALL = [checks.parks_by_clicks, checks.fetches_by_keys, checks.jam_and_image, che
 def main(path, wrong, names):
     failed, tried, found_out = [], 0, 0
     with tempfile.TemporaryDirectory() as folder, Browser(folder) as page:
-        page.slowness = float(os.environ.get("PAGE_SLOWNESS", "4")) # a machine that does other things meanwhile is slower
+        page.slowness = float(os.environ.get("PAGE_SLOWNESS", "4"))  # a machine that does other things meanwhile is slower
         for check in ALL:
             if names and check.__name__ not in names:
                 continue

@@ -66,7 +66,7 @@ fn trials(count: usize) -> Vec<Trial<Told>> {
 }
 
 pub fn main(words: &[String]) {
-    let [_, count, limit, program @ ..] = &words[..] else { panic!("usage: entries COMMANDS STACK PROGRAM..") };
+    let [_, count, limit, program @ ..] = words else { panic!("usage: entries COMMANDS STACK PROGRAM..") };
     let (trials, limit) = (trials(count.parse().expect("a number")), limit.parse().expect("a number"));
     let mut seen = vec![BTreeSet::new(); ENTRIES.len()];
     let mut reasons = vec![BTreeSet::new(); ENTRIES.len()];

@@ -125,7 +125,7 @@ fn examples(explain: &str, page: &str) -> usize {
 }
 
 pub fn main(given: &[String]) {
-    let [_, explain, page, sessions, messages] = &given[..] else { panic!("usage: explain EXPLAIN PAGE EXAMPLES MESSAGES") };
+    let [_, explain, page, sessions, messages] = given else { panic!("usage: explain EXPLAIN PAGE EXAMPLES MESSAGES") };
     let messages: usize = messages.parse().expect("a number of messages");
     let mut beside = Beside::new();
     long(explain, messages, &mut beside);

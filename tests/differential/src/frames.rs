@@ -104,7 +104,7 @@ fn bound(all: &Functions, at: u64, above: &[u64]) -> Result<i64, String> {
 }
 
 pub fn main(words: &[String]) {
-    let [_, limit, header] = &words[..] else { panic!("usage: frames LIMIT HEADER") };
+    let [_, limit, header] = words else { panic!("usage: frames LIMIT HEADER") };
     let limit: i64 = limit.parse().expect("a number");
     let header = std::fs::read_to_string(header).expect("the header is there");
     let entry = |line: &str| Some(line.strip_prefix("uint32_t ").or(line.strip_prefix("bool "))?.split_once('(')?.0.to_string());

@@ -79,7 +79,7 @@ fn issued(input: &[u8], output: &[u8]) -> (usize, BTreeSet<(bool, u16, u8)>) {
 }
 
 pub fn main(words: &[String]) {
-    let [_, program, sets] = &words[..] else { panic!("usage: issues PROGRAM SETS") };
+    let [_, program, sets] = words else { panic!("usage: issues PROGRAM SETS") };
     let input = input(sets.parse().expect("a number"));
     let (expected, got) = (reference::serve(&input), answers(program, &input, 1));
     if got != expected {

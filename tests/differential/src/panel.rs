@@ -32,7 +32,7 @@ fn trials(count: usize) -> Vec<Trial<Option<(u8, u8)>>> {
 }
 
 pub fn main(words: &[String]) {
-    let [_, count, limit, program @ ..] = &words[..] else { panic!("usage: panel COMMANDS STACK PROGRAM..") };
+    let [_, count, limit, program @ ..] = words else { panic!("usage: panel COMMANDS STACK PROGRAM..") };
     let (trials, limit) = (trials(count.parse().expect("a number")), limit.parse().expect("a number"));
     let (mut seen, mut reasons) = (vec![BTreeSet::new(); ENTRIES.len()], BTreeSet::new());
     trials::run(&ENTRIES, &trials, limit, program, |trial, number| {

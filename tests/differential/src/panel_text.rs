@@ -202,7 +202,7 @@ fn wrong_texts() -> Vec<(String, String)> {
 }
 
 pub fn main(given: &[String]) {
-    let [_, panel, page] = &given[..] else { panic!("usage: panel_text PANEL PAGE") };
+    let [_, panel, page] = given else { panic!("usage: panel_text PANEL PAGE") };
     let text = |input: &str| {
         let (output, told, well) = run(panel, input.as_bytes());
         (String::from_utf8_lossy(&output).into_owned(), told, well)

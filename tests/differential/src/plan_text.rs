@@ -119,7 +119,7 @@ fn hexadecimal(text: &str) -> Vec<u8> {
 }
 
 pub fn main(given: &[String]) {
-    let [_, writer, judge, page] = &given[..] else { panic!("usage: plan_text WRITER JUDGE PAGE") };
+    let [_, writer, judge, page] = given else { panic!("usage: plan_text WRITER JUDGE PAGE") };
     let mut failed = 0;
     let mut held = |what: &str, got: String, expected: String| {
         if got != expected {

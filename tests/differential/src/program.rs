@@ -294,7 +294,7 @@ fn each_call(input: &[u8], mut tell: impl FnMut(&Station, Call, u8)) {
 }
 
 pub fn main(words: &[String]) {
-    let [_, program, messages, sessions] = &words[..] else { panic!("usage: program PROGRAM MESSAGES SESSIONS") };
+    let [_, program, messages, sessions] = words else { panic!("usage: program PROGRAM MESSAGES SESSIONS") };
     let messages: usize = messages.parse().expect("a number");
     let sessions: u64 = sessions.parse().expect("a number");
     examples();

@@ -38,7 +38,7 @@ fn same(program: &str, name: &str, input: &[u8], seed: u64, came: &mut BTreeSet<
 }
 
 pub fn main(words: &[String]) {
-    let [_, program, messages, sessions] = &words[..] else { panic!("usage: report PROGRAM MESSAGES SESSIONS") };
+    let [_, program, messages, sessions] = words else { panic!("usage: report PROGRAM MESSAGES SESSIONS") };
     let messages: usize = messages.parse().expect("a number");
     let sessions: u64 = sessions.parse().expect("a number");
     examples();

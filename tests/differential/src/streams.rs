@@ -5,8 +5,8 @@
 use reference::week;
 use shared::traffic;
 use std::fs::File;
-use std::io::{self, Read, Write};
-use std::os::fd::{AsRawFd, OwnedFd};
+use std::io::{Read, Write};
+use std::os::fd::{AsRawFd, FromRawFd, OwnedFd};
 use std::os::unix::net::UnixStream;
 use std::os::unix::process::CommandExt;
 use std::process::{exit, Child, Command, Stdio};
@@ -18,6 +18,17 @@ extern "C" {
     fn kill(process: i32, signal: i32) -> i32;
     fn signal(number: i32, handler: usize) -> usize;
     fn setrlimit(resource: i32, limits: &[u64; 2]) -> i32;
+    fn pipe2(ends: &mut [i32; 2], flags: i32) -> i32;
+}
+
+/// A pipe that no other program inherits: what is read and where it is written. The standard library has one since Rust 1.87.
+fn pipe() -> (File, File) {
+    const CLOSED_IN_OTHERS: i32 = 0o2_000_000;
+    let mut ends = [-1; 2];
+    assert_eq!(unsafe { pipe2(&mut ends, CLOSED_IN_OTHERS) }, 0, "a pipe");
+    // both are open, and nobody else has them
+    let [from, to] = ends.map(|end| File::from(unsafe { OwnedFd::from_raw_fd(end) }));
+    (from, to)
 }
 
 const SIGPIPE: i32 = 13;
@@ -147,7 +158,7 @@ fn all_come(program: &Program, name: &'static str, child: Child, got: Vec<u8>, i
 
 /// A device that takes nothing.
 fn full_device(program: &Program) -> bool {
-    let (input, to) = io::pipe().expect("a pipe");
+    let (input, to) = pipe();
     let child = start(program, input, File::create("/dev/full").expect("the device"), as_usual);
     let sent = sender(to, traffic::input(1, 1000), 500, Duration::ZERO);
     let words = "standard output: No space left on device";
@@ -158,8 +169,8 @@ fn full_device(program: &Program) -> bool {
 
 /// A reader that goes away after some bytes, with the system's signal for it in force and without.
 fn closed_pipe(program: &Program, name: &'static str, before: fn(), status: i32, words: &'static str) -> bool {
-    let (input, to) = io::pipe().expect("a pipe");
-    let (from, output) = io::pipe().expect("a pipe");
+    let (input, to) = pipe();
+    let (from, output) = pipe();
     let messages = traffic::input(2, 60_000);
     let mut expected = (program.serve)(&messages);
     expected.truncate(SOME);
@@ -174,7 +185,7 @@ fn closed_pipe(program: &Program, name: &'static str, before: fn(), status: i32,
 /// A file that takes some bytes and then no more.
 fn full_file(program: &Program) -> bool {
     let path = std::env::temp_dir().join(format!("streams.{}", std::process::id()));
-    let (input, to) = io::pipe().expect("a pipe");
+    let (input, to) = pipe();
     let messages = traffic::input(9, 60_000);
     let mut expected = (program.serve)(&messages);
     expected.truncate(SOME);
@@ -189,8 +200,8 @@ fn full_file(program: &Program) -> bool {
 
 /// A slow reader behind an output that never waits.
 fn slow_reader(program: &Program) -> bool {
-    let (input, to) = io::pipe().expect("a pipe");
-    let (from, output) = io::pipe().expect("a pipe");
+    let (input, to) = pipe();
+    let (from, output) = pipe();
     never_waits(&output);
     let messages = traffic::input(3, 400_000);
     let child = start(program, input, output, as_usual);
@@ -202,8 +213,8 @@ fn slow_reader(program: &Program) -> bool {
 
 /// An input that comes in pieces with pauses, and is read without waiting or as it comes.
 fn pieces(program: &Program, name: &'static str, waits: bool, messages: Vec<u8>, piece: usize, pause: Duration) -> bool {
-    let (input, to) = io::pipe().expect("a pipe");
-    let (mut from, output) = io::pipe().expect("a pipe");
+    let (input, to) = pipe();
+    let (mut from, output) = pipe();
     if !waits {
         never_waits(&input);
     }
@@ -237,7 +248,7 @@ fn interrupted(program: &Program, name: &'static str, piece: usize, pause: Durat
 
 /// An input that can't be read.
 fn no_input(program: &Program) -> bool {
-    let (mut from, output) = io::pipe().expect("a pipe");
+    let (mut from, output) = pipe();
     let child = start(program, File::open("/").expect("a folder"), output, as_usual);
     let mut got = Vec::new();
     from.read_to_end(&mut got).expect("the reader reads");
@@ -247,8 +258,8 @@ fn no_input(program: &Program) -> bool {
 
 /// Asked to end while it waits for a message: nothing is left running that holds the output open.
 fn asked_to_end(program: &Program) -> bool {
-    let (input, mut to) = io::pipe().expect("a pipe");
-    let (mut from, output) = io::pipe().expect("a pipe");
+    let (input, mut to) = pipe();
+    let (mut from, output) = pipe();
     let messages = traffic::input(5, 1);
     let expected = (program.serve)(&messages);
     let child = start(program, input, output, as_usual);
@@ -268,7 +279,7 @@ fn cut_in_a_message(program: &Program) -> bool {
 }
 
 pub fn main(words: &[String]) {
-    let [_, station, report] = &words[..] else { panic!("usage: streams STATION REPORT") };
+    let [_, station, report] = words else { panic!("usage: streams STATION REPORT") };
     thread::spawn(|| {
         sleep(Duration::from_secs(120));
         eprintln!("streams: a case doesn't end");

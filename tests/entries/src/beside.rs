@@ -70,7 +70,7 @@ fn told(what: &str, [all, all_once]: [usize; 2], [lift, lift_once]: [usize; 2]) 
 }
 
 pub fn main(words: &[String]) {
-    let [_, records, page] = &words[..] else { panic!("usage: beside RECORDS PAGE") };
+    let [_, records, page] = words else { panic!("usage: beside RECORDS PAGE") };
     let known = instructions();
     let (mut pairs, mut overlapping, mut with_lift) = (0, [0; 2], [0; 2]);
     for (at, first) in known.iter().enumerate() {

@@ -226,7 +226,7 @@ fn commands(count: usize, limit: u32, program: &[String], seen: &mut [BTreeSet<u
 }
 
 pub fn main(words: &[String]) {
-    let [_, calls, count, limit, program @ ..] = &words[..] else { panic!("usage: desk CALLS COMMANDS STACK PROGRAM..") };
+    let [_, calls, count, limit, program @ ..] = words else { panic!("usage: desk CALLS COMMANDS STACK PROGRAM..") };
     let number = |word: &String| word.parse().expect("a number");
     let mut seen = vec![BTreeSet::new(); ENTRIES.len()];
     commands(number(count), number(limit) as u32, program, &mut seen);

@@ -355,7 +355,7 @@ fn cut_anywhere(run: &mut Run) {
 }
 
 pub fn main(words: &[String]) {
-    let [_, program, records, share, stack, host @ ..] = &words[..] else { panic!("usage: drawings PROGRAM RECORDS SHARE STACK HOST..") };
+    let [_, program, records, share, stack, host @ ..] = words else { panic!("usage: drawings PROGRAM RECORDS SHARE STACK HOST..") };
     let number = |word: &str| word.parse::<u32>().expect("a number");
     let mut run = Run::new(number(share).into());
     let mut inputs = examples(&mut run);

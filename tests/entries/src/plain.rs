@@ -205,7 +205,7 @@ fn beside(run: &mut Run, calls: usize) {
 }
 
 pub fn main(words: &[String]) {
-    let [_, messages, calls, records] = &words[..] else { panic!("usage: plain MESSAGES CALLS RECORDS") };
+    let [_, messages, calls, records] = words else { panic!("usage: plain MESSAGES CALLS RECORDS") };
     let number = |word: &String| word.parse::<usize>().expect("a number");
     let (mut run, input) = (Run::new(), traffic::input(0, number(messages)));
     // the wrong references are found out by the first two, and then no longer asked

@@ -157,7 +157,7 @@ impl Run {
 }
 
 pub fn main(words: &[String]) {
-    let [_, program, plans, share, stack, host @ ..] = &words[..] else { panic!("usage: plans PROGRAM PLANS SHARE STACK HOST..") };
+    let [_, program, plans, share, stack, host @ ..] = words else { panic!("usage: plans PROGRAM PLANS SHARE STACK HOST..") };
     let number = |word: &str| word.parse::<u32>().expect("a number");
     let mut run = Run { unfound: all_of("plan").collect(), ..Run::default() };
     let (mut kept, mut to_program) = (Vec::new(), Vec::new());

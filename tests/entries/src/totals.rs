@@ -237,7 +237,7 @@ fn as_the_program(program: &str) {
 }
 
 pub fn main(words: &[String]) {
-    let [_, program, messages] = &words[..] else { panic!("usage: totals PROGRAM MESSAGES") };
+    let [_, program, messages] = words else { panic!("usage: totals PROGRAM MESSAGES") };
     let messages: usize = messages.parse().expect("a number");
     let mut numbers = Numbers(1905);
     starts(&mut numbers);

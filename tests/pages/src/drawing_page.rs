@@ -38,7 +38,7 @@ fn examples(program: &str, page: &str) -> [usize; 3] {
 }
 
 pub fn main(given: &[String]) {
-    let [_, program, pages @ ..] = &given[..] else { panic!("usage: drawing_page PROGRAM PAGE..") };
+    let [_, program, pages @ ..] = given else { panic!("usage: drawing_page PROGRAM PAGE..") };
     let all: Vec<_> = pages.iter().map(|page| examples(program, page)).collect();
     let [both_ways, refused, wrong] = [0, 1, 2].map(|which| all.iter().map(|counts| counts[which]).sum::<usize>());
     println!("drawing_page: {both_ways} drawings of {pages:?} both ways, {refused} refusals, {wrong} wrong");

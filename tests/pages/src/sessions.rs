@@ -35,7 +35,7 @@ fn all_answers(program: &str, inputs: &[Vec<u8>]) -> Vec<u8> {
 }
 
 pub fn main(words: &[String]) {
-    let [_, program, page] = &words[..] else { panic!("usage: sessions PROGRAM PAGE") };
+    let [_, program, page] = words else { panic!("usage: sessions PROGRAM PAGE") };
     let text = std::fs::read_to_string(page).expect("the page is there");
     let mut all: Vec<(usize, Vec<Vec<u8>>, Vec<u8>)> = Vec::new();
     for (at, mark, block) in blocks(&text, &["session", "session on", "report"]) {

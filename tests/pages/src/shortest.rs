@@ -30,7 +30,7 @@ fn sets(moves: &[(Instruction, Parts)], made: usize, taken: Parts, image: u64, f
 }
 
 pub fn main(given: &[String]) {
-    let [_, plan_text, plan] = &given[..] else { panic!("usage: shortest PLAN_TEXT PLAN") };
+    let [_, plan_text, plan] = given else { panic!("usage: shortest PLAN_TEXT PLAN") };
     let bytes = planned(plan_text, &std::fs::read_to_string(plan).expect("the plan"));
     let start = u64::from_le_bytes(bytes[..8].try_into().expect("a record"));
 

@@ -22,7 +22,7 @@ fn instructions(plan: &str) -> impl Iterator<Item = &str> {
 }
 
 pub fn main(given: &[String]) {
-    let [_, draw, plan_text, plan, page] = &given[..] else { panic!("usage: steps DRAW PLAN_TEXT PLAN PAGE") };
+    let [_, draw, plan_text, plan, page] = given else { panic!("usage: steps DRAW PLAN_TEXT PLAN PAGE") };
     let (plan, text) = (read_to_string(plan).expect("the plan"), read_to_string(page).expect("the page"));
     let planned = planned::planned(plan_text, &plan);
     let (mut image, mut first, mut sets, mut drawings) = (Vec::new(), None, Vec::<u8>::new(), 0);

@@ -52,7 +52,7 @@ impl Parts {
         if number >> LIFT_AT > 1 {
             return Err(number);
         }
-        let (cells, slots) = (number % (1 << SLOTS_AT), number % (1 << LIFT_AT) >> SLOTS_AT);
+        let (cells, slots) = (number % (1 << SLOTS_AT), (number % (1 << LIFT_AT)) >> SLOTS_AT);
         Ok(Parts { cells, slots: slots as u16, lift: number >> LIFT_AT == 1 })
     }
 }

@@ -17,6 +17,12 @@ pub struct SoundRecords {
     uppers: Vec<u64>,
 }
 
+impl Default for SoundRecords {
+    fn default() -> Self {
+        SoundRecords::new()
+    }
+}
+
 impl SoundRecords {
     pub fn new() -> Self {
         let rows = (0..1 << 20).filter(|row| sound(row | 0b111_111 << 40 | 2 << 53)).collect();

@@ -14,6 +14,7 @@ const OTHER_ROWS: u64 = ROW_1 << 20;
 pub struct Numbers(pub u64);
 
 impl Numbers {
+    #[allow(clippy::should_implement_trait)] // there is always a next one
     pub fn next(&mut self) -> u64 {
         self.0 = self.0.wrapping_add(0x9E37_79B9_7F4A_7C15);
         let mut z = self.0;

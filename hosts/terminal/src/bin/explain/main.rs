@@ -53,7 +53,7 @@ fn given(mut words: impl Iterator<Item = String>) -> Option<Given> {
         }
     }
     // a list of cards is that of a record's cars, and digits are all of the input
-    let fits = (given.cards.is_none() || given.from.is_some()) && !(given.hex && !given.digits.is_empty());
+    let fits = (given.cards.is_none() || given.from.is_some()) && (!given.hex || given.digits.is_empty());
     fits.then_some(given)
 }
 
