@@ -153,7 +153,7 @@ def as_a_module(page, _):
         version = re.findall(r"STATION_VERSION_(?:FIRST|SECOND|THIRD) (\d+)", (ROOT / "include/station.h").read_text())
         same(page.run("return window.told"), f"{'.'.join(version)}: 31 (out of turn)", "a planner in a browser")
         server.shutdown()
-    page.log("browser") # the browser asks for an icon, which is not there
+    page.log("browser")  # the browser asks for an icon, which is not there
 
 
 def still_quiet(page, url):
