@@ -61,7 +61,8 @@ export class JournalBytes {
   /** Of a garage by its name, from a station's 60 bytes. */
   constructor(name, version, station) {
     const named = new Uint8Array(STATION_AT - NAME_AT), own = new TextEncoder().encode(name);
-    if (!own.length || own.length > named.length) throw new RangeError(`a garage's name has 1 to ${named.length} bytes`);
+    const letters = own.every((byte) => (byte >= 33 && byte <= 126) || byte >= 128);
+    if (!own.length || own.length > named.length || !letters) throw new RangeError(`a garage's name has 1 to ${named.length} bytes, and no space`);
     named.set(own);
     const head = joined(MAGIC, Uint8Array.of(FORMAT), littleEndian((version[0] << 16) | (version[1] << 8) | version[2], 3), named, station);
     this.sum = checksum(0, head);

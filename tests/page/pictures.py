@@ -5,7 +5,8 @@ import tempfile
 from pathlib import Path
 
 from browser import Browser
-from checks import opened, send
+from checks import send
+from logs import opened
 
 REST = "await new Promise((resolve) => setTimeout(resolve, 1200)); document.activeElement?.blur(); scrollTo(0, 0)"
 

@@ -1,26 +1,25 @@
 """Tries the page in a real browser: every check on the page as it is, then each wrong page, which its check must find out. `try.py PAGE`, and
 names of checks for these alone."""
 
-import os
 import sys
 import tempfile
 import time
 from pathlib import Path
 
 import checks
+import logs
 import looks
 from browser import Browser, Failed
 from wrong import WRONG, wrong_page
 
-ALL = [checks.parks_by_clicks, checks.fetches_by_keys, checks.jam_and_image, checks.refusals_are_told, checks.two_orders, checks.motors_play, checks.night_log,
-       checks.journal, checks.random_messages, checks.bad_files, checks.garage_drawn, checks.plan_judged, looks.contrast_and_labels, looks.on_a_phone,
-       looks.on_paper, looks.as_a_module, looks.still_quiet, looks.nothing_leaves]
+ALL = [checks.parks_by_clicks, checks.fetches_by_keys, checks.jam_and_image, checks.refusals_are_told, checks.two_orders, checks.motors_play, checks.garage_drawn,
+       checks.plan_judged, checks.station_link, logs.night_log, logs.journal, logs.random_messages, logs.bad_files, logs.headed_journal, logs.cards_in_a_log,
+       logs.begins_elsewhere, logs.a_step, looks.contrast_and_labels, looks.on_a_phone, looks.on_paper, looks.as_a_module, looks.still_quiet, looks.nothing_leaves]
 
 
 def main(path, names):
     failed, tried, found_out = [], 0, 0
     with tempfile.TemporaryDirectory() as folder, Browser(folder) as page:
-        page.slowness = float(os.environ.get("PAGE_SLOWNESS", "4")) # a machine that does other things meanwhile is slower
         for check in ALL:
             if names and check.__name__ not in names:
                 continue

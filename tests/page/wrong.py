@@ -5,6 +5,7 @@ import hashlib
 import re
 
 import checks
+import logs
 import looks
 
 WRONG = [
@@ -20,13 +21,21 @@ WRONG = [
     ("overlap is not told", checks.refusals_are_told, "const at = this.chosen.findIndex((five) => !library.overlap(five, draft).taken);", "const at = -1;"),
     ("a stuck result is sent as failed", checks.jam_and_image, "this.send(resultOf(issue, at, outcome), (desk) => desk.result(issue, at, outcome));", "this.send(resultOf(issue, at, outcome % 2), (desk) => desk.result(issue, at, outcome % 2));"),
     ("the two orders are one", checks.two_orders, "second = new Seeded(seed + other).shuffled(first);", "second = [...first]; break;"),
-    ("a rejection is not counted", checks.journal, "if (number !== Numbers.Taken) this.refused.push(at);", "if (number > 1 && number !== 12) this.refused.push(at);"),
-    ("a log's own answer is not held against the station's", checks.night_log, "if (!counted) this.compare();", ""),
-    ("a total is another's", checks.journal, "html('tr', { 'data-total': name }", "html('tr', { 'data-total': name.replace('done-1', 'done-2') }"),
+    ("a rejection is not counted", logs.journal, "if (number !== Numbers.Taken) refused.push(at);", "if (number > 1 && number !== 12) refused.push(at);"),
+    ("a log's own answer is not held against the station's", logs.night_log, "    this.compare();\n", ""),
+    ("a total is another's", logs.journal, "html('tr', { 'data-total': name }", "html('tr', { 'data-total': name.replace('done-1', 'done-2') }"),
     ("half a car is sound", checks.garage_drawn, "const { library, record } = this, sound = library.sound(record),", "const { library, record } = this, sound = true,"),
     ("the set at fault is another", checks.plan_judged, "set ${fault} (line", "set ${fault - 1} (line"),
     ("the floor can't be reached by keys", checks.fetches_by_keys, "first.setAttribute('tabindex', '0');", ""),
-    ("a damaged file is taken for whole", checks.bad_files, "if (end <= 0) {\n      note = end === 0", "if (end <= 0) {\n      break;\n      note = end === 0"),
+    ("a damaged file is taken for whole", logs.bad_files, "if (end <= 0) {\n      note = end === 0", "if (end <= 0) {\n      break;\n      note = end === 0"),
+    ("a checksum of an append is not looked at", logs.bad_files, "whole = titled && !short && fourAt(bytes, end - CLOSING) === next &&", "whole = titled && !short &&"),
+    ("a journal begins at the start always", logs.headed_journal, "this.start = file.start ?? library.station().bytes;", "this.start = library.station().bytes;"),
+    ("a session's end is not counted", logs.headed_journal, "whole.countRest(ended.shift().bytes);", "ended.shift();"),
+    ("a card is its neighbour's", logs.cards_in_a_log, "?.[(number - 1) % EACH] ?? null", "?.[number % EACH] ?? null"),
+    ("a last known place is told as sure", logs.cards_in_a_log, "desk.where(number).lastKnown) lastKnown.add(", "!desk.where(number).lastKnown) lastKnown.add("),
+    ("an image to begin on sets nothing apart", logs.begins_elsewhere, "station.bytes.set(bytesOf(apart), APART_AT);", ""),
+    ("a link has lost the set", checks.station_link, "digits(desk.bytes.subarray(0, Size.STATION_SIZE))", "digits(desk.bytes.slice(0, Size.STATION_SIZE).fill(0, 8, 50))"),
+    ("stations are kept too far apart", logs.a_step, "const EVERY = 256;", "const EVERY = 1 << 20;"),
     ("a field has no name", looks.contrast_and_labels, "html('label', { for: 'words' }, 'In words'),", ""),
     ("an error is thrown", looks.still_quiet, "byId('version').textContent =", "setTimeout(() => { throw new Error('lost'); });\n  byId('version').textContent ="),
 ]

@@ -201,8 +201,7 @@ test('heads that are none are told apart', () => {
   assert.match(told(of((bytes) => { bytes[64] = 1; })), /^is a journal that begins with a station which can't be/);
   assert.match(told(Uint8Array.from(good, (byte, at) => (at === 30 ? byte ^ 1 : byte))), /^is a journal whose head is damaged: the checksum at byte 124/);
   assert.ok(isJournal(good) && !isJournal(askOf()) && !isJournal(new Uint8Array(0)));
-  assert.throws(() => new JournalBytes('', [1, 0, 0], garage.station().bytes), RangeError);
-  assert.throws(() => new JournalBytes('x'.repeat(41), [1, 0, 0], garage.station().bytes), RangeError);
+  for (const name of ['', 'x'.repeat(41), 'two words']) assert.throws(() => new JournalBytes(name, [1, 0, 0], garage.station().bytes), RangeError);
   assert.equal(told(Uint8Array.from(headOf(garage.station().bytes, 'x'.repeat(40)))), 'x'.repeat(40));
 });
 
