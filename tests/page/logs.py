@@ -272,6 +272,7 @@ def begins_elsewhere(page, url):
 
 STEPS = 60
 STEP_MOST = 50 # milliseconds
+OPEN_MOST = 90 # seconds, on a machine that does other things meanwhile
 
 
 def steps(page, count):
@@ -296,7 +297,11 @@ def at_most(times, part):
 def a_step(page, url):
     """Any message of four million is shown within 50 ms. What is held against that is the processor's time, which a loaded machine hardly
     changes: half of the steps take half of it, and 95 in a hundred less than all of it."""
-    opened(page, url, "headed-4000000")
+    patience, page.patience = page.patience, OPEN_MOST # a wrong page is found out by its steps, not by how long the log takes to open
+    try:
+        opened(page, url, "headed-4000000")
+    finally:
+        page.patience = patience
     processor, clock = steps(page, 4000000)
     print(f"a step of four million: {statistics.median(processor):.1f} ms of the processor, {at_most(processor, 95):.1f} for 95 in 100, {max(processor):.1f} at most; "
           f"by the clock {statistics.median(clock):.0f} and {max(clock):.0f}")
