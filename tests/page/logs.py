@@ -275,16 +275,21 @@ STEP_MOST = 50 # milliseconds
 OPEN_MOST = 90 # seconds, on a machine that does other things meanwhile
 
 
+def timed_step(page, count, step):
+    """A step to some message of an open log of so many: the milliseconds by the clock up to the frame that shows it."""
+    return page.run("""
+        const { views } = await window.garage, begun = performance.now();
+        views.log.go(given[0]);
+        return new Promise((resolve) => requestAnimationFrame(() => setTimeout(() => resolve(performance.now() - begun))));""", int(count * (step * 0.618034 % 1)))
+
+
 def steps(page, count):
-    """Steps to messages all over an open log of so many: for each the milliseconds of the processor that the page's own thread took, up to
-    the frame that shows it, and the milliseconds by the clock."""
+    """Steps all over an open log of so many messages: for each the milliseconds of the processor that the page's own thread took, up to the
+    frame that shows it, and those by the clock."""
     processor, clock = [], []
     for step in range(1, STEPS + 1):
         before = page.thread_time()
-        clock.append(page.run("""
-            const { views } = await window.garage, begun = performance.now();
-            views.log.go(given[0]);
-            return new Promise((resolve) => requestAnimationFrame(() => setTimeout(() => resolve(performance.now() - begun))));""", int(count * (step * 0.618034 % 1))))
+        clock.append(timed_step(page, count, step))
         processor.append(page.thread_time() - before)
     return processor, clock
 
@@ -307,3 +312,10 @@ def a_step(page, url):
           f"by the clock {statistics.median(clock):.0f} and {max(clock):.0f}")
     assert statistics.median(processor) < STEP_MOST / 2, f"half of the steps take more than {statistics.median(processor):.0f} ms"
     assert at_most(processor, 95) < STEP_MOST, f"5 steps in 100 take more than {at_most(processor, 95):.0f} ms"
+
+
+def by_the_clock(page, url):
+    """The same where the processor's time can't be had: only told."""
+    opened(page, url, "headed-4000000")
+    took, clock = page.run("return (await window.garage).views.log.took"), [timed_step(page, 4000000, step) for step in range(1, STEPS + 1)]
+    print(f"four million messages: open in {took:.0f} ms; a step by the clock {statistics.median(clock):.0f} ms, {at_most(clock, 95):.0f} for 95 in 100, {max(clock):.0f} at most")

@@ -22,7 +22,7 @@ function busy(seed, count) {
   while (found.length < count) {
     const { set, issue, record, apart } = station, waiting = set.map((held, at) => ({ ...held, at })).filter(({ answered }) => !answered);
     if (waiting.length) send(resultOf(issue, waiting[0].at, seeded.oneIn(30) ? Outcome.Stuck : seeded.oneIn(8) ? Outcome.Failed : Outcome.Done));
-    else if (apart && seeded.oneIn(12)) send(imageOf(record));
+    else if ((apart && seeded.oneIn(12)) || ((record >> 55n) & 1n && seeded.oneIn(4))) send(imageOf(record));
     else if ((record >> 55n) & 3n) send(eventOf(seeded.oneIn(5) ? Event.EndNotDone : Event.EndDone));
     else if (seeded.oneIn(3)) send(eventOf(seeded.oneIn(2) ? Event.BeginIn : Event.BeginOut));
     else send(requestOf(allowedSet(seeded, garage, record, apart, 1 + seeded.below(2))));
