@@ -213,7 +213,7 @@ def cards_in_a_log(page, url):
     page.click("#tab-log")
     pasted(page, session, "The pasted log: 8 messages, 1 rejection.")
     settled(page, {"cars": [["", "7 8"], ["7001", "11 12"], ["12", "24"]], "hatched": [*range(2, 13), 52]}, "its cards", "#log-floor")
-    assert "card 7001 at cells 11 and 12, its last known place; card 12 at cell 24." in page.text("#log-summary"), page.text("#log-summary")
+    assert "Card 7001 at cells 11 and 12, its last known place; card 12 at cell 24." in page.text("#log-summary"), page.text("#log-summary")
     same(page.run("return [...document.querySelectorAll('#log-floor .unsure text')].map((one) => one.textContent)"), ["", "7001"], "cars at their last known place")
     page.run("const { views } = await window.garage; views.log.go(2)")
     assert "driving in, card 7001" in page.text("#log-floor"), page.text("#log-floor")
@@ -233,7 +233,7 @@ def cards_in_a_log(page, url):
         page.until(f"return document.querySelector('#log-message form .told').textContent.includes({json.dumps(told)})", told)
     page.fill("#cards", "- 31")
     page.click("#tell-cards")
-    page.until("return document.getElementById('log-summary').textContent.includes('card 31 at cell 24')", "the cards of an image")
+    page.until("return document.getElementById('log-summary').textContent.includes('Card 31 at cell 24')", "the cards of an image")
     page.run("const { views } = await window.garage; views.log.go(8)")
     settled(page, {"cars": [["", "7 8"], ["8008", "11 12"], ["31", "24"]]}, "cards told by hand", "#log-floor")
 
@@ -258,7 +258,7 @@ def begins_elsewhere(page, url):
     pasted(page, "> 08 00 01 00 01 04 02 00 00 00\n" + belts, "The pasted log: 2 messages, 1 rejection, from the image given on.")
     assert "6: a set is outstanding" in page.text("#log-message"), page.text("#log-message")
     found = settled(page, {"hatched": [9, 10]}, "what is set apart", "#log-floor")
-    assert "card 77 at cells 9 and 10, its last known place" in found["label"], found
+    assert "Card 77 at cells 9 and 10, its last known place" in found["label"], found
     page.run("const { views } = await window.garage; views.log.go(1)")
     assert "0: taken, set 9" in page.text("#log-message"), page.text("#log-message")
     page.fill("#start-cards", "")

@@ -26,6 +26,6 @@ export function linkedIn(library, hash) {
   const [, station, cards = ''] = hash.match(/^#station=([0-9a-fA-F]*)(?:&cards=([0-9,]*))?$/) ?? [];
   if (station === undefined) return {};
   const bytes = bytesIn(station), numbers = cards.split(',').filter(Boolean).map(Number);
-  const fits = bytes?.length === Size.STATION_SIZE && numbers.every((card) => card > 0 && card < 2 ** 32);
+  const fits = bytes?.length === Size.STATION_SIZE && numbers.every((card) => card < 2 ** 32);
   return { desk: fits ? library.deskWith(bytes, numbers) : null };
 }

@@ -138,7 +138,7 @@ export class LogView {
     const before = log.stationAt(Math.max(0, count - 1)), station = before.copy();
     const answered = count ? station.message(log.message(count - 1)) : null;
     const { record, apart, set } = station, floor = { library, record, apart, ...log.cardsAt(count), mode: 'still', motion: waitingIn(set) };
-    const known = knownCars(floor), words = `${summary(floor)}${known ? `. ${known}` : ''}`;
+    const known = knownCars(floor), words = `${summary(floor)}${known && `. ${known[0].toUpperCase()}${known.slice(1)}`}`;
     drawFloor(byId('log-floor'), { ...floor, label: `The floor after message ${count}: ${words}` });
     byId('log-summary').textContent = `After message ${count.toLocaleString('en')} of ${log.count.toLocaleString('en')}: ${words}.`;
     this.showMessage(count - 1, before, answered);
