@@ -217,6 +217,7 @@ def cards_in_a_log(page, url):
     same(page.run("return [...document.querySelectorAll('#log-floor .unsure text')].map((one) => one.textContent)"), ["", "7001"], "cars at their last known place")
     page.run("const { views } = await window.garage; views.log.go(2)")
     assert "driving in, card 7001" in page.text("#log-floor"), page.text("#log-floor")
+    assert "; card 7001 is driving in." in page.text("#log-summary"), page.text("#log-summary")
     part = page.run("return (await window.garage).views.log.log.hexadecimal(0, 8)").splitlines()
     same([line for line in part if line[0] == "c"], ["cards - 12", "card 7001"], "the cards of an export")
     messages = "\n".join(line for line in session.splitlines() if line[0] == ">")

@@ -75,8 +75,11 @@ export function floorWords(floor, [first, last]) {
   return `${words.length ? words.join(', ') : 'free'}${aside ? ', set apart' : ''}`;
 }
 
-/** The cars whose cards are known, in words. */
-export const knownCars = (floor) => carsOf(floor).filter(({ card }) => card).map(carWords).join('; ');
+/** The cars whose cards are known, in words: those in the garage, and one that is driving in. */
+export function knownCars(floor) {
+  const coming = floor.cards?.get(Size.DESK_AT_DRIVE);
+  return [...carsOf(floor).filter(({ card }) => card).map(carWords), ...(coming ? [`card ${coming} is driving in`] : [])].join('; ');
+}
 
 /** A floor in one sentence or a few. */
 export function summary(floor) {
