@@ -2,25 +2,24 @@
 `try.py PAGE WRONG`, and names of checks for these alone. The folder WRONG has pages NAME.html, and a `list` with a line for each: its name,
 the check that must find it out, and what is wrong with it."""
 
-import os
 import sys
 import tempfile
 import time
 from pathlib import Path
 
 import checks
+import logs
 import looks
 from browser import Browser, Failed
 
-ALL = [checks.parks_by_clicks, checks.fetches_by_keys, checks.jam_and_image, checks.refusals_are_told, checks.two_orders, checks.motors_play, checks.night_log,
-       checks.journal, checks.random_messages, checks.bad_files, checks.garage_drawn, checks.plan_judged, looks.contrast_and_labels, looks.on_a_phone,
-       looks.on_paper, looks.as_a_module, looks.still_quiet, looks.nothing_leaves]
+ALL = [checks.parks_by_clicks, checks.fetches_by_keys, checks.jam_and_image, checks.refusals_are_told, checks.two_orders, checks.motors_play, checks.garage_drawn,
+       checks.plan_judged, checks.station_link, logs.night_log, logs.journal, logs.random_messages, logs.bad_files, logs.headed_journal, logs.cards_in_a_log,
+       logs.begins_elsewhere, logs.a_step, looks.contrast_and_labels, looks.on_a_phone, looks.on_paper, looks.as_a_module, looks.still_quiet, looks.nothing_leaves]
 
 
 def main(path, wrong, names):
     failed, tried, found_out = [], 0, 0
     with tempfile.TemporaryDirectory() as folder, Browser(folder) as page:
-        page.slowness = float(os.environ.get("PAGE_SLOWNESS", "4"))  # a machine that does other things meanwhile is slower
         for check in ALL:
             if names and check.__name__ not in names:
                 continue
