@@ -37,7 +37,11 @@ impl Bench {
         command
     }
 
-    fn without(&self) { if Path::new(&self.journal).exists() { fs::remove_file(&self.journal).expect("it goes"); } }
+    fn without(&self) {
+        if Path::new(&self.journal).exists() {
+            fs::remove_file(&self.journal).expect("it goes");
+        }
+    }
 
     /// All of the input at once.
     fn bulk(&self, words: &[&str]) -> f64 {
@@ -48,7 +52,9 @@ impl Bench {
         })
     }
 
-    fn started(&self, words: &[&str]) -> Child { self.command(words).stdin(Stdio::piped()).stdout(Stdio::piped()).spawn().expect("it starts") }
+    fn started(&self, words: &[&str]) -> Child {
+        self.command(words).stdin(Stdio::piped()).stdout(Stdio::piped()).spawn().expect("it starts")
+    }
 
     /// So many messages, each sent when the one before is answered; the time of one.
     fn one_by_one(&self, words: &[&str], count: usize) -> f64 {
@@ -84,7 +90,9 @@ impl Bench {
 fn least<const N: usize>(runs: [&dyn Fn() -> f64; N]) -> [f64; N] {
     let mut best = [f64::INFINITY; N];
     for _ in 0..RUNS {
-        for (best, run) in best.iter_mut().zip(&runs) { *best = best.min(run()); }
+        for (best, run) in best.iter_mut().zip(&runs) {
+            *best = best.min(run());
+        }
     }
     best
 }
@@ -97,9 +105,19 @@ fn main() {
     let (count, new) = (messages(&bench.bytes).count() as f64, ["--new", &bench.journal]);
 
     let [without, with] = least([&|| bench.bulk(&[]), &|| bench.bulk(&new)]);
-    println!("in bulk:    without a journal {:>9.0} messages/s, with one {:>9.0}, {:.2} times the time", count / without, count / with, with / without);
+    println!(
+        "in bulk:    without a journal {:>9.0} messages/s, with one {:>9.0}, {:.2} times the time",
+        count / without,
+        count / with,
+        with / without
+    );
     let [without, with, disk] = least([&|| bench.one_by_one(&[], QUICK), &|| bench.one_by_one(&new, SLOW), &|| bench.disk()]);
-    println!("one by one: without a journal {:>9.0} messages/s, with one {:>9.0}; the disk alone {:>9.0} appends/s", 1.0 / without, 1.0 / with, 1.0 / disk);
+    println!(
+        "one by one: without a journal {:>9.0} messages/s, with one {:>9.0}; the disk alone {:>9.0} appends/s",
+        1.0 / without,
+        1.0 / with,
+        1.0 / disk
+    );
 
     fs::copy(input, &bench.journal).and_then(|_| File::open(&bench.journal)?.sync_all()).expect("a long journal");
     let [with, without] = least([&|| bench.first_answer(&[&bench.journal]), &|| bench.first_answer(&[])]);
