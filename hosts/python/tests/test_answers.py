@@ -1,4 +1,4 @@
-"""The table of numbers against the headers and the words of tests/host; every number that can come, and what a refusal leaves."""
+"""The table of numbers against the headers and the words of the crate for Rust; every number that can come, and what a refusal leaves."""
 
 import re
 import unittest
