@@ -11,6 +11,7 @@ use shared::reference::{drive_under_way, serve_on, Parts, Station};
 use std::fs::{self, File, OpenOptions};
 use std::io::{self, Read as _, Seek, SeekFrom, Write};
 use std::os::fd::AsRawFd;
+use std::os::unix::fs::FileTypeExt;
 use std::path::{Path, PathBuf};
 use std::thread::sleep;
 use std::time::Duration;
@@ -37,15 +38,15 @@ fn made(fault: &Fault, path: &str, name: &str) {
     if fault.is("makes_over") { options.create(true).truncate(true) } else { options.create_new(true) };
     let mut file = fault.done(options.open(path), "the journal can't be made");
     if !fault.is("makes_no_head") { fault.done(file.write_all(&Written::begun(name.as_bytes(), &Station::start()).bytes), "the journal can't be written"); }
-    if !fault.is("heads_unsynced") { fault.done(file.sync_all(), "the journal can't be synced"); }
+    fault.done(file.sync_all(), "the journal can't be synced");
     if !fault.is("leaves_the_name") { synced_folder(fault, path); }
 }
 
 /// The bytes of a file; a device has no end.
-fn bytes_of(fault: &Fault, path: &str, mut file: &File) -> Vec<u8> {
+fn bytes_of(fault: &Fault, mut file: &File) -> Vec<u8> {
     fault.done(file.rewind(), "the journal is no plain file");
     let mut bytes = Vec::new();
-    let most = if path.starts_with("/dev/") { 4096 } else { u64::MAX };
+    let most = if file.metadata().is_ok_and(|file| file.file_type().is_char_device()) { 4096 } else { u64::MAX };
     fault.done(file.take(most).read_to_end(&mut bytes), "the journal can't be read");
     bytes
 }
@@ -108,7 +109,7 @@ fn named(fault: &Fault, read: &Read, garage: Option<&str>) {
 fn opened(fault: &Fault, path: &str, garage: Option<&str>) -> (Station, Journal) {
     if fault.is("makes_what_is_missing") && !Path::new(path).exists() { made(fault, path, garage.unwrap_or("none")); }
     let file = fault.done(OpenOptions::new().read(true).append(true).open(path), "the journal can't be opened");
-    let bytes = bytes_of(fault, path, &file);
+    let bytes = bytes_of(fault, &file);
     let read = judged(fault, &bytes);
     // what a wrong station takes for a journal is one from then on
     let taken = mended(fault, &bytes);
@@ -207,7 +208,7 @@ fn follow(fault: &Fault, old: &str, new: &str, garage: Option<&str>) {
     let part = format!("{new}.part");
     if Path::new(new).exists() { fault.stops(1, "the new journal is there already"); }
     let mut file = fault.done(OpenOptions::new().read(true).append(true).open(old), "the journal can't be opened");
-    let bytes = bytes_of(fault, old, &file);
+    let bytes = bytes_of(fault, &file);
     let bare = read(&bytes).is_err_and(|why| why == Rejected::NoJournal) && !bytes.is_empty();
     let read = if bare {
         let Some(name) = garage else { fault.stops(1, "the journal has no name: say --garage NAME") };
@@ -275,7 +276,7 @@ fn main() {
         ["--follow", old, new, "--garage", garage] if is_name(old) && is_name(new) && is_garage(garage) => follow(&fault, old, new, Some(garage)),
         ["--recorded", path] if is_name(path) => {
             let file = fault.done(File::open(path), "the journal can't be opened");
-            let read = judged(&fault, &bytes_of(&fault, path, &file));
+            let read = judged(&fault, &bytes_of(&fault, &file));
             fault.done(io::stdout().write_all(&read.recorded()), "standard output");
         }
         _ => fault.stops(2, "usage: station, station FILE, station --new FILE --garage NAME or others"),

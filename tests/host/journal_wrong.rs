@@ -6,7 +6,7 @@ use std::io;
 use std::process::exit;
 
 /// Each fault with the run that finds it out, and what the station then does.
-const FAULTS: [(&str, &str, &str); 57] = [
+const FAULTS: [(&str, &str, &str); 56] = [
     ("power_cuts", "answers_first", "it answers before it appends"),
     ("power_cuts", "appends_late", "it appends what it was sent when the next messages come"),
     ("power_cuts", "never_appends", "it appends nothing"),
@@ -54,7 +54,6 @@ const FAULTS: [(&str, &str, &str); 57] = [
     ("journal_damage", "cuts_off_damage", "it cuts off what is damaged"),
     ("journal_damage", "up_to_the_damage", "it goes on with what stands before the damage"),
     ("journal_damage", "empty_if_damaged", "from a damaged journal it falls back to the empty garage"),
-    ("journal_power", "heads_unsynced", "it does not wait until a new journal's head is on the disk"),
     ("journal_power", "keeps_late", "it cuts bytes off before they are kept"),
     ("journal_power", "keeps_unsynced", "it does not wait until the bytes that it cuts off are on the disk"),
     ("journal_power", "keeps_unnamed", "it does not wait until the name is on the disk under which they are kept"),
@@ -115,7 +114,7 @@ fn summed(bytes: &[u8], titles: bool) -> Vec<u8> {
     bytes
 }
 
-/// The appends of some bytes as far as their lengths lead.
+/// The appends of some bytes as far as their lengths lead, and what is left.
 fn appends(bytes: &[u8]) -> Vec<&[u8]> {
     let (mut rest, mut all) = (&bytes[HEAD..], Vec::new());
     while rest.len() >= AROUND {
@@ -124,6 +123,7 @@ fn appends(bytes: &[u8]) -> Vec<&[u8]> {
         all.push(append);
         rest = behind;
     }
+    all.push(rest);
     all
 }
 
