@@ -5,6 +5,7 @@ mod explain_entries;
 mod explain_floor;
 mod explain_follow;
 mod explain_input;
+mod explain_journal;
 mod explain_message;
 mod explain_sound;
 mod explain_text;
@@ -20,6 +21,7 @@ mod words;
 
 use explain_follow::{named_cars, Cards, Follower};
 use explain_input::{bytes_in, cards, Bytes, Hex, Item, Placed};
+use explain_journal::{is_journal, Journal};
 use explain_message::two_numbers;
 use explain_text::{Explainer, Said, Shows};
 use std::io::{self, Write};
@@ -101,6 +103,18 @@ fn explained(mut next: impl FnMut() -> Read, mut explainer: Explainer, out: &mut
     Ok(right)
 }
 
+/// A journal, which begins with its own station, or other recorded bytes.
+fn recorded(from: bool, follower: Follower, explainer: impl Fn(Follower) -> Explainer, out: &mut impl Write) -> Result<bool, Wrong> {
+    let mut input = io::BufReader::new(io::stdin().lock());
+    if !is_journal(&mut input)? {
+        let mut input = Bytes::recorded(input);
+        return explained(|| input.next(), explainer(follower), out);
+    }
+    if from { return Err("--from: a journal has its own beginning".to_string()); }
+    let (mut journal, station) = Journal::opened(input)?;
+    explained(|| journal.next(), explainer(Follower::from_station(&station)), out)
+}
+
 fn main() -> ExitCode {
     let told = |why: &str, status: u8| {
         eprintln!("explain: {why}");
@@ -111,17 +125,16 @@ fn main() -> ExitCode {
     let Some(given) = given(words.into_iter()) else { return told(USAGE, 2) };
     let follower = match begin(&given) { Ok(follower) => follower, Err(why) => return told(&why, 2) };
     let both_ways = given.hex || !given.digits.is_empty();
-    let explainer = Explainer::new(follower, given.shows, both_ways);
+    let explainer = |follower| Explainer::new(follower, given.shows, both_ways);
     let out = &mut io::BufWriter::new(io::stdout().lock());
     let done = if !given.digits.is_empty() {
         let mut input = Bytes::mixed(io::Cursor::new(&given.digits));
-        explained(|| input.next(), explainer, out)
+        explained(|| input.next(), explainer(follower), out)
     } else if given.hex {
         let mut input = Hex::new(io::stdin().lock());
-        explained(|| input.next(), explainer, out)
+        explained(|| input.next(), explainer(follower), out)
     } else {
-        let mut input = Bytes::recorded(io::BufReader::new(io::stdin().lock()));
-        explained(|| input.next(), explainer, out)
+        recorded(given.from.is_some(), follower, explainer, out)
     };
     match done {
         Ok(true) => ExitCode::SUCCESS,

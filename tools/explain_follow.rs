@@ -10,6 +10,8 @@ pub const DRIVE_IN: u64 = 1 << 55;
 pub const DRIVE_OUT: u64 = 1 << 56;
 /// Where a desk has the number of a drive-in under way, of its four-byte places behind the station.
 const WAITS: usize = 41;
+/// An ending that a station does not keep.
+const UNKNOWN: u8 = u8::MAX;
 /// Places of numbers in a desk.
 const PLACES: usize = 42;
 
@@ -58,6 +60,16 @@ impl Follower {
         follower.take_image(image, cards);
         follower.desk[APART].copy_from_slice(&apart.to_le_bytes());
         follower.desk[50..52].copy_from_slice(&issue.to_le_bytes());
+        follower
+    }
+
+    /// From a station on, as a journal's head has it. How instructions of its set have ended is not known there.
+    pub fn from_station(station: &Station) -> Self {
+        let mut follower = Follower::start();
+        follower.take_image(number_in(&station[..8]), None);
+        follower.desk[..STATION_SIZE].copy_from_slice(station);
+        let marked = |at: usize| station[9] >> at & 1 == 1;
+        follower.endings = std::array::from_fn(|at| marked(at).then_some(UNKNOWN));
         follower
     }
 
