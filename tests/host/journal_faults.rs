@@ -247,6 +247,42 @@ impl Place<'_> {
         }
     }
 
+    /// What a journal is, and what was recorded in it: whole, torn, damaged, closed, and of what is none. Not a byte changes.
+    fn described(&self) {
+        let (messages, start) = (input(14, 70), Station::start());
+        let mut later = start;
+        serve_on(&mut later, &messages, true);
+        let whole = Written::begun(GARAGE.as_bytes(), &start).with(MESSAGES, &messages).with(CUT_SHORT, &[9]).with(MESSAGES, &ASK);
+        let closed = Written::begun(GARAGE.as_bytes(), &later).with(MESSAGES, &messages).with(CLOSED, &[]).bytes;
+        let size = whole.bytes.len();
+        let damaged = [&whole.bytes[..size - 9], &[whole.bytes[size - 9] ^ 1], &whole.bytes[size - 8..]].concat();
+        let both = [&messages[..], &ASK].concat();
+        let files: [(&str, &[u8], String, &[u8]); 4] = [
+            ("whole", &whole.bytes, format!("start 71 3 {size} whole"), &both),
+            ("torn", &whole.bytes[..size - 1], format!("start 70 2 {} torn 16 bytes", size - 1), &messages),
+            ("damaged", &damaged, format!("start 70 2 {size} damaged at byte {}", size - 17), &messages),
+            ("closed", &closed, format!("snapshot 70 2 {} closed", closed.len()), &messages),
+        ];
+        for (what, bytes, says, recorded) in files {
+            let path = self.with("described", bytes);
+            let output = run(self.script, &["--describe", &path], &[], Trouble::Nothing);
+            let text = String::from_utf8_lossy(&output.stdout).into_owned();
+            let value = |name: &str| text.lines().find_map(|line| line.strip_prefix(&format!("{name} "))).unwrap_or_else(|| panic!("{what}: no {name} in {text}")).to_string();
+            let told = [value("beginning").split(' ').next().unwrap_or_default().to_string(), value("messages"), value("appends"), value("bytes"), value("state")].join(" ");
+            assert_eq!((told, value("garage"), value("format")), (says, GARAGE.to_string(), "2".to_string()), "a {what} journal");
+            assert!(output.status.success() && output.stderr.is_empty(), "a {what} journal: it told {}", String::from_utf8_lossy(&output.stderr));
+            let output = run(self.script, &["--recorded", &path], &[], Trouble::Nothing);
+            assert!(recorded.starts_with(&output.stdout), "a {what} journal: more is recorded than was answered");
+            if what == "damaged" { assert!(!output.status.success() && !output.stderr.is_empty(), "of a damaged journal nothing is told"); }
+            else { assert!(output.stdout == recorded && output.status.success() && output.stderr.iter().all(|_| what == "torn"), "a {what} journal: what was recorded"); }
+            assert!(fs::read(&path).expect("the file") == bytes, "a {what} journal has changed");
+        }
+        for (what, bytes) in [("an empty file", &[][..]), ("another file", b"Tuesday"), ("a journal of version 1.0", &messages)] {
+            let path = self.with("described", bytes);
+            for word in ["--describe", "--recorded"] { not_started(&format!("{what}, {word}"), Some(1), &run(self.script, &[word, &path], &[], Trouble::Nothing)); }
+        }
+    }
+
     /// A device that gets full: what fits is answered, what does not is not, and the restart goes on from what is whole.
     fn full(&self) {
         let (path, bytes) = (self.without("full"), input(10, 3000));
@@ -435,6 +471,7 @@ fn main() {
     place.no_journal();
     place.torn();
     place.stops();
+    place.described();
     place.full();
     place.limited();
     place.failing();

@@ -91,6 +91,7 @@ impl Place<'_> {
         let run = traced(self.station, &new(&format!("{folder}/{OLD}")), &folder, &[&messages, &ASK, &ASK[..3]]);
         assert!(run.told.is_empty() && run.output.len() > 28, "a new journal: it told {}", run.told);
         run.left.iter().for_each(|left| Self::kept("a new journal", left, &run.output, 0));
+        assert_eq!(run.data_syncs, 3, "the disk is waited for once for each read");
         println!("  a new journal and a session: {} calls, {} folders that may be left", run.calls, run.left.len());
     }
 

@@ -5,7 +5,7 @@
 #[path = "journal_wrong.rs"]
 mod wrong;
 
-use shared::journal_form::{read, End, Read, Rejected, Written, BAD_LENGTH, CLOSED, CUT_SHORT, MESSAGES};
+use shared::journal_form::{read, End, Read, Rejected, Written, BAD_LENGTH, CLOSED, CUT_SHORT, HEAD, MESSAGES};
 use shared::pipes::messages_in;
 use shared::reference::{drive_under_way, serve_on, Parts, Station};
 use std::fs::{self, File, OpenOptions};
@@ -147,6 +147,7 @@ impl Journal {
     fn written(&mut self, fault: &Fault, bytes: &[u8]) -> io::Result<()> {
         sleep(Duration::from_millis(2));
         self.file.write_all(bytes)?;
+        if fault.is("syncs_twice") { self.file.sync_data()?; }
         if fault.is("never_syncs") || fault.is("syncs_late") { Ok(()) } else { self.file.sync_data() }
     }
 
@@ -246,6 +247,24 @@ fn follow(fault: &Fault, old: &str, new: &str, garage: Option<&str>) {
     if !fault.is("names_first") { place(); }
 }
 
+/// Tells what a journal is, whatever its end.
+fn describe(fault: &Fault, path: &str) {
+    let file = fault.done(File::open(path), "the journal can't be opened");
+    let bytes = bytes_of(fault, &file);
+    let Ok(read) = read(&bytes) else { fault.stops(1, "the file is no journal") };
+    let state = match read.end {
+        End::Whole if read.closed && !fault.is("describes_as_open") => "closed".to_string(),
+        End::Torn if !fault.is("describes_as_whole") => format!("torn {} bytes", bytes.len() - read.whole),
+        End::Damaged if !fault.is("describes_as_whole") => format!("damaged at byte {}", read.whole),
+        _ => "whole".to_string(),
+    };
+    let beginning = if read.first == Station::start() { "start" } else { "snapshot" };
+    let appends = read.appends.len() - usize::from(fault.is("describes_less") && !read.appends.is_empty());
+    println!("garage {}\nversion 1.0.0\nformat 2\nbeginning {beginning} {:016x}", String::from_utf8_lossy(&read.name), read.first.record);
+    println!("messages {}\nappends {appends}\nbytes {}\nstate {state}", read.messages, bytes.len());
+    if fault.is("describes_and_cuts") { drop(OpenOptions::new().write(true).open(path).and_then(|file| file.set_len(read.whole as u64))); }
+}
+
 extern "C" {
     fn signal(number: i32, handler: usize) -> usize;
 }
@@ -274,10 +293,13 @@ fn main() {
         }
         ["--follow", old, new] if is_name(old) && is_name(new) => follow(&fault, old, new, None),
         ["--follow", old, new, "--garage", garage] if is_name(old) && is_name(new) && is_garage(garage) => follow(&fault, old, new, Some(garage)),
+        ["--describe", path] if is_name(path) => describe(&fault, path),
         ["--recorded", path] if is_name(path) => {
             let file = fault.done(File::open(path), "the journal can't be opened");
-            let read = judged(&fault, &bytes_of(&fault, &file));
-            fault.done(io::stdout().write_all(&read.recorded()), "standard output");
+            let bytes = bytes_of(&fault, &file);
+            let read = judged(&fault, &bytes);
+            let all = if fault.is("records_what_is_torn") { bytes[HEAD..].to_vec() } else { read.recorded() };
+            fault.done(io::stdout().write_all(&all), "standard output");
         }
         _ => fault.stops(2, "usage: station, station FILE, station --new FILE --garage NAME or others"),
     }

@@ -6,7 +6,7 @@ use std::io;
 use std::process::exit;
 
 /// Each fault with the run that finds it out, and what the station then does.
-const FAULTS: [(&str, &str, &str); 56] = [
+const FAULTS: [(&str, &str, &str); 57] = [
     ("power_cuts", "answers_first", "it answers before it appends"),
     ("power_cuts", "appends_late", "it appends what it was sent when the next messages come"),
     ("power_cuts", "never_appends", "it appends nothing"),
@@ -54,6 +54,7 @@ const FAULTS: [(&str, &str, &str); 56] = [
     ("journal_damage", "cuts_off_damage", "it cuts off what is damaged"),
     ("journal_damage", "up_to_the_damage", "it goes on with what stands before the damage"),
     ("journal_damage", "empty_if_damaged", "from a damaged journal it falls back to the empty garage"),
+    ("journal_power", "syncs_twice", "it waits for the disk twice for a read"),
     ("journal_power", "keeps_late", "it cuts bytes off before they are kept"),
     ("journal_power", "keeps_unsynced", "it does not wait until the bytes that it cuts off are on the disk"),
     ("journal_power", "keeps_unnamed", "it does not wait until the name is on the disk under which they are kept"),
@@ -65,8 +66,13 @@ const FAULTS: [(&str, &str, &str); 56] = [
     ("journal_power", "never_follows_again", "after a cut it does not go on with a new journal that was begun"),
 ];
 
-/// Those of a journal that follows another: the station of its head.
-const FOLLOWING: [(&str, &str, &str); 3] = [
+/// Those of a journal that is described, recorded or followed by another.
+const OTHERS: [(&str, &str, &str); 8] = [
+    ("journal_faults", "describes_as_open", "a closed journal is described as whole"),
+    ("journal_faults", "describes_as_whole", "a torn or damaged journal is described as whole"),
+    ("journal_faults", "describes_less", "an append is left out of the count"),
+    ("journal_faults", "describes_and_cuts", "a journal that is described is cut"),
+    ("journal_faults", "records_what_is_torn", "more than the messages is recorded"),
     ("journal_power", "follows_without_set", "the new journal begins without the outstanding set"),
     ("journal_power", "follows_anew", "the new journal numbers sets from 0"),
     ("journal_power", "follows_unapart", "the new journal begins with nothing set apart"),
@@ -76,7 +82,7 @@ pub struct Fault(pub String);
 
 impl Fault {
     pub fn is(&self, name: &str) -> bool {
-        assert!(FAULTS.iter().chain(&FOLLOWING).any(|(_, known, _)| *known == name), "{name} is in a list");
+        assert!(FAULTS.iter().chain(&OTHERS).any(|(_, known, _)| *known == name), "{name} is in a list");
         self.0 == name
     }
 
@@ -88,7 +94,7 @@ impl Fault {
     pub fn done<T>(&self, result: io::Result<T>, words: &str) -> T { result.unwrap_or_else(|error| self.stops(1, &format!("{words}: {error}"))) }
 }
 
-pub fn list() { FAULTS.iter().chain(&FOLLOWING).for_each(|(by, name, does)| println!("{by} {name} {does}")); }
+pub fn list() { FAULTS.iter().chain(&OTHERS).for_each(|(by, name, does)| println!("{by} {name} {does}")); }
 
 fn four(bytes: &[u8], at: usize) -> u32 { u32::from_le_bytes([bytes[at], bytes[at + 1], bytes[at + 2], bytes[at + 3]]) }
 fn put(bytes: &mut [u8], at: usize, sum: u32) { bytes[at..at + 4].copy_from_slice(&sum.to_le_bytes()); }

@@ -20,12 +20,14 @@ pub struct Left {
     pub folder: Folder,
 }
 
-/// A whole run: what it may have left on the way, what it wrote and told, and how many calls were looked at.
+/// A whole run: what it may have left on the way, what it wrote and told, how many calls were looked at, and how many of these waited for a
+/// file's data alone, as for an append (fdatasync).
 pub struct Run {
     pub left: Vec<Left>,
     pub output: Vec<u8>,
     pub told: String,
     pub calls: usize,
+    pub data_syncs: usize,
 }
 
 extern "C" {
@@ -137,6 +139,7 @@ impl Tracer<'_> {
         if before == self.now && !syncs && !(writes && arguments[0] == 1) { return; }
         self.run.calls += 1;
         if writes { self.in_parts(&before); }
+        self.run.data_syncs += usize::from(call == SYNCS[1]);
         if syncs { self.synced(arguments[0]); }
         self.moment(&format!("call {} of the system, number {call}", self.run.calls));
     }
@@ -158,7 +161,7 @@ pub fn traced(program: &str, words: &[&str], folder: &str, input: &[&[u8]]) -> R
     let (mut pieces, mut to) = (input.iter(), child.stdin.take());
     let process = child.id() as i32;
     let now = looked_at(&folder);
-    let run = Run { left: Vec::new(), output: Vec::new(), told: String::new(), calls: 0 };
+    let run = Run { left: Vec::new(), output: Vec::new(), told: String::new(), calls: 0, data_syncs: 0 };
     let mut tracer = Tracer { folder: &folder, process, synced: now.clone(), now, run, answered: 0 };
     tracer.moment("the start");
     let (mut status, mut asked, mut first) = (0, (u64::MAX, [0; 6]), true);
