@@ -3,7 +3,7 @@
 //! left). In each of them whatever was answered is in the journal, bytes that were cut off are kept, and of an old journal and the one that
 //! follows it never both can be started. Where neither can, the same command once more makes the new one.
 
-use shared::journal_form::{journal_of, read, Read, Written, BAD_LENGTH, CUT_SHORT, MESSAGES};
+use shared::journal_form::{journal_of, read, End, Read, Written, BAD_LENGTH, CUT_SHORT, MESSAGES};
 use shared::journals::{new, started, Trouble, ASK, GARAGE};
 use shared::reference::{answer, answer_message, serve_on, Station};
 use shared::traced::{restored, traced, Folder, Left};
@@ -72,6 +72,17 @@ impl Place<'_> {
         child.wait_with_output().expect("it ends")
     }
 
+    /// As the command does it: where the old journal is torn, a station is started on it first, and given nothing.
+    fn follow(&self, words: &[String]) -> Output {
+        self.untorn(&words[1]);
+        self.run(self.tool, &words.iter().map(String::as_str).collect::<Vec<_>>(), &[])
+    }
+
+    fn untorn(&self, old: &str) {
+        let torn = fs::read(old).ok().and_then(|bytes| read(&bytes).ok()).is_some_and(|says| says.end == End::Torn);
+        if torn { self.run(self.station, &[old], &[]); }
+    }
+
     /// Whether a station starts on a file of a folder, and then what it answers to an ask.
     fn starts(&self, path: &str) -> Option<Vec<u8>> { Some(self.run(self.station, &[path], &ASK).stdout).filter(|answers| !answers.is_empty()) }
 
@@ -125,6 +136,7 @@ impl Place<'_> {
         let folder = self.folder(&[(OLD, old)]);
         let words = |folder: &str| [["--follow".to_string(), format!("{folder}/{OLD}"), format!("{folder}/{NEW}")].as_slice(), &named.iter().map(|word| (*word).to_string()).collect::<Vec<_>>()].concat();
         let given = words(&folder);
+        self.untorn(&given[1]);
         let run = traced(self.tool, &given.iter().map(String::as_str).collect::<Vec<_>>(), &folder, &[]);
         let lines = run.told.lines().filter(|line| !line.contains(": note: ")).count();
         assert!(lines == 0, "{what}: it told {}", run.told);
@@ -143,8 +155,7 @@ impl Place<'_> {
             if by_new.is_some() { continue; }
             // once more, from whatever was left
             restored(&left.folder, &cut);
-            let given = words(&cut);
-            let again = self.run(self.tool, &given.iter().map(String::as_str).collect::<Vec<_>>(), &[]);
+            let again = self.follow(&words(&cut));
             let told = String::from_utf8_lossy(&again.stderr);
             assert!(told.lines().all(|line| line.contains(": note: ")), "{what}, after {}: once more it told {told}", left.after);
             let head = fs::read(format!("{cut}/{NEW}")).ok().and_then(|bytes| read(&bytes).ok());
