@@ -12,6 +12,7 @@ extern "C" {
 }
 
 /// One run: seconds and KB.
+#[allow(clippy::zombie_processes)] // wait4 waits for it
 fn run(input: &str, command: &[String]) -> (f64, i64) {
     let stdin = File::open(input).expect("the input is there");
     let begun = Instant::now();

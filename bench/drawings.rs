@@ -1,14 +1,8 @@
 //! How many drawings are written and read in a second, by the station's entries and by the reference, in turns: `drawings`. The records are
 //! sound ones of every sort, so that every drawing is written and every text is taken. Prints the best of seven rounds of each.
 
-#[allow(dead_code)] // wrong references are not timed
-#[path = "../tests/host/drawer.rs"]
-mod drawer;
-#[path = "../tests/host/drawing_traffic.rs"]
-mod drawing_traffic;
-
-use drawer::{Drawer, ENTRIES, REFERENCE};
-use drawing_traffic::sound_record;
+use entries::drawer::{Drawer, ENTRIES, REFERENCE};
+use shared::drawing_traffic::sound_record;
 use shared::traffic::Numbers;
 use std::hint::black_box;
 use std::time::Instant;
@@ -35,7 +29,9 @@ fn read(drawer: &Drawer, text: &[u8]) -> u64 {
 /// Seconds for doing something with each of them.
 fn timed(all: &[Drawn], one: impl Fn(&Drawn)) -> f64 {
     let begun = Instant::now();
-    for _ in 0..AGAIN { all.iter().for_each(|drawn| one(black_box(drawn))); }
+    for _ in 0..AGAIN {
+        all.iter().for_each(|drawn| one(black_box(drawn)));
+    }
     begun.elapsed().as_secs_f64()
 }
 
@@ -47,13 +43,18 @@ fn writes(drawer: &Drawer, all: &[Drawn]) -> f64 {
     })
 }
 
-fn reads(drawer: &Drawer, all: &[Drawn]) -> f64 { timed(all, |(_, text)| { black_box(read(drawer, text)); }) }
+fn reads(drawer: &Drawer, all: &[Drawn]) -> f64 {
+    timed(all, |(_, text)| {
+        black_box(read(drawer, text));
+    })
+}
 
 fn main() {
     let mut numbers = Numbers(5);
     let images: Vec<u64> = (0..RECORDS).map(|_| sound_record(&mut numbers)).collect();
     let all: Vec<Drawn> = images.into_iter().map(|image| (image, written(&REFERENCE, image))).collect();
-    let same = |(image, text): &Drawn| written(&ENTRIES, *image) == *text && read(&ENTRIES, text) == *image && read(&REFERENCE, text) == *image;
+    let same =
+        |(image, text): &Drawn| written(&ENTRIES, *image) == *text && read(&ENTRIES, text) == *image && read(&REFERENCE, text) == *image;
     assert!(all.iter().all(same), "the drawings and the records are the same");
     for (what, timed) in [("written", writes as fn(&Drawer, &[Drawn]) -> f64), ("read", reads)] {
         let [mut ours, mut theirs] = [f64::INFINITY; 2];
@@ -62,6 +63,11 @@ fn main() {
             ours = ours.min(timed(&ENTRIES, &all));
         }
         let each = (RECORDS * AGAIN) as f64;
-        println!("drawings {what}: reference {:.0} a second, station {:.0}, {:.2} times its time", each / theirs, each / ours, ours / theirs);
+        println!(
+            "drawings {what}: reference {:.0} a second, station {:.0}, {:.2} times its time",
+            each / theirs,
+            each / ours,
+            ours / theirs
+        );
     }
 }

@@ -37,7 +37,11 @@ impl Bench {
         command
     }
 
-    fn without(&self) { if Path::new(&self.journal).exists() { fs::remove_file(&self.journal).expect("it goes"); } }
+    fn without(&self) {
+        if Path::new(&self.journal).exists() {
+            fs::remove_file(&self.journal).expect("it goes");
+        }
+    }
 
     /// All of the input at once.
     fn bulk(&self, words: &[&str]) -> f64 {
@@ -57,13 +61,17 @@ impl Bench {
             let mut room = vec![0; 65_536];
             loop {
                 let size = input.read(&mut room).expect("a read");
-                if size == 0 { break; }
+                if size == 0 {
+                    break;
+                }
                 file.write_all(&room[..size]).and_then(|()| file.sync_data()).expect("an append");
             }
         })
     }
 
-    fn started(&self, words: &[&str]) -> Child { self.command(words).stdin(Stdio::piped()).stdout(Stdio::piped()).spawn().expect("it starts") }
+    fn started(&self, words: &[&str]) -> Child {
+        self.command(words).stdin(Stdio::piped()).stdout(Stdio::piped()).spawn().expect("it starts")
+    }
 
     /// So many messages, each sent when the one before is answered; the time of one.
     fn one_by_one(&self, words: &[&str], count: usize) -> f64 {
@@ -99,7 +107,9 @@ impl Bench {
 fn least<const N: usize>(runs: [&dyn Fn() -> f64; N]) -> [f64; N] {
     let mut best = [f64::INFINITY; N];
     for _ in 0..RUNS {
-        for (best, run) in best.iter_mut().zip(&runs) { *best = best.min(run()); }
+        for (best, run) in best.iter_mut().zip(&runs) {
+            *best = best.min(run());
+        }
     }
     best
 }
@@ -112,16 +122,31 @@ fn main() {
     let (count, new) = (messages(&bench.bytes).count() as f64, ["--new", &bench.journal, "--garage", "bench"]);
 
     let [without, with, appends] = least([&|| bench.bulk(&[]), &|| bench.bulk(&new), &|| bench.appends()]);
-    println!("in bulk:    without a journal {:>9.0} messages/s, with one {:>9.0}, {:.2} times the time", count / without, count / with, with / without);
-    println!("            the appends alone take {appends:.3} s; with a journal it takes {:.2} times both together", with / (without + appends));
+    println!(
+        "in bulk:    without a journal {:>9.0} messages/s, with one {:>9.0}, {:.2} times the time",
+        count / without,
+        count / with,
+        with / without
+    );
+    println!(
+        "            the appends alone take {appends:.3} s; with a journal it takes {:.2} times both together",
+        with / (without + appends)
+    );
     let [without, with, disk] = least([&|| bench.one_by_one(&[], QUICK), &|| bench.one_by_one(&new, SLOW), &|| bench.disk()]);
-    println!("one by one: without a journal {:>9.0} messages/s, with one {:>9.0}; the disk alone {:>9.0} appends/s", 1.0 / without, 1.0 / with, 1.0 / disk);
+    println!(
+        "one by one: without a journal {:>9.0} messages/s, with one {:>9.0}; the disk alone {:>9.0} appends/s",
+        1.0 / without,
+        1.0 / with,
+        1.0 / disk
+    );
 
     let served = bench.bulk(&new);
     let copy = format!("{}.copy", bench.journal);
     fs::rename(&bench.journal, &copy).expect("a long journal");
     let [with, without, bulk] = least([&|| bench.first_answer(&[&copy]), &|| bench.first_answer(&[]), &|| bench.bulk(&[])]);
-    println!("first answer: {with:.3} s with a journal of {count:.0} messages, {without:.3} s without one; they were answered in {served:.3} s");
+    println!(
+        "first answer: {with:.3} s with a journal of {count:.0} messages, {without:.3} s without one; they were answered in {served:.3} s"
+    );
     println!("              a replay takes {:.2} times what the station takes to answer the same messages without a journal", with / bulk);
     fs::remove_file(&copy).expect("it goes");
     bench.without();

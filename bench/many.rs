@@ -40,20 +40,28 @@ struct Bench<'a> {
 }
 
 impl Bench<'_> {
-    fn journal(&self, at: usize) -> String { format!("{}/many-{at}.journal", self.directory) }
+    fn journal(&self, at: usize) -> String {
+        format!("{}/many-{at}.journal", self.directory)
+    }
 
     /// Starts so many stations, each with the words that are given for it, and waits until all have answered; gives the seconds too.
     fn started(&self, count: usize, words: impl Fn(usize) -> Vec<String>) -> (Vec<Child>, f64) {
         let begun = Instant::now();
         let start = |at| Command::new(self.program).args(words(at)).stdin(Stdio::piped()).stdout(Stdio::piped()).spawn();
         let mut stations: Vec<Child> = (0..count).map(|at| start(at).expect("it starts")).collect();
-        for station in &mut stations { answered(station, &ASK); }
+        for station in &mut stations {
+            answered(station, &ASK);
+        }
         (stations, begun.elapsed().as_secs_f64())
     }
 
     fn ended(&self, mut stations: Vec<Child>) {
-        for station in &mut stations { drop(station.stdin.take()); }
-        for mut station in stations { assert!(station.wait().expect("it ends").success(), "it ended badly"); }
+        for station in &mut stations {
+            drop(station.stdin.take());
+        }
+        for mut station in stations {
+            assert!(station.wait().expect("it ends").success(), "it ended badly");
+        }
     }
 
     /// Clients side by side for some seconds, each doing one message after the other: how many messages in all, and the seconds.
@@ -103,7 +111,9 @@ impl Bench<'_> {
             let (stations, again) = self.started(count, |at| vec![self.journal(at)]);
             self.ended(stations);
             (numbers[5], numbers[6]) = (again, self.disk(count));
-            for at in 0..count { fs::remove_file(self.journal(at)).expect("it goes"); }
+            for at in 0..count {
+                fs::remove_file(self.journal(at)).expect("it goes");
+            }
         }
         numbers
     }
@@ -111,12 +121,16 @@ impl Bench<'_> {
     fn measure(&self, count: usize, with: bool) {
         let mut best = [f64::INFINITY; 7];
         for _ in 0..ROUNDS {
-            for (best, number) in best.iter_mut().zip(self.round(count, with)) { *best = best.min(number); }
+            for (best, number) in best.iter_mut().zip(self.round(count, with)) {
+                *best = best.min(number);
+            }
         }
         let [start, message, processor, resident, share, again, append] = best;
         print!("{count:>5} {:<8} start {start:>6.3} s, {:>7.0} messages/s in all, ", if with { "with" } else { "without" }, 1.0 / message);
         print!("{:>6.1} us of processor time a message, {resident:>5.0} KB resident, {share:>5.0} KB as its share", processor * 1e6);
-        if with { print!(", start again {again:>6.3} s; the disk alone {:>7.0} appends/s", 1.0 / append); }
+        if with {
+            print!(", start again {again:>6.3} s; the disk alone {:>7.0} appends/s", 1.0 / append);
+        }
         println!();
     }
 }
@@ -128,6 +142,8 @@ fn main() {
     let bench = Bench { program, directory, input: messages(&bytes).collect() };
     for count in counts {
         let count = count.parse().expect("a count");
-        for with in [false, true] { bench.measure(count, with); }
+        for with in [false, true] {
+            bench.measure(count, with);
+        }
     }
 }

@@ -6,7 +6,9 @@ use std::process::Child;
 pub const ASK: [u8; 4] = [2, 0, 5, 0];
 
 /// The message that some bytes begin with, and the rest.
-fn split(bytes: &[u8]) -> Option<(&[u8], &[u8])> { bytes.split_at_checked(2 + usize::from(*bytes.first()?)) }
+fn split(bytes: &[u8]) -> Option<(&[u8], &[u8])> {
+    bytes.split_at_checked(2 + usize::from(*bytes.first()?))
+}
 
 pub fn messages(mut bytes: &[u8]) -> impl Iterator<Item = &[u8]> {
     std::iter::from_fn(move || {

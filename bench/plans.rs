@@ -1,25 +1,23 @@
 //! How many plans of 64 sets of eight instructions are judged in a second, by the station's entry and by the reference, in turns: `plans`.
 //! All of them are accepted, so that every set is looked at. Prints the best of seven rounds of each.
 
-#[path = "../tests/host/plan_traffic.rs"]
-mod plan_traffic;
-#[path = "../hosts/rust/src/raw/plan.rs"]
-mod raw;
-
-use plan_traffic::{after_all, Draft};
-use shared::plan_reference::{self, MOST_SETS};
-use shared::reference::{Parts, START};
+use reference::plan::{self, MOST_SETS};
+use reference::{Parts, START};
+use shared::plan_traffic::{after_all, Draft};
 use shared::traffic::{allowed_set, Numbers};
+use station::raw::plan as raw;
 use std::hint::black_box;
 use std::time::Instant;
 
 const PLANS: usize = 16;
 const AGAIN: usize = 40;
 
-fn by_station(plan: &[u8]) -> u32 { unsafe { raw::plan_judge(plan.as_ptr(), plan.len()) } }
+fn by_station(plan: &[u8]) -> u32 {
+    unsafe { raw::plan_judge(plan.as_ptr(), plan.len()) }
+}
 
 fn by_reference(plan: &[u8]) -> u32 {
-    let told = plan_reference::judge(plan);
+    let told = plan::judge(plan);
     u32::from(told.number) + 256 * u32::from(told.set)
 }
 
@@ -42,7 +40,9 @@ fn long_plan(numbers: &mut Numbers) -> Option<Vec<u8>> {
 fn timed(plans: &[Vec<u8>], judge: fn(&[u8]) -> u32) -> f64 {
     let begun = Instant::now();
     for _ in 0..AGAIN {
-        for plan in plans { black_box(judge(black_box(plan))); }
+        for plan in plans {
+            black_box(judge(black_box(plan)));
+        }
     }
     begun.elapsed().as_secs_f64()
 }
@@ -57,5 +57,10 @@ fn main() {
         ours = ours.min(timed(&plans, by_station));
     }
     let each = (PLANS * AGAIN) as f64;
-    println!("plans of 64 sets of eight: reference {:.0} a second, station {:.0}, {:.2} times its time", each / theirs, each / ours, ours / theirs);
+    println!(
+        "plans of 64 sets of eight: reference {:.0} a second, station {:.0}, {:.2} times its time",
+        each / theirs,
+        each / ours,
+        ours / theirs
+    );
 }

@@ -1,8 +1,5 @@
 //! The reference station as a program: standard input to standard output, unbuffered by std since
 //! `stream` reads and writes in large pieces itself.
-#[path = "../tests/host/reference.rs"]
-mod reference;
-
 use std::fs::File;
 use std::io;
 use std::os::fd::AsFd;

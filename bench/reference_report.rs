@@ -1,10 +1,5 @@
 //! The reference's report of the messages on standard input.
-#[path = "../tests/host/reference.rs"]
-mod reference;
-#[allow(dead_code)] // only the report itself is timed
-#[path = "../tests/host/week.rs"]
-mod week;
-
+use reference::week;
 use std::io::{self, Read};
 
 fn main() -> io::Result<()> {

@@ -40,11 +40,11 @@
  * next set in two bytes, the lowest first, which may be any; what is set apart in eight bytes, the lowest first. A longer room is fine, and
  * what stands past those bytes keeps its value.
  *
- * Answers. An entry that returns uint32_t answers with a number of the table below, a place and an issue: STATION_NUMBER,
- * STATION_PLACE and STATION_SET take them apart. The place is the instruction at fault, counted from 0, in a request (or of
- * garage_overlap's two) for STATION_BAD_FIELD, STATION_SET_APART, STATION_OVERLAP and the reasons, 20 to 28; else it is STATION_NOWHERE.
- * The issue is that of the set where a request was taken, else 0. A call that isn't taken writes nothing; of a message that isn't, only
- * the refusal is written, as the message that answers it (station_message).
+ * Answers. An entry that returns uint32_t answers with a number of the table below, a place and an issue: STATION_NUMBER, STATION_PLACE and
+ * STATION_SET take them apart, and station_words.h has the words of each number. The place is the instruction at fault, counted from 0, in
+ * a request (or of garage_overlap's two) for STATION_BAD_FIELD, STATION_SET_APART, STATION_OVERLAP and the reasons, 20 to 28; else it is
+ * STATION_NOWHERE. The issue is that of the set where a request was taken, else 0. A call that isn't taken writes nothing; of a message
+ * that isn't, only the refusal is written, as the message that answers it (station_message).
  *
  * Issues. Each accepted set has a number of 16 bits, its issue: 0 for the first set since station_start, then one more for each set,
  * and 0 again after 65535. A request that is refused takes none, and an event or an image leaves the count as it is. A result says of

@@ -14,6 +14,9 @@ const INSTEAD: &str = "set STATION_LIB_DIR to a folder with libstation.a";
 fn main() {
     println!("cargo:rerun-if-changed=build.rs");
     println!("cargo:rerun-if-env-changed={FOLDER}");
+    if env::var_os("CARGO_FEATURE_ENTRIES").is_none() {
+        return;
+    }
     let out = PathBuf::from(env::var_os("OUT_DIR").expect("cargo says where to write"));
     let made = match env::var_os(FOLDER) {
         Some(folder) => lent(Path::new(&folder)),
@@ -60,4 +63,6 @@ fn built() -> PathBuf {
 }
 
 /// When a file was last written, if it is there.
-fn written(file: &Path) -> Option<SystemTime> { fs::metadata(file).and_then(|about| about.modified()).ok() }
+fn written(file: &Path) -> Option<SystemTime> {
+    fs::metadata(file).and_then(|about| about.modified()).ok()
+}

@@ -68,11 +68,15 @@ export class Library {
   station(bytes?: Uint8Array): Station;
   /** A desk: that of the start, or of the 228 bytes that one was. */
   desk(bytes?: Uint8Array): Desk;
+  /** A desk of a station's 60 bytes and the cards of its cars, in the order of the cells; nothing where these don't fit. */
+  deskWith(station: Uint8Array, cards: number[]): Desk | null;
   totals(): Totals;
   sound(record: bigint): boolean;
   cars(record: bigint): number;
   /** The places of a sound record's cars: the cell where each begins, and 52 for the raised lift. */
   places(record: bigint): number[];
+  /** Where a desk has the cards of a sound record's cars, in the order of the cells. */
+  cardPlaces(record: bigint): number[];
   allowed(record: bigint, five: Five): Answer;
   next(record: bigint, five: Five): { answer: Answer; record: bigint };
   area(five: Five): bigint;
@@ -152,6 +156,7 @@ export class Run {
   lend(bytes: Uint8Array): void;
   answer(at: number, length: number): number;
   count(at: number, length: number): number;
+  countRest(bytes: Uint8Array): number;
   station(): Uint8Array;
   restore(bytes: Uint8Array): void;
   counted(): Totals;
@@ -171,8 +176,45 @@ export function eventOf(way: number): Uint8Array;
 export function resultOf(issue: number, number: number, outcome: number): Uint8Array;
 export function imageOf(record: bigint, apart?: bigint): Uint8Array;
 export function askOf(): Uint8Array;
-/** Where the message at a place ends; 0 where the bytes end inside it, -1 where its length is out of range. */
-export function endOf(bytes: Uint8Array, at: number): number;
+/** Where the message at a place ends, of bytes up to some end; 0 where these end inside it, -1 where its length is out of range. */
+export function endOf(bytes: Uint8Array, at: number, end?: number): number;
+
+/** A journal's file, read. */
+export interface Journal {
+  /** The garage's name, and the version that made the file. */
+  name: string;
+  version: [number, number, number];
+  /** The 60 bytes of the station that it begins with. */
+  station: Uint8Array;
+  /** The messages that it holds, whole, one after the other; where each begins, and at last where they end; and how many they are. */
+  messages: Uint8Array;
+  starts: Uint32Array;
+  count: number;
+  appends: number;
+  /** Sessions that ended by answer 1 or 2: behind how many messages, and the bytes that were left. */
+  ended: { after: number; answer: 1 | 2; bytes: Uint8Array }[];
+  /** Whether another journal follows it. */
+  closed: boolean;
+  /** What a lost power supply has left: where it begins, and how many bytes it has. No answer was given for it. */
+  torn: { at: number; bytes: number } | null;
+  /** Where it is damaged: the byte, how many appends and how many messages stand before it. What follows is not read. */
+  damage: { at: number; append: number; messages: number } | null;
+}
+/** Reads a journal's file; throws NoJournal for its head. */
+export function journalIn(library: Library, bytes: Uint8Array): Journal;
+/** Whether some bytes begin as a journal does. */
+export function isJournal(bytes: Uint8Array): boolean;
+export class NoJournal extends Error {}
+/** What an append has. */
+export const Append: { readonly Messages: 1; readonly CutShort: 2; readonly BadLength: 3; readonly Closed: 4 };
+/** The bytes of a journal that grows by appends. */
+export class JournalBytes {
+  constructor(name: string, version: [number, number, number], station: Uint8Array);
+  append(kind: number, bytes?: Uint8Array): void;
+  bytes(): Uint8Array;
+}
+/** The CRC-32C of some bytes behind others whose checksum is given. */
+export function checksum(sum: number, bytes: Uint8Array, from?: number, to?: number): number;
 
 /** The five bytes of a line such as `lift basement`; throws WrongLine. */
 export function instruction(line: string): Five;

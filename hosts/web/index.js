@@ -2,6 +2,7 @@
 
 export { bytesIn, bytesOf, hexOf, numberAt } from './bytes.js';
 export { ENTRIES, Entries } from './entries.js';
+export { Append, checksum, isJournal, JournalBytes, journalIn, NoJournal } from './journals.js';
 export { Library, load } from './library.js';
 export { askOf, endOf, eventOf, imageOf, readMessage, requestOf, resultOf } from './messages.js';
 export { Answer, Event, Height, Kind, Numbers, Op, Outcome, Size, START, wordsOf } from './numbers.js';

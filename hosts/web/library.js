@@ -1,10 +1,12 @@
 // The library: stations and desks, and the questions on a record, a drawing, a plan and the totals, over one module.
 
-import { bytesOf, numberAt } from './bytes.js';
+import { bytesOf, hasBit, numberAt } from './bytes.js';
 import { entriesOf } from './entries.js';
 import { Answer, Size } from './numbers.js';
 import { Desk, Station } from './station.js';
 import { Totals } from './totals.js';
+
+const DRIVE_IN = 55; // the record's bit
 
 export class Library {
   constructor(entries) {
@@ -26,6 +28,16 @@ export class Library {
     return new Desk(this.entries, bytes);
   }
 
+  /** A desk of a station's 60 bytes and the cards of its cars, in the order of the cells; nothing where these don't fit. */
+  deskWith(station, cards) {
+    const bytes = new Uint8Array(Size.DESK_SIZE), numbers = new DataView(bytes.buffer, Size.STATION_SIZE);
+    bytes.set(station.subarray(0, Size.STATION_SIZE));
+    const places = this.cardPlaces(numberAt(bytes));
+    places.forEach((place, at) => numbers.setUint32(Size.DESK_CARD_SIZE * place, cards[at] ?? 0, true));
+    const desk = this.desk(bytes);
+    return places.length === cards.length && desk.ask().answer.taken ? desk : null;
+  }
+
   totals() {
     return new Totals(this.entries);
   }
@@ -43,6 +55,12 @@ export class Library {
   places(record) {
     const room = new Uint8Array(Size.PANEL_CARS_SIZE), answer = Answer.of(this.entries.call('panel_cars', record, room));
     return Array.from(room.slice(0, answer.taken ? answer.issue : 0));
+  }
+
+  /** Where a desk has the cards of a sound record's cars, in the order of the cells: the last is that of a drive-in under way. */
+  cardPlaces(record) {
+    const places = this.places(record).map((place) => (place === Size.DESK_RAISED ? Size.DESK_AT_LIFT : place));
+    return hasBit(record, DRIVE_IN) ? [...places, Size.DESK_AT_DRIVE] : places;
   }
 
   /** What a request of one instruction would be told on a record. */

@@ -17,12 +17,12 @@ export const askOf = () => message(Kind.Ask, new Uint8Array(0));
 
 export const lengthAt = (bytes, at) => bytes[at] | (bytes[at + 1] << 8);
 
-/** Where the message at a place ends; 0 where the bytes end inside it, -1 where its length is out of range. */
-export function endOf(bytes, at) {
-  if (bytes.length - at < 2) return 0;
+/** Where the message at a place ends, of bytes up to some end; 0 where these end inside it, -1 where its length is out of range. */
+export function endOf(bytes, at, end = bytes.length) {
+  if (end - at < 2) return 0;
   const length = lengthAt(bytes, at);
   if (length < LENGTH_LEAST || length > LENGTH_MOST) return -1;
-  return at + 2 + length <= bytes.length ? at + 2 + length : 0;
+  return at + 2 + length <= end ? at + 2 + length : 0;
 }
 
 const FIXED = { [Kind.Event]: 3, [Kind.Result]: 6, [Kind.Image]: 18, [Kind.Ask]: 2, [Kind.Answer]: 6, [Kind.Held]: 18 };

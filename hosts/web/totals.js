@@ -36,6 +36,7 @@ export class Run {
     this.room = entries.take(Size.STATION_SIZE);
     this.reply = entries.take(Size.STATION_REPLY_MOST);
     this.totals = entries.take(Size.REPORT_TOTALS);
+    this.rest = entries.take(Size.STATION_MESSAGE_MOST);
     this.messages = entries.take(most);
     this.begin();
   }
@@ -61,6 +62,13 @@ export class Run {
   count(at, length) {
     return this.entries.exports.report_message(
       this.totals, lengthOf(Size.REPORT_TOTALS), this.room, lengthOf(Size.STATION_SIZE), this.messages + at, lengthOf(length)) >>> 0;
+  }
+
+  /** Counts bytes that are no whole message: what ended a session. */
+  countRest(bytes) {
+    this.entries.view(this.rest, bytes.length).set(bytes);
+    return this.entries.exports.report_message(
+      this.totals, lengthOf(Size.REPORT_TOTALS), this.room, lengthOf(Size.STATION_SIZE), this.rest, lengthOf(bytes.length)) >>> 0;
   }
 
   /** The station's bytes, copied. */

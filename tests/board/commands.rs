@@ -1,7 +1,7 @@
-//! Commands for the program that makes calls as it is told to (tests/host/entries.c), kept as bytes, and a run of them under an emulator
+//! Commands for the program that makes calls as it is told to (tests/entries/entries.c), kept as bytes, and a run of them under an emulator
 //! that counts each call's instructions.
 
-use shared::command::{self, ENTRIES};
+use reference::command::{self, ENTRIES};
 use shared::trials::{self, Given, Trial};
 
 /// The command that these bytes are.
@@ -27,7 +27,9 @@ pub fn of_file(name: &str) -> Vec<Given> {
     text.lines().filter(|line| !line.starts_with('#')).map(|line| read(&bytes(line))).collect()
 }
 
-pub fn trial<T>(given: Given, of_it: T) -> Trial<T> { given.trial(0, |command| (command::call(command), of_it)) }
+pub fn trial<T>(given: Given, of_it: T) -> Trial<T> {
+    given.trial(0, |command| (command::call(command), of_it))
+}
 
 /// Runs all of them, each answer as the reference's, and gives the instructions that each took; `counts` is the file that the emulator's
 /// plugin writes.

@@ -5,9 +5,9 @@
 
 mod commands;
 
+use reference::command::ENTRIES;
+use reference::Station;
 use shared::calls::{any_call, lent_station};
-use shared::command::ENTRIES;
-use shared::reference::Station;
 use shared::traffic::{self, Numbers};
 use shared::trials::{Given, Trial};
 use std::process::exit;
@@ -30,7 +30,9 @@ fn traffic(calls: usize) -> Vec<Given> {
         all.push(Given { entry: MESSAGE, room, input: message, output: vec![0; 20], ..Given::default() });
         let lent = lent_station(&mut numbers, &station);
         let call = any_call(&mut numbers, &lent);
-        if call.entry != MESSAGE { all.push(call); }
+        if call.entry != MESSAGE {
+            all.push(call);
+        }
     }
     all
 }
@@ -53,13 +55,22 @@ fn main() {
     };
     let limits = limits(of, processor);
     let sources = [traffic(calls.parse().expect("a number")), commands::of_file(corpus), commands::of_file(worst)];
-    let trials: Vec<Trial<usize>> =
-        sources.into_iter().enumerate().flat_map(|(source, all)| all.into_iter().map(move |given| commands::trial(given, source))).collect();
+    let trials: Vec<Trial<usize>> = sources
+        .into_iter()
+        .enumerate()
+        .flat_map(|(source, all)| all.into_iter().map(move |given| commands::trial(given, source)))
+        .collect();
     let took = commands::counted(&trials, u32::MAX, counts, program);
     let mut failed = false;
     println!("{processor:<16} calls    mean    most  corpus searched   limit");
     for (at, (entry, _)) in ENTRIES.iter().enumerate() {
-        let own = |source: usize| trials.iter().zip(&took).filter(move |(trial, _)| usize::from(trial.entry) == at && trial.of_it == source).map(|(_, &took)| took);
+        let own = |source: usize| {
+            trials
+                .iter()
+                .zip(&took)
+                .filter(move |(trial, _)| usize::from(trial.entry) == at && trial.of_it == source)
+                .map(|(_, &took)| took)
+        };
         let most: Vec<u32> = (0..SOURCES).map(|source| own(source).max().unwrap_or(0)).collect();
         let (count, sum) = own(TRAFFIC).fold((0_u64, 0), |(count, sum), took| (count + 1, sum + u64::from(took)));
         println!("{entry:<16} {count:>5} {:>7} {:>7} {:>7} {:>8} {:>7}", sum / count.max(1), most[0], most[1], most[2], limits[at]);
@@ -68,5 +79,7 @@ fn main() {
             failed = true;
         }
     }
-    if failed { exit(1); }
+    if failed {
+        exit(1);
+    }
 }

@@ -45,7 +45,9 @@ fn connected(socket: &Path, child: &mut Child) -> UnixStream {
             std::fs::remove_file(socket).expect("the socket is there");
             return stream;
         }
-        if let Some(status) = child.try_wait().expect("a child") { panic!("the emulator has ended: {status}"); }
+        if let Some(status) = child.try_wait().expect("a child") {
+            panic!("the emulator has ended: {status}");
+        }
         std::thread::sleep(Duration::from_millis(20));
     }
 }
@@ -65,7 +67,12 @@ impl Board {
         let words: Vec<&str> = words.split(' ').collect();
         let qmp = format!("unix:{},server,nowait", socket.display());
         let mut command = Command::new(words[0]);
-        command.args(&words[1..]).args(["-display", "none", "-monitor", "none", "-serial", "stdio", "-qmp"]).arg(qmp).arg("-kernel").arg(program);
+        command
+            .args(&words[1..])
+            .args(["-display", "none", "-monitor", "none", "-serial", "stdio", "-qmp"])
+            .arg(qmp)
+            .arg("-kernel")
+            .arg(program);
         command.stdin(Stdio::piped()).stdout(Stdio::piped());
         let mut child = command.spawn().unwrap_or_else(|why| panic!("{}: {why}", words[0]));
         let line = child.stdin.take();
@@ -74,7 +81,9 @@ impl Board {
         std::thread::spawn(move || {
             let mut piece = [0; 1 << 16];
             while let Ok(size) = out.read(&mut piece) {
-                if size == 0 || sender.send(piece[..size].to_vec()).is_err() { break; }
+                if size == 0 || sender.send(piece[..size].to_vec()).is_err() {
+                    break;
+                }
             }
         });
         let stream = connected(&socket, &mut child);
@@ -102,7 +111,9 @@ impl Board {
         loop {
             let line = self.told_line();
             assert!(!line.contains("\"error\""), "{execute}: {line}");
-            if line.contains("\"return\"") { return line; }
+            if line.contains("\"return\"") {
+                return line;
+            }
         }
     }
 
@@ -145,7 +156,10 @@ impl Board {
     pub fn send(&mut self, bytes: Vec<u8>) {
         let mut line = self.line.take().expect("one sender");
         // the thread ends with the emulator, which may be killed while it does not read
-        std::thread::spawn(move || { let _ = line.write_all(&bytes); std::thread::park(); });
+        std::thread::spawn(move || {
+            let _ = line.write_all(&bytes);
+            std::thread::park();
+        });
     }
 
     /// The next bytes that the board gives; none after a long silence, or where it has stopped.
@@ -165,7 +179,9 @@ impl Board {
     }
 
     /// Whatever comes within some time.
-    pub fn take_piece(&mut self, wait: Duration) -> Option<Vec<u8>> { self.answers.recv_timeout(wait).ok() }
+    pub fn take_piece(&mut self, wait: Duration) -> Option<Vec<u8>> {
+        self.answers.recv_timeout(wait).ok()
+    }
 }
 
 impl Drop for Board {

@@ -1,6 +1,6 @@
 //! The most stack that a function can take on any path: `paths PROCESSOR FOLDER NAME..` adds up what the compiler says of each function's
 //! frame (the .su files of tools/board) along the calls in its assembly (the .s files beside them), and writes each name with the bytes. On x86-64
-//! tests/host/frames.rs does it. A frame whose size is not fixed, a call by a pointer and a circle
+//! tests/differential/src/frames.rs does it. A frame whose size is not fixed, a call by a pointer and a circle
 //! of calls are failures. Jumps by a pointer are taken for the tables of a switch: the modules have no pointers to functions.
 
 use std::collections::{BTreeMap, BTreeSet};
@@ -52,15 +52,20 @@ type Files = Vec<BTreeMap<String, Function>>;
 fn read(folder: &Path, by: &Processor) -> Files {
     let mut files = Vec::new();
     for file in std::fs::read_dir(folder).expect("a folder").map(|file| file.expect("a file").path()) {
-        if file.extension().is_none_or(|suffix| suffix != "s") { continue; }
-        let text = |suffix: &str| std::fs::read_to_string(file.with_extension(suffix)).unwrap_or_else(|why| panic!("{}: {why}", file.display()));
+        if file.extension().is_none_or(|suffix| suffix != "s") {
+            continue;
+        }
+        let text =
+            |suffix: &str| std::fs::read_to_string(file.with_extension(suffix)).unwrap_or_else(|why| panic!("{}: {why}", file.display()));
         let mut all = frames(&text("su"));
         let mut own = String::new();
         for line in text("s").lines() {
             let bare = |name: &str| name.trim_matches('"').to_string();
             if !line.starts_with([' ', '\t']) {
                 let label = line.split_whitespace().next().and_then(|word| word.strip_suffix(':')).map_or(String::new(), bare);
-                if all.contains_key(&label) { own = label; }
+                if all.contains_key(&label) {
+                    own = label;
+                }
                 continue;
             }
             let mut words = line.split_whitespace();
@@ -81,27 +86,32 @@ fn read(folder: &Path, by: &Processor) -> Files {
 const LIBRARY: [&str; 5] = ["memcpy", "memmove", "memset", "memcmp", "__aeabi_uldivmod"];
 
 /// What a call of a function takes, made in a file (or from outside), or why that can't be said.
-fn most(files: &Files, by: &Processor, from: Option<usize>, name: &str, above: &[&str]) -> Result<u64, String> {
+fn most(files: &Files, from: Option<usize>, name: &str, above: &[&str]) -> Result<u64, String> {
     let has = |&at: &usize| files[at].contains_key(name);
     let Some(at) = from.filter(has).or_else(|| (0..files.len()).find(has)) else {
         return if LIBRARY.contains(&name) { Ok(0) } else { Err(format!("{name} is not there")) };
     };
     let function = &files[at][name];
-    if let Some(why) = &function.unread { return Err(format!("{name} has {why}")); }
-    if above.contains(&name) { return Err(format!("{name} calls itself")); }
+    if let Some(why) = &function.unread {
+        return Err(format!("{name} has {why}"));
+    }
+    if above.contains(&name) {
+        return Err(format!("{name} calls itself"));
+    }
     let above = [above, &[name]].concat();
     let mut below = 0;
-    for called in function.calls.iter().filter(|&called| called != name) { below = below.max(most(files, by, Some(at), called, &above)?); }
+    for called in function.calls.iter().filter(|&called| called != name) {
+        below = below.max(most(files, Some(at), called, &above)?);
+    }
     Ok(function.frame + below)
 }
 
 fn main() {
     let words: Vec<String> = std::env::args().collect();
     let [_, named, folder, names @ ..] = &words[..] else { panic!("usage: paths PROCESSOR FOLDER NAME..") };
-    let by = processor(named);
-    let files = read(Path::new(folder), &by);
+    let files = read(Path::new(folder), &processor(named));
     for name in names {
-        match most(&files, &by, None, name, &[]) {
+        match most(&files, None, name, &[]) {
             Ok(bytes) => println!("{name} {bytes}"),
             Err(why) => {
                 eprintln!("paths: {named}: {name}: {why}");

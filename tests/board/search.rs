@@ -5,9 +5,9 @@
 
 mod commands;
 
+use reference::command::ENTRIES;
+use reference::{Parts, Station};
 use shared::calls::{any_call, lent_station};
-use shared::command::ENTRIES;
-use shared::reference::{Parts, Station};
 use shared::traffic::{self, any_five, good_five, Numbers};
 use shared::trials::Given;
 
@@ -20,7 +20,9 @@ const CODES_AT: usize = 10;
 /// A station with a full set outstanding on a record with many cars, or with few.
 fn full_station(numbers: &mut Numbers, station: &Station) -> Station {
     let mut other = *station;
-    if numbers.one_in(2) { other.record = traffic::crowded_record(numbers); }
+    if numbers.one_in(2) {
+        other.record = traffic::crowded_record(numbers);
+    }
     let set = traffic::allowed_set(numbers, other.record, Parts::NONE, 8);
     other.count = (set.len() / 5) as u8;
     other.answered = 0;
@@ -32,21 +34,29 @@ fn full_station(numbers: &mut Numbers, station: &Station) -> Station {
 /// A call with a full set: requested, sent as a message, or outstanding.
 fn full_call(numbers: &mut Numbers, station: &Station) -> Given {
     let full = full_station(numbers, station);
-    if numbers.one_in(2) { return any_call(numbers, &full); }
+    if numbers.one_in(2) {
+        return any_call(numbers, &full);
+    }
     let set = full.set[..5 * usize::from(full.count)].to_vec();
     let room = Station { count: 0, set: [0; 40], ..full }.to_bytes().to_vec();
-    if numbers.one_in(2) { return Given { entry: 1, first: full.count, room, input: set, ..Given::default() }; }
+    if numbers.one_in(2) {
+        return Given { entry: 1, first: full.count, room, input: set, ..Given::default() };
+    }
     Given { entry: 6, room, input: traffic::request(&set), output: vec![0; 20], ..Given::default() }
 }
 
 fn change_five(numbers: &mut Numbers, codes: &mut [u8]) {
-    if codes.len() < 5 { return; }
+    if codes.len() < 5 {
+        return;
+    }
     let at = 5 * numbers.below(codes.len() as u64 / 5) as usize;
     codes[at..at + 5].copy_from_slice(&if numbers.one_in(8) { any_five(numbers) } else { good_five(numbers) });
 }
 
 fn change_bit(numbers: &mut Numbers, bytes: &mut [u8]) {
-    if bytes.is_empty() { return; }
+    if bytes.is_empty() {
+        return;
+    }
     bytes[numbers.below(bytes.len() as u64) as usize] ^= 1 << numbers.below(8);
 }
 
@@ -56,14 +66,23 @@ fn changed(numbers: &mut Numbers, given: &Given) -> Given {
     for _ in 0..=numbers.below(3) {
         match numbers.below(8) {
             0 | 1 if other.room.len() >= 60 => change_bit(numbers, &mut other.room[..8]),
-            2 if other.room.len() >= 60 => { let codes = &mut other.room[CODES_AT..50]; change_five(numbers, codes) }
+            2 if other.room.len() >= 60 => {
+                let codes = &mut other.room[CODES_AT..50];
+                change_five(numbers, codes)
+            }
             3 if other.room.len() >= 60 => other.room[COUNT_AT + numbers.below(2) as usize] = numbers.below(9) as u8,
             4 if other.entry == 1 || other.entry >= 9 => change_five(numbers, &mut other.input),
             4 | 5 if other.entry == 6 && other.input.len() > 5 => change_five(numbers, &mut other.input[5..]),
-            5 if other.entry == 1 && other.first < 8 => { other.first += 1; other.input.extend(good_five(numbers)); }
+            5 if other.entry == 1 && other.first < 8 => {
+                other.first += 1;
+                other.input.extend(good_five(numbers));
+            }
             5 if other.entry == 12 => change_five(numbers, &mut other.room),
             6 => other.image ^= 1 << numbers.below(57),
-            7 if numbers.one_in(3) => { other.first = numbers.below(9) as u8; other.second = numbers.below(3) as u8; }
+            7 if numbers.one_in(3) => {
+                other.first = numbers.below(9) as u8;
+                other.second = numbers.below(3) as u8;
+            }
             7 => other.image = traffic::near_record(numbers, other.image),
             _ => change_bit(numbers, &mut other.input),
         }
@@ -73,7 +92,9 @@ fn changed(numbers: &mut Numbers, given: &Given) -> Given {
 
 fn main() {
     let words: Vec<String> = std::env::args().collect();
-    let [_, rounds, seed, known, found, counts, program @ ..] = &words[..] else { panic!("usage: search ROUNDS SEED KNOWN FOUND COUNTS PROGRAM..") };
+    let [_, rounds, seed, known, found, counts, program @ ..] = &words[..] else {
+        panic!("usage: search ROUNDS SEED KNOWN FOUND COUNTS PROGRAM..")
+    };
     let (rounds, mut numbers): (usize, Numbers) = (rounds.parse().expect("a number"), Numbers(seed.parse().expect("a number")));
     let mut worst: Vec<Vec<(u32, Given)>> = vec![Vec::new(); ENTRIES.len()];
     let mut station = Station::start();
@@ -104,7 +125,8 @@ fn main() {
         let most: Vec<u32> = worst.iter().map(|kept| kept.first().map_or(0, |one| one.0)).collect();
         eprintln!("round {round}: {most:?}");
     }
-    let line = |(_, given): (u32, Given)| commands::trial(given, ()).sent.iter().map(|byte| format!("{byte:02x}")).collect::<String>() + "\n";
+    let line =
+        |(_, given): (u32, Given)| commands::trial(given, ()).sent.iter().map(|byte| format!("{byte:02x}")).collect::<String>() + "\n";
     let lines: String = worst.into_iter().flat_map(|kept| kept.into_iter().take(2)).map(line).collect();
     std::fs::write(found, lines).expect("the file is written");
 }

@@ -13,7 +13,9 @@ use std::time::Duration;
 const SEED: u64 = 43;
 
 /// The messages that the bytes are, by their lengths.
-fn count(bytes: &[u8]) -> usize { pipes::messages_in(bytes).count() }
+fn count(bytes: &[u8]) -> usize {
+    pipes::messages_in(bytes).count()
+}
 
 /// Sends an input and holds what comes back against what must.
 fn compare(board: &mut Board, input: Vec<u8>, expected: &[u8]) -> Result<(), String> {
@@ -36,7 +38,11 @@ fn compare(board: &mut Board, input: Vec<u8>, expected: &[u8]) -> Result<(), Str
 fn damaged(processor: &str, firmware: &str, station: &str, seed: u64) -> Result<(), String> {
     let mut numbers = Numbers(seed);
     let mut input = traffic::input(numbers.next(), 20);
-    let length = match numbers.below(3) { 0 => numbers.below(2), 1 => 44 + numbers.below(200), _ => 256 + numbers.below(60000) };
+    let length = match numbers.below(3) {
+        0 => numbers.below(2),
+        1 => 44 + numbers.below(200),
+        _ => 256 + numbers.below(60000),
+    };
     input.extend((length as u16).to_le_bytes());
     let expected = pipes::answers(station, &input, numbers.next());
     input.extend(traffic::input(numbers.next(), 20));
@@ -54,7 +60,9 @@ fn run(words: &[String]) -> Result<String, String> {
         panic!("usage: serial PROCESSOR FIRMWARE STATION MESSAGES DAMAGED")
     };
     let (messages, runs): (usize, u64) = (messages.parse().expect("a number"), runs.parse().expect("a number"));
-    for run in 0..runs { damaged(processor, firmware, station, SEED + run)?; }
+    for run in 0..runs {
+        damaged(processor, firmware, station, SEED + run)?;
+    }
     let input = traffic::input(SEED, messages);
     let expected = pipes::answers(station, &input, SEED);
     let mut board = Board::start(processor, firmware);

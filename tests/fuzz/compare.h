@@ -17,11 +17,16 @@
 #define ASTRAY 0
 #endif
 
-/* The reference's side: the call, and the sort of what is handed in that it is made on. It is told of each call of an entry: what that was
- * given, what it left and what it returned. */
-uint32_t reference_call(const struct command *command);
-uint8_t reference_handed(const struct command *command);
-void reference_told(const struct command *given, const struct command *left, uint32_t answer);
+/* The reference's side (src/lib.rs), which each harness asks as the SIDE that it is: the call, the sort of what is handed in that it is made
+ * on, how many sorts there are and whether an answer shows one, and the numbers that an entry can give. It is told of each call of an
+ * entry: what that was given, what it left and what it returned. */
+enum side { STATION_SIDE, DESK_SIDE, DRAWING_SIDE };
+uint32_t reference_call(uint8_t side, const struct command *command);
+uint8_t reference_handed(uint8_t side, const struct command *command);
+bool reference_gives(uint8_t side, uint8_t entry, uint8_t number);
+bool reference_shows(uint8_t side, uint8_t handed, uint8_t number);
+uint8_t reference_sorts(uint8_t side);
+void reference_told(uint8_t side, const struct command *given, const struct command *left, uint32_t answer);
 
 /* The harness's: it makes the call, knows whether an entry may write a run at all, and is told of each call, with the sort and the
  * answer. */
@@ -86,10 +91,10 @@ static uint8_t *place_of(uint8_t *page, size_t size, bool low) {
 static void compare(struct command *command, unsigned places) {
     struct command lent = *command;
     const uint8_t *left[RUNS];
-    uint8_t sort = reference_handed(command);
+    uint8_t sort = reference_handed(SIDE, command);
     for (int run = 0; run < RUNS; run++)
         memcpy(before[run], run_of(command, run)->bytes, run_of(command, run)->size);
-    expected = reference_call(command);
+    expected = reference_call(SIDE, command);
     for (int run = 0; run < RUNS; run++) {
         struct lent *to = run_of(&lent, run);
         bool low = places >> run & 1;
@@ -114,7 +119,7 @@ static void compare(struct command *command, unsigned places) {
     struct command given = *command;
     for (int run = 0; run < RUNS; run++)
         run_of(&given, run)->bytes = before[run];
-    reference_told(&given, command, answer);
+    reference_told(SIDE, &given, command, answer);
     tell(command, sort, answer);
 }
 

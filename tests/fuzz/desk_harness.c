@@ -2,13 +2,9 @@
  * picks a call on one kept desk, or damage to it, and the next ones are what the call is given. `desk_seeds` has programs, and how they
  * are written. */
 #define _GNU_SOURCE /* memfd_create */
+#define SIDE DESK_SIDE
 #include "compare.h"
 #include "desk_command.h"
-
-/* The reference's side, desk_reference_c.rs. */
-bool reference_gives(uint8_t entry, uint8_t number);
-bool reference_shows(uint8_t handed, uint8_t number);
-uint8_t reference_sorts(void);
 
 int LLVMFuzzerInitialize(int *count, char ***words);
 int LLVMFuzzerTestOneInput(const uint8_t *data, size_t size);
@@ -36,7 +32,7 @@ static void tell(const struct command *command, uint8_t sort, uint32_t answer) {
     calls++;
     if (number < NUMBERS)
         reached.answers[entry][number] = seen[entry][number] = true;
-    if (sort < reference_sorts() && reference_shows(sort, number)) {
+    if (sort < reference_sorts(SIDE) && reference_shows(SIDE, sort, number)) {
         reached.handed[entry][sort] = 1;
         handed[entry][sort]++;
     }
@@ -51,11 +47,11 @@ static void summary(void) {
     uint64_t fewest = UINT64_MAX;
     for (uint8_t entry = 0; entry < DESK_ENTRIES; entry++) {
         for (uint8_t number = 0; number < NUMBERS; number++)
-            if (reference_gives(entry, number) != seen[entry][number]) {
+            if (reference_gives(SIDE, entry, number) != seen[entry][number]) {
                 fprintf(stderr, "entry %d %s %d\n", entry, seen[entry][number] ? "gave" : "never gave", number);
                 all = false;
             }
-        for (uint8_t sort = 0; entry != DESK_START && sort < reference_sorts(); sort++) {
+        for (uint8_t sort = 0; entry != DESK_START && sort < reference_sorts(SIDE); sort++) {
             if (handed[entry][sort] == 0) {
                 fprintf(stderr, "entry %d was never called on a desk of sort %d\n", entry, sort);
                 all = false;
@@ -72,7 +68,7 @@ static void summary(void) {
             all = false;
         }
     }
-    fprintf(stderr, "reached: sorts of handed-in desks: %d, each call on each %llu times or more\n", reference_sorts(), (unsigned long long)fewest);
+    fprintf(stderr, "reached: sorts of handed-in desks: %d, each call on each %llu times or more\n", reference_sorts(SIDE), (unsigned long long)fewest);
     fprintf(stderr, "calls compared: %llu, %s\n", (unsigned long long)calls, all ? "every number and reason came" : "some are amiss");
 }
 

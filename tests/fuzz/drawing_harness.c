@@ -3,11 +3,9 @@
  * back: the record of a text that was read is written, and a drawing that was written is read, with the changes that stand behind the
  * record. `drawing_seeds` has inputs, and how they are written. */
 #define _GNU_SOURCE /* memfd_create */
+#define SIDE DRAWING_SIDE
 #include "compare.h"
 #include "drawing.h"
-
-/* The reference's side, drawing_reference_c.rs. */
-bool reference_gives(uint8_t entry, uint8_t number);
 
 int LLVMFuzzerInitialize(int *count, char ***words);
 int LLVMFuzzerTestOneInput(const uint8_t *data, size_t size);
@@ -49,7 +47,7 @@ static void summary(void) {
     uint64_t fewest = UINT64_MAX;
     for (uint8_t entry = 0; entry < DRAWING_ENTRIES; entry++)
         for (uint8_t number = 0; number < NUMBERS; number++)
-            if (reference_gives(entry, number) != seen[entry][number]) {
+            if (reference_gives(SIDE, entry, number) != seen[entry][number]) {
                 fprintf(stderr, "entry %d %s %d\n", entry, seen[entry][number] ? "gave" : "never gave", number);
                 all = false;
             }

@@ -3,16 +3,14 @@
  * the call returns and what it leaves of every byte that it was lent must be what the reference says; and the same of the plain engine, on
  * the same bytes. `seeds` has programs, and how they are written. */
 #define _GNU_SOURCE /* memfd_create */
+#define SIDE STATION_SIDE
 #include "compare.h"
 #include "panel_command.h"
 #include "report.h"
 
-/* The reference's side, reference_c.rs. */
-bool reference_gives(uint8_t entry, uint8_t number);
+/* The reference's side, src/station.rs. */
 uint16_t reference_reason(const struct command *command, uint32_t answer);
 bool reference_refuses(uint8_t opcode, uint8_t number);
-bool reference_shows(uint8_t handed, uint8_t number);
-uint8_t reference_sorts(void);
 
 int LLVMFuzzerInitialize(int *count, char ***words);
 int LLVMFuzzerTestOneInput(const uint8_t *data, size_t size);
@@ -53,7 +51,7 @@ static void tell(const struct command *command, uint8_t sort, uint32_t answer) {
     if (command->entry >= ENTRIES)
         return;
     uint16_t reason = reference_reason(command, answer);
-    if (sort < reference_sorts() && reference_shows(sort, number)) {
+    if (sort < reference_sorts(SIDE) && reference_shows(SIDE, sort, number)) {
         reached.handed[command->entry][sort] = 1;
         handed[command->entry][sort]++;
     }
@@ -67,14 +65,14 @@ static void summary(void) {
     bool all = true;
     uint64_t fewest = UINT64_MAX;
     for (uint8_t entry = REQUEST; entry <= MESSAGE; entry++)
-        for (uint8_t sort = 0; sort < reference_sorts(); sort++) {
+        for (uint8_t sort = 0; sort < reference_sorts(SIDE); sort++) {
             if (handed[entry][sort] == 0) {
                 fprintf(stderr, "entry %d was never called on a station of sort %d\n", entry, sort);
                 all = false;
             }
             fewest = handed[entry][sort] < fewest ? handed[entry][sort] : fewest;
         }
-    fprintf(stderr, "reached: sorts of handed-in stations: %d, each call on each %llu times or more\n", reference_sorts(), (unsigned long long)fewest);
+    fprintf(stderr, "reached: sorts of handed-in stations: %d, each call on each %llu times or more\n", reference_sorts(SIDE), (unsigned long long)fewest);
     for (uint8_t opcode = 0; opcode < OPCODES; opcode++)
         for (uint8_t number = 0; number < NUMBERS; number++)
             if (reference_refuses(opcode, number) != refused[opcode][number]) {
@@ -83,7 +81,7 @@ static void summary(void) {
             }
     for (uint8_t entry = 0; entry < ALL_ENTRIES; entry++)
         for (uint8_t number = 0; number < NUMBERS; number++)
-            if (entry != CARS && entry != VERSION && reference_gives(entry, number) != seen[entry][number]) {
+            if (entry != CARS && entry != VERSION && reference_gives(SIDE, entry, number) != seen[entry][number]) {
                 fprintf(stderr, "entry %d %s %d\n", entry, seen[entry][number] ? "gave" : "never gave", number);
                 all = false;
             }

@@ -25,7 +25,7 @@ def free_port() -> int:
 
 class Browser:
     def __init__(self, folder, width=1280, height=1000, dark=False):
-        self.port, self.session, self.patience = free_port(), None, PATIENCE
+        self.port, self.session, self.patience, self.timed = free_port(), None, PATIENCE, False
         self.driver = subprocess.Popen(["chromedriver", f"--port={self.port}"], stdout=subprocess.DEVNULL, stderr=subprocess.DEVNULL)
         words = ["--headless=new", "--no-sandbox", "--disable-gpu", "--disable-dev-shm-usage", "--hide-scrollbars", "--no-first-run",
                  "--disable-background-networking", "--disable-component-update", f"--window-size={width},{height}", f"--user-data-dir={folder}"]
@@ -116,6 +116,14 @@ class Browser:
         """A picture of what the window shows, or of one element."""
         where = f"/element/{self.find(selector)}/screenshot" if selector else "/screenshot"
         path.write_bytes(base64.b64decode(self.here("GET", where)))
+
+    def thread_time(self):
+        """The milliseconds of the processor that the page's own thread has taken: scripts, styles, layout and painting."""
+        command = lambda name: self.here("POST", "/goog/cdp/execute", {"cmd": f"Performance.{name}", "params": {}})
+        if not self.timed:
+            command("enable")
+            self.timed = True
+        return 1000 * next(one["value"] for one in command("getMetrics")["metrics"] if one["name"] == "ThreadTime")
 
     def log(self, kind):
         return self.here("POST", "/se/log", {"type": kind})

@@ -1,13 +1,8 @@
 """What the page must do, each as a check on an open browser. A check fails by an assertion, or by the driver."""
 
-import json
-import re
-import struct
 import subprocess
 import time
 from pathlib import Path
-
-from browser import Failed
 
 ROOT = Path(__file__).resolve().parents[2]
 OUT = ROOT / "target/page"
@@ -214,121 +209,6 @@ def motors_play(page, url):
     same(len(ends[0]), 5, "results that came")
 
 
-def night_log(page, url):
-    text = re.search(r"cat >~/night.log <<'end'\n(.*?)end\n", (ROOT / "README.md").read_text(), re.DOTALL)[1]
-    same(len(text.splitlines()), 4, "lines of the night log")
-    page.open(url)
-    page.click("#tab-log")
-    page.click("#view-log summary")
-    page.fill("#pasted", text)
-    page.click("#open-pasted")
-    page.until("return !document.getElementById('log-body').hidden", "the log is open")
-    same(page.text("#log-note"), "The pasted log: 2 messages, 1 rejection; 2 answers in the log, all of them this station's.", "the headline")
-    shown = page.text("#log-message")
-    for words in ("Message 2: Request of 1 instruction", "0: lift basement", "31: out of turn", "a drive-in is under way", "The log has the same answer."):
-        assert words in shown, (words, shown)
-    same(floor(page, "#log-floor")["door"], "open", "the door")
-    page.fill("#pasted", text.replace("1F FF", "00 FF"))
-    page.click("#open-pasted")
-    page.until("return document.getElementById('log-note').textContent.includes('1 of them not')", "an answer that differs is told")
-    assert "The log has another answer" in page.text("#log-message"), page.text("#log-message")
-
-
-def opened(page, url, name):
-    """Opens a journal of target/page in the page, and gives its bytes."""
-    page.open(url)
-    page.click("#tab-log")
-    page.upload("#file", OUT / name)
-    page.until("return !document.getElementById('log-body').hidden", "the journal is open")
-    return (OUT / name).read_bytes()
-
-
-def answered(messages):
-    """What bin/station answers, and the number of each answer: 0 where it is the image."""
-    answers, at, numbers = program("station", messages), 0, []
-    while at < len(answers):
-        numbers.append(answers[at + 4] if answers[at + 2] == 128 else 0)
-        at += 2 + answers[at]
-    return answers, numbers
-
-
-def journal(page, url):
-    messages = opened(page, url, "journal-100000")
-    report = dict(line.split() for line in program("report", messages).decode().splitlines())
-    rejected = sum(int(value) for name, value in report.items() if name.startswith("answer-") and name != "answer-0")
-    same(page.text("#log-note"), f"journal-100000: 100,000 messages, {rejected:,} rejections.", "the headline")
-    record, apart = struct.unpack("<QQ", program("station", messages + b"\2\0\5\0")[-16:])
-    drawn = page.run("const { views } = await window.garage, end = views.log.log.stationAt(100000); return [String(end.record), String(end.apart)]")
-    same(drawn, [str(record), str(apart)], "the record at the end")
-    same(floor(page, "#log-floor")["hatched"], [bit for bit in range(53) if apart >> bit & 1], "what is hatched at the end")
-    # any place of it within 50 ms, drawing and all; and each rejection is one of the station's
-    slowest = page.run("""
-        const { views } = await window.garage; let slowest = 0;
-        for (let step = 0; step < 30; step++) { const at = (step * 7919 * 13) % 100000, begun = performance.now(); views.log.go(at); slowest = Math.max(slowest, performance.now() - begun); }
-        return slowest;""")
-    assert slowest < 50 * page.slowness, f"a step takes {slowest:.0f} ms"
-    page.run("const { views } = await window.garage; views.log.go(0)")
-    _, numbers = answered(messages)
-    wanted = [place + 1 for place, number in enumerate(numbers) if number][:3]
-    found = []
-    for _ in wanted:
-        page.click("#next-refused")
-        found.append(page.run("return Number(document.getElementById('slider').value)"))
-    same(found, wanted, "the first rejections")
-    assert page.run("const marks = document.getElementById('marks'), bits = marks.getContext('2d').getImageData(0, marks.height - 1, marks.width, 1).data; return bits.some((one) => one > 0)"), "no rejection is marked"
-    part = page.run("const { views } = await window.garage; return [views.log.log.hexadecimal(40, 60), views.log.log.example(40, 60)]")
-    same(len(part[0].splitlines()), 40, "lines of a part")
-    session = [line for line in part[1].splitlines() if line[:1] in "<>"]
-    asked = b"".join(bytes.fromhex(line[1:]) for line in session if line[0] == ">")
-    same(program("station", asked), b"".join(bytes.fromhex(line[1:]) for line in session if line[0] == "<"), "a worked example")
-    # the week of it
-    page.click("#tab-week")
-    page.until("return document.querySelectorAll('#week-bars tr').length > 20", "the week is counted")
-    rows = page.run("return [...document.querySelectorAll('#week-bars tr')].map((row) => [row.dataset.total, row.querySelector('.count').textContent.replaceAll(',', ''), row.querySelector('.bar').style.width])")
-    shown = {name: value for name, value, _ in rows}
-    for name, value in report.items():
-        same(shown.get(name, "0"), value, name)
-    assert all((width == "0%") == (value == "0") for _, value, width in rows), "a bar is missing"
-
-
-def random_messages(page, url):
-    """Every answer to 5,000 random messages equals bin/station's, in the page as it is."""
-    messages = opened(page, url, "journal-5000")
-    count, numbers, replies = page.run("""
-        const { library, views } = await window.garage, { log } = views.log, station = library.station(), replies = [];
-        for (let at = 0; at < log.count; at++) replies.push(...station.message(log.message(at)).reply);
-        return [log.count, [...log.numbers], replies];""")
-    wanted, told = answered(messages)
-    same(count, 5000, "messages")
-    same(bytes(replies), wanted, "the answers")
-    same(numbers, told, "the numbers that the log marks")
-
-
-def bad_files(page, url):
-    """One clear sentence for each, and the page goes on."""
-    page.open(url)
-    page.click("#tab-log")
-    for name, content, wanted in (
-        ("empty", b"", "empty is empty."),
-        ("picture.png", b"\x89PNG\r\n\x1a\n\0\0\0\rIHDR", "picture.png is neither a journal nor a log in hexadecimal: at byte 0 it is damaged: a length of 20617, and a message has 2 to 43; what follows is left out."),
-        ("letter.txt", b"Dear garage,\n", "letter.txt, line 1: two hexadecimal digits for each byte are expected, and “Dear garage,” stands there."),
-        ("odd.log", b"> 02 00 05 00\n> 02 00 05 0\n", "odd.log, line 2: two hexadecimal digits for each byte are expected, and “02 00 05 0” stands there."),
-        ("answers", bytes.fromhex("0600800000FF0000"), "answers is a recording of what a station answered; open what it was sent."),
-        ("answers.log", b"< 06 00 80 00 00 FF 00 00\n", "answers.log has no message that was sent to a station."),
-        ("cut.log", b"> 02 00\n> 02 00 05 00\n", "cut.log, line 2: the message before it is cut short."),
-        ("damaged", bytes.fromhex("0200050002000500FFFF"), "damaged: 2 messages, 0 rejections; at byte 8 it is damaged: a length of 65535, and a message has 2 to 43; what follows is left out."),
-        ("unfinished", bytes.fromhex("02000500020005"), "unfinished: 1 message, 0 rejections; it ends inside a message, at byte 4; that rest is left out."),
-    ):
-        (OUT / "files").mkdir(exist_ok=True)
-        path = OUT / "files" / name
-        path.write_bytes(content)
-        page.upload("#file", path)
-        try:
-            page.until(f"return document.getElementById('log-note').textContent === {json.dumps(wanted)}", name)
-        except Failed:
-            raise AssertionError(f"{name}: found {page.text('#log-note')!r}") from None
-
-
 def garage_drawn(page, url):
     page.open(url)
     page.click("#tab-garage")
@@ -375,3 +255,29 @@ def plan_judged(page, url):
     page.fill("#plan", "image start\nwish without car\n\nlift cellar\n")
     same(page.run("return [...document.querySelectorAll('#plan-wrong li')].map((one) => one.textContent)"),
          ["line 2: expected `a`, found `car`", "line 4: expected `street`, `rotation` or `basement`, found `cellar`"], "lines that say nothing")
+
+
+def station_link(page, url):
+    """A link holds a station that runs, with its set and its cards; a link that was changed is told."""
+    page.open(url)
+    page.click("#in-use")
+    send(page, "belts row 1 left lift, lower, full", "tilt left row 3 tilted")
+    page.click("[data-result='1-done']")
+    shown = settled(page, {"moving": 3}, "a set in motion")
+    page.click("#station-link")
+    link, held = page.run("return [location.href, document.querySelectorAll('#motors li').length]")
+    assert "#station=" in link and len(link.split("#")[1]) < 500, link
+    page.open(link)
+    again = settled(page, {"moving": 3}, "the link's station")
+    same((again["cars"], again["lift"], again["label"]), (shown["cars"], shown["lift"], shown["label"]), "its floor")
+    same(page.run("return document.querySelectorAll('#motors li').length"), held, "its set")
+    page.click("[data-result='0-done']")
+    sent(page, TAKEN, "the set's other result")
+    settled(page, {"moving": 0, "cars": [["7001", "0 1"], ["7002", "9 10"], ["7003", "21"], ["7004", "29"]]}, "after it")
+    page.click("#open-session")
+    page.until("return document.getElementById('log-note').textContent.includes('1 message')", "the session is in the log")
+    settled(page, {"cars": [["7001", "0 1"], ["7002", "9 10"], ["7003", "21"], ["7004", "29"]]}, "its cards", "#log-floor")
+    for wrong in (link.replace("7001", "7002"), link[:-4], link.replace("#station=", "#station=7")):
+        page.open(wrong)
+        same(page.text("#answer"), "The link holds no station that can be: part of it is missing or changed.", wrong)
+        settled(page, {"cars": [], "lift": "street"}, "the start")

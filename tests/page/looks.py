@@ -7,6 +7,7 @@ import json
 import re
 import shutil
 import threading
+import zlib
 
 from checks import OUT, ROOT, same, settled
 
@@ -94,12 +95,23 @@ def on_a_phone(page, url):
         page.here("POST", "/window/rect", {"width": 1280, "height": 1000})
 
 
+def unpacked(paper):
+    """A document with what is packed in it, as Firefox does it."""
+    parts = [paper]
+    for packed in re.findall(rb"stream\r?\n(.*?)\r?\nendstream", paper, re.DOTALL):
+        try:
+            parts.append(zlib.decompress(packed))
+        except zlib.error:
+            pass # an image or a font, packed otherwise
+    return b"\n".join(parts)
+
+
 def on_paper(page, url):
     page.open(url)
     page.click("#in-use")
     paper = base64.b64decode(page.here("POST", "/print", {"background": False, "shrinkToFit": True}))
     assert paper.startswith(b"%PDF"), "no paper"
-    pages = len(re.findall(rb"/Type\s*/Page[^s]", paper))
+    pages = len(re.findall(rb"/Type\s*/Page[^s]", unpacked(paper)))
     assert 1 <= pages <= 3, f"{pages} pages"
 
 
@@ -153,7 +165,7 @@ def as_a_module(page, _):
         version = re.findall(r"STATION_VERSION_(?:FIRST|SECOND|THIRD) (\d+)", (ROOT / "include/station.h").read_text())
         same(page.run("return window.told"), f"{'.'.join(version)}: 31 (out of turn)", "a planner in a browser")
         server.shutdown()
-    page.log("browser") # the browser asks for an icon, which is not there
+    page.log("browser")  # the browser asks for an icon, which is not there
 
 
 def still_quiet(page, url):

@@ -5,9 +5,23 @@ import tempfile
 from pathlib import Path
 
 from browser import Browser
-from checks import opened, send
+from checks import send
+from logs import opened
 
 REST = "await new Promise((resolve) => setTimeout(resolve, 1200)); document.activeElement?.blur(); scrollTo(0, 0)"
+
+
+CARDS = """
+cards 7001 7002 - 7004
+> 12 00 04 00 03 06 20 20 00 33 09 00 00 00 00 00 00 00 00 00
+card 7005
+> 03 00 02 00 01
+> 03 00 02 00 03
+> 08 00 01 00 01 04 02 00 00 00
+> 06 00 03 00 00 00 00 01
+> 0D 00 01 00 02 01 01 06 00 00 01 02 02 01 01
+> 06 00 03 00 01 00 00 02
+"""
 
 
 def motion(page):
@@ -44,6 +58,13 @@ def log(page):
     page.run("const { views } = await window.garage; views.log.go(views.log.log.nextRefused(61000) + 1)")
 
 
+def cards(page):
+    """A log of a car that comes, with its card, and a belt that gets stuck on its way."""
+    page.click("#tab-log")
+    page.run("document.getElementById('pasted').value = given[0]; document.getElementById('paste').requestSubmit()", CARDS)
+    page.until("return !document.getElementById('log-body').hidden", "the log is open")
+
+
 def garage(page):
     page.click("#tab-garage")
     page.fill("#drawing", "##...#.....##.......\n.#.......#\n#.........\nLLT\n-LB\nbasement\n")
@@ -69,6 +90,7 @@ PICTURES = [
     ("jam", jam, (1180, 1000), False, "#live-floor"),
     ("drive", drive, (500, 1300), True, "#live-floor"),
     ("log", log, (1180, 1900), False, "#view-log"),
+    ("cards", cards, (1180, 1500), False, "#log-body .stage"),
     ("garage", garage, (1180, 1500), False, "#view-garage"),
     ("orders", orders, (1180, 1420), False, "#comparison"),
     ("week", week, (1180, 1700), True, "#view-week"),

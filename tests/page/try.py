@@ -1,26 +1,25 @@
-"""Tries the page in a real browser: every check on the page as it is, then each wrong page, which its check must find out. `try.py PAGE`, and
-names of checks for these alone."""
+"""Tries the page in a real browser: every check on the page as it is, then each wrong page, which its check must find out.
+`try.py PAGE WRONG`, and names of checks for these alone. The folder WRONG has pages NAME.html, and a `list` with a line for each: its name,
+the check that must find it out, and what is wrong with it."""
 
-import os
 import sys
 import tempfile
 import time
 from pathlib import Path
 
 import checks
+import logs
 import looks
 from browser import Browser, Failed
-from wrong import WRONG, wrong_page
 
-ALL = [checks.parks_by_clicks, checks.fetches_by_keys, checks.jam_and_image, checks.refusals_are_told, checks.two_orders, checks.motors_play, checks.night_log,
-       checks.journal, checks.random_messages, checks.bad_files, checks.garage_drawn, checks.plan_judged, looks.contrast_and_labels, looks.on_a_phone,
-       looks.on_paper, looks.as_a_module, looks.still_quiet, looks.nothing_leaves]
+ALL = [checks.parks_by_clicks, checks.fetches_by_keys, checks.jam_and_image, checks.refusals_are_told, checks.two_orders, checks.motors_play, checks.garage_drawn,
+       checks.plan_judged, checks.station_link, logs.night_log, logs.journal, logs.random_messages, logs.bad_files, logs.headed_journal, logs.cards_in_a_log,
+       logs.begins_elsewhere, logs.a_step, looks.contrast_and_labels, looks.on_a_phone, looks.on_paper, looks.as_a_module, looks.still_quiet, looks.nothing_leaves]
 
 
-def main(path, names):
+def main(path, wrong, names):
     failed, tried, found_out = [], 0, 0
     with tempfile.TemporaryDirectory() as folder, Browser(folder) as page:
-        page.slowness = float(os.environ.get("PAGE_SLOWNESS", "4")) # a machine that does other things meanwhile is slower
         for check in ALL:
             if names and check.__name__ not in names:
                 continue
@@ -31,16 +30,16 @@ def main(path, names):
             except (AssertionError, Failed) as why:
                 failed.append(f"{check.__name__}: {why}")
             tried += 1
-        text = path.read_text()
-        for what, check, old, new in WRONG:
-            if names and check.__name__ not in names:
+        by_name = {check.__name__: check for check in ALL}
+        for line in (wrong / "list").read_text().splitlines():
+            name, by, what = line.split(" ", 2)
+            if names and by not in names:
                 continue
-            one = path.parent / "wrong.html"
-            one.write_text(wrong_page(text, old, new))
+            check = by_name[by]
             page.log("browser")
             page.patience = 6
             try:
-                check(page, one.as_uri())
+                check(page, (wrong / f"{name}.html").as_uri())
                 failed.append(f"a wrong page passes {check.__name__}: {what}")
             except (AssertionError, Failed) as why:
                 print(f"found out: {what}: {str(why).splitlines()[0][:150]}")
@@ -51,4 +50,4 @@ def main(path, names):
     return 1 if failed else 0
 
 
-sys.exit(main(Path(sys.argv[1]).resolve(), sys.argv[2:]))
+sys.exit(main(Path(sys.argv[1]).resolve(), Path(sys.argv[2]).resolve(), sys.argv[3:]))

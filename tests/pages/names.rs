@@ -1,5 +1,5 @@
-//! Every name on the given pages is there: the file that a link names exists, and what is marked as a name in the link's text is defined
-//! in that file. A theorem that is linked in proofs/ and proves a statement that has a name must prove one that its own line of
+//! Every name on the given pages is there: the file that a link names exists, so does the heading that it names in a page, and what is marked
+//! as a name in the link's text is defined in that file. A theorem that is linked in proofs/ and proves a statement that has a name must prove one that its own line of
 //! the page names.
 use std::collections::HashSet;
 use std::fs;
@@ -7,7 +7,20 @@ use std::path::Path;
 use std::process::exit;
 
 /// The parts of a line between two marks.
-fn between(text: &str, mark: char) -> impl Iterator<Item = &str> { text.split(mark).skip(1).step_by(2) }
+fn between(text: &str, mark: char) -> impl Iterator<Item = &str> {
+    text.split(mark).skip(1).step_by(2)
+}
+
+/// Whether a page has a heading that a link to it names: in small letters, with - for a blank, and without signs.
+fn has_heading(page: &str, anchor: &str) -> bool {
+    let mut code = false;
+    page.lines().any(|line| {
+        code ^= line.starts_with("```");
+        let words = line.trim_start_matches('#').trim().to_lowercase();
+        let kept = words.chars().filter(|c| c.is_alphanumeric() || "-_ ".contains(*c)).map(|c| if c == ' ' { '-' } else { c });
+        !code && line.starts_with('#') && kept.eq(anchor.chars())
+    })
+}
 
 /// The links of a line: text and target, web addresses left out.
 fn links(line: &str) -> Vec<(&str, &str)> {
@@ -15,7 +28,9 @@ fn links(line: &str) -> Vec<(&str, &str)> {
     for (at, _) in line.match_indices("](") {
         let text = line[..at].rsplit_once('[').map_or("", |(_, text)| text);
         let target = line[at + 2..].split(')').next().unwrap_or_default();
-        if !target.contains("://") && !target.starts_with('#') { found.push((text, target)); }
+        if !target.contains("://") {
+            found.push((text, target));
+        }
     }
     found
 }
@@ -24,7 +39,9 @@ fn links(line: &str) -> Vec<(&str, &str)> {
 fn declared(line: &str) -> Option<(&str, &str)> {
     let line = line.trim_start().trim_start_matches("pub ").trim_start_matches("abbrev ").trim_start_matches("unfoldable ");
     let line = line.trim_start_matches("pub ");
-    if let Some(rest) = line.strip_prefix("record ").or(line.strip_prefix("data ")) { return Some((rest.split_whitespace().next()?, "")); }
+    if let Some(rest) = line.strip_prefix("record ").or(line.strip_prefix("data ")) {
+        return Some((rest.split_whitespace().next()?, ""));
+    }
     let (name, kind) = line.split_once(" : ")?;
     (!name.contains(' ')).then_some((name, kind))
 }
@@ -40,7 +57,9 @@ fn defines(file: &str, text: &str, name: &str, beside: &HashSet<&str>) -> bool {
     if file.ends_with(".rt") {
         return ["fn ", "const ", "enum ", "struct ", "mod "].iter().any(|word| {
             let found = format!("{word}{base}");
-            text.lines().any(|line| line.find(&found).is_some_and(|at| !line[at + found.len()..].starts_with(|c: char| c.is_alphanumeric() || c == '_')))
+            text.lines().any(|line| {
+                line.find(&found).is_some_and(|at| !line[at + found.len()..].starts_with(|c: char| c.is_alphanumeric() || c == '_'))
+            })
         });
     }
     text.contains(name)
@@ -59,18 +78,24 @@ fn main() {
                 eprintln!("names: {page}:{}: {what}", number + 1);
                 faults += 1;
             };
-            let beside: HashSet<_> = links(line).into_iter().flat_map(|(text, _)| between(text, '`')).collect();
+            let beside: HashSet<_> = between(line, '`').collect();
             for (text, target) in links(line) {
-                let path = folder.join(target.split('#').next().unwrap_or_default());
+                let (file, anchor) = target.split_once('#').unwrap_or((target, ""));
+                let path = if file.is_empty() { Path::new(&page).to_path_buf() } else { folder.join(file) };
                 let file = path.to_string_lossy();
                 if !path.exists() {
                     fault(format!("{target} is not there"));
                     continue;
                 }
                 let content = fs::read_to_string(&path).unwrap_or_default();
+                if file.ends_with(".md") && !anchor.is_empty() && !has_heading(&content, anchor) {
+                    fault(format!("{target} has no such heading"));
+                }
                 for name in between(text, '`').filter(|name| !name.contains('/')) {
                     names += 1;
-                    if path.is_file() && !defines(&file, &content, name, &beside) { fault(format!("{target} does not have `{name}`")); }
+                    if path.is_file() && !defines(&file, &content, name, &beside) {
+                        fault(format!("{target} does not have `{name}`"));
+                    }
                 }
             }
         }

@@ -45,13 +45,13 @@ RunsAreCalls =
     (s : Station) (input : List ℕ)
     → (answersOn s input ≡ inBytes (repliesTo s (heardIn input))) × (run s input .station ≡ calls s (callsIn (heardIn input)))
 
--- so is one that comes in pieces
+-- an input that comes in pieces is the same list of calls
 abbrev pub PiecesAreCalls : Type 0
 PiecesAreCalls =
     (s : Station) (pieces : List (List ℕ))
     → (fed s pieces ≡ inBytes (repliesTo s (heardIn (join pieces)))) × (fedStation s [] pieces ≡ calls s (callsIn (heardIn (join pieces))))
 
--- and an image that bytes carry is a number of 64 bits
+-- an image that bytes carry is a number of 64 bits
 abbrev pub ImagesSized : Type 0
 ImagesSized = (input : List ℕ) → Bytes input → Sized (callsIn (heardIn input))
 
@@ -144,14 +144,15 @@ RoomsAreRuns =
     × Reached (stationOf (uses room l))
     × (NoStarts l → stationOf (uses room l) ≡ calls (stationOf room) (callsBy room l))
 
--- so for every choice of which stuck instructions did in fact finish, the record with those applied is sound
+-- in a room, for every choice of which stuck instructions did in fact finish, the record with those applied is sound
 abbrev pub RoomsLaidOut : Type 0
 RoomsLaidOut =
     (room : List ℕ) → Begun room → (l : List Use) → AllPassed l → NoStarts l
     → let js = stuck (stationOf room) (callsBy room l) in
     (p : List ℕ) → Picks (length js) p → Sound (bit (applied js p (stationOf (uses room l) .bits)))
 
--- and has as many cars as at the beginning, plus those driven in, less those driven out, where no image came since
+-- in a room, for every such choice, there are as many cars as at the beginning, plus those driven in, less those driven out, where no image
+-- came since
 abbrev pub RoomsCounted : Type 0
 RoomsCounted =
     (room : List ℕ) → Begun room → (l : List Use) → AllPassed l → NoStarts l → NoImages (callsBy room l)
@@ -182,11 +183,11 @@ RoomsHoweverFar =
     (calls s c ≡ stationOf (uses room l))
     × ((p : List Moving) → Unheard s c p → LaidOutInFact s c p × CarsInFact s c p × AnyOrderInFact s c p × AllowedInFact s c p × HeardInFact s c p)
 
--- and whatever entries came, station_start too, there is a way back from the station in the room
+-- whatever entries came, station_start too, there is a way back from the station in the room
 abbrev pub RoomsNeverLockUp : Type 0
 RoomsNeverLockUp = (room : List ℕ) → Begun room → (l : List Use) → AllPassed l → HasWayBack (stationOf (uses room l))
 
--- and no entry then returns 16
+-- from where a lent station begins, whatever entries follow on its room, none returns 16
 abbrev pub LentNever : Type 0
 LentNever =
     (room : List ℕ) → Begun room → (l : List Use) → AllPassed l → (u : Use) → AsPassed u

@@ -59,7 +59,7 @@ FineExactly =
     (r n : ℕ) (ns : List ℕ) → Sound (bit r) → n ≤ length ns
     → (givenAs r n ns ≡ Fine) ↔ (ThatMany (bit r) (take n ns) × AllNew (take n ns))
 
--- such numbers are those of the record's cars
+-- as many numbers as a sound record wants, none zero and none twice, are then those of its cars
 abbrev pub GivenCards : Type 0
 GivenCards = (f : Bits) (ns : List ℕ) → Sound f → ThatMany f ns → AllNew ns → Cards f (numbersGiven f ns)
 
@@ -89,7 +89,7 @@ WhereRight =
 abbrev pub Kept : Type 0
 Kept = (i : Instruction) (f : Bits) (n : Numbers) → Sound f → allowed i f ≡ true → Cards f n → Cards (next i f) (numbersAfter i f n)
 
--- none is lost and none is made
+-- an allowed instruction on a sound record loses no number and makes none
 abbrev pub SameNumbers : Type 0
 SameNumbers =
     (i : Instruction) (f : Bits) (n : Numbers) → Sound f → allowed i f ≡ true → Cards f n
@@ -102,7 +102,7 @@ Followed =
     → (l m : List Car) → Layout f l → Layout (next i f) m
     → (x : Car) → Among x l → Among (moved i x) m × (numbersAfter i f n (anchor (moved i x)) ≡ n (anchor x))
 
--- and there is no other: every car of the next record was brought there
+-- after an allowed instruction every car of the next record is one that the instruction brought there
 abbrev pub Brought : Type 0
 Brought =
     (i : Instruction) (f : Bits) → Sound f → allowed i f ≡ true
@@ -113,7 +113,8 @@ Brought =
 abbrev pub WaitsOn : Type 0
 WaitsOn = (i : Instruction) (f : Bits) (n : Numbers) → wellFormed i ≡ true → numbersAfter i f n driveIn ≡ n driveIn
 
--- so no other numbers fit: those of the next record's cars, of which each car has the one that it had and the same one waits, are these
+-- no other numbers fit after an allowed instruction: those of the next record's cars, of which each car has the one that it had and the
+-- same one waits, are these
 abbrev pub OnlyThese : Type 0
 OnlyThese =
     (i : Instruction) (f : Bits) (n m : Numbers) → Sound f → allowed i f ≡ true → Cards f n → Cards (next i f) m
@@ -132,13 +133,13 @@ abbrev pub NumbersOutside : Type 0
 NumbersOutside =
     (i : Instruction) → wellFormed i ≡ true → (f : Bits) (n : Numbers) (k : ℕ) → area i k ≡ false → numbersAfter i f n k ≡ n k
 
--- and those in its area after it are told by the record and the numbers in its area
+-- the numbers in an instruction's area after it rest on the record and the numbers in its area alone
 abbrev pub NumbersInside : Type 0
 NumbersInside =
     (i : Instruction) → wellFormed i ≡ true → (f g : Bits) (n m : Numbers) → Agree (area i) f g → SameOn (area i) n m
     → SameOn (area i) (numbersAfter i f n) (numbersAfter i g m)
 
--- a number in its area stays in its area
+-- an allowed instruction leaves each number of its area in its area
 abbrev pub StaysWithin : Type 0
 StaysWithin =
     (i : Instruction) (f : Bits) (n : Numbers) → Sound f → allowed i f ≡ true → Cards f n
@@ -202,7 +203,7 @@ Remains BeginOut f n c d = Has n d
 Remains EndDone f n c d = Has n d × (f driveOut ≡ true → d ≡ n raisedCar → ⊥)
 Remains EndNotDone f n c d = Has n d × (d ≡ n driveIn → ⊥)
 
--- those and no others are there
+-- after a possible event the numbers that remain are there, and no others
 abbrev pub EventHas : Type 0
 EventHas =
     (e : Event) (f : Bits) (n : Numbers) (c : ℕ) → Sound f → possible e f ≡ true → Cards f n → BringsNew e c n

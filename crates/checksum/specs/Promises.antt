@@ -6,15 +6,15 @@ use Rattle.wire_laws.specs.Statements.{Bytes}
 use Rattle.checksum.specs.Checksum.{crcOver}
 use Rattle.checksum.specs.Slices.{slices, crcBy}
 
--- it has 32 bits
+-- a checksum has 32 bits
 abbrev pub InRange : Type 0
 InRange = (c : ℕ) (bytes : List ℕ) → c < 2 ^ 32 → crcOver c bytes < 2 ^ 32
 
--- it continues: that of two runs of bytes is that of the second, from that of the first on
+-- the checksum of two runs of bytes is that of the second, from that of the first on
 abbrev pub Continues : Type 0
 Continues = (c : ℕ) (a b : List ℕ) → crcOver c (a ++ b) ≡ crcOver (crcOver c a) b
 
--- by the right tables it is the same
+-- by the right tables the checksum is the same
 abbrev pub BySlices : Type 0
 BySlices = (c : ℕ) (bytes : List ℕ) → c < 2 ^ 32 → Bytes bytes → crcBy slices c bytes ≡ crcOver c bytes
 

@@ -21,7 +21,7 @@ pub record Typed (d : Desk) : Type 0 where
   pub places : length (d .numbers) ≡ deskNumbers
   pub small : (p : ℕ) → getD (d .numbers) p 0 < 2 ^ 32
 
--- it takes 228 bytes
+-- a desk takes 228 bytes
 abbrev pub DeskFits : Type 0
 DeskFits = (d : Desk) → Typed d → length (deskBytes d) ≡ deskSize
 
@@ -29,7 +29,7 @@ DeskFits = (d : Desk) → Typed d → length (deskBytes d) ≡ deskSize
 abbrev pub DeskReadsBack : Type 0
 DeskReadsBack = (d : Desk) (past : List ℕ) → Typed d → deskOf (deskBytes d ++ past) ≡ d
 
--- and the bytes of a room are those of the desk that they hold
+-- the bytes of a room are those of the desk that they hold
 abbrev pub DeskOneForm : Type 0
 DeskOneForm = (room : List ℕ) → Bytes room → deskSize ≤ length room → deskBytes (deskOf room) ≡ take deskSize room
 
@@ -62,7 +62,7 @@ RefusedUntouched =
 abbrev pub OfDesk : ℕ → Type 0
 OfDesk n = OfTable n ⊎ ((37 ≤ n) × (n ≤ 39))
 
--- the numbers that each returns
+-- an entry returns a number of the table or 37 to 39, and the two questions 0, 16 or 17
 abbrev pub NumbersReturned : Type 0
 NumbersReturned =
     ((call : Desk → DeskOutcome) (room : List ℕ) → OfDesk (entry call room .says % 256))

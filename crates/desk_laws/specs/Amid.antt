@@ -24,10 +24,11 @@ abbrev pub deskInterrupted : List DeskCall → List DeskCall
 deskInterrupted [] = []
 deskInterrupted (c ∷ l) = desk.ask ∷ desk.event 0 0 ∷ c ∷ deskInterrupted l
 
+-- for every desk and every list of calls there is one with an ask and a rejected call put in before each
 abbrev pub DeskAmidExists : Type 0
 DeskAmidExists = (d : Desk) (l : List DeskCall) → DeskAmid d l (deskInterrupted l)
 
--- on any desk what is put in so moves no number, and nothing else
+-- on any desk asks and rejected calls that are put in move no number, and nothing else
 abbrev pub DeskAmidUnmoved : Type 0
 DeskAmidUnmoved = (d : Desk) (l m : List DeskCall) → DeskAmid d l m → calls d m ≡ calls d l
 

@@ -96,7 +96,7 @@ Accepted d desk.ask e = e .numbers ≡ d .numbers
 
 -- ---- numbers follow cars
 
--- of any desk and any call: one that is accepted makes this of the numbers, and with one that is rejected each stays
+-- of any desk and any call: where it is accepted each number follows its car, and where it is rejected each stays
 abbrev pub CardsFollow : Type 0
 CardsFollow =
     (d : Desk) (c : DeskCall)
@@ -110,6 +110,7 @@ downWithSeven = desk.event 1 7 ∷ desk.event 3 0 ∷ desk.request 1 ((4 ∷ 2 �
 abbrev pub isDown : DeskCall
 isDown = desk.reports (record { issue = 0; number = 0; ending = 1 })
 
+-- when the lift has taken a car down, its number has gone from the raised lift to the lift's cells
 abbrev pub FollowHappens : Type 0
 FollowHappens =
     let d = calls startDesk downWithSeven in

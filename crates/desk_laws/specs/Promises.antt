@@ -52,7 +52,7 @@ AsStation =
     → ((said d c ≡ run.said (d .station) (under c)) × (left d c .station ≡ run.left (d .station) (under c)))
     ⊎ ((run.said (d .station) (under c) ≡ 0) × (37 ≤ said d c) × (said d c ≤ 39))
 
--- so after any calls the station is the one that its own calls below make
+-- after any calls a desk's station is the one that its own calls below make
 abbrev pub StationBelow : Type 0
 StationBelow = (d : Desk) → DeskBegins d → (l : List DeskCall) → calls d l .station ≡ run.calls (d .station) (below d l)
 
@@ -101,7 +101,7 @@ Changes (desk.event e c) = Unit {0}
 Changes (desk.pictures p n ns) = Unit {0}
 Changes desk.ask = ⊥
 
--- whatever the call, the numbers stay, or the call is one of these and was taken
+-- whatever the call, the numbers stay, or the call is a success, a car event or an image, and was taken
 abbrev pub OnlySuccessMoves : Type 0
 OnlySuccessMoves = (d : Desk) (c : DeskCall) → (left d c .numbers ≡ d .numbers) ⊎ ((said d c ≡ 0) × Changes c)
 
@@ -112,7 +112,7 @@ DeskAlways =
     (d : Desk) → DeskBegins d → (l : List DeskCall) (p : List ℕ) → Picks (length (stuckAt d l)) p
     → Sound (bit (finishedRecord d l p)) × Cards (bit (finishedRecord d l p)) (numbersIn (finishedCards d l p))
 
--- and they are the same numbers whichever did finish
+-- whichever stuck instructions did in fact finish, the numbers are the same ones
 abbrev pub WhicheverSame : Type 0
 WhicheverSame =
     (d : Desk) → DeskBegins d → (l : List DeskCall) (p : List ℕ) → Picks (length (stuckAt d l)) p

@@ -22,7 +22,7 @@ WrittenReadsBack =
     let w = writing r room .says in
     (n % 256 ≡ w .number) × (n / 256 % 256 ≡ 255) × (n / 65536 ≡ w .size)
 
--- and what reading says, in room for a record: its number, and its place
+-- what reading a drawing says, in room for a record, reads back: its number, and its place
 abbrev pub FoundReadsBack : Type 0
 FoundReadsBack =
     (text room : List ℕ) → 8 ≤ length room

@@ -21,7 +21,7 @@ use Rattle.drawing.specs.Hex.{hexIn, hexLine}
 abbrev pub read : ℕ → Found
 read r = record { number = 0; place = 255; bits = r }
 
--- every sound record reads back as itself
+-- every sound record reads back as itself from its drawing
 abbrev pub DrawnReadsBack : Type 0
 DrawnReadsBack = (r : ℕ) → r < 2 ^ 64 → sound r ≡ true → reading (drawn (bit r)) ≡ read r
 
@@ -64,7 +64,7 @@ pub record FirstBad (s : List ℕ) (p : ℕ) : Type 0 where
 abbrev pub FirstBadLine : Type 0
 FirstBadLine = (s : List ℕ) (p : ℕ) → (reading s ≡ unread 41 p) ↔ FirstBad s p
 
--- nothing else is told
+-- reading a text returns 0, or 15 with no place, or 41 with a place from 0 to 6, and nothing else
 abbrev pub ReadNumbers : Type 0
 ReadNumbers = (s : List ℕ) → (reading s ≡ read (reading s .bits)) ⊎ (reading s ≡ unread 15 255) ⊎ ((reading s ≡ unread 41 (reading s .place)) × (reading s .place < 7))
 
@@ -76,6 +76,6 @@ DrawnLength = (r : ℕ) → sound r ≡ true → (58 ≤ length (drawn (bit r)))
 
 -- ---- images in hex
 
--- an image in hex reads back
+-- an image that is written in hex reads back
 abbrev pub HexReadsBack : Type 0
 HexReadsBack = (r : ℕ) → r < 2 ^ 64 → hexIn (hexLine 8 r) ≡ Image r

@@ -177,5 +177,6 @@ table =
 
 -- ---- the claim
 
+-- every call of every example returns what the table says, and every record is the one given there
 abbrev pub Right : Type 0
 Right = T (allRight table)

@@ -25,11 +25,11 @@ LayoutExactly = (f : Bits) → (paired 20 0 false f ≡ true) ↔ ((l : List Car
 abbrev pub LayoutCars : Type 0
 LayoutCars = (f : Bits) (l : List Car) → Layout f l → length l ≡ cars f
 
--- a sound record has at most 30
+-- a sound record has at most 30 cars
 abbrev pub FewCars : Type 0
 FewCars = (r n : ℕ) → total r ≡ Cars n → n ≤ 30
 
--- and one has them all: every cell occupied, every shuttle lowered, the lift in the basement
+-- a record has 30 cars: every cell occupied, every shuttle lowered, the lift in the basement
 abbrev pub ThirtyCars : Type 0
 ThirtyCars = total 0x00403FFFFFFFFFFF ≡ Cars 30
 
@@ -37,11 +37,12 @@ ThirtyCars = total 0x00403FFFFFFFFFFF ≡ Cars 30
 abbrev pub emptyAtStreet : Test
 emptyAtStreet = both (heightIs street) (free (raisedCar ∷ []))
 
--- a sound record of which this holds has at most 28
+-- a sound record with the lift empty at street has at most 28 cars
 abbrev pub AtMost28 : Type 0
 AtMost28 = (r n : ℕ) → total r ≡ Cars n → holds emptyAtStreet (bit r) ≡ true → n ≤ 28
 
--- and one has as many: in row 1 five cars left of the lift and three right of it, every other cell occupied, every shuttle lowered
+-- a record with the lift empty at street has 28 cars: in row 1 five left of the lift and three right of it, every other cell occupied,
+-- every shuttle lowered
 abbrev pub TwentyEight : Type 0
 TwentyEight = (total 0x00003FFFFFFFC3FF ≡ Cars 28) × (holds emptyAtStreet (bit 0x00003FFFFFFFC3FF) ≡ true)
 

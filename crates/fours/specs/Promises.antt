@@ -11,6 +11,6 @@ abbrev pub FoursReadBack : Type 0
 FoursReadBack =
     (n : ℕ) (c past : List ℕ) → length c ≡ n → ((p : ℕ) → getD c p 0 < 2 ^ 32) → foursIn n (foursBytes n c ++ past) ≡ c
 
--- the bytes that say n numbers are no others
+-- bytes that say n numbers of 32 bits are those that are written for them
 abbrev pub FoursOneForm : Type 0
 FoursOneForm = (n : ℕ) (m : List ℕ) → Bytes m → 4 * n ≤ length m → foursBytes n (foursIn n m) ≡ take (4 * n) m

@@ -33,6 +33,7 @@ use Rattle.garage_laws.specs.Jams.{stuck, jamAt, has, finished, Chosen}
 
 -- ---- 1. It always answers: a refused call leaves the station as it was
 
+-- a call that is rejected leaves the station as it was, whatever station and call
 abbrev pub RefusedUntouched : Type 0
 RefusedUntouched = (s : Station) (c : Call) → (said s c ≡ 0 → ⊥) → left s c ≡ s
 
@@ -109,7 +110,8 @@ FailureKeeps =
     × (said s (run.result k i 0) ≡ 0
     → (left s (run.result k i 0) ≡ answering s i (s .bits) (s .apart)) × (left s (run.result k i 0) .bits ≡ s .bits))
 
--- so is a stuck one; the record stays, and everything in the instruction's area is set apart with what was, also where its set is closed
+-- a stuck result is taken exactly if it is of the present set and its instruction waits; the record stays, and everything in the
+-- instruction's area is set apart with what was, also where its set is closed
 abbrev pub StuckSetsApart : Type 0
 StuckSetsApart =
     (s : Station) (k i : ℕ)
@@ -123,8 +125,8 @@ StuckSetsApart =
 abbrev pub Heard : Station → Report → Type 0
 Heard s r = (fit s ≡ true) × (r .ending ≤ 2) × (0 < s .count)
 
--- a result is answered 29 exactly if it is such a one and its issue is 1 to 32767 behind the present one, and 30 exactly if it is such a
--- one and its issue is neither so nor the present one
+-- on a fit station with a set outstanding, a result that says 0 to 2 is answered 29 exactly if its issue is 1 to 32767 behind the present
+-- one, and 30 exactly if its issue is neither so nor the present one
 abbrev pub LateExactly : Type 0
 LateExactly =
     (s : Station) (r : Report)
@@ -206,13 +208,14 @@ pub record Readable (s : Station) (n : ℕ) (set : List ℕ) : Type 0 where
   pub few : n ≤ most
   pub good : (i : ℕ) → i < n → bad set i ≡ false
 
--- a request is answered 31 exactly if it is such a one, a drive is under way and any of its instructions has the lift in its area
+-- a request is answered 31 exactly if it is readable, a drive is under way and any of its instructions has the lift in its area
 abbrev pub LiftRefused : Type 0
 LiftRefused =
     (s : Station) (n : ℕ) (set : List ℕ)
     → (said s (run.request n set) ≡ 31) ↔ (Readable s n set × (holds underWay (bit (s .bits)) ≡ true) × (liftIn set n ≡ true))
 
--- a request is answered 32 with a place exactly if it is such a one, clear of drives, and the place is the least that touches a part set apart
+-- a request is answered 32 with a place exactly if it is readable and clear of drives, and the place is the least that touches a part set
+-- apart
 abbrev pub ApartRefused : Type 0
 ApartRefused =
     (s : Station) (n : ℕ) (set : List ℕ) (p : ℕ)
@@ -240,7 +243,8 @@ NobodyMovesTheLift =
     × ((k : ℕ) → elem k drives ≡ true → bit (calls s l .bits) k ≡ bit (s .bits) k)
     × (holds underWay (bit (calls s l .bits)) ≡ true)
 
--- so from a begin that is accepted: the lift's height and the car on it stay what they were before the begin, and the drive is under way
+-- from a begin that is accepted, over any calls but an image and until an end is accepted, the lift's height and the car on it stay what
+-- they were before the begin, and the drive is under way
 abbrev pub LiftHeldSinceBegin : Type 0
 LiftHeldSinceBegin =
     (s : Station) (way : ℕ) → (way ≡ 1) ⊎ (way ≡ 2) → said s (run.event way) ≡ 0
@@ -256,7 +260,7 @@ Changes (run.event e) = Unit {0}
 Changes (run.pictures p) = Unit {0}
 Changes run.ask = ⊥
 
--- whatever the call, the record stays, or the call is one of these and was taken
+-- whatever the call, the record stays, or the call is a success, a car event or an image, and was taken
 abbrev pub OnlySuccessChanges : Type 0
 OnlySuccessChanges = (s : Station) (c : Call) → (left s c .bits ≡ s .bits) ⊎ ((said s c ≡ 0) × Changes c)
 
@@ -268,7 +272,7 @@ ChangesApart (run.event e) = ⊥
 ChangesApart (run.pictures p) = Unit {0}
 ChangesApart run.ask = ⊥
 
--- whatever the call, that stays, or the call is one of these and was taken
+-- whatever the call, what is set apart stays, or the call is a stuck result or an image, and was taken
 abbrev pub OnlyStuckSetsApart : Type 0
 OnlyStuckSetsApart = (s : Station) (c : Call) → (left s c .apart ≡ s .apart) ⊎ ((said s c ≡ 0) × ChangesApart c)
 
@@ -290,11 +294,11 @@ Names (run.event e) k = ⊥
 Names (run.pictures p) k = ⊥
 Names run.ask k = ⊥
 
--- with every other answer the place is 255
+-- with every answer that names no instruction the place is 255
 abbrev pub PlacesElse : Type 0
 PlacesElse = (s : Station) (c : Call) → (Names c (said s c) → ⊥) → placed s c ≡ nowhere
 
--- so a place is 0 to 7, or 255
+-- the place of a call is 0 to 7, or 255
 abbrev pub PlacesInRange : Type 0
 PlacesInRange = (s : Station) (c : Call) → (placed s c < most) ⊎ (placed s c ≡ nowhere)
 
@@ -321,7 +325,7 @@ AnyOrder =
     → Order (present (left s (run.request n set))) n fate events l → Order (present (left s (run.request n set))) n fate events m
     → Alike (left s (run.request n set)) l m
 
--- such orders exist for every issue and size, with any instruction answered last
+-- orders of a set's results exist for every issue and size, with any instruction answered last
 abbrev pub OrdersExist : Type 0
 OrdersExist =
     (k n i : ℕ) → i < n → (fate : ℕ → Fate) (events : List ℕ)
@@ -336,19 +340,20 @@ AnyOrderAmid =
     → (l' m' : List Call) (a : Amid (left s (run.request n set)) l l') (b : Amid (left s (run.request n set)) m m')
     → AlikeAmid a b
 
--- on any station what is put in so moves nothing: each other call meets the station that it would meet without, and the end is the same
+-- on any station asks and refused calls that are put in move nothing: each other call meets the station that it would meet without, and the
+-- end is the same
 abbrev pub AmidUnmoved : Type 0
 AmidUnmoved = (s : Station) (l m : List Call) (a : Amid s l m) → (turnsAmid a ≡ turns s l) × (calls s m ≡ calls s l)
 
--- such lists exist for every list of calls, with an ask and a refused call before each
+-- for every list of calls there is one with an ask and a refused call put in before each
 abbrev pub AmidExists : Type 0
 AmidExists = (s : Station) (l : List Call) → Amid s l (interrupted l)
 
--- and every list of calls is one: those of it that are taken, with the others put in
+-- every list of calls is those of it that are taken, with the others put in
 abbrev pub AmidCovers : Type 0
 AmidCovers = (s : Station) (l : List Call) → Amid s (takenOf s l) l
 
--- the order in which the stuck ones finished makes no difference
+-- the order in which stuck instructions finished makes no difference
 abbrev pub FinishedAnyOrder : Type 0
 FinishedAnyOrder =
     (s : Station) → Begins s → (l : List Call) (p q : List ℕ) → Chosen s l p → Chosen s l q → ((j : ℕ) → has p j ≡ has q j)

@@ -21,7 +21,7 @@ use Rattle.garage_laws.specs.Jams.{finished, Chosen}
 abbrev pub RoomLeft : Type 0
 RoomLeft = (s : Station) → said s (run.event 1) ≡ 0 → (found : List Car) → Layout (bit (s .bits)) found → length found < 27
 
--- its begin is answered 33 exactly if it could be taken but for that, and there are 27 cars or more
+-- the begin of a drive-in is answered 33 exactly if it could be taken but for that, and there are 27 cars or more
 abbrev pub KeptExactly : Type 0
 KeptExactly =
     (s : Station) (found : List Car) → Layout (bit (s .bits)) found
@@ -29,7 +29,7 @@ KeptExactly =
     ↔ ((fit s ≡ true) × (liftIn (s .set) (s .count) ≡ false) × (liftApart (s .apart) ≡ false) × (possible BeginIn (bit (s .bits)) ≡ true)
     × (27 ≤ length found))
 
--- no other event is: an end is never asked how many cars there are
+-- no event but the begin of a drive-in is answered 33: an end is never asked how many cars there are
 abbrev pub EndsUntested : Type 0
 EndsUntested = (s : Station) (e : ℕ) → said s (run.event e) ≡ 33 → e ≡ 1
 

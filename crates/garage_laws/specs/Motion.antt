@@ -102,7 +102,8 @@ HeardInFact s l p =
     → Fair (calls s l) (asItHappened (present (calls s l)) p q)
     × (applied (stuck s l) (stuckNumbers p) (calls (calls s l) (asItHappened (present (calls s l)) p q) .bits) ≡ inFact s l p)
 
--- whatever calls came before, images too, and whichever instructions that wait or are stuck have finished unheard of, all four hold
+-- whatever calls came before, images too, and whichever instructions that wait or are stuck have finished unheard of: the floor is sound,
+-- with as many cars as the record, whatever their order; the others are allowed on it; and the results lead the record there
 abbrev pub HoweverFar : Type 0
 HoweverFar =
     (s : Station) → Begins s → (l : List Call) (p : List Moving) → Unheard s l p

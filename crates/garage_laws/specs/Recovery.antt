@@ -63,7 +63,7 @@ HasWayBack t =
     → AllWaiting t (first ++ rest) → SaidOfDrive t drive → Sound (bit r)
     → LeadBack t (resultsFor (present t) fate first ++ (drive ++ resultsFor (present t) fate rest)) r)
 
--- whatever calls came before, images too, there is one
+-- whatever calls came before, images too, there is a way back to a garage that is known
 abbrev pub NeverLocksUp : Type 0
 NeverLocksUp = (s : Station) → Begins s → (l : List Call) → HasWayBack (calls s l)
 

@@ -101,6 +101,7 @@ requestTable s n set =
     -- 20 to 28 an instruction isn't allowed
     ∷ map (notAllowedFor s n set) reasons
 
+-- a request returns what its table of rejections says
 abbrev pub RequestExactly : Type 0
 RequestExactly = (s : Station) (n : ℕ) (set : List ℕ) → GoesBy (requestTable s n set) s (request n set)
 
@@ -129,6 +130,7 @@ eventTable s e =
     ∷ KeptOpen if says (λ x. not (placesOpen x (bit (s .bits)))) (readEvent e)
     ∷ []
 
+-- a car event returns what its table of rejections says
 abbrev pub EventExactly : Type 0
 EventExactly = (s : Station) (e : ℕ) → GoesBy (eventTable s e) s (event e)
 
@@ -152,6 +154,7 @@ resultTable s r =
     ∷ AlreadyAnswered if marked s (r .number)
     ∷ []
 
+-- a result returns what its table of rejections says
 abbrev pub ResultExactly : Type 0
 ResultExactly = (s : Station) (r : Report) → GoesBy (resultTable s r) s (reports r)
 
@@ -167,6 +170,7 @@ imageTable s p =
     ∷ Unsound if (not (sound (p .bits)) || not (eqb (p .apart) 0))
     ∷ []
 
+-- an image returns what its table of rejections says
 abbrev pub ImageExactly : Type 0
 ImageExactly = (s : Station) (p : Picture) → GoesBy (imageTable s p) s (pictures p)
 
@@ -178,5 +182,6 @@ askTable s =
     Unfit if not (fit s)
     ∷ []
 
+-- an ask returns what its table of rejections says
 abbrev pub AskExactly : Type 0
 AskExactly = (s : Station) → GoesBy (askTable s) s ask

@@ -32,7 +32,7 @@ TornTail =
     (ms : List (List ℕ)) (n : ℕ) → Messages ms
     → replay (take n (join ms)) ≡ record { station = stationAfter startOf (within n ms); whole = length (join (within n ms)); damaged = false }
 
--- so after a restart from it, and with the rest cut off, the answers go on from these
+-- after a restart from a journal that was cut, with the rest cut off, the answers go on from the messages that are whole in it
 abbrev pub GoesOnTorn : Type 0
 GoesOnTorn =
     (ms : List (List ℕ)) (n : ℕ) (input : List ℕ) → Messages ms
@@ -54,7 +54,7 @@ pub record Behind (f : Frame) (bytes : List ℕ) : Type 0 where
 abbrev pub DamagedExactly : Type 0
 DamagedExactly = (bytes : List ℕ) → (replay bytes .damaged ≡ true) ↔ Behind Wrong bytes
 
--- and they are not exactly if less than a message stands there, or nothing
+-- bytes are not damaged exactly if less than a message, or nothing, stands behind whole messages
 abbrev pub SoundExactly : Type 0
 SoundExactly = (bytes : List ℕ) → (replay bytes .damaged ≡ false) ↔ Behind Cut bytes
 
@@ -66,7 +66,7 @@ pub record Recorded (s : Station) (input : List ℕ) : Type 0 where
   pub follows : Follows s (take (run s input .used) input) (run s input .station)
   pub answered : run s input .bytes ≡ repliesTo s (follows .messages) ++ cond (run s input .stop) (answerBytes (answerMessage BadLength)) []
 
--- so it is for every input, on every station
+-- for every input, on every station, what a run takes is whole messages, and they are answered
 abbrev pub OnlyMessages : Type 0
 OnlyMessages = (s : Station) (input : List ℕ) → Recorded s input
 
@@ -77,7 +77,7 @@ KeepsUp =
     → let r = run (replay (join ms) .station) input in
     replay (join ms ++ take (r .used) input) ≡ record { station = r .station; whole = length (join ms) + r .used; damaged = false }
 
--- and messages behind a journal make a longer one
+-- messages behind a journal make a longer one
 abbrev pub StaysJournaled : Type 0
 StaysJournaled =
     (s next : Station) (n : ℕ) (bytes : List ℕ) → Journaled s n → Follows s bytes next → Journaled next (counted (n + length bytes))
@@ -105,7 +105,7 @@ ReplayFeeds =
 abbrev pub twoMessages : List (List ℕ)
 twoMessages = (3 ∷ 0 ∷ 2 ∷ 0 ∷ 1 ∷ []) ∷ (2 ∷ 0 ∷ 5 ∷ 0 ∷ []) ∷ []
 
--- they are messages; cut within the second, the first is left; with a length of 0 behind them they are damaged
+-- two messages are a journal; cut within the second, the first is left; with a length of 0 behind them they are damaged
 abbrev pub Example : Type 0
 Example =
     Messages twoMessages

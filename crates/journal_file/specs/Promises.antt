@@ -40,7 +40,7 @@ HeadReadsBack =
 
 -- ---- what a lost power supply leaves of an append is never taken for damage
 
--- one that the file ends inside of
+-- an append that the file ends inside of is told as cut off
 abbrev pub CutAppend : Type 0
 CutAppend =
     (sum kind n : ℕ) (bytes : List ℕ) → sum < 2 ^ 32 → length bytes ≤ most → n < length (appendOf crcOver sum kind bytes)
@@ -50,7 +50,7 @@ CutAppend =
 abbrev pub zerosFrom : ℕ → List ℕ → List ℕ
 zerosFrom n m = take n m ++ replicate (length m - n) 0
 
--- it is not whole, and it was cut off
+-- an append that is zeros from its start or from a sector on is not whole, and was cut off
 abbrev pub ZeroedAppend : Type 0
 ZeroedAppend =
     (sum kind at n : ℕ) (bytes : List ℕ) → sum < 2 ^ 32 → length bytes ≤ most → n < length (appendOf crcOver sum kind bytes)

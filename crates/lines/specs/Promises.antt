@@ -28,6 +28,6 @@ NumbersPlaced = (n : ℕ) → inTable n ≡ true → (5 + n < size) × (nameAt (
 abbrev pub AsManyLines : Type 0
 AsManyLines = (t : Totals) → length (linesOf t) ≡ count (from 0 256) inTable + 18
 
--- the longest report has room
+-- no report has more than 1,092 bytes
 abbrev pub ReportFits : Type 0
 ReportFits = (t : Totals) (full : ℕ) → ((p : ℕ) → getD (t .counts) p 0 ≤ most) → length (reportOf t full) ≤ 1092

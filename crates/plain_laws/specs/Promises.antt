@@ -33,7 +33,7 @@ use Rattle.plain_station.specs.Plain.{packedOf, plainOf, plainRequested, plainE
 abbrev pub SoundRecord : ℕ → Type 0
 SoundRecord r = (r < 2 ^ 64) × (sound r ≡ true)
 
--- it comes back from its plain floor
+-- a sound record comes back from its plain floor
 abbrev pub FloorReadsBack : Type 0
 FloorReadsBack = (r : ℕ) → SoundRecord r → image (plainBits (floorOf (bit r))) ≡ r
 
@@ -43,11 +43,11 @@ pub record SoundStation (s : Station) : Type 0 where
   pub marks : s .answered < 2 ^ 8
   pub apart : s .apart < 2 ^ 53
 
--- every fit station is one, as code holds it: a record of 64 bits, marks of 8
+-- every fit station, as code holds it, has a sound record, marks of eight instructions, and sets apart none but the 53 parts that there are
 abbrev pub FitIsSound : Type 0
 FitIsSound = (s : Station) → s .bits < 2 ^ 64 → s .answered < 2 ^ 8 → fit s ≡ true → SoundStation s
 
--- it comes back from its plain station
+-- a station with a sound record, marks of eight instructions and none but the 53 parts set apart comes back from its plain station
 abbrev pub StationComesBack : Type 0
 StationComesBack = (s : Station) → SoundStation s → packedOf (plainOf s) ≡ s
 
@@ -80,6 +80,7 @@ pub record Same : Type 0 where
   pub result : (s : Station) (r : Report) → SoundStation s → packedOutcome (plainResulted (plainOf s) r) ≡ resulted s r
   pub event : (s : Station) (e : ℕ) → SoundStation s → packedOutcome (plainEvented (plainOf s) e) ≡ evented s e
 
+-- the plain engine and the packed one say the same on every sound record, of instructions, sets, results and events
 abbrev pub SameAsPacked : Type 0
 SameAsPacked = Same
 
@@ -89,6 +90,6 @@ SameAsPacked = Same
 abbrev pub CarsWalked : Type 0
 CarsWalked = (f : Bits) → Sound f → Layout f (walked f)
 
--- they stand in the order of their places, the raised lift last, whatever the record
+-- the cars that a walk lists are in the order of their places, the raised lift last, whatever the record
 abbrev pub WalkRises : Type 0
 WalkRises = (f : Bits) → Rising (walked f)

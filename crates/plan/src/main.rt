@@ -68,8 +68,8 @@ fn say_number(n: u8) -> bool {
 // What a number stands for in a judgement of the whole plan.
 fn say_of_plan(number: u8) -> bool {
     match number {
-        1 => say(b"fewer bytes than the plan says"),
-        4 => say(b"a wish that is neither 0 nor 1, or bytes left over"),
+        1 => say(b"fewer bytes than it says"),
+        4 => say(b"a field out of range: a wish that is neither 0 nor 1, or bytes left over"),
         15 => say(b"image not sound"),
         35 => say(b"more than 64 sets"),
         _ => say(b"wish not met"),
@@ -79,20 +79,20 @@ fn say_of_plan(number: u8) -> bool {
 // What it stands for in the answer to a set.
 fn say_of_set(number: u8) -> bool {
     match number {
-        4 => say(b"a field out of range, or a spare byte not zero"),
+        4 => say(b"a field out of range"),
         5 => say(b"more than eight instructions"),
         7 => say(b"empty set"),
         8 => say(b"overlap"),
         20 => say(b"nothing named"),
-        21 => say(b"gap"),
+        21 => say(b"a gap between those named"),
         22 => say(b"not available"),
-        23 => say(b"end, next row or slot below not free or not there"),
-        24 => say(b"odd count"),
+        23 => say(b"no free place to move to"),
+        24 => say(b"odd count: a car would be torn"),
         25 => say(b"half move in row 2 or 3"),
-        26 => say(b"same height"),
+        26 => say(b"already at that height"),
         27 => say(b"not at rotation height"),
-        28 => say(b"cells not free for tilt or rotation"),
-        _ => say(b"the lift in an area while a drive is under way"),
+        28 => say(b"cells not free for the tilt or the rotation"),
+        _ => say(b"out of turn: the lift in an area while a drive is under way"),
     }
 }
 

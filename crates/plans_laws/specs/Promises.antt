@@ -26,7 +26,7 @@ pub record Followed (s : List ℕ) : Type 0 where
   pub begun : Begun s
   pub taken : EachTaken (started (planIn s)) (planIn s .sets)
 
--- a plan is accepted exactly if it is such a one and its last record meets the wish
+-- a plan is accepted exactly if it can be followed to its end and its last record meets the wish
 abbrev pub PlanExactly : Type 0
 PlanExactly = (s : List ℕ) → (judgement s ≡ plainly 0) ↔ (Followed s × (meets (planIn s) ≡ true))
 

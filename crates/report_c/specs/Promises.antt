@@ -16,7 +16,7 @@ pub record Typed (t : Totals) : Type 0 where
   pub places : length (t .counts) ≡ size
   pub small : (p : ℕ) → getD (t .counts) p 0 ≤ most
 
--- they take 208 bytes
+-- totals take 208 bytes
 abbrev pub TotalsFit : Type 0
 TotalsFit = (t : Totals) → length (totalsBytes t) ≡ totalsSize
 
@@ -28,7 +28,7 @@ TotalsReadBack = (t : Totals) (past : List ℕ) → Typed t → totalsIn (totals
 abbrev pub TotalsOneForm : Type 0
 TotalsOneForm = (room : List ℕ) → Bytes room → totalsSize ≤ length room → totalsBytes (totalsIn room) ≡ take totalsSize room
 
--- and whatever bytes they are, they hold totals as code does
+-- whatever bytes a room has, they hold totals as code does
 abbrev pub AnyBytesHold : Type 0
 AnyBytesHold = (room : List ℕ) → Bytes room → Typed (totalsIn room)
 
@@ -46,7 +46,7 @@ RefusedUntouched =
     × ((room station message : List ℕ) → (counting room station message .says % 256 ≡ 0 → ⊥) → counting room station message .leaves ≡ room)
     × ((room : List ℕ) (full : ℕ) (out : List ℕ) → (lining room full out .says % 256 ≡ 0 → ⊥) → lining room full out .leaves ≡ out)
 
--- the numbers that each returns
+-- report_start returns 0 or 17, report_message 0, 17 or 40, report_lines 0, 4 or 17
 abbrev pub NumbersReturned : Type 0
 NumbersReturned =
     ((room : List ℕ) → let n = starting room .says % 256 in (n ≡ 0) ⊎ (n ≡ 17))

@@ -34,14 +34,14 @@ RoomsCountTheWeek =
     → (held (rounds h rs .report) ≡ countedAll blank (happenedIn startOf (messagesIn rs)))
     × (stationOf (rounds h rs .station) ≡ stationAfter startOf (messagesIn rs))
 
--- where each message is a whole one and nothing follows it, that is the week of the same messages recorded one behind the other
+-- where each message is a whole one and nothing follows it, the room holds the week of the same messages recorded one behind the other
 abbrev pub RoomsHoldTheWeek : Type 0
 RoomsHoldTheWeek =
     (totals station : List ℕ) → totalsSize ≤ length totals → stationSize ≤ length station → (rs : List Round)
     → let h = begun totals station in
     Answered h rs → Messages (messagesIn rs) → held (rounds h rs .report) ≡ weekOf (join (messagesIn rs))
 
--- and report_lines, with the place that the host has, writes the text of that week
+-- report_lines, with the place that the host has, writes the text of that week
 abbrev pub RoomsTellTheWeek : Type 0
 RoomsTellTheWeek =
     (totals station : List ℕ) → totalsSize ≤ length totals → stationSize ≤ length station → (rs : List Round)

@@ -16,7 +16,7 @@ pub record Typed (s : Station) : Type 0 where
   pub issue : s .next < 2 ^ 16
   pub apart : s .apart < 2 ^ 64
 
--- it takes 60 bytes
+-- a station takes 60 bytes
 abbrev pub StationFits : Type 0
 StationFits = (s : Station) → Typed s → length (stationBytes s) ≡ stationSize
 
@@ -24,7 +24,7 @@ StationFits = (s : Station) → Typed s → length (stationBytes s) ≡ stationS
 abbrev pub StationReadsBack : Type 0
 StationReadsBack = (s : Station) (past : List ℕ) → Typed s → stationOf (stationBytes s ++ past) ≡ s
 
--- and the bytes of a room are those of the station that they hold
+-- the bytes of a room are those of the station that they hold
 abbrev pub StationOneForm : Type 0
 StationOneForm = (room : List ℕ) → Bytes room → stationSize ≤ length room → stationBytes (stationOf room) ≡ take stationSize room
 

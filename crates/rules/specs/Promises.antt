@@ -28,7 +28,7 @@ CodeReadsBack = (i : Instruction) → wellFormed i ≡ true → readCode (codeOf
 abbrev pub CodeOneForm : Type 0
 CodeOneForm = (x : Code) (i : Instruction) → readCode x ≡ Good i → (x ≡ codeOf i) × (wellFormed i ≡ true)
 
--- the same from the start of a run of bytes, whatever stands after the five
+-- a well-formed instruction is read back from the start of a run of bytes, whatever stands after its five
 abbrev pub BytesReadBack : Type 0
 BytesReadBack = (i : Instruction) (t : List ℕ) → wellFormed i ≡ true → readBytes (bytesOf i ++ t) ≡ Good i
 
@@ -59,6 +59,6 @@ pub record FirstFails (cs : List Clause) (f : Bits) (why : Reason) : Type 0 wher
 abbrev pub AllowedExactly : Type 0
 AllowedExactly = (i : Instruction) (r : ℕ) → (verdictOf i r ≡ Allowed) ↔ (allowed i (bit r) ≡ true)
 
--- it gives a reason exactly where the instruction is well formed and the first of its conditions that fails has that reason
+-- a verdict gives a reason exactly where the instruction is well formed and the first of its conditions that fails has that reason
 abbrev pub ReasonFirst : Type 0
 ReasonFirst = (i : Instruction) (r : ℕ) (why : Reason) → (verdictOf i r ≡ NotAllowed why) ↔ ((wellFormed i ≡ true) × FirstFails (clauses i) (bit r) why)

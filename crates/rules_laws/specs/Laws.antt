@@ -30,15 +30,15 @@ Agree places f g = (k : ℕ) → places k ≡ true → f k ≡ g k
 abbrev pub SameVerdict : Type 0
 SameVerdict = (i : Instruction) (f g : Bits) → Agree (area i) f g → seen i f ≡ seen i g → allowed i f ≡ allowed i g
 
--- and, where it isn't allowed, the same reason
+-- on two such records a verdict gives the same reason too
 abbrev pub SameReason : Type 0
 SameReason = (i : Instruction) (r q : ℕ) → Agree (area i) (bit r) (bit q) → seen i (bit r) ≡ seen i (bit q) → verdictOf i r ≡ verdictOf i q
 
--- and, where it is well formed, it leaves the same bits in its area
+-- on two records that agree on its area, a well-formed instruction leaves the same bits there
 abbrev pub SameBits : Type 0
 SameBits = (i : Instruction) → wellFormed i ≡ true → (f g : Bits) → Agree (area i) f g → Agree (area i) (next i f) (next i g)
 
--- nothing outside its area changes
+-- a well-formed instruction changes nothing outside its area
 abbrev pub KeptOutside : Type 0
 KeptOutside = (i : Instruction) → wellFormed i ≡ true → (f : Bits) (k : ℕ) → area i k ≡ false → next i f k ≡ f k
 
@@ -50,7 +50,7 @@ withLift (Tilt side row orientation) = false
 withLift (Lift height) = true
 withLift Rotate = true
 
--- they and no others overlap a lift run
+-- of the well-formed instructions those that have the lift in their area, and no others, overlap a lift run
 abbrev pub LiftOverlaps : Type 0
 LiftOverlaps = (i : Instruction) (height : ℕ) → wellFormed i ≡ true → overlap i (Lift height) ≡ withLift i
 
@@ -104,6 +104,6 @@ Counted BeginOut f n m = n ≡ m
 Counted EndDone f n m = n + digit (f driveOut) ≡ m + digit (f driveIn)
 Counted EndNotDone f n m = n ≡ m
 
--- after a possible event on a sound record
+-- a possible event on a sound record makes one car more at the done end of a drive-in, one less at that of a drive-out, and else none
 abbrev pub EventCars : Type 0
 EventCars = (e : Event) (f : Bits) → Sound f → possible e f ≡ true → Counted e f (cars (after e f)) (cars f)

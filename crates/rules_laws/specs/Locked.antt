@@ -31,6 +31,8 @@ locking = 0x00803FC0F03F660F
 abbrev pub locked : ℕ
 locked = 0x00103FC0F03F660F
 
+-- a drive-in that is accepted can lock the others in: whatever instructions follow, nothing but the lift can move, and the car that came
+-- can leave
 pub record DriveInLocks : Type 0 where
   -- the begin of a drive-in is accepted, and so is its done end
   pub fourteen : total unlocked ≡ Cars 14

@@ -36,7 +36,7 @@ Answers (Result issue number ending) = ⊥
 Answers (Image bits apart) = ⊥
 Answers Ask = ⊥
 
--- every message is answered so
+-- every message is answered with an image, or with a number of the table and a place 0 to 7 or 255
 abbrev pub AlwaysAnswered : Type 0
 AlwaysAnswered = (s : Station) (bytes : List ℕ) → Answers (respond s bytes .answer)
 

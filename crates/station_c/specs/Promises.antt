@@ -20,19 +20,19 @@ use Rattle.station_c.specs.Sets.{areaInto, pairAnswer}
 abbrev pub RefusedUntouched : Type 0
 RefusedUntouched = (call : Station → Outcome) (room : List ℕ) → (entry call room .says % 256 ≡ 0 → ⊥) → entry call room .leaves ≡ room
 
--- so does an ask, of the image's room
+-- an ask that refuses leaves the image's room as it was
 abbrev pub AskRefusedUntouched : Type 0
 AskRefusedUntouched = (room image : List ℕ) → (asking room image .says % 256 ≡ 0 → ⊥) → asking room image .leaves ≡ image
 
--- and a question for the next record
+-- a question for the next record that refuses leaves the room as it was
 abbrev pub NextRefusedUntouched : Type 0
 NextRefusedUntouched = (r : ℕ) (five room : List ℕ) → (nexting r five room .says % 256 ≡ 0 → ⊥) → nexting r five room .leaves ≡ room
 
--- and a question for an area
+-- a question for an area that refuses leaves the room as it was
 abbrev pub AreaRefusedUntouched : Type 0
 AreaRefusedUntouched = (five room : List ℕ) → (areaInto five room .says % 256 ≡ 0 → ⊥) → areaInto five room .leaves ≡ room
 
--- and a message, of the station's room; where 17 is returned the reply's is as it was too, else it has the refusal
+-- a message that is refused leaves the station's room as it was; where 17 is returned the reply's is as it was too, else it has the refusal
 abbrev pub MessageRefusedUntouched : Type 0
 MessageRefusedUntouched =
     (room message reply : List ℕ) → (exchange room message reply .says % 256 ≡ 0 → ⊥)
@@ -59,15 +59,15 @@ PairEitherWay = (one other : List ℕ) → numberOf (pairAnswer one other) ≡ n
 abbrev pub readArea : List ℕ → ℕ
 readArea room = fromLittleEndian 8 0 room
 
--- of two whose areas are written it says 8, at the second, exactly if a bit is in both areas, and else 0
+-- of two instructions whose areas are written the question says 8, at the second, exactly if a bit is in both areas, and else 0
 abbrev pub PairByAreas : Type 0
 PairByAreas =
     (one other room room' : List ℕ) → areaInto one room .says % 256 ≡ 0 → areaInto other room' .says % 256 ≡ 0
     → let shared = bitAnd (readArea (areaInto one room .leaves)) (readArea (areaInto other room' .leaves)) in
     pairAnswer one other ≡ cond (eqb shared 0) Taken (Overlap 1)
 
--- and an instruction touches a part that is set apart exactly if its area and the number that shows these share a bit; no fit station's
--- number has one above the lift's
+-- an instruction touches a part that is set apart exactly if its area and the number that shows these share a bit; no fit station's number
+-- has one above the lift's
 abbrev pub TouchesByArea : Type 0
 TouchesByArea =
     (five room : List ℕ) (apart : ℕ) → apart < 2 ^ 53 → areaInto five room .says % 256 ≡ 0

@@ -26,12 +26,12 @@ unfoldable pub largest : List Happened → ℕ
 largest [] = 0
 largest (h ∷ hs) = max (h .cars) (largest hs)
 
--- where none is full, each total but the last is the number of those that count under its name
+-- where no total is full, each but the last is the number of happenings that count under its name
 abbrev pub TotalsRight : Type 0
 TotalsRight = (hs : List Happened) → countedAll blank hs .full ≡ nothing → (p : ℕ) → p < 51
     → getD (countedAll blank hs .totals .counts) p 0 ≡ tally (nameAt p) hs
 
--- and the last, the most cars, is the largest number of cars
+-- where no total is full, the last one, the most cars, is the largest number of cars
 abbrev pub MostCarsRight : Type 0
 MostCarsRight = (hs : List Happened) → countedAll blank hs .full ≡ nothing → getD (countedAll blank hs .totals .counts) 51 0 ≡ largest hs
 
@@ -49,5 +49,6 @@ pub record Stops (hs : List Happened) (c : Tally) : Type 0 where
   pub totals : c .totals ≡ countedAll blank before .totals
   pub first : IsLeast size (λ p. ltb most (tally (nameAt p) (before ++ last ∷ []))) (c .full)
 
+-- where a total is full, counting has stopped before the first happening that would make one pass the most, and the first such is named
 abbrev pub FullStops : Type 0
 FullStops = (hs : List Happened) → (countedAll blank hs .full ≡ nothing → ⊥) → Stops hs (countedAll blank hs)

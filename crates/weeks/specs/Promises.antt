@@ -26,7 +26,7 @@ abbrev pub WeekTotalsRight : Type 0
 WeekTotalsRight = (input : List ℕ) → weekOf input .full ≡ nothing → (p : ℕ) → p < 51
     → getD (weekOf input .totals .counts) p 0 ≡ tally (nameAt p) (happenings startOf input)
 
--- and the last is the largest number of cars after any message
+-- where no total is full, the last is the largest number of cars after any message
 abbrev pub WeekMostCars : Type 0
 WeekMostCars =
     (input : List ℕ) → weekOf input .full ≡ nothing → getD (weekOf input .totals .counts) 51 0 ≡ largest (happenings startOf input)

@@ -102,11 +102,11 @@ abbrev pub Placed : (List ℕ → Received) → Type 0
 Placed reader = (s : List ℕ) (p n : ℕ) → reader s ≡ refused (BadField p) n
     → (kindAt s ≡ request → IsLeast (getD s 4 0) (badIn (drop first s)) p) × ((kindAt s ≡ request → ⊥) → p ≡ nowhere)
 
--- so it is of the library's reader
+-- where the library's reader refuses with 4, the place is the least bad instruction of a request, and 255 of every other message
 abbrev pub PlaceRead : Type 0
 PlaceRead = Placed readMessage
 
--- and of the station's
+-- where the station's reader refuses with 4, the place is the least bad instruction of a request, and 255 of every other message
 abbrev pub PlaceAsked : Type 0
 PlaceAsked = Placed readAsked
 
@@ -114,6 +114,6 @@ PlaceAsked = Placed readAsked
 abbrev pub AskedAlike : Type 0
 AskedAlike = (s : List ℕ) → kindAt s ≤ 5 → readAsked s ≡ readMessage s
 
--- and any other kind is unknown to it, whatever its length
+-- any kind above 5 is unknown to the station's reader, whatever its length
 abbrev pub AskedUnknown : Type 0
 AskedUnknown = (s : List ℕ) (n : ℕ) → frameOf s ≡ Whole n → 5 < kindAt s → readAsked s ≡ refused UnknownKind n

@@ -3,19 +3,20 @@
 One thread at a time calls on one Station, Desk or Totals. No call waits but a Program's, and none prints.
 """
 
-from . import messages
+from . import journals, messages
 from .answers import Answer, Event, Number, Outcome, Refused
 from .calls import Desk, Station, Whereabouts
 from .entries import version
 from .messages import Held
 from .plans import Plan, Verdict, judge
+from .parts import parts_in_words, parts_of
 from .program import Ended, Program
-from .record import RAISED, START, Condition, Record, parts_of
+from .record import RAISED, START, Condition, Record
 from .report import Totals
 from .words import Instruction, belts, instruction, lift, rotate, shuttles, tilt
 
 __all__ = [
     "Answer", "Condition", "Desk", "Ended", "Event", "Held", "Instruction", "Number", "Outcome", "Plan", "Program", "RAISED", "Record",
-    "Refused", "START", "Station", "Totals", "Verdict", "Whereabouts", "belts", "instruction", "judge", "lift", "messages", "parts_of",
-    "rotate", "shuttles", "tilt", "version",
+    "Refused", "START", "Station", "Totals", "Verdict", "Whereabouts", "belts", "instruction", "journals", "judge", "lift", "messages",
+    "parts_in_words", "parts_of", "rotate", "shuttles", "tilt", "version",
 ]

@@ -4,6 +4,7 @@ from enum import IntEnum
 from typing import NamedTuple, Optional
 
 from . import entries
+from .parts import parts_in_words
 
 NOWHERE = 255
 
@@ -81,14 +82,17 @@ class Outcome(Worded):
 
 
 class Refused(Exception):
-    """A call that was not taken: its number, and the place of the instruction, line or total that it names, or None."""
+    """A call that was not taken: its number, and the place of the instruction, line or total that it names, or None. Of an instruction also
+    the parts of the garage that are at fault, a bit for each (`parts_of` lists them), and for an overlap the earlier one that has them."""
 
-    def __init__(self, number: Number, place: Optional[int] = None):
-        super().__init__(number, place)
-        self.number, self.place = number, place
+    def __init__(self, number: Number, place: Optional[int] = None, parts: int = 0, earlier: Optional[int] = None):
+        super().__init__(number, place, parts, earlier)
+        self.number, self.place, self.parts, self.earlier = number, place, parts, earlier
 
     def __str__(self) -> str:
-        return str(self.number) if self.place is None else f"{self.number!s} at {self.place}"
+        at = "" if self.place is None else f" at {self.place}"
+        beside = "" if self.earlier is None else f", with {self.earlier}"
+        return f"{self.number!s}{at}{beside}" + (f": {parts_in_words(self.parts)}" if self.parts else "")
 
 
 class Answer(NamedTuple):

@@ -1,12 +1,13 @@
 """The station and the street desk, held as the bytes that the entries read and write."""
 
 import struct
-from typing import Dict, Iterable, NamedTuple, Optional, Tuple
+from typing import Dict, Iterable, List, NamedTuple, Optional, Tuple, Union
 
 from .answers import NOWHERE, Event, Number, Outcome, Refused, taken
 from .entries import call
+from .parts import folded
 from .record import RAISED, Record
-from .words import Said, set_of
+from .words import Instruction, Said, fives_of
 
 REPLY_MOST, SHOWN_SIZE, CARD_SIZE = 20, 16, 4
 COUNT_MOST = 255
@@ -49,10 +50,27 @@ class Calls:
     def taken(self, entry: str, *values) -> int:
         return taken(f"{self.NAME}_{entry}", self.room, *values)
 
-    def request(self, instructions: Iterable[Said]) -> int:
-        """Requests a set; gives its issue. Refused with the place of the instruction at fault, where there is one."""
-        count, fives = set_of(instructions)
-        return self.taken("request", min(count, COUNT_MOST), fives)
+    def request(self, instructions: Union[Said, Iterable[Said]]) -> int:
+        """Requests a set, or one instruction by itself; gives its issue. Refused with the place of the instruction at fault, where there is
+        one, and the parts of the garage that are."""
+        fives = fives_of(instructions)
+        try:
+            return self.taken("request", min(len(fives), COUNT_MOST), b"".join(fives))
+        except Refused as refused:
+            raise self.with_parts(refused, fives) from None
+
+    def with_parts(self, refused: Refused, fives: List[bytes]) -> Refused:
+        """A set's refusal with the parts that are at fault, as far as one instruction is."""
+        at, number = refused.place, refused.number
+        if at is None or number is Number.BAD_FIELD:
+            return refused
+        areas = [Instruction(five).area() for five in fives]
+        if number is Number.SET_APART:
+            return Refused(number, at, folded(areas[at]) & self.apart)
+        if number is Number.OVERLAP:
+            earlier = next(one for one in range(at) if areas[one] & areas[at])
+            return Refused(number, at, areas[earlier] & areas[at], earlier)
+        return Refused(number, at, self.record.fault(fives[at]))
 
     def result(self, issue: int, number: int, outcome: Outcome) -> None:
         """The result of an instruction, counted from 0, of the set with this issue."""
@@ -88,7 +106,7 @@ class Station(Calls):
         self.taken("image", record.image, apart)
 
     def message(self, message: bytes) -> bytes:
-        """The message that answers the first of some bytes, a refusal too."""
+        """The message that answers the first of some bytes, a refusal too, as bytes; `messages.read` says what they mean."""
         reply = bytearray(REPLY_MOST)
         call("station_message", self.room, message, reply)
         return bytes(reply[: 2 + reply[0]])

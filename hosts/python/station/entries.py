@@ -52,11 +52,13 @@ SHELF = Path(__file__).resolve().parent.parent
 
 
 def places() -> List[Path]:
-    """Where the library may be: as the environment says, or else beside the installed package, or in the tree."""
+    """Where the library may be: as the environment says, or else in the package as pip installs it, or beside one that tools/install has
+    installed, or in the tree."""
     named = os.environ.get("STATION_LIBRARY")
     if named:
         return [Path(named)]
-    return [(SHELF / "../../lib/libstation.so").resolve(), (SHELF / "../../target/library/libstation.so").resolve()]
+    beside = [SHELF / "station", SHELF / "../../lib", SHELF / "../../target/library"]
+    return [(folder / "libstation.so").resolve() for folder in beside]
 
 
 @functools.lru_cache(maxsize=None)

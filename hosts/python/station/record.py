@@ -5,16 +5,12 @@ from typing import List, NamedTuple, Optional, Tuple
 
 from .answers import Number, Refused, answer_of, taken
 from .entries import call
-from .words import Said, five_of
+from .parts import LIFT, parts_of
+from .words import Said, five_of, well_formed
 
-RAISED = 52
+RAISED = LIFT
 """The place of a car on the raised lift, and of the lift among the parts."""
 CARS_SIZE, CONDITION_SIZE, CONDITIONS_MOST, DRAWING_MOST, NOT_SOUND = 31, 11, 6, 66, 255
-
-
-def parts_of(number: int) -> Tuple[int, ...]:
-    """The parts that a number has bits for: 0 to 39 the cells, 40 to 51 the shuttles' slots, 52 the lift."""
-    return tuple(at for at in range(64) if number >> at & 1)
 
 
 class Condition(NamedTuple):
@@ -86,7 +82,10 @@ class Record:
     def next(self, instruction: Said) -> "Record":
         """The record after an instruction; refused with the reason where it isn't allowed."""
         room = bytearray(8)
-        taken("garage_next", self.image, five_of(instruction), room)
+        try:
+            taken("garage_next", self.image, five_of(instruction), room)
+        except Refused as refused:
+            raise Refused(refused.number, refused.place, parts=self.fault(instruction)) from None
         return Record.from_bytes(room)
 
     def conditions(self, instruction: Said) -> List[Condition]:
@@ -98,6 +97,12 @@ class Record:
             if room[0]:
                 found.append(Condition(Number(room[2]), bool(room[1]), parts_of(int.from_bytes(room[3:], "little"))))
         return found
+
+    def fault(self, instruction: Said) -> int:
+        """The parts that decide the first condition of the instruction that fails here, a bit for each; 0 where there is none."""
+        if not self.sound() or not well_formed(five_of(instruction)):
+            return 0
+        return next((sum(1 << part for part in one.parts) for one in self.conditions(instruction) if not one.holds), 0)
 
 
 START = Record(0x00091B0000000000)

@@ -1,7 +1,7 @@
 """Instructions: made by functions, or read from the words that plans and the panel have (docs/PLANS.md), and written in these words."""
 
 from dataclasses import dataclass
-from typing import Iterable, Optional, Sequence, Tuple, Union
+from typing import Iterable, List, Optional, Sequence, Tuple, Union
 
 from .answers import Number, answer_of, taken
 from .entries import call
@@ -198,7 +198,14 @@ def five_of(said: Said) -> bytes:
     return five
 
 
-def set_of(instructions: Iterable[Said]) -> Tuple[int, bytes]:
+def fives_of(instructions: Union[Said, Iterable[Said]]) -> List[bytes]:
+    """The bytes of each instruction of a set; one by itself is a set of one."""
+    if isinstance(instructions, (Instruction, str, bytes, bytearray)):
+        instructions = [instructions]
+    return [five_of(one) for one in instructions]
+
+
+def set_of(instructions: Union[Said, Iterable[Said]]) -> Tuple[int, bytes]:
     """How many instructions there are, and their bytes."""
-    fives = [five_of(one) for one in instructions]
+    fives = fives_of(instructions)
     return len(fives), b"".join(fives)

@@ -1,9 +1,10 @@
-"""The table of numbers against the headers and the words of tests/host; every number that can come, and what a refusal leaves."""
+"""The table of numbers against the headers and the one table; every number that can come, and what a refusal leaves."""
 
 import re
 import unittest
 
-from station import START, Answer, Desk, Event, Held, Number, Outcome, Plan, Record, Refused, Station, Totals, entries, judge, messages
+from station import (START, Answer, Desk, Event, Held, Instruction, Number, Outcome, Plan, Record, Refused, Station, Totals, entries, judge,
+                     messages, parts_of)
 from tree import ALL, HEADERS, drawn, text
 
 ROW_1, ROW = "....................", ".........."
@@ -154,6 +155,49 @@ class EveryNumber(unittest.TestCase):
                 self.assertEqual(record.reason(one), failed[0] if failed else None)
 
 
+class Parts(unittest.TestCase):
+    """A refusal says which parts of the garage are at fault."""
+
+    def refused(self, one, instructions) -> Refused:
+        with self.assertRaises(Refused) as caught:
+            one.request(instructions)
+        return caught.exception
+
+    def test_the_parts_of_a_failing_condition(self):
+        one = begun(lambda it: it.image(HALF_OFF))
+        why = self.refused(one, ["tilt left row 3 tilted", "lift street"])
+        failed = [condition for condition in HALF_OFF.conditions("lift street") if not condition.holds]
+        self.assertEqual(parts_of(why.parts), failed[0].parts)
+        self.assertEqual(str(why), "24 (odd count: a car would be torn) at 1: cells 0 to 19, the lift")
+        with self.assertRaises(Refused) as caught:
+            HALF_OFF.next("lift street")
+        self.assertEqual(caught.exception.parts, why.parts)
+
+    def test_every_reason_has_the_parts_of_its_first_failing_condition(self):
+        for record in (START, HALF_OFF, ALL_LOWERED):
+            one = begun(lambda it: it.image(record))
+            for said in ALL:
+                if record.reason(said):
+                    failed = next(condition for condition in record.conditions(said) if not condition.holds)
+                    why = self.refused(one, said)
+                    self.assertEqual((why.number, parts_of(why.parts)), (failed.number, failed.parts))
+
+    def test_an_overlap_names_the_earlier_one_and_what_both_have(self):
+        why = self.refused(Station(), ["lift basement", "tilt left row 3 tilted", "tilt left row 3 tilted"])
+        self.assertEqual((why.earlier, str(why)), (1, "8 (overlap) at 2, with 1: cell 30, left row 3 lowered, left row 3 tilted"))
+
+    def test_what_is_set_apart_and_touched(self):
+        one = Station()
+        one.result(one.request("lift basement"), 0, Outcome.STUCK)
+        why = self.refused(one, ["tilt left row 3 tilted", "belts row 1 left lift, lower, full"])
+        self.assertEqual((parts_of(why.parts), str(why)), ((11, 12, 52), "32 (a part is set apart) at 1: cells 11 to 12, the lift"))
+
+    def test_one_instruction_by_itself_is_a_set(self):
+        for said in ("lift basement", Instruction(bytes([4, 2, 0, 0, 0])), bytes([4, 2, 0, 0, 0])):
+            self.assertEqual(Station().request(said), 0)
+            self.assertEqual(messages.request(said), messages.request(["lift basement"]))
+
+
 class Messages(unittest.TestCase):
     def test_they_are_those_of_the_page(self):
         self.assertEqual(messages.request(["lift basement"]).hex(" "), "08 00 01 00 01 04 02 00 00 00")
@@ -167,9 +211,23 @@ class Messages(unittest.TestCase):
         self.assertEqual(messages.read(bytes.fromhex("06 00 80 00 18 01 00 00")), Answer(Number.ODD_COUNT, 1))
         shown = bytes.fromhex("12 00 81 00 00 00 00 00 00 1B 09 00 00 18 00 00 00 00 10 00")
         self.assertEqual(messages.read(shown), Held(START, 0x0010000000001800))
-        for wrong in (b"", shown[:-1], shown + b"\x00", messages.ask(), bytes.fromhex("06 00 80 00 09 FF 00 00")):
+        for wrong in (b"", shown[:-1], shown + b"\x00", messages.message(6), bytes.fromhex("06 00 80 00 09 FF 00 00")):
             with self.assertRaises(ValueError):
                 messages.read(wrong)
+
+    def test_what_is_sent_reads_back(self):
+        sets = [ALL[at : at + 8] for at in range(0, 272, 8)]
+        for one in sets:
+            self.assertEqual(messages.read(messages.request(one)), messages.Request(tuple(one)))
+        for way in Event:
+            self.assertEqual(messages.read(messages.event(way)), messages.CarEvent(way))
+        for outcome in Outcome:
+            self.assertEqual(messages.read(messages.result(513, 7, outcome)), messages.Result(513, 7, outcome))
+        self.assertEqual(messages.read(messages.image(HALF_OFF, 5)), messages.Image(HALF_OFF, 5))
+        self.assertEqual(messages.read(messages.ask()), messages.Ask())
+        for wrong in ("03 00 01 00 01", "08 00 01 00 01 09 00 00 00 00", "03 00 02 00 05", "06 00 03 00 00 00 00 03", "03 00 05 00 00"):
+            with self.assertRaises(ValueError):
+                messages.read(bytes.fromhex(wrong))
 
     def test_what_no_message_can_say(self):
         for wrong in (lambda: messages.request(["rotate"] * 9), lambda: messages.event(256), lambda: messages.result(0, 256, 0)):

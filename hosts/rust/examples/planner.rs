@@ -45,7 +45,9 @@ fn run(desk: &mut Desk, set: &[Instruction], outcome: Outcome) -> Result<(), Ref
 }
 
 /// Where every instruction of a set has brought the garage.
-fn after(record: Record, set: &[Instruction]) -> Result<Record, Refusal> { set.iter().try_fold(record, |record, &one| record.next(one)) }
+fn after(record: Record, set: &[Instruction]) -> Result<Record, Refusal> {
+    set.iter().try_fold(record, |record, &one| record.next(one))
+}
 
 fn main() -> Result<(), Box<dyn Error>> {
     let (park, fetch) = (sets(PARK)?, sets(FETCH)?);
@@ -59,14 +61,18 @@ fn main() -> Result<(), Box<dyn Error>> {
     println!("a plan of {} sets is accepted", plan.sets.len());
 
     let (last, before) = park.split_last().expect("there are sets");
-    for set in before { run(&mut desk, set, Outcome::Done)?; }
+    for set in before {
+        run(&mut desk, set, Outcome::Done)?;
+    }
     let finished = after(desk.record(), last)?;
     run(&mut desk, last, Outcome::Stuck)?;
     println!("the same again: {}", desk.request(last).expect_err("nothing is run into it"));
     desk.image(finished, &[CARD])?; // somebody has looked: the belts had finished
     print!("somebody looked: card {CARD} is {}\n{}", desk.whereabouts(CARD), desk.record());
 
-    for set in &fetch { run(&mut desk, set, Outcome::Done)?; }
+    for set in &fetch {
+        run(&mut desk, set, Outcome::Done)?;
+    }
     desk.event(Event::BeginOut, None)?;
     println!("card {} is leaving", desk.leaving().expect("a drive-out is under way"));
     desk.event(Event::EndedDone, None)?;

@@ -13,7 +13,9 @@ const NOWHERE: u8 = 255;
 pub struct Issue(pub u16);
 
 impl fmt::Display for Issue {
-    fn fmt(&self, f: &mut fmt::Formatter) -> fmt::Result { write!(f, "{}", self.0) }
+    fn fmt(&self, f: &mut fmt::Formatter) -> fmt::Result {
+        write!(f, "{}", self.0)
+    }
 }
 
 /// An answer as an entry or a message gives it: a number of the table, a place, and the issue of the set where a request was taken, else 0.
@@ -40,23 +42,39 @@ impl Answer {
     }
 
     /// Whether that was taken.
-    pub fn taken(self) -> bool { self.number == Number::Taken }
+    pub fn taken(self) -> bool {
+        self.number == Number::Taken
+    }
 
     /// The issue where it was taken, else the refusal.
-    pub fn issued(self) -> Result<Issue, Refusal> { if self.taken() { Ok(self.issue) } else { Err(self.refusal()) } }
+    pub fn issued(self) -> Result<Issue, Refusal> {
+        if self.taken() {
+            Ok(self.issue)
+        } else {
+            Err(self.refusal())
+        }
+    }
 
     /// Nothing where it was taken, else the refusal.
-    pub fn into_result(self) -> Result<(), Refusal> { self.issued().map(drop) }
+    pub fn into_result(self) -> Result<(), Refusal> {
+        self.issued().map(drop)
+    }
 
     /// The number and the place alone.
-    fn refusal(self) -> Refusal { Refusal { number: self.number, place: self.place } }
+    fn refusal(self) -> Refusal {
+        Refusal { number: self.number, place: self.place }
+    }
 }
 
 /// A place by its byte.
-pub(crate) fn place_in(byte: u8) -> Option<u8> { Some(byte).filter(|&place| place != NOWHERE) }
+pub(crate) fn place_in(byte: u8) -> Option<u8> {
+    Some(byte).filter(|&place| place != NOWHERE)
+}
 
 /// A place's byte.
-pub(crate) fn place_byte(place: Option<u8>) -> u8 { place.unwrap_or(NOWHERE) }
+pub(crate) fn place_byte(place: Option<u8>) -> u8 {
+    place.unwrap_or(NOWHERE)
+}
 
 /// Why a call isn't taken. What was called on is as it was.
 ///
@@ -79,7 +97,9 @@ pub struct Refusal {
 }
 
 impl From<Number> for Refusal {
-    fn from(number: Number) -> Refusal { Refusal { number, place: None } }
+    fn from(number: Number) -> Refusal {
+        Refusal { number, place: None }
+    }
 }
 
 /// A number, and the place where there is one.
@@ -91,11 +111,15 @@ fn told(f: &mut fmt::Formatter, number: Number, place: Option<u8>) -> fmt::Resul
 }
 
 impl fmt::Display for Answer {
-    fn fmt(&self, f: &mut fmt::Formatter) -> fmt::Result { told(f, self.number, self.place) }
+    fn fmt(&self, f: &mut fmt::Formatter) -> fmt::Result {
+        told(f, self.number, self.place)
+    }
 }
 
 impl fmt::Display for Refusal {
-    fn fmt(&self, f: &mut fmt::Formatter) -> fmt::Result { told(f, self.number, self.place) }
+    fn fmt(&self, f: &mut fmt::Formatter) -> fmt::Result {
+        told(f, self.number, self.place)
+    }
 }
 
 impl Error for Refusal {}
@@ -106,7 +130,9 @@ mod tests {
 
     #[test]
     #[should_panic(expected = "a number of the table")]
-    fn an_answer_outside_the_table_is_none() { Answer::of(14); }
+    fn an_answer_outside_the_table_is_none() {
+        Answer::of(14);
+    }
 
     #[test]
     fn the_three_parts_of_an_answer() {

@@ -15,7 +15,9 @@ const AT_DRIVE: usize = 41;
 pub struct Card(pub u32);
 
 impl fmt::Display for Card {
-    fn fmt(&self, f: &mut fmt::Formatter) -> fmt::Result { write!(f, "{}", self.0) }
+    fn fmt(&self, f: &mut fmt::Formatter) -> fmt::Result {
+        write!(f, "{}", self.0)
+    }
 }
 
 /// A desk: a station whose cars have card numbers, which go where the cars go.
@@ -53,7 +55,9 @@ impl Desk {
     }
 
     /// Its bytes, to be kept and put back as they are.
-    pub fn bytes(&self) -> &[u8; Desk::SIZE] { &self.0 }
+    pub fn bytes(&self) -> &[u8; Desk::SIZE] {
+        &self.0
+    }
 
     /// Requests a set, as [`Station::request`].
     pub fn request(&mut self, set: &[Instruction]) -> Result<Issue, Refusal> {
@@ -79,10 +83,14 @@ impl Desk {
     }
 
     /// The record.
-    pub fn record(&self) -> Record { self.shown().0 }
+    pub fn record(&self) -> Record {
+        self.shown().0
+    }
 
     /// What is set apart.
-    pub fn apart(&self) -> Parts { self.shown().1 }
+    pub fn apart(&self) -> Parts {
+        self.shown().1
+    }
 
     fn shown(&self) -> (Record, Parts) {
         let mut both = [0; 16];
@@ -91,7 +99,9 @@ impl Desk {
     }
 
     /// Where a card's car is.
-    pub fn whereabouts(&self, card: Card) -> Whereabouts { lent::desk_where(&self.0, card.0).expect("it is a desk") }
+    pub fn whereabouts(&self, card: Card) -> Whereabouts {
+        lent::desk_where(&self.0, card.0).expect("it is a desk")
+    }
 
     /// Which card is leaving, while a drive-out is under way.
     pub fn leaving(&self) -> Option<Card> {
@@ -101,7 +111,9 @@ impl Desk {
     }
 
     /// Which card is coming, while a drive-in is under way.
-    pub fn coming(&self) -> Option<Card> { self.card_at(AT_DRIVE) }
+    pub fn coming(&self) -> Option<Card> {
+        self.card_at(AT_DRIVE)
+    }
 
     /// The cards of all cars in the garage, each with the place of its number, in the order of [`Record::places`].
     pub fn cards(&self) -> Vec<(Place, Card)> {
@@ -116,8 +128,12 @@ impl Desk {
 }
 
 /// The card of four bytes, the lowest first; none where they are 0.
-fn some_card(bytes: [u8; 4]) -> Option<Card> { Some(Card(u32::from_le_bytes(bytes))).filter(|card| card.0 != 0) }
+fn some_card(bytes: [u8; 4]) -> Option<Card> {
+    Some(Card(u32::from_le_bytes(bytes))).filter(|card| card.0 != 0)
+}
 
 impl Default for Desk {
-    fn default() -> Desk { Desk::new() }
+    fn default() -> Desk {
+        Desk::new()
+    }
 }

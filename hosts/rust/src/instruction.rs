@@ -76,7 +76,9 @@ fn mask<T: Copy>(all: &[T], named: impl Fn(T) -> bool) -> u8 {
 
 /// Those that the bits of a mask name, which has none past them.
 fn named<T: Copy, S: FromIterator<T>>(all: &[T], mask: u8) -> Result<S, Refusal> {
-    if mask >> all.len() != 0 { return Err(Number::BadField.into()); }
+    if mask >> all.len() != 0 {
+        return Err(Number::BadField.into());
+    }
     Ok((0..).zip(all).filter(|(at, _)| mask >> at & 1 == 1).map(|(_, &one)| one).collect())
 }
 
@@ -110,7 +112,9 @@ impl Instruction {
 }
 
 /// The bytes of a set, five for each instruction.
-pub(crate) fn bytes_of(set: &[Instruction]) -> Vec<u8> { set.iter().flat_map(Instruction::five).collect() }
+pub(crate) fn bytes_of(set: &[Instruction]) -> Vec<u8> {
+    set.iter().flat_map(Instruction::five).collect()
+}
 
 /// Bytes that say no instruction are told 4, a field out of range, or a spare byte that isn't zero.
 impl TryFrom<[u8; 5]> for Instruction {
@@ -150,7 +154,9 @@ impl fmt::Display for Instruction {
 pub struct NoInstruction(String);
 
 impl fmt::Display for NoInstruction {
-    fn fmt(&self, f: &mut fmt::Formatter) -> fmt::Result { write!(f, "{}", self.0) }
+    fn fmt(&self, f: &mut fmt::Formatter) -> fmt::Result {
+        write!(f, "{}", self.0)
+    }
 }
 
 impl Error for NoInstruction {}

@@ -10,12 +10,16 @@ use crate::places::{Place, Whereabouts};
 use crate::raw::{desk, drawing, panel, plan, report, station};
 
 /// How long a text or a list is that was written, as the upper half of what an entry returned.
-fn length(said: u32) -> Result<usize, Refusal> { Answer::of(said).issued().map(|issue| issue.0.into()) }
+fn length(said: u32) -> Result<usize, Refusal> {
+    Answer::of(said).issued().map(|issue| issue.0.into())
+}
 
 // ---- include/station.h
 
 /// Writes the start station.
-pub fn station_start(room: &mut [u8]) -> Answer { Answer::of(unsafe { station::station_start(room.as_mut_ptr(), room.len()) }) }
+pub fn station_start(room: &mut [u8]) -> Answer {
+    Answer::of(unsafe { station::station_start(room.as_mut_ptr(), room.len()) })
+}
 
 /// Requests a set of `count` instructions, five bytes each.
 pub fn station_request(room: &mut [u8], count: u8, set: &[u8]) -> Answer {
@@ -50,10 +54,14 @@ pub fn station_message(room: &mut [u8], message: &[u8], reply: &mut [u8]) -> Ans
 }
 
 /// Whether an image is a possible garage.
-pub fn garage_sound(image: u64) -> bool { unsafe { station::garage_sound(image) } }
+pub fn garage_sound(image: u64) -> bool {
+    unsafe { station::garage_sound(image) }
+}
 
 /// The number of cars of a sound record, else 255.
-pub fn garage_cars(image: u64) -> u32 { unsafe { station::garage_cars(image) } }
+pub fn garage_cars(image: u64) -> u32 {
+    unsafe { station::garage_cars(image) }
+}
 
 /// What a request of one instruction would be told on a record.
 pub fn garage_allowed(image: u64, five: &[u8]) -> Answer {
@@ -76,12 +84,16 @@ pub fn garage_overlap(one: &[u8], other: &[u8]) -> Answer {
 }
 
 /// The archive's version: 65536 times its first number, 256 times its second, and its third.
-pub fn station_version() -> u32 { unsafe { station::station_version() } }
+pub fn station_version() -> u32 {
+    unsafe { station::station_version() }
+}
 
 // ---- include/desk.h
 
 /// Writes the start desk.
-pub fn desk_start(room: &mut [u8]) -> Answer { Answer::of(unsafe { desk::desk_start(room.as_mut_ptr(), room.len()) }) }
+pub fn desk_start(room: &mut [u8]) -> Answer {
+    Answer::of(unsafe { desk::desk_start(room.as_mut_ptr(), room.len()) })
+}
 
 /// Requests a set, as [`station_request`].
 pub fn desk_request(room: &mut [u8], count: u8, set: &[u8]) -> Answer {
@@ -124,7 +136,9 @@ pub fn desk_leaving(room: &[u8], card: &mut [u8]) -> Answer {
 // ---- include/plan.h
 
 /// What the plan of these bytes is told; the place is that of the set at fault.
-pub fn plan_judge(plan: &[u8]) -> Answer { Answer::of(unsafe { plan::plan_judge(plan.as_ptr(), plan.len()) }) }
+pub fn plan_judge(plan: &[u8]) -> Answer {
+    Answer::of(unsafe { plan::plan_judge(plan.as_ptr(), plan.len()) })
+}
 
 // ---- include/drawing.h
 
@@ -141,7 +155,9 @@ pub fn drawing_read(text: &[u8], room: &mut [u8]) -> Answer {
 // ---- include/report.h
 
 /// Writes zeros as the totals of a new report.
-pub fn report_start(totals: &mut [u8]) -> Answer { Answer::of(unsafe { report::report_start(totals.as_mut_ptr(), totals.len()) }) }
+pub fn report_start(totals: &mut [u8]) -> Answer {
+    Answer::of(unsafe { report::report_start(totals.as_mut_ptr(), totals.len()) })
+}
 
 /// Counts the first message of `message`, by what it does on a station; the place is that of the total that is full.
 pub fn report_message(totals: &mut [u8], station: &[u8], message: &[u8]) -> Answer {

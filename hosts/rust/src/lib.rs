@@ -15,7 +15,8 @@
 //! ```
 //!
 //! The first build proves and builds the project, which takes some minutes and needs its toolchain (`rt`). With the environment variable
-//! STATION_LIB_DIR set to a folder with libstation.a, that archive is linked and no toolchain is needed.
+//! STATION_LIB_DIR set to a folder with libstation.a, that archive is linked and no toolchain is needed. Without the feature `entries`, which
+//! is on by default, nothing is linked: there are the types, the table of numbers and the words alone.
 //!
 //! # A refusal, in words
 //!
@@ -30,29 +31,47 @@
 //! # Ok::<(), station::Refusal>(())
 //! ```
 
+#![cfg_attr(not(feature = "entries"), allow(dead_code))] // what only the entries' calls use
+
 mod answers;
-mod building;
-mod desk;
 mod fields;
 mod instruction;
-pub mod lent;
-pub mod message;
 mod numbers;
 mod places;
+pub mod words;
+
+#[cfg(feature = "entries")]
+mod building;
+#[cfg(feature = "entries")]
+mod desk;
+#[cfg(feature = "entries")]
+pub mod lent;
+#[cfg(feature = "entries")]
+pub mod message;
+#[cfg(feature = "entries")]
 pub mod plan;
+#[cfg(feature = "entries")]
 pub mod raw;
+#[cfg(feature = "entries")]
 mod record;
+#[cfg(feature = "entries")]
 mod station;
+#[cfg(feature = "entries")]
 mod totals;
-mod words;
 
 pub use answers::{Answer, Issue, Refusal};
-pub use building::version;
-pub use desk::{Card, Desk};
 pub use fields::{Belt, Belts, Event, Height, Kind, Op, Orientation, Outcome, Row, Rows, Side, Size, Toward};
 pub use instruction::{Instruction, NoInstruction};
 pub use numbers::Number;
 pub use places::{Parts, Place, Whereabouts};
+
+#[cfg(feature = "entries")]
+pub use building::version;
+#[cfg(feature = "entries")]
+pub use desk::{Card, Desk};
+#[cfg(feature = "entries")]
 pub use record::{Condition, Record};
+#[cfg(feature = "entries")]
 pub use station::Station;
+#[cfg(feature = "entries")]
 pub use totals::Totals;

@@ -68,18 +68,28 @@ pub enum Reply {
 }
 
 /// The bytes of a message of a kind.
-fn framed(kind: u16, body: &[u8]) -> Vec<u8> { [&(2 + body.len() as u16).to_le_bytes(), &kind.to_le_bytes(), body].concat() }
+fn framed(kind: u16, body: &[u8]) -> Vec<u8> {
+    [&(2 + body.len() as u16).to_le_bytes(), &kind.to_le_bytes(), body].concat()
+}
 
 /// A record's bytes, then those of what is set apart.
-fn both(record: Record, apart: Parts) -> [u8; 16] { (u128::from(apart.0) << 64 | u128::from(record.0)).to_le_bytes() }
+fn both(record: Record, apart: Parts) -> [u8; 16] {
+    (u128::from(apart.0) << 64 | u128::from(record.0)).to_le_bytes()
+}
 
 /// The two numbers of a body.
-fn read_both(body: &[u8]) -> Result<(Record, Parts), Refusal> { Ok(both_of(body.try_into().map_err(|_| Number::BadLength)?)) }
+fn read_both(body: &[u8]) -> Result<(Record, Parts), Refusal> {
+    Ok(both_of(body.try_into().map_err(|_| Number::BadLength)?))
+}
 
 /// How many bytes follow a length, if it is in range.
 fn following(length: [u8; 2]) -> Result<usize, Refusal> {
     let length = u16::from_le_bytes(length).into();
-    if LENGTHS.contains(&length) { Ok(length) } else { Err(Number::BadLength.into()) }
+    if LENGTHS.contains(&length) {
+        Ok(length)
+    } else {
+        Err(Number::BadLength.into())
+    }
 }
 
 /// The kind and the body of the first message, and how many bytes it has.
@@ -111,13 +121,19 @@ fn next_of(input: &mut impl Read) -> io::Result<Option<Vec<u8>>> {
 }
 
 /// What isn't read, as a stream's failure.
-fn unread(refusal: Refusal) -> io::Error { io::Error::new(ErrorKind::InvalidData, refusal) }
+fn unread(refusal: Refusal) -> io::Error {
+    io::Error::new(ErrorKind::InvalidData, refusal)
+}
 
 /// The instructions of a request's body; the place of one that is none is told.
 fn set_of(body: &[u8]) -> Result<Vec<Instruction>, Refusal> {
     let Some((&count, bytes)) = body.split_first() else { return Err(Number::BadLength.into()) };
-    if usize::from(count) > Station::MOST { return Err(Number::TooMany.into()); }
-    if bytes.len() != 5 * usize::from(count) { return Err(Number::BadLength.into()); }
+    if usize::from(count) > Station::MOST {
+        return Err(Number::TooMany.into());
+    }
+    if bytes.len() != 5 * usize::from(count) {
+        return Err(Number::BadLength.into());
+    }
     let one = |(place, five): (u8, &[u8])| {
         let five: [u8; 5] = five.try_into().expect("five bytes");
         Instruction::try_from(five).map_err(|refusal| Refusal { place: Some(place), ..refusal })
@@ -194,7 +210,9 @@ impl Reply {
             (ANSWER, &[number, place, low, high]) => {
                 let number = Number::try_from(number).ok().filter(|&number| number <= Number::KeptOpen).ok_or(Number::BadField)?;
                 let place = place_in(place);
-                if place.is_some_and(|place| usize::from(place) >= Station::MOST) { return Err(Number::BadField.into()); }
+                if place.is_some_and(|place| usize::from(place) >= Station::MOST) {
+                    return Err(Number::BadField.into());
+                }
                 Reply::Answer(Answer { number, place, issue: Issue(u16::from_le_bytes([low, high])) })
             }
             (HELD, body) => read_both(body).map(|(record, apart)| Reply::Held { record, apart })?,

@@ -77,9 +77,13 @@ table! {
 
 impl Number {
     /// What an entry returned: each is proved to answer with a number of the table.
-    pub(crate) fn of(number: u8) -> Number { Number::try_from(number).expect("a number of the table") }
+    pub(crate) fn of(number: u8) -> Number {
+        Number::try_from(number).expect("a number of the table")
+    }
 }
 
 impl fmt::Display for Number {
-    fn fmt(&self, f: &mut fmt::Formatter) -> fmt::Result { write!(f, "{} ({})", *self as u8, self.words()) }
+    fn fmt(&self, f: &mut fmt::Formatter) -> fmt::Result {
+        write!(f, "{} ({})", *self as u8, self.words())
+    }
 }

@@ -15,7 +15,13 @@ pub enum Place {
 }
 
 impl Place {
-    pub(crate) fn of(bit: u8) -> Place { if bit == LIFT { Place::Raised } else { Place::Cell(bit) } }
+    pub(crate) fn of(bit: u8) -> Place {
+        if bit == LIFT {
+            Place::Raised
+        } else {
+            Place::Cell(bit)
+        }
+    }
 }
 
 impl fmt::Display for Place {
@@ -57,14 +63,22 @@ impl Parts {
     pub const NONE: Parts = Parts(0);
 
     /// Whether there is none.
-    pub fn is_empty(self) -> bool { self == Parts::NONE }
+    pub fn is_empty(self) -> bool {
+        self == Parts::NONE
+    }
 
     /// Whether the part with this bit is one of them.
-    pub fn has(self, bit: u8) -> bool { bit < 64 && self.0 >> bit & 1 == 1 }
+    pub fn has(self, bit: u8) -> bool {
+        bit < 64 && self.0 >> bit & 1 == 1
+    }
 
     /// Whether the lift is one of them.
-    pub fn lift(self) -> bool { self.has(LIFT) }
+    pub fn lift(self) -> bool {
+        self.has(LIFT)
+    }
 
     /// The bits of all of them, from the lowest.
-    pub fn bits(self) -> impl Iterator<Item = u8> { (0..64).filter(move |&bit| self.has(bit)) }
+    pub fn bits(self) -> impl Iterator<Item = u8> {
+        (0..64).filter(move |&bit| self.has(bit))
+    }
 }

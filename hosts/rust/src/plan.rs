@@ -41,7 +41,9 @@ impl Plan {
     pub const MOST: usize = 64;
 
     /// A plan of no sets yet.
-    pub fn new(start: Record, wish: Wish) -> Plan { Plan { start, wish, sets: Vec::new() } }
+    pub fn new(start: Record, wish: Wish) -> Plan {
+        Plan { start, wish, sets: Vec::new() }
+    }
 
     /// The plan with one more set at its end.
     pub fn then(mut self, set: &[Instruction]) -> Plan {
@@ -64,4 +66,6 @@ impl Plan {
 }
 
 /// Whether a plan is accepted: 15, 35; of the first set that is refused, which is the place, 5, 7, 4, 31, 8, 20 to 28; at last 36.
-pub fn judge(plan: &Plan) -> Result<(), Refusal> { lent::plan_judge(&plan.bytes()).into_result() }
+pub fn judge(plan: &Plan) -> Result<(), Refusal> {
+    lent::plan_judge(&plan.bytes()).into_result()
+}

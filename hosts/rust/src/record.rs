@@ -31,16 +31,24 @@ impl Record {
     pub const START: Record = Record(0x0009_1B00_0000_0000);
 
     /// The record of eight bytes, the lowest first.
-    pub fn from_bytes(bytes: [u8; 8]) -> Record { Record(u64::from_le_bytes(bytes)) }
+    pub fn from_bytes(bytes: [u8; 8]) -> Record {
+        Record(u64::from_le_bytes(bytes))
+    }
 
     /// Its eight bytes, the lowest first.
-    pub fn bytes(self) -> [u8; 8] { self.0.to_le_bytes() }
+    pub fn bytes(self) -> [u8; 8] {
+        self.0.to_le_bytes()
+    }
 
     /// Whether it is a possible garage.
-    pub fn is_sound(self) -> bool { lent::garage_sound(self.0) }
+    pub fn is_sound(self) -> bool {
+        lent::garage_sound(self.0)
+    }
 
     /// The number of cars, if it is sound.
-    pub fn cars(self) -> Option<u32> { Some(lent::garage_cars(self.0)).filter(|&cars| cars != 255) }
+    pub fn cars(self) -> Option<u32> {
+        Some(lent::garage_cars(self.0)).filter(|&cars| cars != 255)
+    }
 
     /// Whether a request of the one instruction would be taken here: 4 where it names a belt that its row doesn't have, 31 where a drive is
     /// under way and the lift is in its area, then the reason, 20 to 28. What is set apart a record doesn't know.
@@ -87,7 +95,9 @@ impl Record {
             let mut room = [0; CONDITION];
             lent::panel_condition(self.0, &instruction.five(), all.len() as u8, &mut room).into_result()?;
             let [there, holds, number, parts @ ..] = room;
-            if there == 0 { return Ok(all); }
+            if there == 0 {
+                return Ok(all);
+            }
             all.push(Condition { holds: holds == 1, number: Number::of(number), parts: Parts(u64::from_le_bytes(parts)) });
         }
     }

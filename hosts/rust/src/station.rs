@@ -8,7 +8,9 @@ use crate::{Answer, Event, Instruction, Issue, Outcome, Parts, Record, Refusal};
 const REPLY_MOST: usize = 20;
 
 /// How many instructions a set has, as a byte; more than a byte can count are more than a set can have.
-pub(crate) fn count_of<T>(all: &[T]) -> u8 { u8::try_from(all.len()).unwrap_or(u8::MAX) }
+pub(crate) fn count_of<T>(all: &[T]) -> u8 {
+    u8::try_from(all.len()).unwrap_or(u8::MAX)
+}
 
 /// The two numbers of sixteen bytes, the lowest byte of each first.
 pub(crate) fn both_of(bytes: [u8; 16]) -> (Record, Parts) {
@@ -71,7 +73,9 @@ impl Station {
     }
 
     /// Its bytes, to be kept and put back as they are.
-    pub fn bytes(&self) -> &[u8; Station::SIZE] { &self.0 }
+    pub fn bytes(&self) -> &[u8; Station::SIZE] {
+        &self.0
+    }
 
     /// Requests a set: 6, 5, 7, 4, 31, 32, 8, 20 to 28. Taken, the set is outstanding under its issue, and the record is as it was.
     pub fn request(&mut self, set: &[Instruction]) -> Result<Issue, Refusal> {
@@ -79,7 +83,9 @@ impl Station {
     }
 
     /// A drive begins or ends: 6, 31, 32, of a begin 10, and of a begin of a drive-in 33.
-    pub fn event(&mut self, event: Event) -> Result<(), Refusal> { lent::station_event(&mut self.0, event.byte()).into_result() }
+    pub fn event(&mut self, event: Event) -> Result<(), Refusal> {
+        lent::station_event(&mut self.0, event.byte()).into_result()
+    }
 
     /// The result of an instruction of the outstanding set, counted from 0: 11, 29, 30, 12, 13. What is done is applied to the record; what
     /// is stuck sets the instruction's area apart.
@@ -88,13 +94,19 @@ impl Station {
     }
 
     /// An image as the record, after somebody looked and cleared what was stuck: 6, 15. Nothing is set apart from now on.
-    pub fn image(&mut self, image: Record) -> Result<(), Refusal> { lent::station_image(&mut self.0, image.0, 0).into_result() }
+    pub fn image(&mut self, image: Record) -> Result<(), Refusal> {
+        lent::station_image(&mut self.0, image.0, 0).into_result()
+    }
 
     /// The record.
-    pub fn record(&self) -> Record { self.shown().0 }
+    pub fn record(&self) -> Record {
+        self.shown().0
+    }
 
     /// What is set apart.
-    pub fn apart(&self) -> Parts { self.shown().1 }
+    pub fn apart(&self) -> Parts {
+        self.shown().1
+    }
 
     fn shown(&self) -> (Record, Parts) {
         let mut both = [0; 16];
@@ -113,5 +125,7 @@ impl Station {
 }
 
 impl Default for Station {
-    fn default() -> Station { Station::new() }
+    fn default() -> Station {
+        Station::new()
+    }
 }

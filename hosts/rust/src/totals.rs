@@ -41,10 +41,14 @@ impl Totals {
     }
 
     /// Totals from bytes that were kept: all bytes are totals.
-    pub fn from_bytes(bytes: &[u8; Totals::SIZE]) -> Totals { Totals(*bytes) }
+    pub fn from_bytes(bytes: &[u8; Totals::SIZE]) -> Totals {
+        Totals(*bytes)
+    }
 
     /// Their bytes, to be kept and put back as they are.
-    pub fn bytes(&self) -> &[u8; Totals::SIZE] { &self.0 }
+    pub fn bytes(&self) -> &[u8; Totals::SIZE] {
+        &self.0
+    }
 
     /// Counts the first message of `message`, before the station is sent it: 40 where a total would pass 4,294,967,295, with the place of
     /// the first that would; then all stay as they were.
@@ -53,32 +57,54 @@ impl Totals {
     }
 
     /// How many messages of a kind came.
-    pub fn messages(&self, kind: Kind) -> u32 { self.at(usize::from(kind.byte()) - 1) }
+    pub fn messages(&self, kind: Kind) -> u32 {
+        self.at(usize::from(kind.byte()) - 1)
+    }
 
     /// How many were answered with a number; none are with those of plans, desks, reports and drawings.
-    pub fn answers(&self, number: Number) -> u32 { if number <= Number::KeptOpen { self.at(5 + number as usize) } else { 0 } }
+    pub fn answers(&self, number: Number) -> u32 {
+        if number <= Number::KeptOpen {
+            self.at(5 + number as usize)
+        } else {
+            0
+        }
+    }
 
     /// How many results of such instructions were taken as done.
-    pub fn done(&self, op: Op) -> u32 { self.at(38 + usize::from(op.byte())) }
+    pub fn done(&self, op: Op) -> u32 {
+        self.at(38 + usize::from(op.byte()))
+    }
 
     /// How many results of such instructions were taken as failed or stuck.
-    pub fn failed(&self, op: Op) -> u32 { self.at(43 + usize::from(op.byte())) }
+    pub fn failed(&self, op: Op) -> u32 {
+        self.at(43 + usize::from(op.byte()))
+    }
 
     /// How many drives in were done.
-    pub fn cars_in(&self) -> u32 { self.at(49) }
+    pub fn cars_in(&self) -> u32 {
+        self.at(49)
+    }
 
     /// How many drives out were done.
-    pub fn cars_out(&self) -> u32 { self.at(50) }
+    pub fn cars_out(&self) -> u32 {
+        self.at(50)
+    }
 
     /// The most cars that there were after any message.
-    pub fn most_cars(&self) -> u32 { self.at(51) }
+    pub fn most_cars(&self) -> u32 {
+        self.at(51)
+    }
 
     /// The total at a place of the report's order.
-    fn at(&self, place: usize) -> u32 { u32::from_le_bytes(self.0[4 * place..][..4].try_into().expect("four bytes")) }
+    fn at(&self, place: usize) -> u32 {
+        u32::from_le_bytes(self.0[4 * place..][..4].try_into().expect("four bytes"))
+    }
 }
 
 impl Default for Totals {
-    fn default() -> Totals { Totals::new() }
+    fn default() -> Totals {
+        Totals::new()
+    }
 }
 
 /// The report's text, a line for each total.

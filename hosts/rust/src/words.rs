@@ -1,15 +1,21 @@
 //! The words for people: instructions as the texts of plans and of the panel have them (docs/PLANS.md, docs/PANEL.md), read and written, and
 //! records in hexadecimal.
-#![allow(dead_code)] // each program uses its own part of this module
 
-// Numbers as the messages have them, by the places of their words.
+/// Rows, from number 1 on.
 pub const ROWS: [&str; 3] = ["1", "2", "3"];
+/// The belts of row 1, by their bits.
 pub const BELTS_OF_ROW_1: [&str; 5] = ["left-shuttle", "left", "lift", "right", "right-shuttle"];
+/// The belts of rows 2 and 3, by their bits.
 pub const BELTS: [&str; 3] = ["left-shuttle", "middle", "right-shuttle"];
+/// Toward which columns or rows, by their numbers; the same below.
 pub const WAYS: [&str; 2] = ["lower", "higher"];
+/// How far belts go.
 pub const SIZES: [&str; 2] = ["half", "full"];
+/// The sides of the shuttles.
 pub const SIDES: [&str; 2] = ["left", "right"];
+/// How a shuttle stands.
 pub const ORIENTATIONS: [&str; 2] = ["lowered", "tilted"];
+/// The heights of the lift.
 pub const HEIGHTS: [&str; 3] = ["street", "rotation", "basement"];
 const INSTRUCTIONS: [&str; 5] = ["belts", "shuttles", "tilt", "lift", "rotate"];
 
@@ -28,6 +34,7 @@ fn listed(names: &[&str]) -> String {
 pub struct Words<'a>(Vec<&'a str>);
 
 impl<'a> Words<'a> {
+    /// The words of a line.
     pub fn of(line: &'a str) -> Self {
         Words(line.split(|letter: char| letter.is_whitespace() || letter == ',').filter(|word| !word.is_empty()).rev().collect())
     }
@@ -46,22 +53,34 @@ impl<'a> Words<'a> {
         Some(at as u8)
     }
 
-    pub fn one_of(&mut self, names: &[&str]) -> Result<u8, Wrong> { self.among(names).ok_or_else(|| self.wrong(&listed(names))) }
+    /// The place of the next word among some, or what is wrong with it.
+    pub fn one_of(&mut self, names: &[&str]) -> Result<u8, Wrong> {
+        self.among(names).ok_or_else(|| self.wrong(&listed(names)))
+    }
 
     /// Of all that come next, a bit for each name; the words that may follow them are told too where neither comes.
     fn all_of(&mut self, names: &[&str], then: &[&str]) -> Result<u8, Wrong> {
         let mut mask = 0;
         while let Some(at) = self.among(names) {
-            if mask >> at & 1 == 1 { return Err(format!("`{}` stands twice", names[usize::from(at)])); }
+            if mask >> at & 1 == 1 {
+                return Err(format!("`{}` stands twice", names[usize::from(at)]));
+            }
             mask |= 1 << at;
         }
         let follows = self.0.last().is_some_and(|word| then.contains(word));
-        if follows { Ok(mask) } else { Err(self.wrong(&listed(&[names, then].concat()))) }
+        if follows {
+            Ok(mask)
+        } else {
+            Err(self.wrong(&listed(&[names, then].concat())))
+        }
     }
 
     /// All that are left, as one.
-    pub fn rest(&mut self) -> String { self.0.drain(..).rev().collect() }
+    pub fn rest(&mut self) -> String {
+        self.0.drain(..).rev().collect()
+    }
 
+    /// That no word is left.
     pub fn end(&self) -> Result<(), Wrong> {
         self.0.last().map_or(Ok(()), |word| Err(format!("`{word}` and what follows it is more than the line can say")))
     }
@@ -69,13 +88,21 @@ impl<'a> Words<'a> {
 
 /// The bytes of a record, the lowest first, from sixteen digits.
 pub fn record_in(digits: &str) -> Option<[u8; 8]> {
-    if digits.len() != 16 || !digits.bytes().all(|digit| digit.is_ascii_hexdigit()) { return None; }
+    if digits.len() != 16 || !digits.bytes().all(|digit| digit.is_ascii_hexdigit()) {
+        return None;
+    }
     let byte = |at: usize| u8::from_str_radix(&digits[2 * at..2 * at + 2], 16).unwrap_or(0);
     Some(std::array::from_fn(byte))
 }
 
 /// The belts of a row.
-pub fn belts_of(row: u8) -> &'static [&'static str] { if row == 1 { &BELTS_OF_ROW_1 } else { &BELTS } }
+pub fn belts_of(row: u8) -> &'static [&'static str] {
+    if row == 1 {
+        &BELTS_OF_ROW_1
+    } else {
+        &BELTS
+    }
+}
 
 /// An instruction's five bytes.
 pub fn instruction(words: &mut Words) -> Result<[u8; 5], Wrong> {
@@ -104,7 +131,9 @@ pub fn instruction(words: &mut Words) -> Result<[u8; 5], Wrong> {
 }
 
 /// The word of a number.
-pub fn word(names: &[&'static str], at: u8) -> &'static str { names.get(usize::from(at)).copied().unwrap_or("?") }
+pub fn word(names: &[&'static str], at: u8) -> &'static str {
+    names.get(usize::from(at)).copied().unwrap_or("?")
+}
 
 /// The names whose bits a mask has.
 pub fn named(names: &[&'static str], mask: u8) -> Vec<&'static str> {

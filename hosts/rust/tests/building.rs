@@ -48,7 +48,9 @@ fn areas_are_what_is_changed_and_set_apart() {
     let lift = 0b111 << 52;
     for instruction in all() {
         let area = instruction.area().expect("an instruction");
-        if let Ok(next) = Record::START.next(instruction) { assert_eq!((next.0 ^ Record::START.0) & !area, 0, "{instruction}"); }
+        if let Ok(next) = Record::START.next(instruction) {
+            assert_eq!((next.0 ^ Record::START.0) & !area, 0, "{instruction}");
+        }
         let mut station = Station::new();
         if let Ok(issue) = station.request(&[instruction]) {
             station.result(issue, 0, Outcome::Stuck).expect("a result");
@@ -93,7 +95,8 @@ fn no_bytes_may_be_at_null() {
 fn the_version() {
     let header = include_str!("../../../include/station.h");
     let number = |name: &str| {
-        let (_, rest) = header.split_once(&format!("#define STATION_VERSION_{name} ")).unwrap_or_else(|| panic!("{name} is not in the header"));
+        let (_, rest) =
+            header.split_once(&format!("#define STATION_VERSION_{name} ")).unwrap_or_else(|| panic!("{name} is not in the header"));
         rest.split_whitespace().next().and_then(|digits| digits.parse::<u32>().ok()).expect("a number")
     };
     assert_eq!(lent::station_version(), 65536 * number("FIRST") + 256 * number("SECOND") + number("THIRD"));

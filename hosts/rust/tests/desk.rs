@@ -31,7 +31,9 @@ fn a_number_goes_with_its_car() {
     assert_eq!((d.event(1, 7001), d.whereabouts(7001), d.event(3, 0), d.whereabouts(7001)), (TAKEN, Ok(NotHere), TAKEN, Ok(At(Raised))));
     done(&mut d, 0, LIFT_DOWN);
     assert_eq!(d.whereabouts(7001), Ok(At(Cell(11))), "the lower of its two cells");
-    for issue in 1..4 { done(&mut d, issue, [1, 1, 28, 1, 1]); }
+    for issue in 1..4 {
+        done(&mut d, issue, [1, 1, 28, 1, 1]);
+    }
     done(&mut d, 4, [1, 1, 28, 1, 0]);
     assert_eq!(d.whereabouts(7001), Ok(At(Cell(18))));
     done(&mut d, 5, [2, 1, 3, 0, 1]);
@@ -39,7 +41,10 @@ fn a_number_goes_with_its_car() {
     done(&mut d, 6, [1, 2, 6, 0, 1]);
     assert_eq!(d.whereabouts(7001), Ok(At(Cell(28))));
     // and another on the lift, which goes out
-    assert_eq!((d.image(0x0019_1B00_1000_0000, 0, &[7001, 7002]), d.leaving(), d.event(2, 0), d.leaving()), (TAKEN, Ok(None), TAKEN, Ok(Some(7002))));
+    assert_eq!(
+        (d.image(0x0019_1B00_1000_0000, 0, &[7001, 7002]), d.leaving(), d.event(2, 0), d.leaving()),
+        (TAKEN, Ok(None), TAKEN, Ok(Some(7002)))
+    );
     assert_eq!((d.event(4, 0), d.leaving(), d.whereabouts(7002)), (TAKEN, Ok(None), Ok(At(Raised))), "who gives up stays");
     assert_eq!((d.event(2, 0), d.event(3, 0), d.leaving(), d.whereabouts(7002)), (TAKEN, TAKEN, Ok(None), Ok(NotHere)));
     assert_eq!((d.event(1, 7002), d.event(3, 0), d.whereabouts(7002)), (TAKEN, TAKEN, Ok(At(Raised))), "it comes again");
@@ -115,16 +120,23 @@ fn numbers_with_an_image() {
     let full = START | 0b1111 << 6 | 1 << 21 | 1 << 35 | 1 << 52;
     let mut d = with_cars(full, &[1, 2, 3, 4, 5]);
     let places = [Cell(6), Cell(8), Cell(21), Cell(35), Raised];
-    for (card, place) in (1..).zip(places) { assert_eq!(d.whereabouts(card), Ok(At(place))); }
+    for (card, place) in (1..).zip(places) {
+        assert_eq!(d.whereabouts(card), Ok(At(place)));
+    }
     let before = d.clone();
     let wrong_counts = [&[][..], &[1, 2, 3, 4], &[1, 2, 3, 4, 5, 6], &[0, 0, 0, 0], &[0; 31], &[0; 32], &[0; 255], &[0; 300]];
-    for cards in wrong_counts { assert_eq!(d.image(full, 0, cards), refusal(WrongCount), "{} numbers", cards.len()); }
+    for cards in wrong_counts {
+        assert_eq!(d.image(full, 0, cards), refusal(WrongCount), "{} numbers", cards.len());
+    }
     assert_eq!((d.image(full, 0, &[1, 1, 3, 4, 0]), d.image(full, 0, &[1, 2, 3, 4, 1])), (refusal(ZeroNumber), refusal(KnownNumber)));
     assert_eq!((d.image(full, 1, &[]), d.image(1, 0, &[]), &d), (refusal(Unsound), refusal(Unsound), &before));
     assert_eq!((d.request(1, &[1, 3, 2, 0, 1]), d.image(full, 0, &[]), d.result(0, 0, 0)), (taken_as(0), refusal(SetOutstanding), TAKEN));
     // with a drive-in one number more, which counts for 38
     let coming = START | 1 << 24 | 1 << 55;
-    assert_eq!((d.image(coming, 0, &[1]), d.image(coming, 0, &[1, 1]), d.image(coming, 0, &[1, 9])), (refusal(WrongCount), refusal(KnownNumber), TAKEN));
+    assert_eq!(
+        (d.image(coming, 0, &[1]), d.image(coming, 0, &[1, 1]), d.image(coming, 0, &[1, 9])),
+        (refusal(WrongCount), refusal(KnownNumber), TAKEN)
+    );
     assert_eq!((d.whereabouts(9), d.whereabouts(3), d.event(3, 0), d.whereabouts(9)), (Ok(NotHere), Ok(NotHere), TAKEN, Ok(At(Raised))));
     assert_eq!((d.image(START, 0, &[]), d.whereabouts(1), d), (TAKEN, Ok(NotHere), taken_once(with_cars(START, &[]))));
 }
@@ -167,12 +179,22 @@ fn numbers_of_a_handed_in_desk() {
     for (place, card) in [(6, 0), (21, 0), (40, 0), (5, 9), (22, 9), (41, 9), (7, 9), (7, 1), (21, 1), (40, 2)] {
         let mut d = changed(&fit, place, card);
         let before = d.clone();
-        assert_eq!((d.event(2, 0), d.request(1, &LIFT_DOWN), d.result(0, 0, 1)), (refusal(Unfit), refusal(Unfit), refusal(Unfit)), "{place} {card}");
-        assert_eq!((d.image(START, 0, &[]), d.ask(), d.whereabouts(1), d.leaving()), (refusal(Unfit), Err(told(Unfit)), Err(told(Unfit)), Err(told(Unfit))));
+        assert_eq!(
+            (d.event(2, 0), d.request(1, &LIFT_DOWN), d.result(0, 0, 1)),
+            (refusal(Unfit), refusal(Unfit), refusal(Unfit)),
+            "{place} {card}"
+        );
+        assert_eq!(
+            (d.image(START, 0, &[]), d.ask(), d.whereabouts(1), d.leaving()),
+            (refusal(Unfit), Err(told(Unfit)), Err(told(Unfit)), Err(told(Unfit)))
+        );
         assert_eq!((d.request(1, &[]), d), (refusal(TooFewBytes), before), "before 16");
     }
     let mut coming = with_cars(START, &[]);
-    assert_eq!((coming.event(1, 5), changed(&coming, 41, 0).ask(), changed(&coming, 40, 6).ask()), (TAKEN, Err(told(Unfit)), Err(told(Unfit))));
+    assert_eq!(
+        (coming.event(1, 5), changed(&coming, 41, 0).ask(), changed(&coming, 40, 6).ask()),
+        (TAKEN, Err(told(Unfit)), Err(told(Unfit)))
+    );
 }
 
 #[test]

@@ -7,7 +7,9 @@ const DRAWN: &str = "....................\n..........\n..........\nLLT\nLLT\nstr
 /// The longest drawing.
 const MOST: usize = 66;
 
-fn bad_line(line: u8) -> Result<Record, Refusal> { Err(Refusal { number: Number::BadLine, place: Some(line) }) }
+fn bad_line(line: u8) -> Result<Record, Refusal> {
+    Err(Refusal { number: Number::BadLine, place: Some(line) })
+}
 
 #[test]
 fn a_record_is_drawn_and_read_back() {
@@ -20,7 +22,9 @@ fn a_record_is_drawn_and_read_back() {
 
 #[test]
 fn what_is_not_sound_has_no_drawing_and_is_not_read() {
-    for image in [0, START | 1, START | 1 << 63, u64::MAX] { assert_eq!(Record(image).drawing(), Err(Number::Unsound.into())); }
+    for image in [0, START | 1, START | 1 << 63, u64::MAX] {
+        assert_eq!(Record(image).drawing(), Err(Number::Unsound.into()));
+    }
     assert_eq!(Record(START | 1).to_string(), "01 00 00 00 00 1B 09 00");
     assert_eq!(DRAWN.replace("street", "basement car").parse::<Record>(), Err(Number::Unsound.into()));
 }

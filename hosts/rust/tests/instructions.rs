@@ -53,7 +53,9 @@ fn instructions_in_words() {
         ("belts row 1 left left, lower, full", "`left` stands twice"),
         ("rotate twice", "`twice` and what follows it is more than the line can say"),
     ];
-    for (line, why) in wrong { assert_eq!(line.parse::<Instruction>().expect_err(line).to_string(), why); }
+    for (line, why) in wrong {
+        assert_eq!(line.parse::<Instruction>().expect_err(line).to_string(), why);
+    }
 }
 
 /// Each belt by its own word, in the rows that have it.

@@ -15,7 +15,9 @@ impl Numbers {
         self.0
     }
 
-    fn below(&mut self, end: u64) -> u64 { self.next() % end }
+    fn below(&mut self, end: u64) -> u64 {
+        self.next() % end
+    }
 }
 
 /// A message of every kind, with their bytes.
@@ -41,7 +43,9 @@ fn every_kind_has_one_form() {
         assert_eq!(message.bytes().as_ref(), Ok(&bytes));
         assert_eq!(Message::read(&bytes), Ok((message.clone(), bytes.len())));
         assert_eq!(Message::read(&[&bytes[..], &[9, 9]].concat()), Ok((message, bytes.len())), "what follows isn't looked at");
-        for cut in 0..bytes.len() { assert_eq!(Message::read(&bytes[..cut]), Err(Number::TooFewBytes.into())); }
+        for cut in 0..bytes.len() {
+            assert_eq!(Message::read(&bytes[..cut]), Err(Number::TooFewBytes.into()));
+        }
     }
     assert_eq!(Message::Request(vec![Instruction::Rotate; 9]).bytes(), Err(Number::TooMany.into()));
     let answer = Answer { number: Number::OddCount, place: Some(7), issue: Issue(0) };
@@ -62,7 +66,9 @@ fn every_kind_has_one_form() {
         (&[3, 0, 129, 0, 0], Number::BadLength),
         (&[2, 0, 5, 0], Number::UnknownKind),
     ];
-    for (bytes, number) in refused { assert_eq!(Reply::read(bytes), Err(number.into()), "{bytes:?}"); }
+    for (bytes, number) in refused {
+        assert_eq!(Reply::read(bytes), Err(number.into()), "{bytes:?}");
+    }
 }
 
 /// Bytes near a message: some changed, cut or with more behind them.
@@ -117,7 +123,9 @@ struct Slow<'a>(&'a [u8], bool);
 impl Read for Slow<'_> {
     fn read(&mut self, room: &mut [u8]) -> io::Result<usize> {
         self.1 = !self.1;
-        if self.1 { return Err(ErrorKind::Interrupted.into()); }
+        if self.1 {
+            return Err(ErrorKind::Interrupted.into());
+        }
         let most = room.len().min(1);
         self.0.read(&mut room[..most])
     }
@@ -128,7 +136,9 @@ fn messages_of_a_stream() {
     let all = examples();
     let bytes: Vec<u8> = all.iter().flat_map(|(_, bytes)| bytes.clone()).collect();
     let mut input = Slow(&bytes, false);
-    for (message, _) in all { assert_eq!(Message::read_from(&mut input).expect("a message"), Some(message)); }
+    for (message, _) in all {
+        assert_eq!(Message::read_from(&mut input).expect("a message"), Some(message));
+    }
     assert_eq!(Message::read_from(&mut input).expect("an end"), None);
     // it ends inside a message; a length out of range; a kind that isn't one
     let failing = |bytes: &[u8]| Reply::read_from(&mut Slow(bytes, false)).expect_err("no reply");

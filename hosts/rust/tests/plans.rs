@@ -3,9 +3,13 @@
 use station::plan::{judge, Plan, Wish};
 use station::{Instruction, Number, Record, Refusal, Station};
 
-fn said(line: &str) -> Instruction { line.parse().expect(line) }
+fn said(line: &str) -> Instruction {
+    line.parse().expect(line)
+}
 
-fn told(number: Number, place: u8) -> Result<(), Refusal> { Err(Refusal { number, place: Some(place) }) }
+fn told(number: Number, place: u8) -> Result<(), Refusal> {
+    Err(Refusal { number, place: Some(place) })
+}
 
 #[test]
 fn a_plan_is_judged_by_its_sets() {
@@ -33,7 +37,9 @@ fn as_many_as_there_may_be() {
         (0..sets).fold(plan, |plan, at| plan.then(&[said(if at % 2 == 0 { "lift basement" } else { "lift street" })]))
     };
     assert_eq!(judge(&turns(Plan::MOST)), Ok(()));
-    for sets in [Plan::MOST + 1, 255, 256, 300] { assert_eq!(judge(&turns(sets)), Err(Number::TooManySets.into()), "{sets} sets"); }
+    for sets in [Plan::MOST + 1, 255, 256, 300] {
+        assert_eq!(judge(&turns(sets)), Err(Number::TooManySets.into()), "{sets} sets");
+    }
     for instructions in [9, 255, 256, 300] {
         let plan = Plan::new(Record::START, Wish::WithoutACar).then(&vec![Instruction::Rotate; instructions]);
         assert_eq!(judge(&plan), told(Number::TooMany, 0), "{instructions} instructions");

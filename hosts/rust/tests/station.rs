@@ -93,7 +93,10 @@ fn the_set_of_a_handed_in_station() {
     // the lift is down: that it may not go down again counts no more, since it is answered
     let down = START | 2 << 53;
     let mut s = holding(down, &[LIFT_DOWN, [1, 2, 2, 0, 1]], 1);
-    assert_eq!((s.ask(), s.result(65535, 0, 1), s.result(65535, 1, 1), s.ask()), (shown(down), refusal(AlreadyAnswered), TAKEN, shown(down)));
+    assert_eq!(
+        (s.ask(), s.result(65535, 0, 1), s.result(65535, 1, 1), s.ask()),
+        (shown(down), refusal(AlreadyAnswered), TAKEN, shown(down))
+    );
 }
 
 /// A result that comes when its set has closed and the next has begun is not taken for the next set's.
@@ -236,10 +239,16 @@ fn places_are_kept_open() {
         assert_eq!(s.message(&[3, 0, 2, 0, 1]), (refusal(KeptOpen), vec![6, 0, 128, 0, 33, 255, 0, 0]));
     }
     // with 26 one comes, and then the lift must bring it down before it is asked again how many there are
-    assert_eq!((s.image(open, 0), s.event(1), s.event(1), s.event(3), s.event(1)), (TAKEN, TAKEN, refusal(OutOfTurn), TAKEN, refusal(EventImpossible)));
+    assert_eq!(
+        (s.image(open, 0), s.event(1), s.event(1), s.event(3), s.event(1)),
+        (TAKEN, TAKEN, refusal(OutOfTurn), TAKEN, refusal(EventImpossible))
+    );
     assert_eq!(s.ask(), shown(open | 1 << 52));
     // who is on the way in may come, which makes 29; and anyone may go
-    assert_eq!((s.image(filled | 1 << 55, 0), s.event(3), s.ask(), cars(filled | 1 << 52)), (TAKEN, TAKEN, shown(filled | 1 << 52), Some(29)));
+    assert_eq!(
+        (s.image(filled | 1 << 55, 0), s.event(3), s.ask(), cars(filled | 1 << 52)),
+        (TAKEN, TAKEN, shown(filled | 1 << 52), Some(29))
+    );
     assert_eq!((s.event(2), s.event(3), s.event(1)), (TAKEN, TAKEN, refusal(KeptOpen)));
     // thirty fit where the lift is down, and such an image is taken
     let thirty = 0x0040_3FFF_FFFF_FFFF;
@@ -252,14 +261,20 @@ fn jams_are_set_apart() {
     let (belt, tilt, middle) = ([1, 2, 2, 0, 1], [3, 0, 3, 1, 0], 0xFF << 21);
     let mut s = Station::start();
     assert_eq!((s.request(2, &[belt, tilt].concat()), s.result(0, 0, 2), s.ask()), (taken_as(0), TAKEN, Ok((START, middle))));
-    assert_eq!((s.result(0, 0, 1), s.result(0, 0, 3), s.image(START, 0)), (refusal(AlreadyAnswered), refusal(BadField), refusal(SetOutstanding)));
+    assert_eq!(
+        (s.result(0, 0, 1), s.result(0, 0, 3), s.image(START, 0)),
+        (refusal(AlreadyAnswered), refusal(BadField), refusal(SetOutstanding))
+    );
     let tilted = START ^ 1 << 48 ^ 1 << 42;
     assert_eq!((s.result(0, 1, 1), s.ask()), (TAKEN, Ok((tilted, middle))), "it outlives its set");
     // at the least place, before an overlap, and whatever the record says; the questions know nothing of it
     assert_eq!(s.request(3, &[tilt, tilt, belt].concat()), refusal_at(SetApart, 2));
     assert_eq!((s.request(1, &[1, 2, 7, 0, 0]), allowed(tilted, &belt)), (refusal_at(SetApart, 0), TAKEN));
     // other sets go on, and what gets stuck of them is set apart too: of the lift one bit
-    assert_eq!((s.request(1, &[4, 1, 0, 0, 0]), s.result(1, 0, 1), s.request(1, &[5, 0, 0, 0, 0]), s.event(1)), (taken_as(1), TAKEN, taken_as(2), refusal(SetOutstanding)));
+    assert_eq!(
+        (s.request(1, &[4, 1, 0, 0, 0]), s.result(1, 0, 1), s.request(1, &[5, 0, 0, 0, 0]), s.event(1)),
+        (taken_as(1), TAKEN, taken_as(2), refusal(SetOutstanding))
+    );
     assert_eq!((s.result(2, 0, 2), s.ask()), (TAKEN, Ok((tilted | 1 << 53, middle | 1 << 52 | 0xE700))));
     assert_eq!((s.event(1), s.event(2), s.event(3)), (refusal(SetApart), refusal(SetApart), refusal(OutOfTurn)));
     // in bytes too, and by a message
@@ -267,7 +282,10 @@ fn jams_are_set_apart() {
     assert_eq!(s.message(&[3, 0, 2, 0, 1]), (refusal(SetApart), vec![6, 0, 128, 0, 32, 255, 0, 0]));
     // an image with a second number is refused, whatever it is; one without clears it
     let before = s.clone();
-    assert_eq!((s.image(START, 1), s.image(START, 1 << 52), s.image(START, 1 << 63), &s), (refusal(Unsound), refusal(Unsound), refusal(Unsound), &before));
+    assert_eq!(
+        (s.image(START, 1), s.image(START, 1 << 52), s.image(START, 1 << 63), &s),
+        (refusal(Unsound), refusal(Unsound), refusal(Unsound), &before)
+    );
     assert_eq!((s.image(START, 0), s.ask(), s.request(1, &belt)), (TAKEN, shown(START), taken_as(3)));
 }
 
@@ -281,7 +299,9 @@ fn the_row_goes_on_beside_the_lift() {
     for order in [[0, 1, 2], [2, 1, 0], [1, 2, 0]] {
         let mut s = Station::start();
         assert_eq!((s.image(loaded, 0), s.request(3, &[up, left, right].concat())), (TAKEN, taken_as(0)));
-        for number in order { assert_eq!(s.result(0, number, 1), TAKEN, "{order:?}"); }
+        for number in order {
+            assert_eq!(s.result(0, number, 1), TAKEN, "{order:?}");
+        }
         assert_eq!(s.ask(), shown(after));
     }
     let mut s = Station::start();

@@ -3,7 +3,9 @@
 use station::message::Message;
 use station::{lent, Event, Instruction, Issue, Kind, Number, Op, Outcome, Parts, Record, Refusal, Station, Totals};
 
-fn said(line: &str) -> Instruction { line.parse().expect(line) }
+fn said(line: &str) -> Instruction {
+    line.parse().expect(line)
+}
 
 /// A session counted: every total that it raises, by its name and in the text.
 #[test]
@@ -39,7 +41,9 @@ fn totals_beside_a_station() {
     assert_eq!(totals.answers(Number::BadLine), 0, "no message is answered with it");
     let text = totals.to_string();
     let lines = ["kind-1 3", "kind-5 1", "answer-0 11", "answer-32 1", "done-4 1", "failed-1 1", "cars-in 2", "cars-out 1", "most-cars 1"];
-    for line in lines { assert!(text.lines().any(|one| one == line), "{line} in {text}"); }
+    for line in lines {
+        assert!(text.lines().any(|one| one == line), "{line} in {text}");
+    }
     assert_eq!(Totals::from_bytes(totals.bytes()), totals);
 }
 

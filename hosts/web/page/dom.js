@@ -34,6 +34,19 @@ export const listOf = (lines, attributes = {}) => (lines.length ? html('ul', att
 /** So many of something, in words. */
 export const some = (count, name) => `${count.toLocaleString('en')} ${name}${count === 1 ? '' : 's'}`;
 
+/** Lets the page go on in between. */
+export const pause = () => new Promise((resolve) => { setTimeout(resolve); });
+
+/** Copies some text, and says so in a node; where the browser does not let it, the node has the text. */
+export async function copyText(text, said, note) {
+  try {
+    await navigator.clipboard.writeText(text);
+    note.textContent = said;
+  } catch {
+    note.textContent = text;
+  }
+}
+
 /** Offers some bytes or text as a file. */
 export function download(name, content, type) {
   const url = URL.createObjectURL(new Blob([content], { type }));

@@ -11,6 +11,7 @@ import { Sketch } from './sketch.js';
 import { carsOf, floorWords, heightOf, partWords, runsOf } from './record-words.js';
 
 const LIFT_BITS = 7n << 52n;
+const drawings = new WeakMap(); // by the node that each is in
 
 /** The parts of an area as boxes: neighbouring cells of a belt as one. */
 function areaBoxes(area, height, everySlot = false) {
@@ -142,13 +143,12 @@ function ghosts(sketch, floor) {
   return parts;
 }
 
-function car(sketch, { place, card, half }, floor) {
+function car(sketch, { place, card, half, lastKnown }, floor) {
   const box = half ? cellBox(place) : carBox(place, heightOf(floor.record)), inner = inset(box, 6), { x, y } = middle(inner);
-  const label = half ? '½' : card ? String(card) : '', cells = place === Size.DESK_RAISED ? [52] : place < 20 ? [place, place + 1] : [place];
+  const label = half ? '½' : card ? String(card) : '';
   const end = inner.w / 2, pane = (side) => [[side * (end - 15), -15], [side * (end - 10), 0], [side * (end - 15), 15]];
-  const unsure = cells.some((bit) => hasBit(floor.apart ?? 0n, bit));
-  const moved = svg('g', { class: `car${half ? ' half' : ''}${unsure ? ' unsure' : ''}`, 'data-car': card ?? '', 'data-place': place },
-    sketch.rect({ ...inner, x: inner.x - x, y: inner.y - y }, { class: 'body', rx: 11, fill: unsure ? sketch.hatchedCar : null }),
+  const moved = svg('g', { class: `car${half ? ' half' : ''}${lastKnown ? ' unsure' : ''}`, 'data-car': card ?? '', 'data-place': place },
+    sketch.rect({ ...inner, x: inner.x - x, y: inner.y - y }, { class: 'body', rx: 11, fill: lastKnown ? sketch.hatchedCar : null }),
     half ? null : sketch.path([-1, 1].map(pane), { class: 'glass' }),
     svg('text', { class: label.length > 5 ? 'card small' : 'card', 'text-anchor': 'middle', 'dominant-baseline': 'central' }, label));
   const at = sketch.point(x, y);
@@ -187,41 +187,53 @@ function picks(sketch, floor) {
   }, sketch.rect(inset(box, 0), { class: 'target', rx }), svg('title', {}, words)));
 }
 
+/** The drawing in a node, with the garage in it as it is without what moves: made anew only where that has changed. */
+function drawingIn(host, floor) {
+  const upright = floor.upright ?? window.matchMedia('(max-width: 640px)').matches, { record, mode } = floor;
+  const key = [upright, mode === 'still', (record >> 40n) & 0xfffn, heightOf(record) === 2].join(' ');
+  if (drawings.get(host)?.key === key) return drawings.get(host);
+  const sketch = new Sketch(upright), rest = svg('g');
+  const drawing = svg('svg', { viewBox: sketch.view(), class: 'floor', role: 'group' }, sketch.patterns(), svg('g', {}, building(sketch, floor)), rest);
+  drawings.set(host, { key, sketch, drawing, rest });
+  return drawings.get(host);
+}
+
 /** Draws a floor into a node, in place of what it had; cars that were there move to where they are. */
 export function drawFloor(host, floor) {
   const { record, apart = 0n, library, motion = [], chosen = [], draft, faults = 0n } = floor;
-  const height = heightOf(record), sketch = new Sketch(floor.upright ?? window.matchMedia('(max-width: 640px)').matches);
+  const { sketch, drawing, rest: last } = drawingIn(host, floor), height = heightOf(record);
   const framed = (box, kind) => sketch.rect(inset(box, 2), { class: `area ${kind}`, rx: 9 });
   const areas = (fives, kind) => fives.flatMap((five) => areaBoxes(library.area(five), height).map((box) => framed(box, kind)));
   const moves = [...motion, ...chosen, ...(draft ? [draft] : [])].flatMap((five) => moving(sketch, five, height));
   const held = host.querySelector('[data-part]:focus')?.dataset.part;
   const before = new Map([...host.querySelectorAll('.car')].map((node) => [node.dataset.key, node.style.transform]));
   const cars = carsOf(floor).map((one) => car(sketch, one, floor));
-  const drawing = svg('svg', { viewBox: sketch.view(), class: 'floor', role: 'group', 'aria-label': floor.label ?? 'The floor' },
-    sketch.patterns(), building(sketch, floor), lift(sketch, floor),
-    areas(motion, 'motion'), areas(chosen, 'chosen'), draft ? areas([draft], 'draft') : [], 
+  const rest = svg('g', {}, lift(sketch, floor),
+    areas(motion, 'motion'), areas(chosen, 'chosen'), draft ? areas([draft], 'draft') : [],
     bitsOf(apart).map((bit) => sketch.rect(inset(partBox(bit, height), 1), { class: 'apart', rx: 6, fill: sketch.hatch, 'data-apart': bit })),
     ghosts(sketch, floor), cars, moves, areaBoxes(faults, height, true).map((box) => fault(sketch, box)),
     picks(sketch, floor));
-  host.replaceChildren(drawing);
-  for (const node of drawing.querySelectorAll('.car')) glide(node, before.get(node.dataset.key));
-  reachable(drawing, floor, held);
+  last.replaceWith(rest);
+  drawings.get(host).rest = rest;
+  drawing.setAttribute('aria-label', floor.label ?? 'The floor');
+  if (drawing.parentNode !== host) host.replaceChildren(drawing);
+  glide(cars, before);
+  reachable(rest, host, floor, held);
 }
 
-/** Lets a car go from where it was to where it is. */
-function glide(node, from) {
-  const to = node.style.transform;
-  if (!from || from === to) return;
-  node.style.transform = from;
-  node.getBoundingClientRect();
-  node.style.transform = to;
+/** Lets cars go from where they were to where they are; the browser lays the page out once for all of them. */
+function glide(cars, before) {
+  const moved = cars.map((node) => ({ node, from: before.get(node.dataset.key), to: node.style.transform })).filter(({ from, to }) => from && from !== to);
+  for (const { node, from } of moved) node.style.transform = from;
+  moved[0]?.node.getBoundingClientRect();
+  for (const { node, to } of moved) node.style.transform = to;
 }
 
 /** Clicks and keys: the floor is one stop of the tab key, arrows go to the next part, Enter or space picks. */
-function reachable(drawing, floor, held) {
+function reachable(drawing, host, floor, held) {
   const parts = [...drawing.querySelectorAll('.pick')];
   if (!parts.length) return;
-  const first = parts.find((part) => part.dataset.part === (held ?? drawing.parentNode.dataset.last)) ?? parts[0];
+  const first = parts.find((part) => part.dataset.part === (held ?? host.dataset.last)) ?? parts[0];
   first.setAttribute('tabindex', '0');
   if (held) first.focus();
   const to = (part) => {
@@ -240,7 +252,7 @@ function reachable(drawing, floor, held) {
     else return;
     event.preventDefault();
   });
-  drawing.addEventListener('focusin', (event) => { drawing.parentNode.dataset.last = event.target.dataset.part; });
+  drawing.addEventListener('focusin', (event) => { host.dataset.last = event.target.dataset.part; });
 }
 
 /** The nearest part in a direction. */

@@ -4,8 +4,9 @@ import { bytesIn, bytesOf, hasBit, hexOf, numberAt } from '../bytes.js';
 import { imageOf } from '../messages.js';
 import { Numbers, START } from '../numbers.js';
 import { HEIGHTS } from '../words.js';
-import { byId, choice, fill, html } from './dom.js';
+import { byId, choice, copyText, fill, html } from './dom.js';
 import { drawFloor } from './floor.js';
+import { garageLink } from './link.js';
 import { heightOf, hints, summary } from './record-words.js';
 
 const LETTERS = ['-', 'L', 'T', 'B']; // by a bit for a lowered shuttle and a bit for a tilted one
@@ -47,18 +48,8 @@ export class Garage {
     byId('send-image').addEventListener('click', () => sendImage(this.record));
     byId('plan-from').addEventListener('click', () => planFrom(this.record));
     byId('clear-garage').addEventListener('click', () => this.put(START));
-    byId('copy-link').addEventListener('click', () => this.copy(location.href, 'The link is copied.'));
-    byId('copy-message').addEventListener('click', () => this.copy(hexOf(imageOf(this.record)), 'The message is copied.'));
-  }
-
-  async copy(text, said) {
-    const note = byId('copied');
-    try {
-      await navigator.clipboard.writeText(text);
-      note.textContent = said;
-    } catch {
-      note.textContent = text;
-    }
+    byId('copy-link').addEventListener('click', () => copyText(location.href, 'The link is copied.', byId('copied')));
+    byId('copy-message').addEventListener('click', () => copyText(hexOf(imageOf(this.record)), 'The message is copied.', byId('copied')));
   }
 
   put(record) {
@@ -139,6 +130,6 @@ export class Garage {
     fill(byId('garage-hints'), this.wrong ? [] : found.map(({ words }) => html('li', {}, words)));
     this.showLift();
     for (const id of ['send-image', 'plan-from', 'copy-message']) byId(id).disabled = !sound;
-    if (!this.wrong) history.replaceState(null, '', `#garage=${hexOf(bytesOf(record)).replaceAll(' ', '')}`);
+    if (!this.wrong) history.replaceState(null, '', garageLink(record));
   }
 }

@@ -1,15 +1,18 @@
 // The station: sets are built and sent, results are reported by hand or played, drivers come and go. The desk that is called here is the
 // proved one; the bytes of its answers are those of the station inside it.
 
-import { hexOf, joined } from '../bytes.js';
+import { hexOf } from '../bytes.js';
+import { Append, JournalBytes } from '../journals.js';
 import { Event, Outcome, Size } from '../numbers.js';
 import { askOf, eventOf, imageOf, requestOf, resultOf } from '../messages.js';
 import { lineOf } from '../words.js';
 import { answerNodes, messageNodes } from './answer.js';
+import { whereabouts } from './cards.js';
 import { Composer } from './compose.js';
-import { button, byId, download, fill, html } from './dom.js';
+import { button, byId, copyText, download, fill, html } from './dom.js';
 import { OUTCOMES, says } from './explain.js';
 import { drawFloor } from './floor.js';
+import { cardsOf, stationLink } from './link.js';
 import { played, Ticker, twoOrders, waitingIn } from './motors.js';
 import { summary } from './record-words.js';
 
@@ -19,7 +22,9 @@ const SHOWN_MOST = 200;
 
 export class Live {
   constructor(library, { openLog }) {
-    Object.assign(this, { library, openLog, desk: library.desk(), history: [], card: FIRST_CARD, seed: 1, faults: false, last: null });
+    Object.assign(this, { library, openLog, history: [], card: FIRST_CARD, seed: 1, faults: false, last: null, note: '' });
+    this.desk = library.desk();
+    this.begun = this.desk.copy();
     this.composer = new Composer(library, () => this.show());
     this.motors = new Ticker(() => this.motor(), () => this.show());
     this.comparison = null;
@@ -29,16 +34,25 @@ export class Live {
   /** Begins with another desk. */
   begin(desk) {
     this.motors.stop();
-    Object.assign(this, { desk, history: [], last: null, comparison: null });
+    Object.assign(this, { desk, begun: desk.copy(), history: [], last: null, comparison: null, note: '' });
     Object.assign(this.composer, { chosen: [], touched: false });
     this.show();
   }
 
-  /** Sends a message: the desk is called, and the answer's bytes are those of the station inside. */
-  send(bytes, call) {
+  /** Begins with the desk of a link, which is nothing where the link's is none. */
+  linked(desk) {
+    this.begin(desk ?? this.library.desk());
+    this.card = Math.max(FIRST_CARD, ...[...this.desk.cards.values()].map((card) => (card + 1) % 2 ** 32));
+    this.note = desk ? '' : 'The link holds no station that can be: part of it is missing or changed.';
+    this.show();
+  }
+
+  /** Sends a message: the desk is called, and the answer's bytes are those of the station inside. It may bring cards. */
+  send(bytes, call, cards = []) {
     const inside = this.desk.station(), before = inside.copy(), { reply } = inside.message(bytes), answer = call(this.desk);
     const own = answer.number >= 37 && answer.number <= 39; // the desk's alone: the station was not sent it
-    this.last = { bytes, reply: own ? null : reply, answer, before };
+    this.last = { bytes, reply: own ? null : reply, answer, before, cards };
+    this.note = '';
     if (!own) this.history.push(this.last);
     return answer;
   }
@@ -50,7 +64,8 @@ export class Live {
   }
 
   event(way) {
-    const answer = this.send(eventOf(way), (desk) => desk.event(way, way === Event.BeginIn ? this.card : 0));
+    const brings = way === Event.BeginIn ? [this.card] : [];
+    const answer = this.send(eventOf(way), (desk) => desk.event(way, brings[0] ?? 0), brings);
     if (answer.taken && way === Event.BeginIn) this.card += 1;
     this.show();
   }
@@ -76,7 +91,7 @@ export class Live {
     };
     const places = this.library.sound(record) ? this.library.places(record) : [];
     const cards = [...places.map(card), ...((record >> 55n) & 1n ? [card(Size.DESK_AT_DRIVE)] : [])];
-    this.send(imageOf(record), (desk) => desk.image(record, cards));
+    this.send(imageOf(record), (desk) => desk.image(record, cards), cards);
     this.show();
   }
 
@@ -105,8 +120,8 @@ export class Live {
   }
 
   floor() {
-    const { library, desk, composer } = this, { record, apart, cards } = desk;
-    return { library, record, apart, cards, mode: 'belts', pressed: composer.pressed, onpick: (part) => composer.pick(part) };
+    const { library, desk, composer } = this, { record, apart } = desk;
+    return { library, record, apart, ...whereabouts(desk), mode: 'belts', pressed: composer.pressed, onpick: (part) => composer.pick(part) };
   }
 
   show() {
@@ -151,15 +166,29 @@ export class Live {
   }
 
   showAnswer() {
-    const { last, library } = this, node = byId('answer');
+    const { last, library, note } = this, node = byId('answer');
+    if (note) return fill(node, html('p', { class: 'told no' }, note));
     if (!last) return fill(node, html('p', { class: 'quiet' }, 'Nothing was sent yet.'));
     return fill(node, html('p', { class: 'sent' }, says(last.bytes).title), messageNodes(last.bytes),
       answerNodes(library, last.before, last.bytes, last.answer, last.reply));
   }
 
-  /** All messages that were sent, as a recording. */
-  recorded() {
-    return joined(...this.history.map(({ bytes }) => bytes));
+  /** All messages that were sent, as a journal: from the station that the session began with. */
+  journal() {
+    const { library, begun, history: sent } = this, made = new JournalBytes('page', library.version, begun.station().bytes);
+    for (const { bytes } of sent) made.append(Append.Messages, bytes);
+    return made.bytes();
+  }
+
+  /** The cards that its messages brought, and those of the cars that it began with. */
+  brought() {
+    const cards = new Map([[-1, cardsOf(this.library, this.begun)], ...this.history.map(({ cards: own }, at) => [at, own])]);
+    return new Map([...cards].filter(([, all]) => all.length));
+  }
+
+  link() {
+    history.replaceState(null, '', stationLink(this.library, this.desk));
+    copyText(location.href, 'The link is copied. It holds the station, its set and its cards.', byId('link-copied'));
   }
 
   showHistory() {
@@ -176,10 +205,12 @@ export class Live {
       html('span', {}, answer.taken ? ' taken' : ` ${answer.number} ${answer.words}`));
     fill(byId('history'),
       html('div', { class: 'row' },
-        button('Open in the log', () => this.openLog('This session', this.recorded()), any),
-        button('Save as a recording', () => download('session.journal', this.recorded(), 'application/octet-stream'), any),
+        button('Open in the log', () => this.openLog('This session', this.journal(), this.brought()), { id: 'open-session', ...any }),
+        button('Save as a journal', () => download('session.journal', this.journal(), 'application/octet-stream'), any),
+        button('Copy a link', () => this.link(), { id: 'station-link' }),
         button('Ask for the image', () => this.ask()), button('A garage in use', inUse, { id: 'in-use' }),
         button('Start anew', anew, { id: 'anew' })),
+      html('p', { class: 'quiet', role: 'status', id: 'link-copied' }),
       html('ol', { class: 'messages', reversed: true }, sent.slice(-SHOWN_MOST).reverse().map(line)));
   }
 
@@ -204,8 +235,8 @@ export class Live {
 
   /** One of the two orders: its floor, its results so far, and its record. */
   sideNodes({ desk, order }, title) {
-    const { library, comparison } = this, { record, apart, cards } = desk, host = html('div', { class: 'small-floor' });
-    const floor = { library, record, apart, cards, mode: 'still', motion: waitingIn(desk.set) };
+    const { library, comparison } = this, { record, apart } = desk, host = html('div', { class: 'small-floor' });
+    const floor = { library, record, apart, ...whereabouts(desk), mode: 'still', motion: waitingIn(desk.set) };
     drawFloor(host, { ...floor, label: `${title}: ${summary(floor)}` });
     const result = ({ at, outcome }, place) => html('li', { class: place < comparison.step ? 'past' : '' },
       `${lineOf(comparison.from.set[at].five)}: ${OUTCOMES[outcome]}`);

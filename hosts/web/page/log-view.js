@@ -1,21 +1,23 @@
 // The log on the screen: a file is opened, and every message of it can be looked at, with the floor after it.
 
-import { hexOf } from '../bytes.js';
+import { bytesOf, hexOf } from '../bytes.js';
+import { Numbers, wordsOf } from '../numbers.js';
 import { answerNodes, messageNodes } from './answer.js';
-import { button, byId, download, fill, html, some } from './dom.js';
+import { cardsIn, cardsText, WrongCards } from './cards.js';
+import { button, byId, download, fill, html, pause, some } from './dom.js';
 import { says } from './explain.js';
-import { BadFile, readFile } from './files.js';
+import { BadFile, carsBrought, readFile, startIn } from './files.js';
 import { drawFloor } from './floor.js';
 import { Log } from './log.js';
 import { Ticker, waitingIn } from './motors.js';
-import { summary } from './record-words.js';
+import { knownCars, summary } from './record-words.js';
 
 const SPEEDS = [[1, 'one a second'], [10, 'ten a second'], [1000, 'a thousand a second']];
 const BUSIEST = 30; // steps a second
 
 export class LogView {
-  constructor(library) {
-    Object.assign(this, { library, log: null, at: 0, speed: 1 });
+  constructor(library, { drawn }) {
+    Object.assign(this, { library, log: null, at: 0, speed: 1, opened: null, wanted: null });
     this.ticker = new Ticker(() => this.tick(), () => this.showControls());
     const drop = byId('drop'), input = byId('file');
     input.addEventListener('change', () => input.files[0] && this.openFile(input.files[0]));
@@ -30,28 +32,59 @@ export class LogView {
       event.preventDefault();
       this.open('The pasted log', new TextEncoder().encode(byId('pasted').value));
     });
-    byId('slider').addEventListener('input', (event) => this.go(Number(event.target.value)));
+    byId('start').addEventListener('submit', (event) => {
+      event.preventDefault();
+      if (this.opened) this.open(...this.opened);
+    });
+    byId('start-drawn').addEventListener('click', () => { byId('start-image').value = hexOf(bytesOf(drawn())); });
+    byId('slider').addEventListener('input', (event) => this.goSoon(Number(event.target.value)));
+  }
+
+  /** Goes to a place with the next frame: a slider says more places than can be shown. */
+  goSoon(count) {
+    if (this.wanted === null) {
+      requestAnimationFrame(() => {
+        this.go(this.wanted);
+        this.wanted = null;
+      });
+    }
+    this.wanted = count;
   }
 
   async openFile(file) {
     await this.open(file.name, new Uint8Array(await file.arrayBuffer()));
   }
 
-  /** Opens a file's bytes; what is wrong with it is told in one sentence. */
-  async open(name, bytes) {
+  /** Says how far a log is gone over, and lets the page go on. */
+  async breathe(count, done) {
+    byId('log-note').textContent = `${some(count, 'message')} ${done} …`;
+    await pause();
+  }
+
+  /** The messages of a file, and where they begin if it does not say so itself. */
+  read(name, bytes, cards) {
+    const { library } = this, file = readFile(library, name, bytes);
+    const given = file.start ? null : startIn(library, byId('start-image').value, byId('start-issue').value, byId('start-cards').value);
+    if (given) file.start = given.station;
+    if (given?.cards) file.cards.set(-1, given.cards);
+    for (const [at, all] of cards) file.cards.set(at, all);
+    return file;
+  }
+
+  /** Opens a file's bytes; what is wrong with it is told in one sentence. Cards may be known of its messages. */
+  async open(name, bytes, cards = new Map()) {
     this.ticker.stop();
+    this.opened = [name, bytes, cards];
     const note = byId('log-note');
     note.className = 'told';
     note.textContent = `Reading ${name} …`;
     try {
-      const begun = performance.now(), log = new Log(this.library, readFile(name, bytes));
-      await log.answer(async (count) => {
-        note.textContent = `${some(count, 'message')} answered …`;
-        await new Promise((resolve) => { setTimeout(resolve); });
-      });
+      const begun = performance.now(), log = new Log(this.library, this.read(name, bytes, cards));
+      if (!(await log.answer((count) => this.breathe(count, 'answered')))) return;
+      if (log.file.kind === 'journal') this.opened = null; // it says itself where it begins
       this.log = log;
       this.took = performance.now() - begun;
-      note.className = `told ${log.file.note || log.differ.length ? 'no' : 'yes'}`;
+      note.className = `told ${log.file.wrong || log.differ.length || log.twice.length ? 'no' : 'yes'}`;
       note.textContent = this.headline();
       byId('log-body').hidden = false;
       this.showMarks();
@@ -64,11 +97,13 @@ export class LogView {
   }
 
   headline() {
-    const { file, refused, differ } = this.log;
-    const parts = [`${file.name}: ${some(file.count, 'message')}, ${some(refused.length, 'rejection')}`];
+    const { file, refused, differ, twice } = this.log, begins = file.kind !== 'journal' && file.start ? ', from the image given on' : '';
+    const parts = [`${file.name}: ${some(file.count, 'message')}, ${some(refused.length, 'rejection')}${begins}`];
+    if (file.garage) parts.push(`journal of the garage ${file.garage}`);
     const agree = differ.length ? `${differ.length} of them not this station's` : "all of them this station's";
     if (file.old) parts.push(`${some(file.old.length, 'answer')} in the log, ${agree}`);
     if (file.note) parts.push(file.note);
+    for (const { at, card } of twice) parts.push(`card ${card} of message ${at + 1} is in the garage already (a desk would tell 38), and is left out`);
     return `${parts.join('; ')}.`;
   }
 
@@ -102,9 +137,10 @@ export class LogView {
     slider.setAttribute('aria-valuetext', `message ${count} of ${log.count}`);
     const before = log.stationAt(Math.max(0, count - 1)), station = before.copy();
     const answered = count ? station.message(log.message(count - 1)) : null;
-    const { record, apart, set } = station, floor = { library, record, apart, mode: 'still', motion: waitingIn(set) };
-    drawFloor(byId('log-floor'), { ...floor, label: `The floor after message ${count}: ${summary(floor)}` });
-    byId('log-summary').textContent = `After message ${count.toLocaleString('en')} of ${log.count.toLocaleString('en')}: ${summary(floor)}.`;
+    const { record, apart, set } = station, floor = { library, record, apart, ...log.cardsAt(count), mode: 'still', motion: waitingIn(set) };
+    const known = knownCars(floor), words = `${summary(floor)}${known && `. ${known[0].toUpperCase()}${known.slice(1)}`}`;
+    drawFloor(byId('log-floor'), { ...floor, label: `The floor after message ${count}: ${words}` });
+    byId('log-summary').textContent = `After message ${count.toLocaleString('en')} of ${log.count.toLocaleString('en')}: ${words}.`;
     this.showMessage(count - 1, before, answered);
     this.showControls();
   }
@@ -112,10 +148,39 @@ export class LogView {
   /** The message at a place, with the station before it and what that answered. */
   showMessage(at, before, answered) {
     const { log, library } = this, node = byId('log-message');
-    if (!answered) return fill(node, html('p', { class: 'quiet' }, 'The station at its start, before the first message.'));
-    const bytes = log.message(at), { answer, reply } = answered;
+    const ended = log.file.ended.filter(({ after }) => after === at + 1).map(({ answer, bytes }) => html('p', { class: 'told no ended' },
+      `Then a session ended: ${answer} (${wordsOf(answer)})`, bytes.length ? `, with ${hexOf(bytes)} left.` : '.'));
+    if (!answered) {
+      const first = log.file.start ? 'The station that the log begins with, before the first message.' : 'The station at its start, before the first message.';
+      return fill(node, html('p', { class: 'quiet' }, first), this.cardsNodes(at, library.cardPlaces(before.record).length), ended);
+    }
+    const bytes = log.message(at), { answer, reply } = answered, cars = log.numbers[at] === Numbers.Taken ? carsBrought(library, bytes) : 0;
     return fill(node, html('h3', {}, `Message ${(at + 1).toLocaleString('en')}: ${says(bytes).title}`), messageNodes(bytes),
-      this.oldAnswer(at, reply), answerNodes(library, before, bytes, answer, reply));
+      this.cardsNodes(at, cars), this.oldAnswer(at, reply), answerNodes(library, before, bytes, answer, reply), ended);
+  }
+
+  /** The cards of so many cars that a message brings: those that are known, to be told by hand. */
+  cardsNodes(at, cars) {
+    if (!cars) return null;
+    const { log } = this, begin = at >= 0 && says(log.message(at)).title.startsWith('Event'), known = log.file.cards.get(at);
+    const told = html('p', { class: 'told no', role: 'alert' });
+    const take = async (event) => {
+      event.preventDefault();
+      try {
+        const said = byId('cards').value, all = said.trim() ? cardsIn(said, begin) : [];
+        if (all.length && all.length !== cars) throw new WrongCards(`${some(cars, 'card')} are expected, as many as there are cars`);
+        if (!(await log.tell(at, all, (count) => this.breathe(count, 'followed')))) throw new WrongCards(`card ${all[0]} is in the garage already`);
+        byId('log-note').textContent = this.headline();
+        this.go(this.at);
+      } catch (why) {
+        if (!(why instanceof WrongCards)) throw why;
+        told.textContent = `${why.message}.`;
+      }
+    };
+    return html('form', { class: 'line', onsubmit: take },
+      html('label', { for: 'cards' }, begin ? 'Card of this car' : `Cards of its ${some(cars, 'car')}, in the order of the cells`),
+      html('input', { id: 'cards', autocomplete: 'off', spellcheck: 'false', value: known ? cardsText(known) : '', placeholder: begin ? 'not known' : '7001 - 12' }),
+      html('button', { type: 'submit', id: 'tell-cards' }, 'Show'), told);
   }
 
   /** What the log says was answered, beside the station's answer. */
@@ -129,16 +194,19 @@ export class LogView {
   showControls() {
     const { log, at } = this;
     if (!log) return;
-    const node = byId('log-controls'), held = node.contains(document.activeElement) ? document.activeElement.id : null;
-    const next = log.nextRefused(at - 1), last = log.nextRefused(at - 1, true), running = this.ticker.runs;
-    const control = (id, words, enabled, onclick) => button(words, onclick, { id, disabled: !enabled });
+    const node = byId('log-controls'), running = this.ticker.runs, near = (back) => log.nextRefused(this.at - 1, back);
+    const enabled = [near(true) >= 0, at > 0, running || at < log.count, at < log.count, near(false) >= 0], shown = [running, ...enabled].join(' ');
+    if (node.dataset.shown === shown) return;
+    node.dataset.shown = shown;
+    const held = node.contains(document.activeElement) ? document.activeElement.id : null;
+    const control = (id, words, place, onclick) => button(words, onclick, { id, disabled: !enabled[place] });
     const speeds = SPEEDS.map(([speed, words]) => html('option', { value: speed, selected: speed === this.speed }, words));
     fill(node,
-      control('previous-refused', '← Rejection', last >= 0, () => this.go(last + 1)),
-      control('step-back', '← Step', at > 0, () => this.go(at - 1)),
-      control('play-log', running ? 'Stop' : 'Play', running || at < log.count, () => this.ticker.toggle()),
-      control('step', 'Step →', at < log.count, () => this.go(at + 1)),
-      control('next-refused', 'Rejection →', next >= 0, () => this.go(next + 1)),
+      control('previous-refused', '← Rejection', 0, () => this.go(near(true) + 1)),
+      control('step-back', '← Step', 1, () => this.go(this.at - 1)),
+      control('play-log', running ? 'Stop' : 'Play', 2, () => this.ticker.toggle()),
+      control('step', 'Step →', 3, () => this.go(this.at + 1)),
+      control('next-refused', 'Rejection →', 4, () => this.go(near(false) + 1)),
       html('label', {}, 'Speed ', html('select', { id: 'speed', onchange: ({ target }) => { this.speed = Number(target.value); } }, speeds)));
     if (held) byId(held)?.focus();
   }

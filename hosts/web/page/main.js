@@ -1,10 +1,11 @@
 // The page: its views, and what goes from one to another. The module's bytes stand in the page.
 
-import { bytesIn, numberAt } from '../bytes.js';
+import { joined } from '../bytes.js';
 import { load } from '../library.js';
 import { traffic } from '../traffic.js';
 import { byId } from './dom.js';
 import { Garage } from './garage.js';
+import { linkedIn } from './link.js';
 import { Live } from './live.js';
 import { LogView } from './log-view.js';
 import { PlanView } from './plan.js';
@@ -44,8 +45,8 @@ async function begin() {
     if (name === 'log' && views.log.log) views.log.go(views.log.at);
     if (name === 'week') showWeek(views.log.log);
   };
-  views.live = new Live(library, { openLog: (name, bytes) => { show('log'); views.log.open(name, bytes); } });
-  views.log = new LogView(library);
+  views.live = new Live(library, { openLog: (name, bytes, cards) => { show('log'); views.log.open(name, bytes, cards); } });
+  views.log = new LogView(library, { drawn: () => views.garage.record });
   views.garage = new Garage(library, {
     sendImage: (record) => { views.live.image(record); show('station'); },
     planFrom: (record) => { views.plan.from(record); show('plan'); },
@@ -53,11 +54,7 @@ async function begin() {
   views.plan = new PlanView(library);
   byId('save-part').addEventListener('click', () => views.log.save('hexadecimal'));
   byId('save-example').addEventListener('click', () => views.log.save('example'));
-  byId('sample').addEventListener('click', () => {
-    const messages = [...traffic(library, 2026, 3000)], all = new Uint8Array(messages.reduce((length, { length: own }) => length + own, 0));
-    messages.reduce((at, message) => (all.set(message, at), at + message.length), 0);
-    views.log.open('A sample from a seed', all);
-  });
+  byId('sample').addEventListener('click', () => views.log.open('A sample from a seed', joined(...traffic(library, 2026, 3000))));
   for (const view of VIEWS) byId(`tab-${view}`).addEventListener('click', () => show(view));
   byId('tabs').addEventListener('keydown', (event) => {
     const way = { ArrowLeft: -1, ArrowRight: 1 }[event.key];
@@ -68,13 +65,18 @@ async function begin() {
   });
   window.matchMedia('(max-width: 640px)').addEventListener('change', () => show(VIEWS.find((view) => !byId(`view-${view}`).hidden)));
   themed();
+  /** Takes what the page's address holds; gives the view that shows it. */
   const linked = () => {
-    const [, digits] = location.hash.match(/^#garage=([0-9a-fA-F]{16})$/) ?? [];
-    if (digits) views.garage.record = numberAt(bytesIn(digits));
-    return Boolean(digits);
+    const { garage, desk } = linkedIn(library, location.hash);
+    if (garage !== undefined) views.garage.record = garage;
+    if (desk !== undefined) views.live.linked(desk);
+    return garage !== undefined ? 'garage' : desk !== undefined ? 'station' : null;
   };
-  window.addEventListener('hashchange', () => linked() && show('garage'));
-  show(linked() ? 'garage' : 'station');
+  window.addEventListener('hashchange', () => {
+    const view = linked();
+    if (view) show(view);
+  });
+  show(linked() ?? 'station');
   byId('version').textContent = `Station ${library.version.join('.')}`;
   document.documentElement.dataset.ready = 'yes';
   performance.mark('ready');

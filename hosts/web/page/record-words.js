@@ -22,10 +22,12 @@ export const numbersIn = (all) => runsOf(all).map((run) => (run.length > 2 ? `${
 
 const cellsIn = (cells) => `${cells.length === 1 ? 'cell' : 'cells'} ${numbersIn(cells)}`;
 
-/** The cars of a floor: where each begins, and its card where it is known; of an unsound record halves that stand alone. */
-export function carsOf({ library, record, cards }) {
+/** The cars of a floor: where each begins, its card where it is known, and whether that place is only the last known one: by the desk's
+ * word, or where there is no desk by what is set apart. Of an unsound record halves that stand alone. */
+export function carsOf({ library, record, cards, apart = 0n, lastKnown }) {
   const card = (place) => cards?.get(place === Size.DESK_RAISED ? Size.DESK_AT_LIFT : place) ?? null;
-  if (library.sound(record)) return library.places(record).map((place) => ({ place, card: card(place), half: false }));
+  const unsure = (place) => lastKnown?.has(place) ?? (hasBit(apart, place) || (place < 19 && hasBit(apart, place + 1)));
+  if (library.sound(record)) return library.places(record).map((place) => ({ place, card: card(place), half: false, lastKnown: unsure(place) }));
   const found = [];
   for (let cell = 0; cell < 40; cell++) {
     if (!hasBit(record, cell)) continue;
@@ -57,16 +59,26 @@ export function partWords({ record, apart = 0n }, bit) {
   return `${SIDES[side]} row ${row + 1}: ${hasBit(record, bit) ? 'a' : 'no'} ${ORIENTATIONS[Number(tilted)]} shuttle${aside}`;
 }
 
+/** A car of a floor: its card where it is known, its place, and whether that is only the last known one. */
+function carWords({ place, card, lastKnown }) {
+  const where = place === Size.DESK_RAISED ? 'on the lift' : place < 20 ? `at cells ${place} and ${place + 1}` : `at cell ${place}`;
+  return `${card ? `card ${card}` : 'a car'} ${where}${lastKnown ? ', its last known place' : ''}`;
+}
+
 /** What stands on the cells of a belt. */
 export function floorWords(floor, [first, last]) {
   const { record, apart = 0n } = floor;
-  const cars = carsOf(floor).filter(({ place }) => place <= last && place + (place < 20 ? 1 : 0) >= first);
-  const cellsOf = (place) => (place < 20 ? `cells ${place} and ${place + 1}` : `cell ${place}`);
-  const words = cars.map(({ place, card }) => `${card ? `card ${card}` : 'a car'} at ${cellsOf(place)}`);
+  const cars = carsOf(floor).filter(({ place }) => place <= last && place + (place < 20 ? 1 : 0) >= first), words = cars.map(carWords);
   const aside = bitsOf(apart).some((bit) => bit >= first && bit <= last);
   const slot = first === 0 || first === 20 || first === 30 ? 40 : last === 19 || last === 29 || last === 39 ? 43 : null;
   if (slot !== null && !hasBit(record, slot + (first < 20 ? 0 : first < 30 ? 1 : 2))) words.push('no lowered shuttle');
   return `${words.length ? words.join(', ') : 'free'}${aside ? ', set apart' : ''}`;
+}
+
+/** The cars whose cards are known, in words: those in the garage, and one that is driving in. */
+export function knownCars(floor) {
+  const coming = floor.cards?.get(Size.DESK_AT_DRIVE);
+  return [...carsOf(floor).filter(({ card }) => card).map(carWords), ...(coming ? [`card ${coming} is driving in`] : [])].join('; ');
 }
 
 /** A floor in one sentence or a few. */

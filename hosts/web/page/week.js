@@ -1,7 +1,7 @@
 // The week: the report's totals of the log that is open, as bars.
 
 import { wordsOf } from '../numbers.js';
-import { byId, fill, html, some } from './dom.js';
+import { byId, fill, html, pause, some } from './dom.js';
 
 const KINDS = ['', 'requests', 'events', 'results', 'images', 'asks'];
 const MOVES = ['', 'belts', 'shuttles', 'tilts', 'lift runs', 'rotations'];
@@ -44,10 +44,12 @@ export async function showWeek(log) {
     fill(node);
     return;
   }
-  const lines = (await log.answer(async (count) => {
+  const totals = await log.totals(async (count) => {
     note.textContent = `${some(count, 'message')} counted …`;
-    await new Promise((resolve) => { setTimeout(resolve); });
-  }, true)).lines();
+    await pause();
+  });
+  if (!totals) return;
+  const lines = totals.lines();
   note.textContent = `${log.file.name}: ${some(log.count, 'message')}, counted by the report's own entries.`;
   fill(node, GROUPS.map(([title, belongs]) => {
     const own = lines.filter(([name, value]) => belongs(name) && (value > 0 || !name.startsWith('answer-') || name === 'answer-0'));

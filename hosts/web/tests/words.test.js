@@ -89,16 +89,16 @@ test('the drawing of any record is that of the entries where it is sound, and re
 
 test('files are read, or refused in one sentence', () => {
   const bytes = (digits) => Uint8Array.from(digits.match(/../g), (two) => parseInt(two, 16)), text = (words) => new TextEncoder().encode(words);
-  const log = readFile('log', text('> 03 00 02\n00 01 02000500 # both\n< 06 00 80 00 00 FF 00 00\ncard 7001\n!\n02 00 05 00\n'));
+  const log = readFile(garage, 'log', text('> 03 00 02\n00 01 02000500 # both\n< 06 00 80 00 00 FF 00 00\n!\n02 00 05 00\n'));
   assert.deepEqual([log.count, log.old.length, log.note, hexOf(log.bytes)], [3, 1, '', '03 00 02 00 01 02 00 05 00 02 00 05 00']);
-  assert.equal(readFile('journal', bytes('0200050003000200010200')).note, 'it ends inside a message, at byte 9; that rest is left out');
+  assert.equal(readFile(garage, 'journal', bytes('0200050003000200010200')).note, 'it ends inside a message, at byte 9; that rest is left out');
   for (const wrong of [new Uint8Array(0), text('hello'), bytes('ffff0000'), bytes('0600800000FF0000'), text('> 02 00\n> 02 00 05 00')]) {
-    assert.throws(() => readFile('it', wrong), (why) => why instanceof BadFile && /^it.*\.$/.test(why.message) && !why.message.includes('\n'));
+    assert.throws(() => readFile(garage, 'it', wrong), (why) => why instanceof BadFile && /^it.*\.$/.test(why.message) && !why.message.includes('\n'));
   }
 });
 
 test('a log is answered as bin/station answers it, and any place of it is found again', async () => {
-  const all = Buffer.concat([...traffic(garage, 9, 9000)]), log = new Log(garage, readFile('journal', new Uint8Array(all)));
+  const all = Buffer.concat([...traffic(garage, 9, 9000)]), log = new Log(garage, readFile(garage, 'journal', new Uint8Array(all)));
   await log.answer(async () => {});
   const station = garage.station(), answers = wrote('bin/station', all), states = [station.bytes.slice()];
   let reply = 0;

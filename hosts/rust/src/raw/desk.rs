@@ -1,5 +1,4 @@
 //! The desk's entries as the archive has them (include/desk.h).
-#![allow(dead_code)] // each program uses its own part of this module
 
 unsafe extern "C" {
     /// Writes the start desk.
@@ -11,15 +10,7 @@ unsafe extern "C" {
     /// The result of an instruction, as `station_result`.
     pub fn desk_result(room: *mut u8, room_length: usize, issue: u16, number: u8, ending: u8) -> u32;
     /// Takes an image as the record, with the numbers of its cars.
-    pub fn desk_image(
-        room: *mut u8,
-        room_length: usize,
-        image: u64,
-        apart: u64,
-        count: u8,
-        cards: *const u8,
-        cards_length: usize,
-    ) -> u32;
+    pub fn desk_image(room: *mut u8, room_length: usize, image: u64, apart: u64, count: u8, cards: *const u8, cards_length: usize) -> u32;
     /// Writes the record, and what is set apart.
     pub fn desk_ask(room: *const u8, room_length: usize, image: *mut u8, image_length: usize) -> u32;
     /// Where the car with a number is.

@@ -1,5 +1,4 @@
 //! The entries for drawings as the archive has them (include/drawing.h).
-#![allow(dead_code)] // each program uses its own part of this module
 
 unsafe extern "C" {
     /// Writes the drawing of a record.

@@ -1,5 +1,4 @@
 //! The plain station's and the panel's entries as the archive has them (include/panel.h).
-#![allow(dead_code)] // each program uses its own part of this module
 
 unsafe extern "C" {
     /// As `station_request`, by the plain station.

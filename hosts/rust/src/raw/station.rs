@@ -1,5 +1,4 @@
 //! The station's entries as the archive has them (include/station.h).
-#![allow(dead_code)] // each program uses its own part of this module
 
 unsafe extern "C" {
     /// Writes the start station.

@@ -10,20 +10,30 @@ type Told = Option<Result<Issue, Refusal>>;
 pub const START: u64 = Record::START.0;
 pub const TAKEN: Answer = Answer::TAKEN;
 
-pub fn refusal(number: Number) -> Answer { Answer { number, ..TAKEN } }
+pub fn refusal(number: Number) -> Answer {
+    Answer { number, ..TAKEN }
+}
 
-pub fn refusal_at(number: Number, place: u8) -> Answer { Answer { place: Some(place), ..refusal(number) } }
+pub fn refusal_at(number: Number, place: u8) -> Answer {
+    Answer { place: Some(place), ..refusal(number) }
+}
 
-pub fn taken_as(issue: u16) -> Answer { Answer { issue: Issue(issue), ..TAKEN } }
+pub fn taken_as(issue: u16) -> Answer {
+    Answer { issue: Issue(issue), ..TAKEN }
+}
 
 /// The refusal of an answer.
-pub fn told(number: Number) -> Refusal { refusal(number).into_result().expect_err("a refusal") }
+pub fn told(number: Number) -> Refusal {
+    refusal(number).into_result().expect_err("a refusal")
+}
 
 /// A record, and what is set apart.
 pub type Shown = Result<(u64, u64), Refusal>;
 
 /// What an ask is told where nothing is set apart.
-pub fn shown(record: u64) -> Shown { Ok((record, 0)) }
+pub fn shown(record: u64) -> Shown {
+    Ok((record, 0))
+}
 
 /// The sixteen bytes that an ask writes.
 fn both(answer: Answer, image: [u8; 16]) -> Shown {
@@ -33,7 +43,9 @@ fn both(answer: Answer, image: [u8; 16]) -> Shown {
 
 /// A set of so many, where the bytes are instructions and no more than those.
 fn set_of(count: u8, set: &[u8]) -> Option<Vec<Instruction>> {
-    if set.len() != 5 * usize::from(count) { return None; }
+    if set.len() != 5 * usize::from(count) {
+        return None;
+    }
     set.chunks(5).map(|five| Instruction::try_from(<[u8; 5]>::try_from(five).ok()?).ok()).collect()
 }
 
@@ -47,7 +59,9 @@ fn called<T, const N: usize>(
 ) -> Answer {
     let told = copy.as_mut().and_then(typed);
     let answer = lent(room);
-    if let (Some(copy), Some(told)) = (&copy, told) { assert_eq!((told, bytes(copy)), (answer.issued(), &*room)); }
+    if let (Some(copy), Some(told)) = (&copy, told) {
+        assert_eq!((told, bytes(copy)), (answer.issued(), &*room));
+    }
     answer
 }
 
@@ -96,7 +110,9 @@ impl Station {
     pub fn ask(&self) -> Shown {
         let mut image = [0; 16];
         let said = both(lent::station_ask(&self.0, &mut image), image);
-        if let Ok(typed) = station::Station::from_bytes(&self.0) { assert_eq!(Ok((typed.record().0, typed.apart().0)), said); }
+        if let Ok(typed) = station::Station::from_bytes(&self.0) {
+            assert_eq!(Ok((typed.record().0, typed.apart().0)), said);
+        }
         said
     }
 
@@ -105,25 +121,35 @@ impl Station {
         let typed = self.typed().map(|mut s| (s.message(message), s));
         let answer = lent::station_message(&mut self.0, message, &mut reply);
         reply.truncate(2 + usize::from(reply[0]));
-        if let Some((told, s)) = typed { assert_eq!((told, s.bytes()), ((answer, reply.clone()), &self.0)); }
+        if let Some((told, s)) = typed {
+            assert_eq!((told, s.bytes()), ((answer, reply.clone()), &self.0));
+        }
         (answer, reply)
     }
 }
 
-pub fn cars(image: u64) -> Option<u32> { Record(image).cars() }
+pub fn cars(image: u64) -> Option<u32> {
+    Record(image).cars()
+}
 
-pub fn sound(image: u64) -> bool { Record(image).is_sound() }
+pub fn sound(image: u64) -> bool {
+    Record(image).is_sound()
+}
 
 pub fn allowed(image: u64, five: &[u8; 5]) -> Answer {
     let answer = lent::garage_allowed(image, five);
-    if let Ok(typed) = Instruction::try_from(*five) { assert_eq!(Record(image).allowed(typed), answer.into_result()); }
+    if let Ok(typed) = Instruction::try_from(*five) {
+        assert_eq!(Record(image).allowed(typed), answer.into_result());
+    }
     answer
 }
 
 pub fn next(image: u64, five: &[u8; 5]) -> Result<u64, Refusal> {
     let mut after = [0; 8];
     let said = lent::garage_next(image, five, &mut after).into_result().map(|()| u64::from_le_bytes(after));
-    if let Ok(typed) = Instruction::try_from(*five) { assert_eq!(Record(image).next(typed).map(|record| record.0), said); }
+    if let Ok(typed) = Instruction::try_from(*five) {
+        assert_eq!(Record(image).next(typed).map(|record| record.0), said);
+    }
     said
 }
 
@@ -175,20 +201,26 @@ impl LentDesk {
     pub fn ask(&self) -> Shown {
         let mut image = [0; 16];
         let said = both(lent::desk_ask(&self.0, &mut image), image);
-        if let Ok(typed) = Desk::from_bytes(&self.0) { assert_eq!(Ok((typed.record().0, typed.apart().0)), said); }
+        if let Ok(typed) = Desk::from_bytes(&self.0) {
+            assert_eq!(Ok((typed.record().0, typed.apart().0)), said);
+        }
         said
     }
 
     pub fn whereabouts(&self, card: u32) -> Result<Whereabouts, Refusal> {
         let said = lent::desk_where(&self.0, card);
-        if let Some(typed) = self.typed() { assert_eq!(Ok(typed.whereabouts(Card(card))), said); }
+        if let Some(typed) = self.typed() {
+            assert_eq!(Ok(typed.whereabouts(Card(card))), said);
+        }
         said
     }
 
     pub fn leaving(&self) -> Result<Option<u32>, Refusal> {
         let mut card = [0; 4];
         let said = lent::desk_leaving(&self.0, &mut card).into_result().map(|()| Some(u32::from_le_bytes(card)).filter(|&card| card != 0));
-        if let Some(typed) = self.typed() { assert_eq!(Ok(typed.leaving().map(|card| card.0)), said); }
+        if let Some(typed) = self.typed() {
+            assert_eq!(Ok(typed.leaving().map(|card| card.0)), said);
+        }
         said
     }
 }

@@ -1,0 +1,149 @@
+//! Recorded messages of either direction in words (docs/EXPLAIN.md): what each says, what the station answers to it and why, and the floor
+//! after it. The answers are the station's own: the messages are given to it, one after the other, and the floors are its record's.
+
+mod floor;
+mod follow;
+mod input;
+mod journal;
+mod message;
+mod text;
+mod why;
+
+use follow::{named_cars, Cards, Follower};
+use input::{bytes_in, cards, Bytes, Hex, Item, Placed};
+use journal::{is_journal, Journal};
+use message::two_numbers;
+use station::words::Wrong;
+use station::{Parts, Record};
+use std::io::{self, Write};
+use std::process::ExitCode;
+use terminal::conditions::LIFT;
+use terminal::sound::hints;
+use terminal::told::{failed, told_version};
+use text::{Explainer, Said, Shows};
+
+const USAGE: &str = "usage: explain [--quiet] [--floor] [--from IMAGE] [--issue N] [--cards LIST] [--hex < LOG | HEX.. | < LOG]";
+
+/// The words of the command.
+#[derive(Default)]
+struct Given {
+    shows: Shows,
+    hex: bool,
+    from: Option<(Record, Parts)>,
+    issue: u16,
+    cards: Option<Cards>,
+    /// The bytes of a log that is given in words.
+    digits: Vec<u8>,
+}
+
+/// A record, and what is set apart there if it stands behind it: 16 or 32 digits.
+fn image_in(word: &str) -> Option<(Record, Parts)> {
+    bytes_in(word).ok().filter(|bytes| matches!(bytes.len(), 8 | 16)).map(|bytes| two_numbers(&bytes))
+}
+
+fn given(mut words: impl Iterator<Item = String>) -> Option<Given> {
+    let mut given = Given::default();
+    while let Some(word) = words.next() {
+        match word.as_str() {
+            "--quiet" => given.shows.quiet = true,
+            "--floor" => given.shows.floors = true,
+            "--hex" => given.hex = true,
+            "--from" => given.from = Some(image_in(&words.next()?)?),
+            "--issue" => given.issue = words.next()?.parse().ok()?,
+            "--cards" => given.cards = Some(cards(&words.next()?, false).ok()?),
+            digits => given.digits.extend(bytes_in(digits).ok().filter(|bytes| !bytes.is_empty())?),
+        }
+    }
+    // a list of cards is that of a record's cars, and digits are all of the input
+    let fits = (given.cards.is_none() || given.from.is_some()) && (!given.hex || given.digits.is_empty());
+    fits.then_some(given)
+}
+
+/// Where the log begins: the start, or the record that is given.
+fn begin(given: &Given) -> Result<Follower, Wrong> {
+    let (record, apart) = given.from.unwrap_or((Record::START, Parts::NONE));
+    if !record.is_sound() {
+        return Err(format!("--from: not sound: {}", hints(record.0).join("; ")));
+    }
+    if apart.bits().any(|bit| bit > LIFT) {
+        return Err("--from: what is set apart has a bit above 52".to_string());
+    }
+    let (cars, listed) = (named_cars(record), given.cards.as_ref().map(Vec::len));
+    if listed.is_some_and(|listed| listed != cars) {
+        return Err(format!("--cards: expected {cars}, as many as the record has cars, found {}", listed.unwrap_or(0)));
+    }
+    Ok(Follower::from(record, apart, given.issue, given.cards.as_ref()))
+}
+
+/// The next item of a log, nothing at its end, or why the input failed.
+type Read = Result<Option<Placed>, Wrong>;
+
+/// The whole log, or what comes before the first that can't be read; gives whether all of it was read and agrees, or why a stream failed.
+fn explained(mut next: impl FnMut() -> Read, mut explainer: Explainer, out: &mut impl Write) -> Result<bool, Wrong> {
+    let unwritten = |why| failed("output", why);
+    let mut right = true;
+    let mut tell = |said: Said| -> Result<(), Wrong> {
+        out.write_all(said.text.as_bytes()).and_then(|()| out.flush()).map_err(unwritten)?;
+        if let Some(why) = said.wrong {
+            eprintln!("explain: {why}");
+            right = false;
+        }
+        Ok(())
+    };
+    while let Some(placed) = next()? {
+        let last = matches!(placed.item, Item::Damaged { .. });
+        tell(explainer.item(placed))?;
+        if last {
+            break;
+        }
+    }
+    tell(explainer.end())?;
+    Ok(right)
+}
+
+/// A journal, which begins with its own station, or other recorded bytes.
+fn recorded(from: bool, follower: Follower, explainer: impl Fn(Follower) -> Explainer, out: &mut impl Write) -> Result<bool, Wrong> {
+    let mut input = io::BufReader::new(io::stdin().lock());
+    if !is_journal(&mut input)? {
+        let mut input = Bytes::recorded(input);
+        return explained(|| input.next(), explainer(follower), out);
+    }
+    if from {
+        return Err("--from: a journal has its own beginning".to_string());
+    }
+    let (mut journal, station) = Journal::opened(input)?;
+    explained(|| journal.next(), explainer(Follower::from_station(&station)), out)
+}
+
+fn main() -> ExitCode {
+    let told = |why: &str, status: u8| {
+        eprintln!("explain: {why}");
+        ExitCode::from(status)
+    };
+    let words: Vec<String> = std::env::args().skip(1).collect();
+    if words == ["--version"] {
+        return told_version("explain");
+    }
+    let Some(given) = given(words.into_iter()) else { return told(USAGE, 2) };
+    let follower = match begin(&given) {
+        Ok(follower) => follower,
+        Err(why) => return told(&why, 2),
+    };
+    let both_ways = given.hex || !given.digits.is_empty();
+    let explainer = |follower| Explainer::new(follower, given.shows, both_ways);
+    let out = &mut io::BufWriter::new(io::stdout().lock());
+    let done = if !given.digits.is_empty() {
+        let mut input = Bytes::mixed(io::Cursor::new(&given.digits));
+        explained(|| input.next(), explainer(follower), out)
+    } else if given.hex {
+        let mut input = Hex::new(io::stdin().lock());
+        explained(|| input.next(), explainer(follower), out)
+    } else {
+        recorded(given.from.is_some(), follower, explainer, out)
+    };
+    match done {
+        Ok(true) => ExitCode::SUCCESS,
+        Ok(false) => ExitCode::from(1),
+        Err(why) => told(&why, 1),
+    }
+}

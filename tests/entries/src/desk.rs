@@ -1,0 +1,246 @@
+//! The desk's entries for C against the reference: `desk CALLS COMMANDS STACK PROGRAM..`. Commands through the program (entries.c) on desks
+//! as they come and on handed-in ones of every sort that desk_handed.rs tells apart, in rooms long and short, with no more than so many
+//! bytes of stack. Then a host's long run on one desk, from its start on: requests, results, drives with cards, images with numbers; after
+//! each call the desk's bytes must be the reference's, and where each car is and which card is leaving is asked. The reference looks itself
+//! at what is promised: its numbered cars are those of the record, whichever of the stuck instructions finished, and a car that is told for
+//! sure stands there in each case. Every number that each entry can give must have come, and no other, and all else that met.rs and
+//! filling.rs list.
+
+mod met;
+mod traffic;
+
+use met::{every_one, Met};
+use reference::command::{self, Command};
+use reference::desk::Desk;
+use reference::desk_command::{self, call, ASK, ENTRIES, IMAGE, LEAVING, RESULT, START, WHERE};
+use reference::{Call, Instruction, STUCK};
+use shared::desk_handed::{self, handed, made, Handed};
+use shared::filling;
+use shared::traffic::{damaged_station, Numbers};
+use shared::trials::{self, room_for, Given, Trial};
+use station::raw::desk as desk_raw;
+use std::collections::{BTreeMap, BTreeSet};
+use std::process::exit;
+
+/// Bytes that are no desk.
+const UNFIT: u8 = 16;
+
+/// A call of the archive's entry.
+fn archive(command: &mut Command) -> u32 {
+    let &mut Command { entry, first, second, issue, image, apart, card, ref mut room, input, ref mut output } = command;
+    let (lent, length) = (room.as_mut_ptr(), room.len());
+    // each run is lent with its own length, and none overlaps another
+    unsafe {
+        match entry {
+            START => desk_raw::desk_start(lent, length),
+            desk_command::REQUEST => desk_raw::desk_request(lent, length, first, input.as_ptr(), input.len()),
+            desk_command::EVENT => desk_raw::desk_event(lent, length, first, card),
+            RESULT => desk_raw::desk_result(lent, length, issue, first, second),
+            IMAGE => desk_raw::desk_image(lent, length, image, apart, first, input.as_ptr(), input.len()),
+            ASK => desk_raw::desk_ask(lent, length, output.as_mut_ptr(), output.len()),
+            WHERE => desk_raw::desk_where(lent, length, card),
+            _ => desk_raw::desk_leaving(lent, length, output.as_mut_ptr(), output.len()),
+        }
+    }
+}
+
+/// The card numbers that some bytes are, so many of them at most.
+fn cards_in(bytes: &[u8], most: u8) -> Vec<u32> {
+    bytes.chunks_exact(4).take(most.into()).filter_map(|four| Some(u32::from_le_bytes(*four.first_chunk()?))).collect()
+}
+
+/// Makes one call on lent bytes by the archive's entry and by the reference's: the same must be returned and left. Gives what was.
+fn compared(at: usize, given: &Given, bytes: &[u8; Desk::SIZE]) -> (u32, [u8; Desk::SIZE], Vec<u8>) {
+    let by = |call: fn(&mut Command) -> u32| {
+        let (mut room, mut output) = (*bytes, given.output.clone());
+        let &Given { entry, first, second, issue, image, apart, card, ref input, .. } = given;
+        let answer = call(&mut Command { entry, first, second, issue, image, apart, card, room: &mut room, input, output: &mut output });
+        (answer, room, output)
+    };
+    let (ours, theirs) = (by(archive), by(call));
+    if ours != theirs {
+        let Given { entry, first, second, issue, image, apart, card, input, .. } = given;
+        let entry = ENTRIES[usize::from(*entry)].0;
+        eprintln!("desk: call {at}, {entry}: {first} {second} {issue} {image:#x} {apart:#x} {card} {input:02X?}");
+        eprintln!("on       {bytes:02X?}\nreturned {ours:02X?}\nexpected {theirs:02X?}");
+        exit(1);
+    }
+    ours
+}
+
+/// A desk in a long run: as the reference keeps it, what got stuck since its last image, and the cards that have been here.
+struct Watched {
+    desk: Desk,
+    stuck: Vec<Instruction>,
+    seen: BTreeSet<u32>,
+}
+
+impl Watched {
+    /// The call by the reference, on the desk that it keeps; its lent bytes play no part in it.
+    fn take(&mut self, given: &Given) -> u8 {
+        let desk = &mut self.desk;
+        let held = desk.station.held().nth(given.first.into());
+        let cards = cards_in(&given.input, given.first);
+        let number = match given.entry {
+            desk_command::REQUEST => desk.request(given.first, &given.input).number,
+            desk_command::EVENT => desk.event(given.first, given.card).number,
+            RESULT => desk.result(given.issue, given.first, given.second).number,
+            IMAGE if given.first <= desk_command::CARDS_MOST && given.input.len() < 4 * usize::from(given.first) => 1,
+            IMAGE => desk.image(given.image, given.apart, given.first, &cards).number,
+            _ => 0,
+        };
+        if number == 0 && given.entry == RESULT && given.second == STUCK {
+            self.stuck.extend(held);
+        }
+        if number == 0 && given.entry == IMAGE {
+            self.stuck.clear();
+        }
+        self.seen.extend(desk.cars.iter().map(|car| car.card).chain(desk.coming));
+        number
+    }
+
+    /// Looks at every choice of which stuck instructions finished, in two orders: the numbered cars, carried along, are those of the record
+    /// then; and those that are told for sure stand where they are told. Gives how many choices there are.
+    fn every_choice(&self) -> usize {
+        for choice in 0..1usize << self.stuck.len() {
+            let chosen: Vec<&Instruction> = (0..self.stuck.len()).filter(|at| choice >> at & 1 == 1).map(|at| &self.stuck[at]).collect();
+            let mut after = self.desk.clone();
+            let record = chosen.iter().fold(self.desk.station.record, |record, one| one.next(record));
+            chosen.iter().for_each(|one| after.carry(one));
+            let mut backward = self.desk.clone();
+            chosen.iter().rev().for_each(|one| backward.carry(one));
+            assert!(after.are_those_of(record) && backward.cars == after.cars, "{chosen:?} finished on {:?}: {after:?}", self.desk);
+            for car in &after.cars {
+                let (stand, last) = self.desk.whereabouts(car.card).expect("no number is lost");
+                assert!(last || *stand == car.stand, "{car:?} is told for sure at {stand:?}, and {chosen:?} finished");
+            }
+        }
+        1 << self.stuck.len()
+    }
+
+    /// Asks where each car is that is or was here, and which card is leaving.
+    fn ask(&self, at: usize, numbers: &mut Numbers, bytes: &[u8; Desk::SIZE], met: &mut BTreeSet<Met>) -> usize {
+        let gone: Vec<u32> = self.seen.iter().copied().filter(|&card| !self.desk.knows(card)).collect();
+        let here = self.desk.cars.iter().map(|car| car.card).chain(self.desk.coming);
+        let mut asked: Vec<u32> = here.chain([0, numbers.next() as u32]).collect();
+        if !gone.is_empty() {
+            asked.push(gone[numbers.below(gone.len() as u64) as usize]);
+        }
+        for &card in &asked {
+            let (answer, _, _) = compared(at, &Given { entry: WHERE, card, ..Given::default() }, bytes);
+            let told = self.desk.whereabouts(card).map(|(stand, last)| (stand.told(), last));
+            let [number, place, last, above] = answer.to_le_bytes();
+            assert_eq!((number, above, (place != 255).then_some((place, last == 1))), (0, 0, told), "where {card} is");
+            met.insert(Met::asked(&self.desk, &self.seen, card));
+        }
+        let (answer, _, card) = compared(at, &Given { entry: LEAVING, output: vec![0xEE; 4], ..Given::default() }, bytes);
+        assert_eq!((answer, &card[..]), (0xFF00, &self.desk.leaving().unwrap_or(0).to_le_bytes()[..]));
+        met.insert(Met::Leaving(self.desk.leaving().is_some()));
+        asked.len() + 1
+    }
+}
+
+/// What a call met of places that are kept open: what the desk refuses by its own numbers is none of it.
+fn filled(before: &Desk, given: &Given, number: u8) -> Option<filling::Met> {
+    let call = match given.entry {
+        desk_command::EVENT => Call::Event(given.first),
+        IMAGE => Call::Image { image: given.image, apart: given.apart },
+        _ => return None,
+    };
+    filling::met(&before.station, call, number).filter(|_| !matches!(number, 37 | 38))
+}
+
+/// A host: one desk from its start on, every call compared. Gives what was met, how many questions were asked, how many choices looked at.
+fn long_run(seed: u64, calls: usize, seen: &mut [BTreeSet<u8>]) -> (BTreeSet<Met>, BTreeSet<filling::Met>, usize, usize) {
+    let mut numbers = Numbers(seed);
+    let (mut met, mut full, mut questions, mut choices) = (BTreeSet::new(), BTreeSet::new(), 0, 0);
+    let mut watched = Watched { desk: Desk::start(), stuck: Vec::new(), seen: BTreeSet::new() };
+    let (answer, mut bytes, _) = compared(0, &Given { entry: START, ..Given::default() }, &[0xEE; Desk::SIZE]);
+    assert_eq!((answer, bytes), (0xFF00, Desk::start().to_bytes()));
+    for at in 0..calls {
+        let given = traffic::some_call(&mut numbers, &watched.desk);
+        let (before, card) = (watched.desk.clone(), met::sort(&watched.desk, &watched.seen, given.card));
+        let (answer, left, _) = compared(at, &given, &bytes);
+        let number = watched.take(&given);
+        assert_eq!((answer as u8, left), (number, watched.desk.to_bytes()), "call {at}: the desk that the reference keeps is another");
+        assert!(number == 0 || watched.desk == before, "call {at}: a call that isn't taken changes something");
+        met.extend(met::met(&before, card, &given, number));
+        full.extend(filled(&before, &given, number));
+        seen[usize::from(given.entry)].insert(number);
+        bytes = left;
+        if watched.desk != before {
+            choices += watched.every_choice();
+            questions += watched.ask(at, &mut numbers, &bytes, &mut met);
+        }
+    }
+    (met, full, questions, choices)
+}
+
+/// Commands on desks as they come, on damaged ones and on handed-in ones.
+fn trials(count: usize, first_entry: u8) -> Vec<Trial<Option<Handed>>> {
+    let mut numbers = Numbers(11);
+    let mut desk = Desk::start();
+    let mut one = || {
+        // some of the calls that a host makes, so that the next desk is another
+        for _ in 0..3 {
+            let given = traffic::some_call(&mut numbers, &desk);
+            let mut watched = Watched { desk: desk.clone(), stuck: Vec::new(), seen: BTreeSet::new() };
+            watched.take(&given);
+            desk = watched.desk;
+        }
+        let bytes = match numbers.below(6) {
+            0..=2 => made(&mut numbers, &desk).unwrap_or(desk.to_bytes()),
+            3 => Desk { station: damaged_station(&mut numbers, &desk.station), ..desk.clone() }.to_bytes(),
+            _ => desk.to_bytes(),
+        };
+        let lent = Desk::from_bytes(&bytes).unwrap_or(desk.clone());
+        let mut given = traffic::any_call(&mut numbers, &lent);
+        given.room = room_for(&mut numbers, &bytes);
+        let sort = given.room.first_chunk().and_then(handed);
+        given.trial(first_entry, |command| (call(command), sort))
+    };
+    (0..count).map(|_| one()).collect()
+}
+
+/// The commands, run; every sort of handed-in desk must have been met by each call but the first.
+fn commands(count: usize, limit: u32, program: &[String], seen: &mut [BTreeSet<u8>]) {
+    let trials = trials(count, command::ENTRIES.len() as u8);
+    let mut sorts = vec![BTreeMap::new(); ENTRIES.len()];
+    trials::run(&ENTRIES, &trials, limit, program, |trial, number| {
+        seen[usize::from(trial.entry)].insert(number);
+        let sort = trial.of_it.filter(|sort| sort.shown_by(number));
+        if let Some(sort) = sort {
+            *sorts[usize::from(trial.entry)].entry(sort).or_insert(0) += 1;
+        }
+    });
+    for ((entry, _), sorts) in ENTRIES.iter().zip(&sorts).filter(|((_, numbers), _)| numbers.contains(&UNFIT)) {
+        let missing: Vec<_> = desk_handed::ALL.iter().filter(|sort| !sorts.contains_key(sort)).collect();
+        if !missing.is_empty() {
+            eprintln!("desk: {entry} was never called on a handed-in desk of these sorts: {missing:?}");
+            exit(1);
+        }
+    }
+    let least = sorts.iter().flat_map(BTreeMap::values).min().unwrap_or(&0);
+    let all = desk_handed::ALL.len();
+    println!("desk: {} commands; each call on handed-in desks of {all} sorts, on each {least} times or more", trials.len());
+}
+
+pub fn main(words: &[String]) {
+    let [_, calls, count, limit, program @ ..] = words else { panic!("usage: desk CALLS COMMANDS STACK PROGRAM..") };
+    let number = |word: &String| word.parse().expect("a number");
+    let mut seen = vec![BTreeSet::new(); ENTRIES.len()];
+    commands(number(count), number(limit) as u32, program, &mut seen);
+    let (met, full, questions, choices) = long_run(38, number(calls), &mut seen);
+    if !every_one(&met) || !filling::every_filling("desk", &full) {
+        exit(1);
+    }
+    println!("desk: {calls} calls, {questions} questions of where a car is and which is leaving, {choices} choices of what finished");
+    println!("desk: {} ways to meet a card's number, and {} to meet places that are kept open, all that there are", met.len(), full.len());
+    for ((entry, numbers), seen) in ENTRIES.iter().zip(&seen) {
+        if !seen.iter().eq(*numbers) {
+            eprintln!("desk: {entry} gave {seen:?}, expected {numbers:?}");
+            exit(1);
+        }
+    }
+    println!("desk: every number that each entry can give came");
+}

@@ -1,0 +1,3 @@
+//! Whoever draws, for the tests and for what times them.
+
+pub mod drawer;

@@ -1,0 +1,210 @@
+//! Plans tried before the day, against the reference: `plans PROGRAM PLANS SHARE STACK HOST..`. Examples and so many plans, good ones and
+//! ones with faults, are judged by the entry, and one in SHARE of them by the host in C, whose calls must take no more stack than STACK; of
+//! each number some by the program, and most examples, in pieces of many sizes. Every number that can come must have come by the entry
+//! and by the program, no other may, and every way to come by one. Each wrong reference must be found out by a plan of the run.
+
+mod examples;
+
+use examples::{examples, ways, WAYS};
+use reference::plan::{judge, Verdict, NO_SET};
+use reference::START;
+use shared::pipes;
+use shared::plan_traffic::any_plan;
+use shared::traffic::Numbers;
+use station::raw::plan as raw;
+use std::collections::{BTreeMap, BTreeSet};
+use std::process::exit;
+use wrong::fault::{all_of, Fault};
+
+fn plan_judge(plan: &[u8]) -> u32 {
+    unsafe { raw::plan_judge(plan.as_ptr(), plan.len()) }
+}
+
+/// What the entry returns: the number, and 256 times the set.
+fn returned(Verdict { number, set }: Verdict) -> u32 {
+    u32::from(number) + 256 * u32::from(set)
+}
+
+/// What a plan can be told as a whole, and of a set of it, with the words of the program's line.
+const OF_THE_PLAN: [(u8, &str); 6] = [
+    (0, "accepted"),
+    (1, "fewer bytes than it says"),
+    (4, "a field out of range: a wish that is neither 0 nor 1, or bytes left over"),
+    (15, "image not sound"),
+    (35, "more than 64 sets"),
+    (36, "wish not met"),
+];
+const OF_A_SET: [(u8, &str); 14] = [
+    (4, "a field out of range"),
+    (5, "more than eight instructions"),
+    (7, "empty set"),
+    (8, "overlap"),
+    (20, "nothing named"),
+    (21, "a gap between those named"),
+    (22, "not available"),
+    (23, "no free place to move to"),
+    (24, "odd count: a car would be torn"),
+    (25, "half move in row 2 or 3"),
+    (26, "already at that height"),
+    (27, "not at rotation height"),
+    (28, "cells not free for the tilt or the rotation"),
+    (31, "out of turn: the lift in an area while a drive is under way"),
+];
+
+/// The program's line.
+fn line(Verdict { number, set }: Verdict) -> String {
+    let rows = if set == NO_SET { &OF_THE_PLAN[..] } else { &OF_A_SET };
+    let words = rows.iter().find(|row| row.0 == number).expect("a number of the table").1;
+    match (number, set) {
+        (0, _) => format!("{words}\n"),
+        (_, NO_SET) => format!("{number} {words}\n"),
+        _ => format!("{number} {words}, set {set}\n"),
+    }
+}
+
+/// What came so far, and where something was wrong.
+#[derive(Default)]
+struct Run {
+    /// By the entry and by the program: how often each number came, 4 apart by whether a set is at fault.
+    came: [BTreeMap<(u8, bool), usize>; 2],
+    ways: BTreeSet<&'static str>,
+    unfound: Vec<&'static Fault>,
+    wrong: usize,
+}
+
+impl Run {
+    fn fault(&mut self, name: &str, plan: &[u8], got: &str, expected: Verdict) {
+        self.wrong += 1;
+        if self.wrong > 5 {
+            return;
+        }
+        eprintln!("plans: {name}, {} bytes: {got}, expected {expected:?}", plan.len());
+        eprintln!("  {:02X?}", &plan[..plan.len().min(400)]);
+    }
+
+    fn count(&mut self, by: usize, verdict: Verdict) {
+        *self.came[by].entry((verdict.number, verdict.set != NO_SET)).or_default() += 1;
+    }
+
+    /// Judged by the entry, and by each wrong reference.
+    fn by_entry(&mut self, name: &str, plan: &[u8]) -> Verdict {
+        let expected = judge(plan);
+        let got = plan_judge(plan);
+        if got != returned(expected) {
+            self.fault(name, plan, &format!("the entry returned {got}"), expected);
+        }
+        self.count(0, expected);
+        self.ways.extend(ways(plan, expected));
+        let told = (got as u8, (got >> 8) as u8);
+        self.unfound.retain(|fault| {
+            fault.with(|| {
+                let wrong = wrong::plan::judge(plan);
+                (wrong.number, wrong.set) == told
+            })
+        });
+        expected
+    }
+
+    fn by_program(&mut self, program: &str, name: &str, plan: &[u8], seed: u64) {
+        let expected = judge(plan);
+        let got = pipes::answers(program, plan, seed);
+        let wrote = String::from_utf8_lossy(&got);
+        if wrote != line(expected) {
+            self.fault(name, plan, &format!("the program wrote {wrote:?}"), expected);
+        }
+        self.count(1, expected);
+    }
+
+    /// Judged by the host in C, all in one run; gives the most stack that a call took.
+    fn by_host(&mut self, host: &str, plans: &[Vec<u8>]) -> u32 {
+        let input: Vec<u8> = plans.iter().flat_map(|plan| [&(plan.len() as u32).to_le_bytes(), &plan[..]].concat()).collect();
+        let output = pipes::answers(host, &input, 1);
+        let numbers: Vec<u32> = output.chunks_exact(4).map(|four| u32::from_le_bytes(*four.first_chunk().expect("four"))).collect();
+        if numbers.len() != 2 * plans.len() {
+            self.fault("the host in C", &[], "another number of answers", judge(&[]));
+        }
+        for (plan, told) in plans.iter().zip(numbers.chunks_exact(2)) {
+            let expected = judge(plan);
+            if told[0] != returned(expected) {
+                self.fault("the host in C", plan, &format!("it was returned {}", told[0]), expected);
+            }
+        }
+        numbers.iter().skip(1).step_by(2).copied().max().unwrap_or(0)
+    }
+
+    /// Whether all came that can, and nothing else; if not, says what is amiss.
+    fn complete(&self) -> bool {
+        let mut right = self.wrong == 0;
+        let mut same = |what: &str, amiss: Vec<String>| {
+            if !amiss.is_empty() {
+                right = false;
+                eprintln!("plans: {what}: {amiss:?}");
+            }
+        };
+        let wanted: BTreeSet<_> = OF_THE_PLAN.map(|row| (row.0, false)).into_iter().chain(OF_A_SET.map(|row| (row.0, true))).collect();
+        for (came, by) in self.came.iter().zip(["the entry", "the program"]) {
+            let came: BTreeSet<_> = came.keys().copied().collect();
+            let told = |(number, set): &(u8, bool)| format!("{number}{}", if *set { " of a set" } else { "" });
+            let amiss = came.symmetric_difference(&wanted).map(told);
+            same(&format!("numbers that {by} never told, or can't"), amiss.collect());
+        }
+        let missing =
+            |all: Vec<&str>, came: &BTreeSet<&str>| all.into_iter().filter(|one| !came.contains(one)).map(str::to_string).collect();
+        same("ways that never came", missing(WAYS.to_vec(), &self.ways));
+        same("wrong references that were not found out", self.unfound.iter().map(|fault| fault.name.to_string()).collect());
+        right
+    }
+}
+
+pub fn main(words: &[String]) {
+    let [_, program, plans, share, stack, host @ ..] = words else { panic!("usage: plans PROGRAM PLANS SHARE STACK HOST..") };
+    let number = |word: &str| word.parse::<u32>().expect("a number");
+    let mut run = Run { unfound: all_of("plan").collect(), ..Run::default() };
+    let (mut kept, mut to_program) = (Vec::new(), Vec::new());
+    for (name, plan, verdict) in examples() {
+        assert_eq!(judge(&plan), verdict, "{name}");
+        run.by_entry(name, &plan);
+        if !name.starts_with("cut") || plan.len() % 7 == 3 {
+            to_program.push((name, plan.clone()));
+        }
+        kept.push(plan);
+    }
+    let (mut numbers, mut record, mut told) = (Numbers(9), START, BTreeMap::new());
+    for at in 0..number(plans) {
+        let (plan, last) = any_plan(&mut numbers, record);
+        record = last;
+        let verdict = run.by_entry("made", &plan);
+        let often = told.entry((verdict.number, verdict.set != NO_SET)).or_insert(0);
+        *often += 1;
+        if *often <= 3 {
+            to_program.push(("made", plan.clone()));
+        }
+        if at % number(share) == 0 {
+            kept.push(plan);
+        }
+    }
+    let most = run.by_host(&host.join(" "), &kept);
+    if most > number(stack) {
+        eprintln!("plans: a call took {most} bytes of stack, which is above {stack}");
+        exit(1);
+    }
+    for ((name, plan), seed) in to_program.iter().zip(1..) {
+        run.by_program(program, name, plan, seed);
+    }
+    if !run.complete() {
+        exit(1);
+    }
+    let accepted = run.came[0][&(0, false)];
+    println!(
+        "plans: {} judged by the entry ({accepted} accepted), {} by the host in C, {} by the program, each as the reference says",
+        run.came[0].values().sum::<usize>(),
+        kept.len(),
+        to_program.len()
+    );
+    println!(
+        "plans: {} numbers, {} ways to come by them, all that there are; {} wrong references found out; at most {most} bytes of stack",
+        OF_THE_PLAN.len() + OF_A_SET.len() - 1,
+        WAYS.len(),
+        all_of("plan").count()
+    );
+}

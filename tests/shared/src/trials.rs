@@ -1,0 +1,102 @@
+//! Commands for the program that makes calls as it is told to (entries.c): each in bytes, with what the call must return and leave; and
+//! the run of them, in which each answer is held against that.
+
+use crate::traffic::{any_bytes, Numbers};
+use reference::command::Command;
+use std::io::{BufReader, Read, Write};
+use std::process::{exit, Stdio};
+
+/// What a command is made of.
+#[derive(Clone, Default)]
+pub struct Given {
+    pub entry: u8,
+    pub first: u8,
+    pub second: u8,
+    pub issue: u16,
+    pub image: u64,
+    pub apart: u64,
+    pub card: u32,
+    pub room: Vec<u8>,
+    pub input: Vec<u8>,
+    pub output: Vec<u8>,
+}
+
+/// A command in bytes, what it must return and leave, and what a run wants to know of it.
+pub struct Trial<T> {
+    pub entry: u8,
+    pub sent: Vec<u8>,
+    pub answer: u32,
+    pub left: Vec<u8>,
+    pub of_it: T,
+}
+
+impl Given {
+    /// The trial of it: `call` is the reference's, on a command that is left as the call must leave it; the program has the entry by the
+    /// number `first_entry` more.
+    pub fn trial<T>(mut self, first_entry: u8, call: impl FnOnce(&mut Command) -> (u32, T)) -> Trial<T> {
+        let mut sent = vec![first_entry + self.entry, self.first, self.second];
+        sent.extend(self.issue.to_le_bytes());
+        sent.extend(self.image.to_le_bytes());
+        sent.extend(self.apart.to_le_bytes());
+        sent.extend(self.card.to_le_bytes());
+        for run in [&self.room, &self.input, &self.output] {
+            sent.push(u8::try_from(run.len()).expect("a length of one byte"));
+            sent.extend(run);
+        }
+        let Given { entry, first, second, issue, image, apart, card, .. } = self;
+        let (room, input, output) = (&mut self.room[..], &self.input[..], &mut self.output[..]);
+        let (answer, of_it) = call(&mut Command { entry, first, second, issue, image, apart, card, room, input, output });
+        Trial { entry, sent, answer, left: [self.room, self.output].concat(), of_it }
+    }
+}
+
+/// A room with these bytes in it: mostly longer than they are, now and then too short.
+pub fn room_for(numbers: &mut Numbers, bytes: &[u8]) -> Vec<u8> {
+    let mut room = bytes.to_vec();
+    if numbers.one_in(25) {
+        room.truncate(numbers.below(bytes.len() as u64) as usize);
+    } else {
+        let more = numbers.below(4) as usize;
+        room.extend(any_bytes(numbers, more));
+    }
+    room
+}
+
+/// Sends all commands to the program and compares each answer and what is left; tells of each its answer's number and how much stack the
+/// call took, which may not be more than the limit.
+pub fn run<T>(names: &[(&str, &[u8])], trials: &[Trial<T>], limit: u32, program: &[String], mut tell: impl FnMut(&Trial<T>, u8)) {
+    let sent: Vec<u8> = trials.iter().flat_map(|trial| trial.sent.iter().copied()).collect();
+    // the C library's calls are looked up before the first command: the stack which that takes is not the entries'
+    let mut command = std::process::Command::new(&program[0]);
+    command.args(&program[1..]).env("LD_BIND_NOW", "1").stdin(Stdio::piped()).stdout(Stdio::piped());
+    let mut child = command.spawn().expect("the program starts");
+    let mut pipe = child.stdin.take().expect("a pipe");
+    let sender = std::thread::spawn(move || pipe.write_all(&sent).expect("the program reads"));
+    let mut answers = BufReader::new(child.stdout.take().expect("a pipe"));
+    let mut stacks = vec![0; names.len()];
+    for (at, trial) in trials.iter().enumerate() {
+        let (mut answer, mut stack, mut left) = ([0; 4], [0; 4], vec![0; trial.left.len()]);
+        answers.read_exact(&mut answer).expect("an answer");
+        answers.read_exact(&mut stack).expect("its stack");
+        answers.read_exact(&mut left).expect("the rooms");
+        let (answer, stack) = (u32::from_le_bytes(answer), u32::from_le_bytes(stack));
+        let entry = usize::from(trial.entry);
+        if answer != trial.answer || left != trial.left {
+            eprintln!("command {at}, {}: {:02X?}\nreturned {answer:#x}, expected {:#x}", names[entry].0, trial.sent, trial.answer);
+            eprintln!("left     {left:02X?}\nexpected {:02X?}", trial.left);
+            exit(1);
+        }
+        stacks[entry] = stack.max(stacks[entry]);
+        tell(trial, answer as u8);
+    }
+    sender.join().expect("the sender ends");
+    assert!(child.wait().expect("the program ends").success());
+    let stacks: Vec<(&str, u32)> = names.iter().map(|entry| entry.0).zip(stacks).collect();
+    for (entry, stack) in &stacks {
+        if *stack > limit {
+            eprintln!("{entry} took {stack} bytes of stack, which is above {limit}");
+            exit(1);
+        }
+    }
+    println!("entries: at most {limit} bytes of stack, of {stacks:?}");
+}
