@@ -1,13 +1,13 @@
-//! The station with a journal beside the station without, in turns: `journal STATION INPUT DIRECTORY`. In bulk, all of the input at once;
-//! one by one, each message when the one before is answered, with what the disk takes for the same appends alone; and the time to the first
-//! answer with all of the input as the journal. Of each the least of five runs. The journals are made in the directory: what is measured is
-//! its disk.
+//! The station with a journal beside the station without, in turns: `journal STATION INPUT DIRECTORY`. In bulk, all of the input at once, with
+//! what the same appends take without a station or a checksum; one by one, each message when the one before is answered, with what the disk takes
+//! for the same appends alone; and the time to the first answer with all of the input in the journal, beside a station that is given the same
+//! messages. Of each the least of five runs. The journals are made in the directory: what is measured is its disk.
 
 mod one_by_one;
 
 use one_by_one::{answered, messages, ASK};
 use std::fs::{self, File, OpenOptions};
-use std::io::Write;
+use std::io::{Read, Write};
 use std::path::Path;
 use std::process::{Child, Command, Stdio};
 use std::time::Instant;
@@ -49,6 +49,23 @@ impl Bench {
         seconds(|| {
             let input = File::open(&self.input).expect("the input");
             assert!(self.command(words).stdin(input).stdout(Stdio::null()).status().expect("it runs").success(), "it ended badly");
+        })
+    }
+
+    /// The same reads, each appended as it is and waited for, by no station.
+    fn appends(&self) -> f64 {
+        self.without();
+        seconds(|| {
+            let mut input = File::open(&self.input).expect("the input");
+            let mut file = OpenOptions::new().append(true).create(true).open(&self.journal).expect("a file");
+            let mut room = vec![0; 65_536];
+            loop {
+                let size = input.read(&mut room).expect("a read");
+                if size == 0 {
+                    break;
+                }
+                file.write_all(&room[..size]).and_then(|()| file.sync_data()).expect("an append");
+            }
         })
     }
 
@@ -102,14 +119,18 @@ fn main() {
     let [_, station, input, directory] = &words[..] else { panic!("usage: journal STATION INPUT DIRECTORY") };
     let bytes = fs::read(input).expect("the input");
     let bench = Bench { station: station.clone(), input: input.clone(), journal: format!("{directory}/bench.journal"), bytes };
-    let (count, new) = (messages(&bench.bytes).count() as f64, ["--new", &bench.journal]);
+    let (count, new) = (messages(&bench.bytes).count() as f64, ["--new", &bench.journal, "--garage", "bench"]);
 
-    let [without, with] = least([&|| bench.bulk(&[]), &|| bench.bulk(&new)]);
+    let [without, with, appends] = least([&|| bench.bulk(&[]), &|| bench.bulk(&new), &|| bench.appends()]);
     println!(
         "in bulk:    without a journal {:>9.0} messages/s, with one {:>9.0}, {:.2} times the time",
         count / without,
         count / with,
         with / without
+    );
+    println!(
+        "            the appends alone take {appends:.3} s; with a journal it takes {:.2} times both together",
+        with / (without + appends)
     );
     let [without, with, disk] = least([&|| bench.one_by_one(&[], QUICK), &|| bench.one_by_one(&new, SLOW), &|| bench.disk()]);
     println!(
@@ -119,8 +140,14 @@ fn main() {
         1.0 / disk
     );
 
-    fs::copy(input, &bench.journal).and_then(|_| File::open(&bench.journal)?.sync_all()).expect("a long journal");
-    let [with, without] = least([&|| bench.first_answer(&[&bench.journal]), &|| bench.first_answer(&[])]);
-    println!("first answer: {with:.3} s with a journal of {count:.0} messages, {without:.3} s without one");
+    let served = bench.bulk(&new);
+    let copy = format!("{}.copy", bench.journal);
+    fs::rename(&bench.journal, &copy).expect("a long journal");
+    let [with, without, bulk] = least([&|| bench.first_answer(&[&copy]), &|| bench.first_answer(&[]), &|| bench.bulk(&[])]);
+    println!(
+        "first answer: {with:.3} s with a journal of {count:.0} messages, {without:.3} s without one; they were answered in {served:.3} s"
+    );
+    println!("              a replay takes {:.2} times what the station takes to answer the same messages without a journal", with / bulk);
+    fs::remove_file(&copy).expect("it goes");
     bench.without();
 }

@@ -99,7 +99,7 @@ impl Bench<'_> {
     /// Seconds to start, seconds for a message, processor seconds for one, KB of a station that are resident and that are its share; with
     /// journals also seconds to start again on them, and for an append to the disk alone.
     fn round(&self, count: usize, with: bool) -> [f64; 7] {
-        let words = |at| if with { vec!["--new".to_string(), self.journal(at)] } else { Vec::new() };
+        let words = |at| if with { ["--new", &self.journal(at), "--garage", "many"].map(String::from).to_vec() } else { Vec::new() };
         let (mut stations, start) = self.started(count, words);
         let before: u64 = stations.iter().map(processor).sum();
         let (answers, seconds) = self.served(stations.iter_mut().map(|station| move |message: &[u8]| answered(station, message)).collect());

@@ -1,7 +1,7 @@
 #!/usr/bin/env python3
-"""owner.py STATION JOURNAL: the smallest planner that owns its station.
+"""owner.py STATION [--garage NAME] JOURNAL: the smallest planner that owns its station.
 
-It starts STATION on JOURNAL as its child and holds both ends of its pipes, so that nobody else can write into the middle of a message. It
+It starts STATION with the other words as its child and holds both ends of its pipes, so that nobody else can write into the middle of a message. It
 asks for the image first. Then it passes on each line of hexadecimal from its standard input, one message a line, waits for the answer, and
 prints both with the time. What is no whole message is told on standard error and not sent: so the two never come out of step.
 
@@ -77,8 +77,8 @@ def told(station, lines):
 
 
 def main():
-    if len(sys.argv) != 3:
-        print("usage: owner.py STATION JOURNAL", file=sys.stderr)
+    if len(sys.argv) < 3:
+        print("usage: owner.py STATION [--garage NAME] JOURNAL", file=sys.stderr)
         return 2
     try:
         station = subprocess.Popen(sys.argv[1:], stdin=subprocess.PIPE, stdout=subprocess.PIPE)

@@ -39,7 +39,9 @@ fn files(folder: &Path, ending: &str) -> Vec<PathBuf> {
     found
 }
 
-fn name_of(path: &Path) -> String { path.file_stem().unwrap_or_default().to_string_lossy().into_owned() }
+fn name_of(path: &Path) -> String {
+    path.file_stem().unwrap_or_default().to_string_lossy().into_owned()
+}
 
 /// The functions of a crate; public ones are those of a library's lib.rt and of its public modules, and a type's wherever they stand. A
 /// type's functions are named by the type, without the module.
@@ -62,7 +64,9 @@ fn functions(krate: &Path) -> Vec<Function> {
             let words = line.trim_start();
             let public = words.starts_with("pub ");
             let Some((_, rest)) = words.strip_prefix("fn ").map(|rest| ("", rest)).or(words.split_once(" fn ")) else { continue };
-            if words.starts_with("//") || !line.contains('(') { continue; }
+            if words.starts_with("//") || !line.contains('(') {
+                continue;
+            }
             let mut header = words.trim_end_matches(" {").to_string();
             if header == words {
                 for line in lines.by_ref().take_while(|line| line.trim() != "{") {
@@ -82,7 +86,9 @@ fn functions(krate: &Path) -> Vec<Function> {
 fn promise(header: &str) -> Option<&str> {
     let mut promises = header.lines().filter(|line| line.starts_with("ensures"));
     let line = promises.next()?;
-    if promises.next().is_some() { return None; }
+    if promises.next().is_some() {
+        return None;
+    }
     line.split_once("{ λ ")?.1.strip_suffix(" ⌝ }")
 }
 
@@ -97,8 +103,12 @@ fn calls_c(krate: &str) -> bool {
 /// equation for the answer and one for each room that is lent to be written. What C brings no equation can say, so there only a
 /// precondition is a fault.
 fn open_contract(header: &str, from_c: bool) -> Option<&'static str> {
-    if header.lines().any(|line| line.starts_with("requires")) { return Some("it has a precondition"); }
-    if from_c { return None; }
+    if header.lines().any(|line| line.starts_with("requires")) {
+        return Some("it has a precondition");
+    }
+    if from_c {
+        return None;
+    }
     let Some((answer, says)) = promise(header).and_then(|text| text.split_once(". ⌜ ")) else { return Some("it is not one promise") };
     let taken = header.split("\nensures").next().unwrap_or_default();
     let lent = taken.split(['(', ',', ')']).filter(|part| part.contains(": &mut "));
@@ -107,7 +117,8 @@ fn open_contract(header: &str, from_c: bool) -> Option<&'static str> {
     let definition = if rooms.is_empty() {
         says.strip_prefix(&format!("{answer} ≡ "))
     } else {
-        let form = ["Leaves ", "Serves ", "Exchanges ", "Holds ", "Turns ", "Counts ", "Replays "].iter().find_map(|form| says.strip_prefix(form));
+        let form =
+            ["Leaves ", "Serves ", "Exchanges ", "Holds ", "Turns ", "Counts ", "Replays "].iter().find_map(|form| says.strip_prefix(form));
         form.and_then(|says| says.strip_suffix(&ending))
     };
     let Some(definition) = definition else { return Some("it is no equation for the answer and each lent room") };
@@ -120,7 +131,8 @@ fn laws(krate: &Path) -> Vec<String> {
     let mut found = Vec::new();
     for file in files(&krate.join("proofs"), ".antt") {
         let source = read(&file);
-        let declared = source.lines().filter_map(|line| line.trim_start().split_once(" : ").map(|parts| parts.0).or(line.strip_suffix(" :")));
+        let declared =
+            source.lines().filter_map(|line| line.trim_start().split_once(" : ").map(|parts| parts.0).or(line.strip_suffix(" :")));
         found.extend(declared.map(|name| name.trim_start().trim_start_matches("pub ").to_string()));
     }
     found
@@ -150,17 +162,30 @@ fn wrongs(krate: &Path, known: &[Function]) -> Vec<Wrong> {
 }
 
 /// A wrong program on the page.
-fn told(krate: &str, how: &str, edit: &str) -> String { format!("{how} ([{edit}](../crates/{krate}/must-fail/{edit}.edit))") }
+fn told(krate: &str, how: &str, edit: &str) -> String {
+    format!("{how} ([{edit}](../crates/{krate}/must-fail/{edit}.edit))")
+}
 
 /// An error that says no more than that a proof's text no longer fits the code, or that another proof is missing.
 fn misfit(error: &str) -> bool {
-    ["was not admitted", "no occurrence of", "no part of the goal", "that can be named from here", "has no field", "expected type `tie.Need-", "is not in scope", "a bound of its own"]
-        .iter()
-        .any(|words| error.contains(words))
+    [
+        "was not admitted",
+        "no occurrence of",
+        "no part of the goal",
+        "that can be named from here",
+        "has no field",
+        "expected type `tie.Need-",
+        "is not in scope",
+        "a bound of its own",
+    ]
+    .iter()
+    .any(|words| error.contains(words))
 }
 
 /// The declaration that an error is of: the first word of it, between backquotes.
-fn declaration(words: &str) -> &str { words.strip_prefix('`').and_then(|words| words.split('`').next()).unwrap_or_default() }
+fn declaration(words: &str) -> &str {
+    words.strip_prefix('`').and_then(|words| words.split('`').next()).unwrap_or_default()
+}
 
 /// The errors of a log, each as the file that it stands in and its words, which may go on in the next line.
 fn errors(log: &str, edit: &str) -> Vec<(String, String)> {
@@ -196,23 +221,33 @@ fn main() {
         publics += public.len();
         for function in public {
             let path = &function.path;
-            if let Some(why) = open_contract(&function.header, from_c) { faults.push(format!("{name}::{path}: {why}")); }
+            if let Some(why) = open_contract(&function.header, from_c) {
+                faults.push(format!("{name}::{path}: {why}"));
+            }
             let contract = promise(&function.header).and_then(|text| text.split_once("⌜ ")).map_or("", |(_, says)| says);
             let shut: Vec<_> = wrongs.iter().filter(|wrong| wrong.name == *path).collect();
             let promises_nothing = from_c && contract.is_empty();
-            if shut.len() < 2 && !promises_nothing { faults.push(format!("{name}::{path}: {} wrong programs tried", shut.len())); }
+            if shut.len() < 2 && !promises_nothing {
+                faults.push(format!("{name}::{path}: {} wrong programs tried", shut.len()));
+            }
             let shut: Vec<_> = shut.iter().map(|wrong| told(&name, &wrong.how, &wrong.edit)).collect();
             let contract = if promises_nothing { "that it ends".into() } else { format!("`{}`", contract.replace('|', "\\|")) };
             list += &format!("| `{path}` | {contract} | {} |\n", shut.join("; "));
         }
         let edits = files(&krate.join("must-fail"), ".edit");
-        if public_none && !edits.is_empty() { list += &format!("\n## `{name}`\n"); }
+        if public_none && !edits.is_empty() {
+            list += &format!("\n## `{name}`\n");
+        }
         let private = |wrong: &&Wrong| known.iter().any(|one| one.path == wrong.name && !one.public);
         let listed = |wrong: &Wrong| format!("`{}`: {}", wrong.name, told(&name, &wrong.how, &wrong.edit));
         let parts: Vec<_> = wrongs.iter().filter(private).map(listed).collect();
-        if !parts.is_empty() { list += &format!("\nOf its parts: {}.\n", parts.join("; ")); }
+        if !parts.is_empty() {
+            list += &format!("\nOf its parts: {}.\n", parts.join("; "));
+        }
         let shut: Vec<_> = wrongs.iter().filter(|wrong| wrong.law).map(listed).collect();
-        if !shut.is_empty() { list += &format!("\nBy its laws: {}.\n", shut.join("; ")); }
+        if !shut.is_empty() {
+            list += &format!("\nBy its laws: {}.\n", shut.join("; "));
+        }
         let whole: Vec<_> = edits.iter().filter(|file| !wrongs.iter().any(|wrong| wrong.edit == name_of(file))).collect();
         if !whole.is_empty() {
             let how = |file: &Path| read(file).lines().next().unwrap_or_default().trim_start_matches("# ").to_string();
@@ -233,7 +268,9 @@ fn main() {
             }
             for line in read(file).lines().filter(|_| !own.is_empty()) {
                 let Some((named, spoiled, _)) = named(line) else { continue };
-                if own.iter().all(|wrong| wrong.name != named || wrong.spoiled != spoiled) { faults.push(format!("{name}/{edit}: {named} is no function and no law, or {spoiled} no part")); }
+                if own.iter().all(|wrong| wrong.name != named || wrong.spoiled != spoiled) {
+                    faults.push(format!("{name}/{edit}: {named} is no function and no law, or {spoiled} no part"));
+                }
             }
             // several wrong versions of one function, or by one part of it, are each refused at a declaration of its proof of their own
             let mut spoiled: Vec<_> = own.iter().map(|wrong| (&wrong.spoiled, wrong.law)).collect();
@@ -245,13 +282,26 @@ fn main() {
                 // of a function without a proof file, the returns that the prover does not close by itself
                 let searched = log.lines().filter_map(|line| line.strip_prefix(&by_itself)?.split_once("`search` does not close "));
                 let open = searched.map(|(_, needs)| needs.split('`').filter(|need| need.starts_with("returns")).count()).sum::<usize>();
-                let refuses = |file: &str, words: &str| if of_law { !file.ends_with("/Proof.antt") && declaration(words) == *what } else { file == proof };
-                let mut at: Vec<_> = errors.iter().filter(|(file, words)| refuses(file, words) && !misfit(words)).map(|(_, words)| declaration(words)).collect();
+                let refuses = |file: &str, words: &str| {
+                    if of_law {
+                        !file.ends_with("/Proof.antt") && declaration(words) == *what
+                    } else {
+                        file == proof
+                    }
+                };
+                let mut at: Vec<_> = errors
+                    .iter()
+                    .filter(|(file, words)| refuses(file, words) && !misfit(words))
+                    .map(|(_, words)| declaration(words))
+                    .collect();
                 at.sort_unstable();
                 at.dedup();
                 let versions = own.iter().filter(|wrong| wrong.spoiled == *what).count();
                 if at.len() + open < versions {
-                    faults.push(format!("{name}/{edit}: of {what} {versions} wrong versions are named, and it is refused for a false fact at {} places", at.len() + open));
+                    faults.push(format!(
+                        "{name}/{edit}: of {what} {versions} wrong versions are named, and it is refused for a false fact at {} places",
+                        at.len() + open
+                    ));
                 }
             }
         }

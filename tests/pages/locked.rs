@@ -27,7 +27,9 @@ const FETCHED: [[u8; 5]; 3] = [[4, 2, 0, 0, 0], [1, 1, 6, 1, 1], [4, 0, 0, 0, 0]
 /// What is to be answered.
 #[derive(Debug)]
 enum Wanted {
-    Taken { issue: u16 },
+    Taken {
+        issue: u16,
+    },
     /// Not allowed on the record, for whatever reason.
     NotAllowed,
     Shown([u8; 8]),
@@ -46,7 +48,9 @@ impl Session {
         self.wanted.push(wanted);
     }
 
-    fn request(&mut self, [op, a, b, c, d]: [u8; 5], wanted: Wanted) { self.send(&[8, 0, 1, 0, 1, op, a, b, c, d], wanted); }
+    fn request(&mut self, [op, a, b, c, d]: [u8; 5], wanted: Wanted) {
+        self.send(&[8, 0, 1, 0, 1, op, a, b, c, d], wanted);
+    }
 
     /// A set of one instruction, which is accepted, and its result.
     fn set(&mut self, five: [u8; 5], result: u8) {
@@ -58,13 +62,19 @@ impl Session {
 
     /// A drive that begins and is done.
     fn drive(&mut self, begin: u8) {
-        for event in [begin, 3] { self.send(&[3, 0, 2, 0, event], Wanted::Taken { issue: 0 }); }
+        for event in [begin, 3] {
+            self.send(&[3, 0, 2, 0, event], Wanted::Taken { issue: 0 });
+        }
     }
 
     /// Every instruction on the present record: lift runs to another height are accepted, and fail.
     fn only_lift(&mut self, height: u8) {
         for five in every_five() {
-            if five[0] == 4 && five[1] != height { self.set(five, 0) } else { self.request(five, Wanted::NotAllowed) }
+            if five[0] == 4 && five[1] != height {
+                self.set(five, 0)
+            } else {
+                self.request(five, Wanted::NotAllowed)
+            }
         }
     }
 }
@@ -79,7 +89,11 @@ fn main() {
     let [_, program] = &given[..] else { panic!("usage: locked PROGRAM") };
     let mut all = Session::default();
     for word in FILLED.split_whitespace() {
-        if word == "in" { all.drive(1) } else { all.set(five(word), 1) }
+        if word == "in" {
+            all.drive(1)
+        } else {
+            all.set(five(word), 1)
+        }
     }
     let filled = all.issue;
     all.send(&[2, 0, 5, 0], Wanted::Shown(LOCKED));
@@ -89,7 +103,9 @@ fn main() {
     }
     all.send(&[2, 0, 5, 0], Wanted::Shown(LOCKED));
     all.drive(2);
-    for five in FETCHED { all.set(five, 1); }
+    for five in FETCHED {
+        all.set(five, 1);
+    }
     all.drive(2);
 
     let output = child::run_on(program, &all.sent).0;

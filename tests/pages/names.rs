@@ -7,7 +7,9 @@ use std::path::Path;
 use std::process::exit;
 
 /// The parts of a line between two marks.
-fn between(text: &str, mark: char) -> impl Iterator<Item = &str> { text.split(mark).skip(1).step_by(2) }
+fn between(text: &str, mark: char) -> impl Iterator<Item = &str> {
+    text.split(mark).skip(1).step_by(2)
+}
 
 /// Whether a page has a heading that a link to it names: in small letters, with - for a blank, and without signs.
 fn has_heading(page: &str, anchor: &str) -> bool {
@@ -26,7 +28,9 @@ fn links(line: &str) -> Vec<(&str, &str)> {
     for (at, _) in line.match_indices("](") {
         let text = line[..at].rsplit_once('[').map_or("", |(_, text)| text);
         let target = line[at + 2..].split(')').next().unwrap_or_default();
-        if !target.contains("://") { found.push((text, target)); }
+        if !target.contains("://") {
+            found.push((text, target));
+        }
     }
     found
 }
@@ -35,7 +39,9 @@ fn links(line: &str) -> Vec<(&str, &str)> {
 fn declared(line: &str) -> Option<(&str, &str)> {
     let line = line.trim_start().trim_start_matches("pub ").trim_start_matches("abbrev ").trim_start_matches("unfoldable ");
     let line = line.trim_start_matches("pub ");
-    if let Some(rest) = line.strip_prefix("record ").or(line.strip_prefix("data ")) { return Some((rest.split_whitespace().next()?, "")); }
+    if let Some(rest) = line.strip_prefix("record ").or(line.strip_prefix("data ")) {
+        return Some((rest.split_whitespace().next()?, ""));
+    }
     let (name, kind) = line.split_once(" : ")?;
     (!name.contains(' ')).then_some((name, kind))
 }
@@ -51,7 +57,9 @@ fn defines(file: &str, text: &str, name: &str, beside: &HashSet<&str>) -> bool {
     if file.ends_with(".rt") {
         return ["fn ", "const ", "enum ", "struct ", "mod "].iter().any(|word| {
             let found = format!("{word}{base}");
-            text.lines().any(|line| line.find(&found).is_some_and(|at| !line[at + found.len()..].starts_with(|c: char| c.is_alphanumeric() || c == '_')))
+            text.lines().any(|line| {
+                line.find(&found).is_some_and(|at| !line[at + found.len()..].starts_with(|c: char| c.is_alphanumeric() || c == '_'))
+            })
         });
     }
     text.contains(name)
@@ -80,10 +88,14 @@ fn main() {
                     continue;
                 }
                 let content = fs::read_to_string(&path).unwrap_or_default();
-                if file.ends_with(".md") && !anchor.is_empty() && !has_heading(&content, anchor) { fault(format!("{target} has no such heading")); }
+                if file.ends_with(".md") && !anchor.is_empty() && !has_heading(&content, anchor) {
+                    fault(format!("{target} has no such heading"));
+                }
                 for name in between(text, '`').filter(|name| !name.contains('/')) {
                     names += 1;
-                    if path.is_file() && !defines(&file, &content, name, &beside) { fault(format!("{target} does not have `{name}`")); }
+                    if path.is_file() && !defines(&file, &content, name, &beside) {
+                        fault(format!("{target} does not have `{name}`"));
+                    }
                 }
             }
         }

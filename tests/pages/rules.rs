@@ -43,7 +43,9 @@ fn table<'a>(page: &'a str, heading: &str, head: &str) -> Vec<Vec<&'a str>> {
     rows.map(|line| line.trim_matches('|').split('|').map(str::trim).collect()).collect()
 }
 
-fn column(rows: &[Vec<&str>], at: usize) -> Vec<u32> { rows.iter().flat_map(|row| numbers(row.get(at).unwrap_or(&""))).collect() }
+fn column(rows: &[Vec<&str>], at: usize) -> Vec<u32> {
+    rows.iter().flat_map(|row| numbers(row.get(at).unwrap_or(&""))).collect()
+}
 
 /// The text of a definition: from the line that begins with this to the next blank one.
 fn definition<'a>(text: &'a str, begins: &str) -> &'a str {
@@ -153,7 +155,12 @@ fn main() {
     for ((call, row), defined) in calls.iter().zip(&orders).zip(&defined_orders) {
         check.same(&format!("order of {call}"), &numbers(row[1]), defined);
     }
-    let tests = [("Sets and results", "the request", 0), ("Drives", "the event", 1), ("Sets and results", "the result", 2), ("Images", "the image", 3)];
+    let tests = [
+        ("Sets and results", "the request", 0),
+        ("Drives", "the event", 1),
+        ("Sets and results", "the result", 2),
+        ("Images", "the image", 3),
+    ];
     for (section, who, call) in tests {
         let rows = table(&page, section, &format!("order | {who} is accepted when"));
         check.same(&format!("when {who} is accepted"), &column(&rows, 2), &defined_orders[call][1..].to_vec());
@@ -170,7 +177,9 @@ fn main() {
         check.same(&format!("calls that return {number}"), &from, &given);
         let out = row[1] == "retired" || row[1] == "unused";
         check.same(&format!("{number} in force"), &!out, &words.contains_key(&number));
-        if let Some(said) = words.get(&number) { check.same(&format!("when {number}"), &row[2], &said.as_str()); }
+        if let Some(said) = words.get(&number) {
+            check.same(&format!("when {number}"), &row[2], &said.as_str());
+        }
     }
     let in_force: BTreeSet<_> = words.keys().copied().filter(|number| *number < 34).collect();
     check.same("numbers of the definitions", &cases.values().copied().collect(), &in_force);
@@ -182,13 +191,16 @@ fn main() {
     check.same("added numbers", &all, &words.keys().copied().collect());
 
     // each instruction's conditions, by the numbers of their reasons
-    for (section, case) in [("Move belts", "Belts"), ("Move shuttles", "Shuttles"), ("Tilt", "Tilt"), ("Move lift", "Lift"), ("Rotate", "Rotate")] {
+    for (section, case) in
+        [("Move belts", "Belts"), ("Move shuttles", "Shuttles"), ("Tilt", "Tilt"), ("Move lift", "Lift"), ("Rotate", "Rotate")]
+    {
         let begins = if case == "Rotate" { "clauses Rotate".to_string() } else { format!("clauses ({case} ") };
         let body = definition(&rules, &begins).split("\n    ∷ []").next().unwrap_or_default();
         let reasons: Vec<_> = body.split(" else ").skip(1).flat_map(|rest| rest.lines().next().unwrap_or_default().split(' ')).collect();
         let defined: Vec<_> = reasons.iter().filter_map(|word| cases.get(word).copied()).collect();
         let rows = table(&page, section, if case == "Tilt" { "order | condition, if the shuttle is lowered" } else { "order | condition" });
-        let mut said: Vec<_> = rows.iter().flat_map(|row| row[2..].iter().flat_map(|cell| numbers(cell))).filter(|number| *number <= 41).collect();
+        let mut said: Vec<_> =
+            rows.iter().flat_map(|row| row[2..].iter().flat_map(|cell| numbers(cell))).filter(|number| *number <= 41).collect();
         said.dedup();
         check.same(&format!("conditions of {section}"), &said, &defined);
     }
@@ -207,7 +219,9 @@ fn main() {
 
     // every byte of a message, of a lent station and of a plan's head
     let mut bytes = vec!["0-1", "2-3", "4", "5 on"].into_iter().map(String::from).collect::<Vec<_>>();
-    for kind in ["event", "result", "image", "answer", "held"] { bytes.extend(places(definition(&kinds, &format!("{kind} = record")))); }
+    for kind in ["event", "result", "image", "answer", "held"] {
+        bytes.extend(places(definition(&kinds, &format!("{kind} = record"))));
+    }
     let column_of = |rows: &[Vec<&str>], at: usize| rows.iter().map(|row| row[at].to_string()).collect::<Vec<_>>();
     check.same("bytes of messages", &column_of(&table(&page, "Messages", "kind | bytes"), 1), &bytes);
     check.same("bytes of a station", &column_of(&table(&page, "A fit station", "bytes"), 0), &places(&found("stationOf m =")));
@@ -233,7 +247,12 @@ fn main() {
     });
     let low = of("heightLow");
     let mut expected: Vec<String> = ["0-39", "40-42", "43-45", "46-48", "49-51"].map(String::from).to_vec();
-    expected.extend([of("raisedCar").to_string(), format!("{low}-{}", of("heightHigh")), of("driveIn").to_string(), of("driveOut").to_string()]);
+    expected.extend([
+        of("raisedCar").to_string(),
+        format!("{low}-{}", of("heightHigh")),
+        of("driveIn").to_string(),
+        of("driveOut").to_string(),
+    ]);
     expected.extend(spare);
     check.same("bits of the record", &bits, &expected);
     let slot = definition(&floor, "slot side orientation row = ");

@@ -23,7 +23,7 @@ class Ended(Exception):
 
 
 class Program:
-    """A running station: `Program("bin/station", "--new", "garage.journal")`. Left as a context it is ended."""
+    """A running station: `Program("bin/station", "--new", "north.journal", "--garage", "north")`. Left as a context it is ended."""
 
     def __init__(self, path: Union[str, "os.PathLike[str]"], *words: str):
         # what it tells goes to a file, as a pipe that nobody reads could hold it up

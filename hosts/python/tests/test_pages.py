@@ -46,7 +46,7 @@ class Sessions(unittest.TestCase):
         for session in chosen:
             with tempfile.TemporaryDirectory() as folder:
                 journal, answers = os.path.join(folder, "garage.journal"), []
-                program = Program(ROOT / "bin/station", "--new", journal)
+                program = Program(ROOT / "bin/station", "--new", journal, "--garage", "north")
                 for mark, given in session:
                     if mark == ">":
                         answers.append(program.send(given))

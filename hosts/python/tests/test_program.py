@@ -18,12 +18,12 @@ class Pipe(unittest.TestCase):
         self.journal = os.path.join(folder.name, "garage.journal")
 
     def test_a_journal_and_a_restart(self):
-        with Program(STATION, "--new", self.journal) as program:
+        with Program(STATION, "--new", self.journal, "--garage", "north") as program:
             down = messages.request(["lift basement", "tilt left row 3 tilted"])
             for message in (messages.event(Event.BEGIN_IN), messages.event(Event.END_DONE), down):
                 self.assertTrue(messages.read(program.send(message)).taken)
             self.assertTrue(messages.read(program.send(messages.result(0, 1, Outcome.DONE))).taken)
-        with Program(STATION, self.journal) as program:
+        with Program(STATION, "--garage", "north", self.journal) as program:
             self.assertEqual(messages.read(program.send(messages.ask())), Held(Record(0x00181F0000000000), 0))
             again = messages.read(program.send(messages.result(0, 1, Outcome.DONE)))
             self.assertEqual(again, Answer(Number.ALREADY_ANSWERED))

@@ -26,7 +26,7 @@ fn all_answers(program: &str, inputs: &[Vec<u8>]) -> Vec<u8> {
     }
     let path = std::env::temp_dir().join(format!("sessions.{}", std::process::id()));
     let journal = path.to_str().expect("a name");
-    let mut all = answers(program, &["--new", journal], first);
+    let mut all = answers(program, &["--new", journal, "--garage", "any"], first);
     for input in others {
         all.extend(answers(program, &[journal], input));
     }

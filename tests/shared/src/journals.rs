@@ -7,6 +7,12 @@ use std::process::{Child, Command, Stdio};
 /// The shortest message: an ask for the image.
 pub const ASK: [u8; 4] = [2, 0, 5, 0];
 
+/// The name of the garage whose journals are made here, and the words that make one.
+pub const GARAGE: &str = "north";
+pub fn new(path: &str) -> [&str; 4] {
+    ["--new", path, "--garage", GARAGE]
+}
+
 /// What fails in the station's process.
 #[derive(Clone, Copy)]
 pub enum Trouble {
@@ -50,6 +56,7 @@ extern "C" {
     fn prctl(option: i32, ...) -> i32;
     fn signal(number: i32, handler: usize) -> usize;
     fn setrlimit(resource: i32, limits: &[u64; 2]) -> i32;
+    fn ptrace(request: i64, process: i32, address: usize, data: usize) -> i64;
 }
 
 /// From here on the call fails: its number is looked at, and then its first argument, which is a descriptor.
@@ -90,7 +97,11 @@ impl Trouble {
                 true
             },
         };
-        if begun { Ok(()) } else { Err(io::Error::last_os_error()) }
+        if begun {
+            Ok(())
+        } else {
+            Err(io::Error::last_os_error())
+        }
     }
 }
 
@@ -102,4 +113,11 @@ pub fn started(program: &str, words: &[&str], trouble: Trouble) -> Child {
     // nothing but calls to the system is made there
     unsafe { command.pre_exec(move || trouble.begin()) };
     command.spawn().expect("the station starts")
+}
+
+/// The program will stop at its start, for whoever starts it to follow its calls.
+pub fn follow(command: &mut Command) {
+    let follow_me = 0;
+    let begin = move || if unsafe { ptrace(follow_me, 0, 0, 0) } == 0 { Ok(()) } else { Err(io::Error::last_os_error()) };
+    unsafe { command.pre_exec(begin) };
 }

@@ -10,6 +10,7 @@ pub mod drives;
 pub mod filling;
 pub mod handed;
 pub mod jams;
+pub mod journal_form;
 pub mod journals;
 pub mod lifts;
 pub mod page;
@@ -19,6 +20,7 @@ pub mod plan_traffic;
 pub mod planned;
 pub mod sound_records;
 pub mod texts;
+pub mod traced;
 pub mod traffic;
 pub mod trials;
 

@@ -3,7 +3,8 @@
 
 use super::shown::{paragraphs, Told};
 use super::text;
-use reference::{read_call, serve, Call};
+use reference::{answer, answer_message, read_call, serve, serve_on, Call, Station};
+use shared::journal_form::{Written, BAD_LENGTH, CLOSED, CUT_SHORT, MESSAGES};
 use shared::page::blocks;
 use shared::traffic::input;
 use std::process::{Command, Stdio};
@@ -112,6 +113,68 @@ fn forms(explain: &str) {
     }
 }
 
+/// Journals: what they carry is told with the answers of the station that they begin with, and where each message is in the file. A session that
+/// ended inside a message, or by a length out of range, is told with its answer. One that is torn or damaged is told up to there.
+fn journals(explain: &str) {
+    let (start, mut later) = (Station::start(), Station::start());
+    serve_on(&mut later, &input(70, 400), true);
+    for (seed, first) in [(71, start), (72, later)] {
+        let (mut station, mut expected, mut places) = (first, Vec::new(), Vec::new());
+        let mut journal = Written::begun(b"north", &first);
+        for piece in messages(&input(seed, 200)).chunks(7) {
+            places.extend(piece.iter().scan(journal.bytes.len() + 8, |at, message| {
+                *at += message.len();
+                Some(*at - message.len())
+            }));
+            journal.add(MESSAGES, &piece.concat());
+            expected.extend(serve_on(&mut station, &piece.concat(), true).0);
+        }
+        let whole = journal.clone();
+        for (kind, left, answered) in
+            [(CUT_SHORT, &[6, 0, 3][..], answer(1)), (BAD_LENGTH, &[44, 0, 1, 1], answer(2)), (CLOSED, &[], answer(0))]
+        {
+            if kind != CLOSED {
+                places.push(journal.bytes.len() + 8);
+                expected.extend(answer_message(answered));
+            }
+            journal.add(kind, left);
+        }
+        let (shown, told, well) = text(explain, &journal.bytes);
+        let found = paragraphs(&shown);
+        assert!(well && told.is_empty() && replies(&found) == expected, "seed {seed}: {told}");
+        assert!(found.iter().zip(&places).all(|(told, at)| told.at == format!("byte {at}")), "seed {seed}: places");
+        assert!(
+            shown.contains("the journal is closed") && found.iter().filter(|told| has(told, "the session ended here")).count() == 2,
+            "seed {seed}"
+        );
+        // with a part missing, and with a changed byte
+        let size = whole.bytes.len();
+        for (bytes, words) in [
+            (whole.bytes[..size - 1].to_vec(), "ends inside an append"),
+            ([&whole.bytes[..size - 9], &[whole.bytes[size - 9] ^ 1], &whole.bytes[size - 8..]].concat(), "is damaged"),
+        ] {
+            let (shown, told, well) = text(explain, &bytes);
+            let fewer = replies(&paragraphs(&shown));
+            assert!(
+                !well
+                    && told.starts_with("explain: byte ")
+                    && told.contains(words)
+                    && expected.starts_with(&fewer)
+                    && fewer.len() < expected.len(),
+                "seed {seed}: {told}"
+            );
+        }
+        for (at, words) in [(20, "format"), (100, "head is damaged")] {
+            let mut bytes = whole.bytes.clone();
+            bytes[at] ^= 1;
+            let (shown, told, well) = text(explain, &bytes);
+            assert!(!well && shown.is_empty() && told.contains(words), "seed {seed}: {told}");
+        }
+        let (_, told, well) = text(&format!("{explain} --from 00000000001B0900"), &whole.bytes);
+        assert!(!well && told.contains("its own beginning"), "{told}");
+    }
+}
+
 /// Whether a line of a session is one whole message, or answered, or has a length out of range: those out of step are the program's alone.
 fn in_step(line: &str) -> bool {
     let bytes: Vec<&str> = line.split_whitespace().collect();
@@ -211,6 +274,7 @@ fn words(explain: &str, words: &[&str]) -> (String, String, Option<i32>) {
 
 pub fn all(explain: &str, page: &str) {
     forms(explain);
+    journals(explain);
     let sessions = sessions(explain, page);
     let (texts, given) = (wrong_texts(), wrong_words());
     for (input, expected) in &texts {

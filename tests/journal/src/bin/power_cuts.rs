@@ -1,10 +1,11 @@
 //! The journal under power cuts: `power_cuts PROGRAM DIRECTORY CUTS`. A client sends messages to the station and notes the answers, the
 //! station is killed at a random moment, and started again on its journal, so many times. The program is started as it is, not by a script,
-//! so that what is killed is the station itself. After each cut the journal must be what it was before and then the messages that were sent,
-//! in order, up to some byte; every message that was answered must be in it; and every answer must be the reference's, on one station that
-//! has gone on through all cuts. What must have come besides, or the run fails, stands in `Came`.
+//! so that what is killed is the station itself. After each cut the journal must be what it was before and then appends with the messages that
+//! were sent, in order, up to some byte; every message that was answered must be in it; and every answer must be the reference's, on one
+//! station that has gone on through all cuts. What must have come besides, or the run fails, stands in `Came`.
 
-use shared::journals::{started, Trouble, ASK};
+use shared::journal_form::{read, Read as Journal, Written, MESSAGES};
+use shared::journals::{new, started, Trouble, ASK};
 use shared::pipes::messages_in;
 use shared::reference::{drive_under_way, read_call, serve_on, Call, Station, START};
 use shared::traffic::{framed_message, image, result, Numbers};
@@ -27,7 +28,7 @@ struct Came {
     /// Sessions whose journal has messages that were not answered any more, and that has not all that was sent.
     kept_unanswered: usize,
     not_kept: usize,
-    /// Starts on a journal that ends inside a message.
+    /// Starts on a journal that ends inside an append.
     torn: usize,
     /// Cuts with a set outstanding, with a drive under way and with something set apart.
     set_over: usize,
@@ -91,7 +92,9 @@ fn session(numbers: &mut Numbers, from: &Station, count: u64) -> Vec<(Vec<u8>, u
 /// Sends each message when the one before is answered, as a planner does that waits.
 fn in_step(mut to: impl Write, messages: &[(Vec<u8>, usize)], back: &Back) {
     for (message, answers) in messages {
-        if to.write_all(message).is_err() || !back.wait_for(*answers) { break; }
+        if to.write_all(message).is_err() || !back.wait_for(*answers) {
+            break;
+        }
     }
 }
 
@@ -102,13 +105,19 @@ fn ahead(mut to: impl Write, messages: &[(Vec<u8>, usize)], seed: u64) {
     while !rest.is_empty() {
         let most = if sizes.one_in(3) { 9 } else { 2500 };
         let (piece, more) = rest.split_at(rest.len().min(1 + sizes.below(most) as usize));
-        if to.write_all(piece).is_err() { break; }
+        if to.write_all(piece).is_err() {
+            break;
+        }
         rest = more;
-        if sizes.one_in(6) { thread::sleep(Duration::from_micros(sizes.below(1000))); }
+        if sizes.one_in(6) {
+            thread::sleep(Duration::from_micros(sizes.below(1000)));
+        }
     }
 }
 
-fn sent(messages: &[(Vec<u8>, usize)]) -> Vec<u8> { messages.iter().flat_map(|(message, _)| message).copied().collect() }
+fn sent(messages: &[(Vec<u8>, usize)]) -> Vec<u8> {
+    messages.iter().flat_map(|(message, _)| message).copied().collect()
+}
 
 /// A session that is cut: at any moment from its start on, or when some of the answers have come and a moment later. What was sent, and
 /// what came back.
@@ -134,7 +143,9 @@ fn cut_session(program: &str, journal: &str, numbers: &mut Numbers, from: &Stati
         loop {
             let n = from.read(&mut room).expect("what the station writes");
             heard.comes(n, n == 0);
-            if n == 0 { return all; }
+            if n == 0 {
+                return all;
+            }
             all.extend(&room[..n]);
         }
     });
@@ -144,15 +155,29 @@ fn cut_session(program: &str, journal: &str, numbers: &mut Numbers, from: &Stati
     thread::sleep(Duration::from_micros(moment));
     child.kill().expect("the station is killed");
     let ended = child.wait_with_output().expect("the station has ended");
-    assert!(ended.stderr.is_empty(), "the station has told: {}", String::from_utf8_lossy(&ended.stderr));
+    noted(&ended.stderr);
     writer.join().expect("the writer ends");
     (bytes, reader.join().expect("the reader ends"))
 }
 
+/// Nothing is told but that a tail was cut off.
+fn noted(told: &[u8]) {
+    let told = String::from_utf8_lossy(told);
+    assert!(told.lines().all(|line| line.starts_with("station: note: ")), "the station has told: {told}");
+}
+
+/// The journal's bytes and what they say.
+fn journal_in(path: &str) -> (Vec<u8>, Journal) {
+    let bytes = fs::read(path).expect("the journal");
+    let says = read(&bytes).unwrap_or_else(|why| panic!("the journal is rejected: {why:?}"));
+    assert!(says.starts(), "the journal is damaged at byte {}", says.whole);
+    (bytes, says)
+}
+
 /// The session held against the journal that it left, and the reference taken on over what is in it.
-fn looked_at(before: &[u8], now: &[u8], (sent, back): (&[u8], &[u8]), station: &mut Station, came: &mut Came) -> usize {
-    assert!(now.starts_with(before), "the journal has lost something that it had");
-    let kept = &now[before.len()..];
+fn looked_at(before: &Journal, now: &Journal, (sent, back): (&[u8], &[u8]), station: &mut Station, came: &mut Came) -> usize {
+    assert!(now.appends.starts_with(&before.appends), "the journal has lost something that it had");
+    let kept = &now.recorded()[before.recorded().len()..];
     assert!(sent.starts_with(kept), "the journal has what was not sent");
     let (mut answers, mut messages, cut) = (Vec::new(), 0, *station);
     for message in messages_in(kept) {
@@ -176,9 +201,9 @@ fn looked_at(before: &[u8], now: &[u8], (sent, back): (&[u8], &[u8]), station: &
     messages
 }
 
-/// A tail that is cut short, as a power cut may leave one: some bytes of a message, but not all.
-fn tear(journal: &str, numbers: &mut Numbers, station: &Station) {
-    let next = framed_message(numbers, station);
+/// A tail that is cut short, as a power cut may leave one: some bytes of an append, but not all.
+fn tear(journal: &str, sum: u32, numbers: &mut Numbers, station: &Station) {
+    let next = Written { bytes: Vec::new(), sum }.with(MESSAGES, &framed_message(numbers, station)).bytes;
     let size = 1 + numbers.below(next.len() as u64 - 1) as usize;
     fs::OpenOptions::new().append(true).open(journal).expect("the journal").write_all(&next[..size]).expect("a tail");
 }
@@ -188,7 +213,8 @@ fn asked(program: &str, words: &[&str]) -> Vec<u8> {
     let mut child = started(program, words, Trouble::Nothing);
     child.stdin.take().expect("a pipe").write_all(&ASK).expect("an ask");
     let ended = child.wait_with_output().expect("the station ends");
-    assert!(ended.stderr.is_empty() && ended.status.success(), "the station has told: {}", String::from_utf8_lossy(&ended.stderr));
+    noted(&ended.stderr);
+    assert!(ended.status.success(), "the station has ended badly");
     ended.stdout
 }
 
@@ -196,22 +222,30 @@ fn main() {
     let words: Vec<String> = std::env::args().collect();
     let [_, program, directory, cuts] = &words[..] else { panic!("usage: power_cuts PROGRAM DIRECTORY CUTS") };
     let journal = format!("{directory}/power-cuts.journal");
-    if Path::new(&journal).exists() { fs::remove_file(&journal).expect("an old journal goes"); }
+    if Path::new(&journal).exists() {
+        fs::remove_file(&journal).expect("an old journal goes");
+    }
     let (mut numbers, mut station, mut came, mut messages) = (Numbers(25), Station::start(), Came::default(), 1);
-    assert!(asked(program, &["--new", &journal]) == serve_on(&mut station, &ASK, true).0, "the first image");
+    assert!(asked(program, &new(&journal)) == serve_on(&mut station, &ASK, true).0, "the first image");
     let cuts: usize = cuts.parse().expect("a number");
-    let whole_of = |bytes: &[u8]| messages_in(bytes).map(<[u8]>::len).sum::<usize>();
+    drop(fs::remove_file(format!("{journal}.torn")));
+    let mut cut_off = 0;
     for cut in 0..cuts {
-        let before = fs::read(&journal).expect("the journal");
-        let whole = whole_of(&before);
+        let (bytes, before) = journal_in(&journal);
         // one tail at a time: a station that is killed before it has looked at its journal leaves the last one there
-        if cut % 3 == 1 && whole == before.len() { tear(&journal, &mut numbers, &station); }
+        if cut % 3 == 1 && before.whole == bytes.len() {
+            tear(&journal, before.sum, &mut numbers, &station);
+        }
         let held = fs::read(&journal).expect("the journal");
-        came.torn += usize::from(whole < held.len());
+        came.torn += usize::from(before.whole < held.len());
         let (sent, back) = cut_session(program, &journal, &mut numbers, &station);
-        let now = fs::read(&journal).expect("the journal");
-        let untouched = back.is_empty() && now == held;
-        messages += looked_at(&held[..whole], if untouched { &held[..whole] } else { &now }, (&sent, &back), &mut station, &mut came);
+        let (now, says) = journal_in(&journal);
+        // a tail is in the journal, or beside it, or both
+        let torn = fs::read(format!("{journal}.torn")).unwrap_or_default();
+        let kept = torn[cut_off..].windows((held.len() - before.whole).max(1)).any(|window| window == &held[before.whole..]);
+        assert!(before.whole == held.len() || now == held || kept, "a tail that was cut off is lost");
+        cut_off = torn.len();
+        messages += looked_at(&before, &says, (&sent, &back), &mut station, &mut came);
     }
     assert!(asked(program, &[&journal]) == serve_on(&mut station, &ASK, true).0, "the last image");
     if !came.all() {

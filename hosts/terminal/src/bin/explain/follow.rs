@@ -12,6 +12,9 @@ pub const DRIVE_OUT: u64 = 1 << 56;
 /// Where a station has the issue of the next set, and what is set apart.
 const ISSUE: std::ops::Range<usize> = 50..52;
 const APART: std::ops::Range<usize> = 52..60;
+/// Where it has which instructions of its set are answered, and an ending that it does not keep.
+const MARKS: usize = 9;
+const UNKNOWN: u8 = u8::MAX;
 /// Where a desk has the number of a drive-in under way, of its four-byte places behind the station.
 const WAITS: usize = 41;
 /// Places of numbers in a desk.
@@ -67,6 +70,16 @@ impl Follower {
         follower.take_image(record, cards);
         follower.desk[APART].copy_from_slice(&apart.0.to_le_bytes());
         follower.desk[ISSUE].copy_from_slice(&issue.to_le_bytes());
+        follower
+    }
+
+    /// From a station on, as a journal's head has it. How instructions of its set have ended is not known there.
+    pub fn from_station(station: &[u8; Station::SIZE]) -> Self {
+        let mut follower = Follower::start();
+        follower.take_image(Record(number_in(&station[..8])), None);
+        follower.desk[..Station::SIZE].copy_from_slice(station);
+        let marked = |at: usize| station[MARKS] >> at & 1 == 1;
+        follower.endings = std::array::from_fn(|at| marked(at).then_some(UNKNOWN));
         follower
     }
 

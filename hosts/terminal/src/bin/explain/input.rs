@@ -15,6 +15,10 @@ pub enum Item {
     Cards { all: Cards, begin: bool },
     /// The station was started again on its journal.
     Restarted,
+    /// A session of a journal has ended with these bytes, which are no message; the next one goes on.
+    Stopped { bytes: Vec<u8> },
+    /// The journal is closed: another follows it.
+    Closed,
     /// Nothing can be read from here on: what was expected and found, and the bytes of the message that isn't whole, if there are any.
     Damaged { bytes: Vec<u8>, answered: bool, why: Wrong },
 }

@@ -4,12 +4,14 @@
 mod floor;
 mod follow;
 mod input;
+mod journal;
 mod message;
 mod text;
 mod why;
 
 use follow::{named_cars, Cards, Follower};
 use input::{bytes_in, cards, Bytes, Hex, Item, Placed};
+use journal::{is_journal, Journal};
 use message::two_numbers;
 use station::words::Wrong;
 use station::{Parts, Record};
@@ -99,6 +101,20 @@ fn explained(mut next: impl FnMut() -> Read, mut explainer: Explainer, out: &mut
     Ok(right)
 }
 
+/// A journal, which begins with its own station, or other recorded bytes.
+fn recorded(from: bool, follower: Follower, explainer: impl Fn(Follower) -> Explainer, out: &mut impl Write) -> Result<bool, Wrong> {
+    let mut input = io::BufReader::new(io::stdin().lock());
+    if !is_journal(&mut input)? {
+        let mut input = Bytes::recorded(input);
+        return explained(|| input.next(), explainer(follower), out);
+    }
+    if from {
+        return Err("--from: a journal has its own beginning".to_string());
+    }
+    let (mut journal, station) = Journal::opened(input)?;
+    explained(|| journal.next(), explainer(Follower::from_station(&station)), out)
+}
+
 fn main() -> ExitCode {
     let told = |why: &str, status: u8| {
         eprintln!("explain: {why}");
@@ -114,17 +130,16 @@ fn main() -> ExitCode {
         Err(why) => return told(&why, 2),
     };
     let both_ways = given.hex || !given.digits.is_empty();
-    let explainer = Explainer::new(follower, given.shows, both_ways);
+    let explainer = |follower| Explainer::new(follower, given.shows, both_ways);
     let out = &mut io::BufWriter::new(io::stdout().lock());
     let done = if !given.digits.is_empty() {
         let mut input = Bytes::mixed(io::Cursor::new(&given.digits));
-        explained(|| input.next(), explainer, out)
+        explained(|| input.next(), explainer(follower), out)
     } else if given.hex {
         let mut input = Hex::new(io::stdin().lock());
-        explained(|| input.next(), explainer, out)
+        explained(|| input.next(), explainer(follower), out)
     } else {
-        let mut input = Bytes::recorded(io::BufReader::new(io::stdin().lock()));
-        explained(|| input.next(), explainer, out)
+        recorded(given.from.is_some(), follower, explainer, out)
     };
     match done {
         Ok(true) => ExitCode::SUCCESS,

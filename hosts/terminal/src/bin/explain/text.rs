@@ -122,6 +122,12 @@ impl Explainer {
             }
             Item::Restarted if self.shows.quiet => Said { text: String::new(), wrong: None },
             Item::Restarted => Said { text: format!("{at}: the station was started again on its journal, and goes on\n\n"), wrong: None },
+            Item::Stopped { bytes } => {
+                let mut said = self.sent(&at, &bytes);
+                said.text.insert_str(said.text.len() - 1, "  the session ended here; the next one goes on from the journal\n");
+                said
+            }
+            Item::Closed => Said { text: format!("{at}: the journal is closed, and another follows it\n\n"), wrong: None },
             Item::Damaged { bytes, answered, why } => {
                 let mut text = String::new();
                 if !bytes.is_empty() && !answered {

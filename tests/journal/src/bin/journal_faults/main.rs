@@ -3,15 +3,17 @@
 //! or a second station is needed. Where the station must not start or go on, it answers nothing more, says one line on standard error, and
 //! leaves what is in the journal. At the end the time to the first answer is measured, with a journal of so many messages.
 
-use shared::journals::{started, Call, Trouble, ASK, INPUT_OUTPUT_ERROR, NO_SPACE_LEFT};
+mod files;
+
+use shared::journal_form::{journal_of, read, Written, BAD_LENGTH, CUT_SHORT, MESSAGES};
+use shared::journals::{new, started, Call, Trouble, ASK, GARAGE, INPUT_OUTPUT_ERROR, NO_SPACE_LEFT};
 use shared::pipes::messages_in;
 use shared::reference::{serve, serve_on, Station};
-use shared::traffic::{input, message, Numbers};
+use shared::traffic::{input, Numbers};
 use std::fs;
 use std::io::{Read, Write};
-use std::os::unix::fs::PermissionsExt;
 use std::path::Path;
-use std::process::{Child, Command, Output};
+use std::process::{Child, Output};
 use std::thread;
 use std::time::{Duration, Instant};
 
@@ -41,8 +43,18 @@ fn not_started(what: &str, status: Option<i32>, output: &Output) {
     one_line(what, &output.stderr);
 }
 
-/// How many bytes of these are whole messages.
-fn whole(bytes: &[u8]) -> usize { messages_in(bytes).map(<[u8]>::len).sum() }
+/// The messages that the journal in a file has, which must be one, whole or torn; and its whole bytes.
+fn kept(path: &str) -> (Vec<u8>, Vec<u8>) {
+    let bytes = fs::read(path).expect("the journal");
+    let read = read(&bytes).unwrap_or_else(|why| panic!("the journal is rejected: {why:?}"));
+    assert!(read.starts() && read.name == GARAGE.as_bytes(), "the journal is closed, damaged or another garage's");
+    (read.recorded(), bytes[..read.whole].to_vec())
+}
+
+/// A journal with these messages.
+fn journal(messages: &[u8]) -> Vec<u8> {
+    journal_of(GARAGE.as_bytes(), messages)
+}
 
 /// What the reference answers to an ask after some messages.
 fn image_after(bytes: &[u8]) -> Vec<u8> {
@@ -67,7 +79,9 @@ struct Place<'a> {
 }
 
 impl Place<'_> {
-    fn file(&self, name: &str) -> String { format!("{}/{name}.journal", self.directory) }
+    fn file(&self, name: &str) -> String {
+        format!("{}/{name}.journal", self.directory)
+    }
 
     /// A file with these bytes.
     fn with(&self, name: &str, bytes: &[u8]) -> String {
@@ -79,127 +93,124 @@ impl Place<'_> {
     /// A file that is not there.
     fn without(&self, name: &str) -> String {
         let path = self.file(name);
-        if Path::new(&path).exists() { fs::remove_file(&path).expect("an old file goes"); }
+        if Path::new(&path).exists() {
+            fs::remove_file(&path).expect("an old file goes");
+        }
         path
     }
 
-    /// What is asked for in the wrong way.
-    fn asked_wrong(&self) {
-        let path = self.with("there", &ASK);
-        let wrong: [(&str, &[&str]); 6] = [
-            ("an unknown word", &["--old", &path]),
-            ("an unknown word alone", &["--other"]),
-            ("two journals", &[&path, &path]),
-            ("a new journal without its name", &["--new"]),
-            ("two words too many", &["--new", &path, &path]),
-            ("no name", &[""]),
-        ];
-        for (what, words) in wrong { not_started(what, Some(2), &run(self.script, words, &ASK, Trouble::Nothing)); }
-        assert!(fs::read(&path).expect("the file") == ASK, "wrong words have changed a journal");
-    }
-
-    /// Files that are not what they should be.
-    fn not_there(&self) {
-        let by_script = |words: &[&str]| run(self.script, words, &ASK, Trouble::Nothing);
-        let path = self.without("missing");
-        not_started("a journal that is not there", Some(1), &by_script(&[&path]));
-        assert!(!Path::new(&path).exists(), "a wrong path has made a journal");
-        let path = self.with("there", &input(7, 300));
-        not_started("a new journal that is there", Some(1), &by_script(&["--new", &path]));
-        assert!(fs::read(&path).expect("the file") == input(7, 300), "a journal that was there has changed");
-        not_started("a directory", Some(1), &by_script(&[self.directory]));
-        not_started("a new journal in no directory", Some(1), &by_script(&["--new", &format!("{}/none/new", self.directory)]));
-        not_started("a name that is too long", Some(1), &by_script(&[&"n".repeat(5000)]));
-        let pipe = self.without("pipe");
-        assert!(Command::new("mkfifo").arg(&pipe).status().is_ok_and(|made| made.success()), "a pipe");
-        not_started("a pipe", Some(1), &by_script(&[&pipe]));
-        // nothing stands at the start of a process's memory
-        not_started("a file that can't be read", Some(1), &by_script(&["/proc/self/mem"]));
-        not_started("a device without a disk", Some(1), &by_script(&["/dev/null"]));
-        not_started("a device that is always full", Some(1), &by_script(&["/dev/full"]));
-        // the program as it is: root would be let in by the script
-        fs::set_permissions(&path, fs::Permissions::from_mode(0o444)).expect("a mode");
-        not_started("a journal that can't be written", None, &run(self.program, &[&path], &ASK, Trouble::ModeHolds));
-        fs::set_permissions(&path, fs::Permissions::from_mode(0o644)).expect("a mode");
-    }
-
-    /// A length out of range, anywhere.
-    fn damaged(&self) {
-        let messages = input(7, 300);
-        let half = whole(&messages[..messages.len() / 2]);
-        for (what, at) in [("damaged at its start", 0), ("damaged in the middle", half), ("damaged at its end", messages.len())] {
-            for length in [[0, 0], [1, 0], [44, 0], [2, 1], [255, 255]] {
-                let bytes = [&messages[..at], &length, &messages[at..]].concat();
-                let path = self.with("damaged", &bytes);
-                let output = run(self.program, &[&path], &ASK, Trouble::Nothing);
-                assert!(output.stdout.is_empty() && output.stderr.starts_with(b"station: "), "{what} by {length:?}: it has started");
-                assert!(String::from_utf8_lossy(&output.stderr).contains(&format!(" {at} ")), "{what} by {length:?}: where is not told");
-                assert!(fs::read(&path).expect("the file") == bytes, "{what} by {length:?}: the journal has changed");
-            }
-            not_started(what, Some(1), &run(self.script, &[&self.file("damaged")], &ASK, Trouble::Nothing));
-        }
-    }
-
-    /// A tail that is cut short at every byte of a message is cut off, and nothing else. A journal that has nothing yet, and one that is new.
+    /// What is there of an append that the file ends inside of, or whose rest is zeros, is cut off and kept beside the journal, and nothing
+    /// else. A journal that has nothing yet, and one that is new.
     fn torn(&self) {
-        let (messages, last) = (input(8, 40), message(4, &[9; 16]));
-        for size in 0..last.len() {
-            let path = self.with("torn", &[&messages[..], &last[..size]].concat());
+        let (messages, last) = (input(8, 40), input(9, 3));
+        let whole = journal(&messages);
+        let next =
+            read(&whole).map(|read| Written { bytes: Vec::new(), sum: read.sum }.with(MESSAGES, &last).bytes).ok().expect("a journal");
+        let tails = (1..next.len()).map(|size| next[..size].to_vec()).chain([1, 7, 8, 12, 500, 65_549].map(|size| vec![0; size]));
+        let mut before = Vec::new();
+        for (time, tail) in tails.enumerate() {
+            let path = self.with("torn", &[&whole[..], &tail].concat());
+            if time == 0 {
+                drop(fs::remove_file(format!("{path}.torn")));
+            }
             let output = run(self.program, &[&path], &ASK, Trouble::Nothing);
-            assert!(output.stdout == image_after(&messages) && output.stderr.is_empty(), "{size} bytes of a message at the end");
-            assert!(fs::read(&path).expect("the journal") == [&messages[..], &ASK].concat(), "a tail of {size} bytes is left");
+            let told = String::from_utf8_lossy(&output.stderr);
+            assert!(output.stdout == image_after(&messages), "{} bytes of an append at the end", tail.len());
+            assert!(
+                told.starts_with("station: note: ") && told.ends_with('\n') && told.matches('\n').count() == 1,
+                "of a tail it told {told:?}"
+            );
+            assert!(
+                told.contains(&format!(" {} bytes", tail.len())) && told.contains(&format!(" {} ", whole.len())),
+                "of a tail it told {told:?}"
+            );
+            before.extend(&tail);
+            assert!(fs::read(format!("{path}.torn")).is_ok_and(|kept| kept == before), "a tail of {} bytes is not kept", tail.len());
+            assert!(kept(&path).0 == [&messages[..], &ASK].concat(), "a tail of {} bytes is left", tail.len());
         }
-        let path = self.with("torn", &[&messages[..], &last[..9]].concat());
-        not_started("a tail that can't be cut off", None, &run(self.program, &[&path], &ASK, Trouble::Fails(Call::Cut, INPUT_OUTPUT_ERROR)));
-        let path = self.with("empty", &[]);
-        assert_eq!(run(self.program, &[&path], &ASK, Trouble::Nothing).stdout, image_after(&[]), "an empty journal");
+        let path = self.with("torn", &[&whole[..], &next[..9]].concat());
+        let output = run(self.script, &[&path], &ASK, Trouble::Nothing);
+        assert!(output.status.success(), "a note makes the status {:?}", output.status);
+        one_line("a torn journal", &output.stderr);
+        let path = self.with("torn", &[&whole[..], &next[..9]].concat());
+        let uncut = run(self.program, &[&path], &ASK, Trouble::Fails(Call::Cut, INPUT_OUTPUT_ERROR));
+        assert!(uncut.stdout.is_empty() && String::from_utf8_lossy(&uncut.stderr).contains("can't be cut"), "a tail that can't be cut off");
+        let path = self.with("torn", &[&whole[..], &next[..9]].concat());
+        let unkept = run(self.program, &[&path], &ASK, Trouble::Fails(Call::Write, NO_SPACE_LEFT));
+        assert!(
+            unkept.stdout.is_empty() && fs::read(&path).expect("the journal").len() == whole.len() + 9,
+            "a tail that can't be kept is cut off"
+        );
+        let path = self.with("begun", &journal(&[]));
+        assert_eq!(run(self.program, &[&path], &ASK, Trouble::Nothing).stdout, image_after(&[]), "a journal without a message");
         let path = self.without("a new one, with spaces in its name");
-        assert_eq!(run(self.script, &["--new", &path], &ASK, Trouble::Nothing).stdout, image_after(&[]), "a new journal");
-        assert_eq!(fs::read(&path).expect("the journal"), ASK);
+        assert_eq!(run(self.script, &new(&path), &ASK, Trouble::Nothing).stdout, image_after(&[]), "a new journal");
+        assert_eq!(fs::read(&path).expect("the journal"), journal(&ASK), "a new journal");
     }
 
-    /// What stops a session is answered, and is not in the journal.
+    /// What stops a session is answered, and is noted in the journal, but is no message of it.
     fn stops(&self) {
         let messages = input(9, 60);
-        for end in [&[1, 0][..], &[44, 0], &[9], &[6, 0, 3, 0, 1]] {
-            let path = self.without("stops");
-            let bytes = [&messages[..], end].concat();
-            assert_eq!(run(self.program, &["--new", &path], &bytes, Trouble::Nothing).stdout, serve(&bytes), "a session that ends in {end:?}");
-            assert!(fs::read(&path).expect("the journal") == messages, "{end:?} is in the journal, or something is not");
+        for end in [&[1, 0][..], &[44, 0], &[255, 255, 7], &[9], &[6, 0, 3, 0, 1], &[43; 44], &[0; 60]] {
+            let (path, bytes) = (self.without("stops"), [&messages[..], end].concat());
+            let answers = serve(&bytes);
+            assert_eq!(run(self.program, &new(&path), &bytes, Trouble::Nothing).stdout, answers, "a session that ends in {end:?}");
+            let read = read(&fs::read(&path).expect("the journal")).ok().expect("a journal");
+            assert!(read.recorded() == messages, "{end:?} is among the messages, or one of them is not");
+            let last = read.appends.last().expect("an append");
+            let kind = if answers[answers.len() - 4] == 1 { CUT_SHORT } else { BAD_LENGTH };
+            assert!(
+                last.kind == kind && !last.carried.is_empty() && end.starts_with(&last.carried),
+                "what ended a session is noted as {last:?}"
+            );
+            // a whole session after it, which nothing ends
+            assert_eq!(
+                run(self.program, &[&path], &ASK, Trouble::Nothing).stdout,
+                image_after(&messages),
+                "after a session that ended in {end:?}"
+            );
+            assert_eq!(kept(&path).0, [&messages[..], &ASK].concat());
         }
     }
 
     /// A device that gets full: what fits is answered, what does not is not, and the restart goes on from what is whole.
     fn full(&self) {
         let (path, bytes) = (self.without("full"), input(10, 3000));
-        let mut station = started(self.program, &["--new", &path], Trouble::FullAt(8000));
+        let mut station = started(self.program, &new(&path), Trouble::FullAt(8000));
         let (mut model, mut sent, mut back) = (Station::start(), 0, Vec::<u8>::new());
         for messages in messages_in(&bytes).collect::<Vec<_>>().chunks(40) {
             let piece = messages.concat();
             let answers = serve_on(&mut model, &piece, true).0.len();
             let came = exchanged(&mut station, &piece, answers);
             back.extend(&came);
-            if came.len() < answers { break; }
+            if came.len() < answers {
+                break;
+            }
             sent += piece.len();
         }
         let ended = station.wait_with_output().expect("it ends");
         one_line("a device that gets full", &ended.stderr);
-        let journal = fs::read(&path).expect("the journal");
-        assert!(journal.len() == 8000 && bytes.starts_with(&journal), "a full device: the journal is not what was sent");
-        assert!(sent > 0 && back == serve(&bytes[..sent]) && sent <= journal.len(), "a full device: answered and not kept, or not answered");
-        let kept = &journal[..whole(&journal)];
-        assert_eq!(run(self.program, &[&path], &ASK, Trouble::Nothing).stdout, image_after(kept), "after a full device");
+        let (messages, _) = kept(&path);
+        assert!(
+            fs::metadata(&path).is_ok_and(|file| file.len() == 8000) && bytes.starts_with(&messages),
+            "a full device: the journal is not what was sent"
+        );
+        assert!(
+            sent > 0 && back == serve(&bytes[..sent]) && sent <= messages.len(),
+            "a full device: answered and not kept, or not answered"
+        );
+        assert_eq!(run(self.program, &[&path], &ASK, Trouble::Nothing).stdout, image_after(&messages), "after a full device");
     }
 
     /// A limit on a file's size, which ends a process by a signal: the command's program says one line, and what it answered is kept.
     fn limited(&self) {
         let (path, bytes) = (self.without("limited"), input(10, 3000));
-        let output = run(self.script, &["--new", &path], &bytes, Trouble::LimitedTo(8000));
+        let output = run(self.script, &new(&path), &bytes, Trouble::LimitedTo(8000));
         assert_eq!(output.status.code(), Some(1), "a limit on a file's size");
         one_line("a limit on a file's size", &output.stderr);
-        let journal = fs::read(&path).expect("the journal");
-        assert!(bytes.starts_with(&journal) && serve(&journal[..whole(&journal)]).starts_with(&output.stdout), "a limit: answered and not kept");
-        assert_eq!(run(self.program, &[&path], &ASK, Trouble::Nothing).stdout, image_after(&journal[..whole(&journal)]), "after a limit");
+        let (messages, _) = kept(&path);
+        assert!(bytes.starts_with(&messages) && serve(&messages).starts_with(&output.stdout), "a limit: answered and not kept");
+        assert_eq!(run(self.program, &[&path], &ASK, Trouble::Nothing).stdout, image_after(&messages), "after a limit");
     }
 
     /// Calls that fail: nothing is answered, and no message is in the journal that was answered and is lost.
@@ -212,28 +223,27 @@ impl Place<'_> {
             ("a journal whose start doesn't", Call::Sync, INPUT_OUTPUT_ERROR, &messages),
         ];
         for (what, call, error, before) in failing {
-            let path = self.with("failing", before);
+            let path = self.with("failing", &journal(before));
             not_started(what, None, &run(self.program, &[&path], &ASK, Trouble::Fails(call, error)));
-            let journal = fs::read(&path).expect("the journal");
-            assert!(journal == *before || journal == [before, &ASK].concat(), "{what}: the journal has changed");
-            assert_eq!(run(self.program, &[&path], &ASK, Trouble::Nothing).stdout, image_after(&journal), "after that");
+            let (messages, _) = kept(&path);
+            assert!(messages == *before || messages == [before, &ASK].concat(), "{what}: the journal has changed");
+            assert_eq!(run(self.program, &[&path], &ASK, Trouble::Nothing).stdout, image_after(&messages), "after that");
         }
         let path = self.without("failing");
-        let unnamed = run(self.program, &["--new", &path], &ASK, Trouble::Fails(Call::Sync, INPUT_OUTPUT_ERROR));
-        not_started("a new journal whose name doesn't come to the disk", None, &unnamed);
-        assert!(String::from_utf8_lossy(&unnamed.stderr).contains("folder"), "a new journal's name is not waited for");
-        // a read without a whole message asks nothing of the disk
-        let path = self.with("failing", &messages);
+        let unnamed = run(self.program, &new(&path), &ASK, Trouble::Fails(Call::Sync, INPUT_OUTPUT_ERROR));
+        not_started("a new journal that doesn't come to the disk", None, &unnamed);
+        // what ends a session is answered when it is noted
+        let path = self.with("failing", &journal(&messages));
         for call in [Call::Write, Call::SyncData] {
             let cut = run(self.program, &[&path], &ASK[..3], Trouble::Fails(call, INPUT_OUTPUT_ERROR));
-            assert!(cut.stdout == serve(&ASK[..3]) && cut.stderr.is_empty(), "less than a message is kept, or waited for");
+            assert!(cut.stdout.is_empty() && !cut.stderr.is_empty(), "what ended a session is answered and not noted");
         }
     }
 
     /// Two stations on one journal, the second begun when the first has answered: the first finds it longer than it should be, stops, and
     /// answers nothing more. The second goes on.
     fn shared(&self) {
-        let path = self.with("shared", &[]);
+        let path = self.with("shared", &journal(&[]));
         let image = image_after(&[]);
         let mut one = started(self.program, &[&path], Trouble::Nothing);
         assert_eq!(exchanged(&mut one, &ASK, 20), image);
@@ -243,7 +253,9 @@ impl Place<'_> {
         one_line("a shared journal", &one.wait_with_output().expect("it ends").stderr);
         assert_eq!(exchanged(&mut other, &ASK, 20), image, "the second goes on");
         assert!(other.wait_with_output().expect("it ends").stderr.is_empty());
-        assert!(fs::read(&path).expect("the journal") == ASK.repeat(3));
+        // both have appended behind the same end: the second's is wrong there
+        let read = read(&fs::read(&path).expect("the journal")).ok().expect("a journal");
+        assert!(!read.appends.is_empty(), "what the first has answered is lost");
     }
 
     /// A journal that is taken away under a running station: renamed, removed, or replaced by a copy. It is noticed at the next append, and
@@ -260,13 +272,15 @@ impl Place<'_> {
         ];
         for (what, take_away) in taken_away {
             let path = self.without("moved");
-            assert!(run(self.program, &["--new", &path], &ASK, Trouble::Nothing).stderr.is_empty(), "a new journal");
+            assert!(run(self.program, &new(&path), &ASK, Trouble::Nothing).stderr.is_empty(), "a new journal");
             let mut station = started(self.program, &[&path], Trouble::Nothing);
             assert_eq!(exchanged(&mut station, &ASK, 20), image_after(&[]));
             take_away(&path, &aside);
             assert_eq!(exchanged(&mut station, &ASK, 20), [], "{what}: it has answered");
             one_line(what, &station.wait_with_output().expect("it ends").stderr);
-            if Path::new(&path).exists() { assert_eq!(fs::read(&path).expect("the other one"), ASK.repeat(2), "{what}: the other one has changed"); }
+            if Path::new(&path).exists() {
+                assert_eq!(kept(&path).0, ASK.repeat(2), "{what}: the other one has changed");
+            }
         }
     }
 
@@ -274,17 +288,19 @@ impl Place<'_> {
     fn raced(&self, times: u64) {
         let mut answered = 0;
         for time in 0..times {
-            let path = self.with("raced", &[]);
+            let path = self.with("raced", &journal(&[]));
             let mut both = [(); 2].map(|()| started(self.program, &[&path], Trouble::Nothing));
             let inputs = [input(100 + time, 30), input(200 + time, 30)];
             both.iter().for_each(|station| opened(station.id(), &path));
-            for (station, bytes) in both.iter_mut().zip(&inputs) { drop(station.stdin.take().expect("a pipe").write_all(bytes)); }
+            for (station, bytes) in both.iter_mut().zip(&inputs) {
+                drop(station.stdin.take().expect("a pipe").write_all(bytes));
+            }
             let ended = both.map(|station| station.wait_with_output().expect("it ends"));
-            let journal = fs::read(&path).expect("the journal");
+            let messages = read(&fs::read(&path).expect("the journal")).ok().expect("a journal").recorded();
             let answering: Vec<_> = ended.iter().zip(&inputs).filter(|(output, _)| !output.stdout.is_empty()).collect();
             assert!(answering.len() < 2, "both of two stations have answered");
             for (output, bytes) in &answering {
-                assert!(output.stdout == serve(bytes) && journal.starts_with(bytes), "of two stations one has answered what is not kept");
+                assert!(output.stdout == serve(bytes) && messages.starts_with(bytes), "of two stations one has answered what is not kept");
             }
             answered += answering.len();
         }
@@ -299,10 +315,13 @@ impl Place<'_> {
             let path = self.without("restarts");
             let program = if turn == 0 { self.script } else { self.program };
             let (first, second) = messages.split_at(numbers.below(3001) as usize);
-            let first = run(program, &["--new", &path], &first.concat(), Trouble::Nothing);
+            let first = run(program, &new(&path), &first.concat(), Trouble::Nothing);
             let second = run(program, &[&path], &second.concat(), Trouble::Nothing);
-            assert!(first.status.success() && second.status.success() && [first.stdout, second.stdout].concat() == expected, "with a restart");
-            assert!(fs::read(&path).expect("the journal") == bytes, "the journal is not what was sent");
+            assert!(
+                first.status.success() && second.status.success() && [first.stdout, second.stdout].concat() == expected,
+                "with a restart"
+            );
+            assert!(kept(&path).0 == bytes, "the journal is not what was sent");
         }
         assert_eq!(run(self.program, &[], &bytes, Trouble::Nothing).stdout, expected, "without a journal");
     }
@@ -311,7 +330,16 @@ impl Place<'_> {
     fn long(&self, messages: usize) {
         let block = input(13, messages.min(20_000));
         let bytes = block.repeat(messages / 20_000);
-        let path = self.with("long", &bytes);
+        let mut long = Written::begun(GARAGE.as_bytes(), &Station::start());
+        let mut read = Vec::new();
+        for message in messages_in(&bytes) {
+            if read.len() + message.len() > 65_000 {
+                long.add(MESSAGES, &std::mem::take(&mut read));
+            }
+            read.extend(message);
+        }
+        long.add(MESSAGES, &read);
+        let path = self.with("long", &long.bytes);
         // on the disk, as a journal is
         fs::File::open(&path).and_then(|file| file.sync_all()).expect("a sync");
         let begun = Instant::now();
@@ -335,7 +363,9 @@ fn opened(process: u32, path: &str) {
     };
     for _ in 0..10_000 {
         let descriptors = fs::read_dir(format!("/proc/{process}/fd")).expect("the process");
-        if descriptors.flatten().any(|descriptor| appends(&descriptor)) { return; }
+        if descriptors.flatten().any(|descriptor| appends(&descriptor)) {
+            return;
+        }
         thread::sleep(Duration::from_millis(1));
     }
     panic!("a station has not opened its journal to append");
@@ -347,9 +377,10 @@ fn main() {
     let place = Place { script, program, directory };
     place.asked_wrong();
     place.not_there();
-    place.damaged();
+    place.no_journal();
     place.torn();
     place.stops();
+    place.described();
     place.full();
     place.limited();
     place.failing();
