@@ -35,7 +35,7 @@ WRONG = [
     ("a last known place is told as sure", logs.cards_in_a_log, "desk.where(number).lastKnown) lastKnown.add(", "!desk.where(number).lastKnown) lastKnown.add("),
     ("an image to begin on sets nothing apart", logs.begins_elsewhere, "station.bytes.set(bytesOf(apart), APART_AT);", ""),
     ("a link has lost the set", checks.station_link, "digits(desk.bytes.subarray(0, Size.STATION_SIZE))", "digits(desk.bytes.slice(0, Size.STATION_SIZE).fill(0, 8, 50))"),
-    ("stations are kept too far apart", logs.a_step, "const EVERY = 256;", "const EVERY = 1 << 20;"),
+    ("a step goes over many messages", logs.a_step, "    this.at = count;\n", "    this.at = count;\n    log.refused.slice(0, 40000).forEach((at) => says(log.message(at)));\n"),
     ("a field has no name", looks.contrast_and_labels, "html('label', { for: 'words' }, 'In words'),", ""),
     ("an error is thrown", looks.still_quiet, "byId('version').textContent =", "setTimeout(() => { throw new Error('lost'); });\n  byId('version').textContent ="),
 ]
