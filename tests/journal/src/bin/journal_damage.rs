@@ -36,7 +36,7 @@ struct Sound {
 }
 
 fn sound(written: Written) -> Sound {
-    let says = read(&written.bytes).ok().expect("a journal");
+    let says = read(&written.bytes).expect("a journal");
     assert!(says.starts() && says.end == End::Whole, "a journal of the corpus is sound");
     Sound { bytes: written.bytes, says }
 }

@@ -76,27 +76,36 @@ impl<R: Read> Journal<R> {
         self.ended = true;
     }
 
+    /// Reads the next append, if there is one.
     fn append(&mut self) -> Result<(), Wrong> {
         let title = self.bytes(8)?;
         if title.is_empty() {
             self.ended = true;
-            return Ok(());
+        } else if title.len() < 8 {
+            self.stops(true);
+        } else {
+            let (sum, size) = (over(self.sum, &title[..4]), four(&title) as usize >> 8);
+            if four(&title[4..]) == sum && size <= MOST {
+                self.carried(title[0], sum, size)?;
+            } else {
+                self.stops(title.iter().all(|&byte| byte == 0));
+            }
         }
-        if title.len() < 8 {
-            return Ok(self.stops(true));
-        }
-        let (sum, size) = (over(self.sum, &title[..4]), four(&title) as usize >> 8);
-        if four(&title[4..]) != sum || size > MOST {
-            return Ok(self.stops(title.iter().all(|&byte| byte == 0)));
-        }
+        Ok(())
+    }
+
+    /// The rest of an append whose title is right.
+    fn carried(&mut self, kind: u8, sum: u32, size: usize) -> Result<(), Wrong> {
         let rest = self.bytes(size + 5)?;
         if rest.len() < size + 5 {
-            return Ok(self.stops(true));
+            self.stops(true);
+            return Ok(());
         }
         let (carried, closing) = rest.split_at(size);
         let sum = over(sum, carried);
-        if four(closing) != sum || closing[4] != END_MARK || !self.told(title[0], carried) {
-            return Ok(self.stops(false));
+        if four(closing) != sum || closing[4] != END_MARK || !self.told(kind, carried) {
+            self.stops(false);
+            return Ok(());
         }
         (self.sum, self.at) = (sum, self.at + size + 13);
         Ok(())
