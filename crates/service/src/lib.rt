@@ -5,6 +5,7 @@ ghost use mathlib.Core.List.{_++_};
 ghost use Prim.Native.Nat.{_≤_};
 ghost use lib.Dec.{leb};
 ghost use lib.ListN.{length, drop, replicate};
+ghost use Rattle.garage.specs.Station.{fit};
 ghost use Rattle.garage.specs.Calls.{refused};
 ghost use Rattle.garage.specs.Turns.{turnOf, afterTurn};
 ghost use Rattle.wire.specs.Kinds.{first, request, inRange, setOf};
@@ -69,8 +70,10 @@ fn unmoved(s: Station, answer: Answer) -> Turn
     }
 }
 
-// The turn of the call that a message without instructions makes on a station of which it is known whether it is fit.
-fn turn(known: bool, what: What, s: Station) -> Turn
+// The turn of the call that a message without instructions makes on a station of which it is known whether it is fit. Where that is sure, a
+// success is not judged.
+fn turn(known: bool, sure: bool, what: What, s: Station) -> Turn
+    requires { ⌜ (sure ≡ true → fit s ≡ true) ⌝ }
     ensures { λ t. ⌜ t ≡ turnOf (calledKnown known what s 0 (replicate 40 0)) ⌝ }
 {
     if makes_call(what) & !known {
@@ -88,11 +91,14 @@ fn turn(known: bool, what: What, s: Station) -> Turn
             issue,
             number,
             ending,
-        } => s.resulted(Report {
-            issue,
-            number,
-            ending,
-        }),
+        } => s.settled(
+            Report {
+                issue,
+                number,
+                ending,
+            },
+            sure,
+        ),
         What::Image { bits, apart } => s.imaged(Picture { bits, apart }),
         What::Ask => unmoved(s, Answer::Taken),
         What::Answer {
@@ -150,7 +156,8 @@ fn asked(known: bool, s: Station, m: &[u8]) -> Turn
 }
 
 // The turn of a message whose bytes are exactly m.
-fn heard(known: bool, s: Station, m: &[u8]) -> Turn
+fn heard(known: bool, sure: bool, s: Station, m: &[u8]) -> Turn
+    requires { ⌜ (sure ≡ true → fit s ≡ true) ⌝ }
     ensures { λ t. ⌜ t ≡ turnOf (heard known s (now (m .entry))) ⌝ }
 {
     if wire::kind_at(m) == 1 {
@@ -162,7 +169,7 @@ fn heard(known: bool, s: Station, m: &[u8]) -> Turn
         return unmoved(s, answer);
     }
     let what = r.what;
-    turn(known, what, s)
+    turn(known, sure, what, s)
 }
 
 // An answer as a message.
@@ -194,12 +201,20 @@ fn told(kind: u16, t: Turn) -> What
 fn answered(known: bool, s: Station, m: &[u8]) -> Reply
     ensures { λ r. ⌜ r ≡ replied (kindAt (now (m .entry))) (heard known s (now (m .entry))) ⌝ }
 {
-    let t = heard(known, s, m);
+    let t = heard(known, false, s, m);
     let answer = told(wire::kind_at(m), t);
     let set = fresh(m);
     let o = s.after(t, set);
     let station = o.station;
     Reply { station, answer }
+}
+
+// What cannot be read is told, and makes no call.
+fn unread(s: Station, answer: Answer) -> Reply
+    ensures { λ r. ⌜ r ≡ record { station = s; answer = answerMessage answer } ⌝ }
+{
+    let answer = answer_message(answer);
+    Reply { station: s, answer }
 }
 
 // The reply to the first message of m, on a station of which it is known whether it is fit.
@@ -208,14 +223,8 @@ pub fn respond_known(known: bool, s: Station, m: &[u8]) -> Reply
 {
     let frame = wire::framed(m);
     match frame {
-        Frame::Cut => {
-            let answer = answer_message(Answer::TooFewBytes);
-            Reply { station: s, answer }
-        }
-        Frame::Wrong => {
-            let answer = answer_message(Answer::BadLength);
-            Reply { station: s, answer }
-        }
+        Frame::Cut => unread(s, Answer::TooFewBytes),
+        Frame::Wrong => unread(s, Answer::BadLength),
         Frame::Whole(n) => answered(known, s, &m[..n]),
     }
 }
@@ -319,7 +328,7 @@ fn answer_all(s: Station, input: &[u8], out: &mut [u8]) -> Served
             }
             Frame::Whole(n) => {
                 let m = &rest[..n];
-                let t = heard(known, s, m);
+                let t = heard(known, known, s, m);
                 made += tell(wire::kind_at(m), t, &mut out[made..]);
                 at += n;
                 if t.count != s.count {

@@ -1,3 +1,5 @@
+use mathlib.Core.Path.{refl}
+use Rattle.bits.proofs.Cases.{clash}
 use Rattle.service.proofs.Hearing.{reply-by}
 use denote.Ref.{now}
 use borrow.Author.Needs.{needs}
@@ -5,7 +7,7 @@ use Rattle.service.proofs.answered.Statement.{statement}
 use Rattle.service.proofs.answered.Tie as tie
 
 heard-requires : tie.Need-heard-requires
-heard-requires c κs = search needs
+heard-requires c κs = λ e. clash e refl
 
 kind-at-requires : tie.Need-kind-at-requires
 kind-at-requires c κs = search needs

@@ -14,14 +14,14 @@ framed-requires c κs = search needs
 enum-told : tie.Need-enum-told
 enum-told c = search needs
 
-answer-message-requires : tie.Need-answer-message-requires
-answer-message-requires c κs = search needs
+unread-requires : tie.Need-unread-requires
+unread-requires c κs = search needs
 
 enum-told-2 : tie.Need-enum-told-2
 enum-told-2 c = search needs
 
-answer-message-requires-2 : tie.Need-answer-message-requires-2
-answer-message-requires-2 c κs = search needs
+unread-requires-2 : tie.Need-unread-requires-2
+unread-requires-2 c κs = search needs
 
 enum-known-frame : tie.Need-enum-known-frame
 enum-known-frame c = search needs
@@ -33,10 +33,10 @@ answered-requires : tie.Need-answered-requires
 answered-requires c κs = search needs
 
 returns : tie.Need-returns
-returns c = let a = c .before .before .before .before .before .args in rw (c .answer-message .ensures) (respond-cut (a .known) (a .s) (now (a .m)) (sym (c .before .before .before .framed .ensures) ∙ c .before .enum-told .given .1))
+returns c = let a = c .before .before .before .before .before .args in c .unread .ensures ∙ (respond-cut (a .known) (a .s) (now (a .m)) (sym (c .before .before .before .framed .ensures) ∙ c .before .enum-told .given .1))
 
 returns-2 : tie.Need-returns-2
-returns-2 c = let a = c .before .before .before .before .before .args in rw (c .answer-message2 .ensures) (respond-wrong (a .known) (a .s) (now (a .m)) (sym (c .before .before .before .framed .ensures) ∙ c .before .enum-told2 .given .1))
+returns-2 c = let a = c .before .before .before .before .before .args in c .unread2 .ensures ∙ (respond-wrong (a .known) (a .s) (now (a .m)) (sym (c .before .before .before .framed .ensures) ∙ c .before .enum-told2 .given .1))
 
 returns-3 : tie.Need-returns-3
 returns-3 c = let a = c .before .before .before .before .before .before .before .args in c .answered .ensures ∙ sym (respond-whole (a .known) (a .s) (now (a .m)) _ (sym (c .before .before .before .before .before .framed .ensures) ∙ c .before .before .before .frame .given .1))
@@ -47,9 +47,9 @@ respond-known-spec =
     (tie.spec
     framed-requires
     enum-told
-    answer-message-requires
+    unread-requires
     enum-told-2
-    answer-message-requires-2
+    unread-requires-2
     enum-known-frame
     slice-aggregate-answered
     answered-requires
