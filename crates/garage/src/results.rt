@@ -104,8 +104,8 @@ impl Station {
         }
     }
 
-    // A result past the test of fitness, for callers who may know that the station is fit: then a success is not judged.
-    pub fn settled(self, report: Report, known: bool) -> Turn
+    // A result past the test of fitness, which may be known to have been passed: then a success is not judged.
+    fn settled(self, report: Report, known: bool) -> Turn
         ensures { λ t. ⌜ ((known ≡ true → fit self ≡ true) → t ≡ turnOf (resulted self report)) ⌝ }
     {
         if 2 < report.ending {

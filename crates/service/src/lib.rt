@@ -5,7 +5,6 @@ ghost use mathlib.Core.List.{_++_};
 ghost use Prim.Native.Nat.{_≤_};
 ghost use lib.Dec.{leb};
 ghost use lib.ListN.{length, drop, replicate};
-ghost use Rattle.garage.specs.Station.{fit};
 ghost use Rattle.garage.specs.Calls.{refused};
 ghost use Rattle.garage.specs.Turns.{turnOf, afterTurn};
 ghost use Rattle.wire.specs.Kinds.{first, request, inRange, setOf};
@@ -70,10 +69,8 @@ fn unmoved(s: Station, answer: Answer) -> Turn
     }
 }
 
-// The turn of the call that a message without instructions makes on a station of which it is known whether it is fit. Where that is sure, a
-// success is not judged.
-fn turn(known: bool, sure: bool, what: What, s: Station) -> Turn
-    requires { ⌜ (sure ≡ true → fit s ≡ true) ⌝ }
+// The turn of the call that a message without instructions makes on a station of which it is known whether it is fit.
+fn turn(known: bool, what: What, s: Station) -> Turn
     ensures { λ t. ⌜ t ≡ turnOf (calledKnown known what s 0 (replicate 40 0)) ⌝ }
 {
     if makes_call(what) & !known {
@@ -91,14 +88,11 @@ fn turn(known: bool, sure: bool, what: What, s: Station) -> Turn
             issue,
             number,
             ending,
-        } => s.settled(
-            Report {
-                issue,
-                number,
-                ending,
-            },
-            sure,
-        ),
+        } => s.resulted(Report {
+            issue,
+            number,
+            ending,
+        }),
         What::Image { bits, apart } => s.imaged(Picture { bits, apart }),
         What::Ask => unmoved(s, Answer::Taken),
         What::Answer {
@@ -156,8 +150,7 @@ fn asked(known: bool, s: Station, m: &[u8]) -> Turn
 }
 
 // The turn of a message whose bytes are exactly m.
-fn heard(known: bool, sure: bool, s: Station, m: &[u8]) -> Turn
-    requires { ⌜ (sure ≡ true → fit s ≡ true) ⌝ }
+fn heard(known: bool, s: Station, m: &[u8]) -> Turn
     ensures { λ t. ⌜ t ≡ turnOf (heard known s (now (m .entry))) ⌝ }
 {
     if wire::kind_at(m) == 1 {
@@ -169,7 +162,7 @@ fn heard(known: bool, sure: bool, s: Station, m: &[u8]) -> Turn
         return unmoved(s, answer);
     }
     let what = r.what;
-    turn(known, sure, what, s)
+    turn(known, what, s)
 }
 
 // An answer as a message.
@@ -201,7 +194,7 @@ fn told(kind: u16, t: Turn) -> What
 fn answered(known: bool, s: Station, m: &[u8]) -> Reply
     ensures { λ r. ⌜ r ≡ replied (kindAt (now (m .entry))) (heard known s (now (m .entry))) ⌝ }
 {
-    let t = heard(known, false, s, m);
+    let t = heard(known, s, m);
     let answer = told(wire::kind_at(m), t);
     let set = fresh(m);
     let o = s.after(t, set);
@@ -328,7 +321,7 @@ fn answer_all(s: Station, input: &[u8], out: &mut [u8]) -> Served
             }
             Frame::Whole(n) => {
                 let m = &rest[..n];
-                let t = heard(known, known, s, m);
+                let t = heard(known, s, m);
                 made += tell(wire::kind_at(m), t, &mut out[made..]);
                 at += n;
                 if t.count != s.count {

@@ -115,7 +115,7 @@ slice-aggregate-m : tie.Need-slice-aggregate-m Inv-loop μ-loop
 slice-aggregate-m c = sym (length-take-le _ _ (rw (from-on (now (c .before .before .before .before .before .before .before .before .before .before .args .input)) (c .before .before .before .before .before .before .loop .at)) (whole (c .before .before) .within)))
 
 heard-requires : tie.Need-heard-requires Inv-loop μ-loop
-heard-requires c κs = λ e. sym (c .before .before .before .before .before .before .loop .inv .1) ∙ e
+heard-requires c κs = search needs
 
 kind-at-requires : tie.Need-kind-at-requires Inv-loop μ-loop
 kind-at-requires c κs = search needs

@@ -1,5 +1,4 @@
-use mathlib.Core.Path.{refl}
-use Rattle.bits.proofs.Cases.{clash}
+-- `service::answered` meets its contract: the reply by the turn and the set that it brings. Assumes nothing.
 use Rattle.service.proofs.Hearing.{reply-by}
 use denote.Ref.{now}
 use borrow.Author.Needs.{needs}
@@ -7,7 +6,7 @@ use Rattle.service.proofs.answered.Statement.{statement}
 use Rattle.service.proofs.answered.Tie as tie
 
 heard-requires : tie.Need-heard-requires
-heard-requires c κs = λ e. clash e refl
+heard-requires c κs = search needs
 
 kind-at-requires : tie.Need-kind-at-requires
 kind-at-requires c κs = search needs

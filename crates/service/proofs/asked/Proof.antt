@@ -1,3 +1,4 @@
+-- `service::asked` meets its contract. Assumes nothing.
 use Rattle.service.proofs.Hearing.{request-refused, request-beside, request-unfit}
 use Rattle.service.specs.Private.{heard}
 use Rattle.garage.specs.Turns.{turnOf}

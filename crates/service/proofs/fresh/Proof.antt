@@ -1,3 +1,4 @@
+-- `service::fresh` meets its contract. Assumes nothing.
 use Rattle.service.proofs.Hearing.{no-set}
 use Rattle.wire.proofs.Parts.{from-on}
 use Rattle.wire.specs.Kinds.{setOf}

@@ -1,3 +1,4 @@
+-- `service::heard` meets its contract. Assumes nothing.
 use Rattle.service.proofs.Hearing.{said-refused, said-called}
 use Rattle.garage.specs.Turns.{turnOf}
 use denote.Ref.{now}

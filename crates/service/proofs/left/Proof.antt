@@ -1,3 +1,4 @@
+-- `service::left` meets its contract. Assumes nothing.
 use Rattle.service.proofs.Hearing.{whichever-set}
 use Rattle.garage.specs.Turns.{afterTurn}
 use Rattle.garage.specs.declared.Outcome.{Outcome}

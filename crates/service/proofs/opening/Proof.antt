@@ -1,3 +1,4 @@
+-- `service::opening` meets its contract. Assumes nothing.
 use Rattle.service.proofs.Hearing.{too-many, bad-length, opened}
 use Rattle.garage.specs.Turns.{turnOf}
 use denote.Ref.{now}

@@ -1,3 +1,4 @@
+-- `service::put` meets its contract. Assumes nothing.
 use Rattle.service.proofs.Replies.{eight-bytes, put-answer}
 use denote.Ref.{now}
 use native.Mathlib.Omega.{arith}

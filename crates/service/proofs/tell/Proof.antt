@@ -1,3 +1,4 @@
+-- `service::tell` meets its contract. Assumes nothing.
 use Rattle.service.proofs.Hearing.{told-image, told-answer}
 use Rattle.service.proofs.Replies.{retold}
 use Rattle.service.specs.Service.{answerBytes}

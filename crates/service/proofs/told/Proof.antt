@@ -1,3 +1,4 @@
+-- `service::told` meets its contract. Assumes nothing.
 use Rattle.service.proofs.Hearing.{told-image, told-answer}
 use mathlib.Core.Path.{sym, _∙_}
 use borrow.Author.Needs.{needs}

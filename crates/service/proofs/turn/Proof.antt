@@ -39,8 +39,8 @@ evented-requires c κs = search needs
 enum-known-what-2 : tie.Need-enum-known-what-2
 enum-known-what-2 c = search needs
 
-settled-requires : tie.Need-settled-requires
-settled-requires c κs = search needs
+resulted-requires : tie.Need-resulted-requires
+resulted-requires c κs = search needs
 
 enum-known-what-3 : tie.Need-enum-known-what-3
 enum-known-what-3 c = search needs
@@ -73,7 +73,7 @@ returns-4 : tie.Need-returns-4
 returns-4 c = let a = c .before .before .before .before .before .before .args in past-test (a .known) (a .s) (evented (a .s) _) (c .before .before .before .before .before .makes-call .ensures ∙ rw (c .before .before .what .given .1)) (c .before .before .before .before .if1 .left) (c .evented .ensures) ∙ rw (c .before .before .what .given .1)
 
 returns-5 : tie.Need-returns-5
-returns-5 c = let a = c .before .before .before .before .before .before .args in past-test (a .known) (a .s) (resulted (a .s) _) (c .before .before .before .before .before .makes-call .ensures ∙ rw (c .before .before .what2 .given .1)) (c .before .before .before .before .if1 .left) (c .settled .ensures (c .before .before .before .before .before .before .pre)) ∙ rw (c .before .before .what2 .given .1)
+returns-5 c = let a = c .before .before .before .before .before .before .args in past-test (a .known) (a .s) (resulted (a .s) _) (c .before .before .before .before .before .makes-call .ensures ∙ rw (c .before .before .what2 .given .1)) (c .before .before .before .before .if1 .left) (c .resulted .ensures) ∙ rw (c .before .before .what2 .given .1)
 
 returns-6 : tie.Need-returns-6
 returns-6 c = let a = c .before .before .before .before .before .before .args in past-test (a .known) (a .s) (imaged (a .s) _) (c .before .before .before .before .before .makes-call .ensures ∙ rw (c .before .before .what3 .given .1)) (c .before .before .before .before .if1 .left) (c .imaged .ensures) ∙ rw (c .before .before .what3 .given .1)
@@ -101,7 +101,7 @@ turn-spec =
     enum-known-what
     evented-requires
     enum-known-what-2
-    settled-requires
+    resulted-requires
     enum-known-what-3
     imaged-requires
     enum-told-2
