@@ -34,7 +34,7 @@ use Rattle.journal_file.proofs.Forms.{append-reads-back, payload-back, 
 none-follow : (s : Station) → Follows s [] s
 none-follow s = record { messages = []; each = tt; bytes-are = refl; station = refl }
 
-both-follow : {s t u : Station} {a b : List ℕ} → Follows s a t → Follows t b u → Follows s (a ++ b) u
+pub both-follow : {s t u : Station} {a b : List ℕ} → Follows s a t → Follows t b u → Follows s (a ++ b) u
 both-follow {s} {t} {u} {a} {b} f g =
     record {
       messages = f .messages ++ g .messages;
@@ -49,7 +49,7 @@ all-follow s p e =
     subst (λ (l : List ℕ). Follows s l (run s p .station)) (ap (λ (n : ℕ). take n p) e ∙ take-length p) (only-messages s p .follows)
 
 -- and the run of whole messages
-run-of : {s next : Station} {p : List ℕ} → Follows s p next → (run s p .used ≡ length p) × (run s p .station ≡ next)
+pub run-of : {s next : Station} {p : List ℕ} → Follows s p next → (run s p .used ≡ length p) × (run s p .station ≡ next)
 run-of {s} {next} {p} f =
     let e = ap (run s) (f .bytes-are) ∙ messages-alone s (f .messages) (f .each) in
     (ap (λ (r : Ran). r .used) e ∙ sym (ap length (f .bytes-are)), ap (λ (r : Ran). r .station) e ∙ sym (f .station))
@@ -133,7 +133,7 @@ file-goes-on r q appends input l =
 
 -- ---- one more
 
-leads-more : (r q next : Replay) (appends : List (List ℕ)) (a : List ℕ) → Leads r appends q → 0 < length a → stepOf crcOver q a .took ≡ length a
+pub leads-more : (r q next : Replay) (appends : List (List ℕ)) (a : List ℕ) → Leads r appends q → 0 < length a → stepOf crcOver q a .took ≡ length a
     → next ≡ stepOf crcOver q a .replay → Leads r (appends ++ (a ∷ [])) next
 leads-more r q next [] a l h t e =
     subst (λ (x : Replay). (0 < length a) × (stepOf crcOver x a .took ≡ length a) × (next ≡ stepOf crcOver x a .replay)) l (h, t, e)
