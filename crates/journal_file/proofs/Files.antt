@@ -33,7 +33,7 @@ use Rattle.journal_file.proofs.Forms.{append-reads-back, payload-back, 
 none-follow : (s : Station) → Follows s [] s
 none-follow s = record { messages = []; each = tt; bytes-are = refl; station = refl }
 
-both-follow : {s t u : Station} {a b : List ℕ} → Follows s a t → Follows t b u → Follows s (a ++ b) u
+pub both-follow : {s t u : Station} {a b : List ℕ} → Follows s a t → Follows t b u → Follows s (a ++ b) u
 both-follow {s} {t} {u} {a} {b} f g =
     record {
       messages = f .messages ++ g .messages;
@@ -48,7 +48,7 @@ all-follow s p e =
     subst (λ (l : List ℕ). Follows s l (run s p .station)) (ap (λ (n : ℕ). take n p) e ∙ take-length p) (only-messages s p .follows)
 
 -- and the run of whole messages
-run-of : {s next : Station} {p : List ℕ} → Follows s p next → (run s p .used ≡ length p) × (run s p .station ≡ next)
+pub run-of : {s next : Station} {p : List ℕ} → Follows s p next → (run s p .used ≡ length p) × (run s p .station ≡ next)
 run-of {s} {next} {p} f =
     let e = ap (run s) (f .bytes-are) ∙ messages-alone s (f .messages) (f .each) in
     (ap (λ (r : Ran). r .used) e ∙ sym (ap length (f .bytes-are)), ap (λ (r : Ran). r .station) e ∙ sym (f .station))
@@ -121,18 +121,21 @@ replay-follows r q [] l = record { messages = []; each = tt; bytes-are = refl; s
 replay-follows r q (a ∷ more) (h, t, l) =
     both-follow (one-follows r a (omega (arith, h, t))) (replay-follows (stepOf crcOver r a .replay) q more l)
 
-pub file-goes-on : FileGoesOn
-file-goes-on r q appends input l =
-    let f = replay-follows r q appends l in
+-- whole messages are answered, and then what the station that they make answers
+pub follows-goes-on : {s next : Station} {p : List ℕ} → Follows s p next → (input : List ℕ) → answersOn s (p ++ input) ≡ run s p .bytes ++ answersOn next input
+follows-goes-on {s} {next} {p} f input =
     let ms = f .messages in
-    ap (λ (m : List ℕ). answersOn (r .station) (m ++ input)) (f .bytes-are)
-    ∙ goes-on-from (r .station) ms input (f .each)
-    ∙ ap₂ (λ (m : List ℕ) (s : Station). m ++ answersOn s input)
-    (sym (ap (λ (m : List ℕ). run (r .station) m .bytes) (f .bytes-are) ∙ ap (λ (x : Ran). x .bytes) (messages-alone (r .station) ms (f .each)))) (sym (f .station))
+    ap (λ (m : List ℕ). answersOn s (m ++ input)) (f .bytes-are)
+    ∙ goes-on-from s ms input (f .each)
+    ∙ ap₂ (λ (m : List ℕ) (t : Station). m ++ answersOn t input)
+    (sym (ap (λ (m : List ℕ). run s m .bytes) (f .bytes-are) ∙ ap (λ (x : Ran). x .bytes) (messages-alone s ms (f .each)))) (sym (f .station))
+
+pub file-goes-on : FileGoesOn
+file-goes-on r q appends input l = follows-goes-on (replay-follows r q appends l) input
 
 -- ---- one more
 
-leads-more : (r q next : Replay) (appends : List (List ℕ)) (a : List ℕ) → Leads r appends q → 0 < length a → stepOf crcOver q a .took ≡ length a
+pub leads-more : (r q next : Replay) (appends : List (List ℕ)) (a : List ℕ) → Leads r appends q → 0 < length a → stepOf crcOver q a .took ≡ length a
     → next ≡ stepOf crcOver q a .replay → Leads r (appends ++ (a ∷ [])) next
 leads-more r q next [] a l h t e =
     subst (λ (x : Replay). (0 < length a) × (stepOf crcOver x a .took ≡ length a) × (next ≡ stepOf crcOver x a .replay)) l (h, t, e)
