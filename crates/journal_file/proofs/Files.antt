@@ -108,7 +108,7 @@ module _ (r : Replay) (a : List ℕ) where
       (taken (r .station) f false) refl refl refl in
       rw (kind, stays) (none-follow (r .station))
 
-  one-follows : 0 < stepOf crcOver r a .took → Follows (r .station) carried-messages (stepOf crcOver r a .replay .station)
+  pub one-follows : 0 < stepOf crcOver r a .took → Follows (r .station) carried-messages (stepOf crcOver r a .replay .station)
   unfolding stepOf
   one-follows h =
       by-kind (f .whole) (r .closed) (eqb (f .kind) 1) (notTaken r (f .short)) (notTaken r false) (messagesTaken r f (w .used) (w .station)) (markTaken r f)
