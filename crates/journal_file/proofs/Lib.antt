@@ -10,3 +10,4 @@ pub mod HeadForms
 pub mod OneForm
 pub mod Damage
 pub mod OneFile
+mod Names
