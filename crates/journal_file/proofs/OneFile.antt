@@ -54,13 +54,13 @@ module _ (f : Front) where
   fair-messages r used next =
       fair-of (eqb (f .carries) 0 || not (eqb used (f .carries))) _ _ (fair-none r false) (fair-taken next false)
 
-  fair-step : (r : Replay) (used : ℕ) (next : Station) → Fair f (stepBy r f used next)
+  pub fair-step : (r : Replay) (used : ℕ) (next : Station) → Fair f (stepBy r f used next)
   fair-step r used next =
       fair-of (not (f .whole)) _ _ (fair-none r (f .short))
       (fair-of (r .closed) _ _ (fair-none r false)
       (fair-of (eqb (f .kind) messagesKind) _ _ (fair-messages r used next) (fair-mark r)))
 
-  whole-step : (r : Replay) (used : ℕ) (next : Station) → 0 < stepBy r f used next .took → f .whole ≡ true
+  pub whole-step : (r : Replay) (used : ℕ) (next : Station) → 0 < stepBy r f used next .took → f .whole ≡ true
   whole-step r used next h = split (f .whole) (λ t. t) (λ t. absurd (none t (rw t at h)))
     where
       none : f .whole ≡ false → 0 < 0 → ⊥

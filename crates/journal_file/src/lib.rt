@@ -11,7 +11,7 @@ ghost use Rattle.wire.specs.Kinds.{fromLittleEndian};
 ghost use Rattle.rooms.specs.Rooms.{lentStation};
 ghost use Rattle.garage.specs.declared.Station.{Station};
 ghost use Rattle.checksum.specs.Slices.{crcBy};
-ghost use Rattle.journal_file.specs.Appends.{openingOf, closingOf, carriedOf, titled, carried, noFront, wholeFront, frontOf, written, lostFrom, zeroed};
+ghost use Rattle.journal_file.specs.Appends.{titleOf, openingOf, sumAfter, closingOf, carriedOf, titled, carried, noFront, wholeFront, frontOf, written, lostFrom, zeroed};
 ghost use Rattle.journal_file.specs.Heads.{titleBytes, headSum, headKind, headOf, nameByte, isGarage};
 ghost use Rattle.journal_file.specs.Replaying.{notTaken, taken, markMost, markTaken, messagesTaken, Leaves, stepping};
 use garage::Station;
@@ -21,6 +21,8 @@ const MOST: usize = 65536;
 const AROUND: usize = 13;
 
 const SECTOR: usize = 512;
+
+const LEFT: usize = 44;
 
 const END: u8 = 10;
 
@@ -36,16 +38,23 @@ pub struct Front {
     pub sum: u32,
 }
 
-// What stands before the bytes of an append of this kind, behind an append with this checksum.
-pub fn opening(t: &[u32], sum: u32, kind: u8, size: usize) -> [u8; 8]
-    ensures { λ b. ⌜ b ≡ openingOf (crcBy (now (t .entry))) sum kind size ⌝ }
+// The kind and the number of bytes carried, as bytes.
+fn title_of(kind: u8, size: usize) -> [u8; 4]
+    ensures { λ b. ⌜ b ≡ titleOf kind size ⌝ }
 {
-    let title = [
+    [
         kind,
         (size % 256) as u8,
         (size / 256 % 256) as u8,
         (size / 256 / 256 % 256) as u8,
-    ];
+    ]
+}
+
+// What stands before the bytes of an append of this kind, behind an append with this checksum.
+pub fn opening(t: &[u32], sum: u32, kind: u8, size: usize) -> [u8; 8]
+    ensures { λ b. ⌜ b ≡ openingOf (crcBy (now (t .entry))) sum kind size ⌝ }
+{
+    let title = title_of(kind, size);
     let s = fours::four_bytes(checksum::continue_by(t, sum, &title));
     [
         title[0],
@@ -57,6 +66,14 @@ pub fn opening(t: &[u32], sum: u32, kind: u8, size: usize) -> [u8; 8]
         s[2],
         s[3],
     ]
+}
+
+// The checksum of an append of this kind that carries these bytes.
+pub fn sum_after(t: &[u32], sum: u32, kind: u8, bytes: &[u8]) -> u32
+    ensures { λ n. ⌜ n ≡ sumAfter (crcBy (now (t .entry))) sum kind (now (bytes .entry)) ⌝ }
+{
+    let title = title_of(kind, bytes.len());
+    checksum::continue_by(t, checksum::continue_by(t, sum, &title), bytes)
 }
 
 // What stands behind them.
@@ -364,7 +381,7 @@ fn mark_most(kind: u8) -> usize
     if kind == 4 {
         return 0;
     }
-    44
+    LEFT
 }
 
 // A mark: what ended a session, or that the journal is closed.
