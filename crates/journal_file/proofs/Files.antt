@@ -109,7 +109,7 @@ module _ (r : Replay) (a : List ℕ) where
       (taken (r .station) f false) refl refl refl in
       rw (kind, stays) (none-follow (r .station))
 
-  one-follows : 0 < stepOf crcOver r a .took → Follows (r .station) carried-messages (stepOf crcOver r a .replay .station)
+  pub one-follows : 0 < stepOf crcOver r a .took → Follows (r .station) carried-messages (stepOf crcOver r a .replay .station)
   unfolding stepOf
   one-follows h =
       by-kind (f .whole) (r .closed) (eqb (f .kind) 1) (notTaken r (f .short)) (notTaken r false) (messagesTaken r f (w .used) (w .station)) (markTaken r f)
@@ -122,14 +122,17 @@ replay-follows r q [] l = record { messages = []; each = tt; bytes-are = refl; s
 replay-follows r q (a ∷ more) (h, t, l) =
     both-follow (one-follows r a (omega (arith, h, t))) (replay-follows (stepOf crcOver r a .replay) q more l)
 
-pub file-goes-on : FileGoesOn
-file-goes-on r q appends input l =
-    let f = replay-follows r q appends l in
+-- whole messages are answered, and then what the station that they make answers
+pub follows-goes-on : {s next : Station} {p : List ℕ} → Follows s p next → (input : List ℕ) → answersOn s (p ++ input) ≡ run s p .bytes ++ answersOn next input
+follows-goes-on {s} {next} {p} f input =
     let ms = f .messages in
-    ap (λ (m : List ℕ). answersOn (r .station) (m ++ input)) (f .bytes-are)
-    ∙ goes-on-from (r .station) ms input (f .each)
-    ∙ ap₂ (λ (m : List ℕ) (s : Station). m ++ answersOn s input)
-    (sym (ap (λ (m : List ℕ). run (r .station) m .bytes) (f .bytes-are) ∙ ap (λ (x : Ran). x .bytes) (messages-alone (r .station) ms (f .each)))) (sym (f .station))
+    ap (λ (m : List ℕ). answersOn s (m ++ input)) (f .bytes-are)
+    ∙ goes-on-from s ms input (f .each)
+    ∙ ap₂ (λ (m : List ℕ) (t : Station). m ++ answersOn t input)
+    (sym (ap (λ (m : List ℕ). run s m .bytes) (f .bytes-are) ∙ ap (λ (x : Ran). x .bytes) (messages-alone s ms (f .each)))) (sym (f .station))
+
+pub file-goes-on : FileGoesOn
+file-goes-on r q appends input l = follows-goes-on (replay-follows r q appends l) input
 
 -- ---- one more
 

@@ -64,10 +64,10 @@ module _ (over : Over) (sum : ℕ) (m : List ℕ) (f : Front) (e : f ≡ frontOf
 -- ---- the code's answers
 
 module _ {A : Type 0} (x y z : Bool) (a b c d : A) where
-  first-of : x ≡ true → a ≡ cond x a (cond y b (cond z c d))
+  pub first-of : x ≡ true → a ≡ cond x a (cond y b (cond z c d))
   first-of p = rw p
 
-  second-of : x ≡ false → y ≡ true → b ≡ cond x a (cond y b (cond z c d))
+  pub second-of : x ≡ false → y ≡ true → b ≡ cond x a (cond y b (cond z c d))
   second-of p q = rw (p, q)
 
   pub third-of : x ≡ false → y ≡ false → z ≡ true → c ≡ cond x a (cond y b (cond z c d))
