@@ -71,7 +71,7 @@ BeginNumbers =
     × ((said d (desk.event 1 c) ≡ 38) ↔ (Passes d (desk.event 1 c) × (c ≡ 0 → ⊥) × Has (numbersIn (d .numbers)) c))
     × ((said d (desk.event 1 c) ≡ 0) ↔ (Passes d (desk.event 1 c) × (c ≡ 0 → ⊥) × (Has (numbersIn (d .numbers)) c → ⊥)))
 
--- with any other event the number is not looked at
+-- with any event but the begin of a drive-in the number is not looked at
 abbrev pub OtherEvents : Type 0
 OtherEvents = (d : Desk) (e b c : ℕ) → (e ≡ 1 → ⊥) → desk.call d (desk.event e b) ≡ desk.call d (desk.event e c)
 

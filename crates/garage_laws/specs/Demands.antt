@@ -309,7 +309,8 @@ PlacesInRange = (s : Station) (c : Call) → (placed s c < most) ⊎ (placed s c
 abbrev pub AlwaysLaidOut : Type 0
 AlwaysLaidOut = (s : Station) → Begins s → (l : List Call) (p : List ℕ) → Chosen s l p → Sound (bit (finished s l p))
 
--- with as many cars as at the start, plus those driven in, less those driven out; an image that is taken is a new start
+-- over any calls but an image, for every choice of which stuck instructions did in fact finish, there are as many cars as at the start,
+-- plus those driven in, less those driven out; an image that is taken is a new start
 abbrev pub CarsCounted : Type 0
 CarsCounted =
     (s : Station) (l : List Call) → NoImages l → (p : List ℕ) → Chosen s l p

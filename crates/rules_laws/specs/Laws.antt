@@ -30,7 +30,8 @@ Agree places f g = (k : ℕ) → places k ≡ true → f k ≡ g k
 abbrev pub SameVerdict : Type 0
 SameVerdict = (i : Instruction) (f g : Bits) → Agree (area i) f g → seen i f ≡ seen i g → allowed i f ≡ allowed i g
 
--- on two such records a verdict gives the same reason too
+-- on two records that agree on its area and, for a lift run, on whether each side's count is even, an instruction that isn't allowed has
+-- the same reason
 abbrev pub SameReason : Type 0
 SameReason = (i : Instruction) (r q : ℕ) → Agree (area i) (bit r) (bit q) → seen i (bit r) ≡ seen i (bit q) → verdictOf i r ≡ verdictOf i q
 

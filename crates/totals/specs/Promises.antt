@@ -35,7 +35,7 @@ TotalsRight = (hs : List Happened) → countedAll blank hs .full ≡ nothing →
 abbrev pub MostCarsRight : Type 0
 MostCarsRight = (hs : List Happened) → countedAll blank hs .full ≡ nothing → getD (countedAll blank hs .totals .counts) 51 0 ≡ largest hs
 
--- none is full exactly if no number of those that count passes the most
+-- no total is full exactly if under no name more happenings count than the most
 abbrev pub NoneFullExactly : Type 0
 NoneFullExactly = (hs : List Happened) → (countedAll blank hs .full ≡ nothing) ↔ ((p : ℕ) → p < size → tally (nameAt p) hs ≤ most)
 

@@ -31,6 +31,6 @@ abbrev pub WeekMostCars : Type 0
 WeekMostCars =
     (input : List ℕ) → weekOf input .full ≡ nothing → getD (weekOf input .totals .counts) 51 0 ≡ largest (happenings startOf input)
 
--- where one is full, the week stops at the first message that would make a number pass the most, and the first such name is told
+-- where a total is full, the week stops at the first message that would make a number pass the most, and the first such name is told
 abbrev pub WeekFullStops : Type 0
 WeekFullStops = (input : List ℕ) → (weekOf input .full ≡ nothing → ⊥) → Stops (happenings startOf input) (weekOf input)

@@ -211,11 +211,11 @@ test('a desk of a station and its cards', () => {
   assert.ok(desk.request([Uint8Array.of(2, 1, 2, 0, 0)]).taken);
   const again = garage.deskWith(desk.station().bytes, [11, 12, 13, 14]);
   assert.equal(hexOf(again.bytes), hexOf(desk.bytes));
-  assert.equal(garage.deskWith(desk.station().bytes, [11, 12, 13]), null);
-  assert.equal(garage.deskWith(desk.station().bytes, [11, 12, 13, 13]), null);
-  assert.equal(garage.deskWith(desk.station().bytes, [11, 12, 13, 0]), null);
+  for (const cards of [[11, 12, 13], [11, 12, 13, 13], [11, 12, 13, 0], [11, 12, 13, 14, 15]]) {
+    assert.ok(garage.deskWith(desk.station().bytes, cards) === null, String(cards));
+  }
   const coming = garage.desk(), seeded = new Seeded(3);
   assert.ok(coming.event(Event.BeginIn, 77).taken);
   assert.deepEqual(garage.deskWith(coming.station().bytes, [77]).bytes, coming.bytes);
-  assert.equal(garage.deskWith(Uint8Array.from(coming.station().bytes, () => seeded.below(256)), []), null);
+  assert.ok(garage.deskWith(Uint8Array.from(coming.station().bytes, () => seeded.below(256)), []) === null);
 });

@@ -162,7 +162,7 @@ test('links hold stations with their sets and cards, and a changed one is none',
   const link = stationLink(garage, desk), cards = cardsOf(garage, desk);
   assert.equal(cards.length, 4);
   for (const wrong of [link.slice(0, -1 - String(cards[3]).length), link.replace('=', '=0'), link.replace(/,\d+$/, ',0'), link.replace(/,\d+$/, ',4294967301'), link.replace(/,\d+$/, `,${cards[0]}`), '#station=', link.replace('#station=0', '#station=1').replace('#station=3', '#station=1')]) {
-    assert.equal(linkedIn(garage, wrong).desk, null, wrong);
+    assert.ok(linkedIn(garage, wrong).desk === null, wrong);
   }
   assert.deepEqual(linkedIn(garage, garageLink(IN_USE)), { garage: IN_USE });
   for (const other of ['', '#main', '#garage=12', '#stations=00']) assert.deepEqual(linkedIn(garage, other), {});
