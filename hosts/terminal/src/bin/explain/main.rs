@@ -11,13 +11,14 @@ mod why;
 
 use follow::{named_cars, Cards, Follower};
 use input::{bytes_in, cards, Bytes, Hex, Item, Placed};
-use journal::{is_journal, Journal};
+use journal::Journal;
 use message::two_numbers;
 use station::words::Wrong;
 use station::{Parts, Record};
 use std::io::{self, Write};
 use std::process::ExitCode;
 use terminal::conditions::LIFT;
+use terminal::journal::is_journal;
 use terminal::sound::hints;
 use terminal::told::{failed, told_version};
 use text::{Explainer, Said, Shows};
@@ -111,7 +112,8 @@ fn recorded(from: bool, follower: Follower, explainer: impl Fn(Follower) -> Expl
     if from {
         return Err("--from: a journal has its own beginning".to_string());
     }
-    let (mut journal, station) = Journal::opened(input)?;
+    let (appends, station) = terminal::journal::Journal::opened(input)?;
+    let mut journal = Journal::new(appends);
     explained(|| journal.next(), explainer(Follower::from_station(&station)), out)
 }
 
