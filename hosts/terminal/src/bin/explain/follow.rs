@@ -15,6 +15,8 @@ const APART: std::ops::Range<usize> = 52..60;
 /// Where it has which instructions of its set are answered, and an ending that it does not keep.
 const MARKS: usize = 9;
 const UNKNOWN: u8 = u8::MAX;
+/// An ending that sets the instruction's area apart.
+const STUCK: u8 = 2;
 /// Where a desk has the number of a drive-in under way, of its four-byte places behind the station.
 const WAITS: usize = 41;
 /// Places of numbers in a desk.
@@ -41,6 +43,14 @@ pub struct Held {
     pub ending: Option<u8>,
 }
 
+/// A stuck result that has set its instruction's area apart: where the log has it, and what it is of.
+pub struct Stuck {
+    pub at: String,
+    pub issue: u16,
+    pub number: u8,
+    pub five: [u8; 5],
+}
+
 /// Cards as somebody gives them for cars in their order: some may not be known.
 pub type Cards = Vec<Option<u32>>;
 
@@ -49,6 +59,8 @@ pub struct Follower {
     desk: [u8; Desk::SIZE],
     /// How the instructions of the outstanding set ended; the station keeps only whether they did.
     endings: [Option<u8>; 8],
+    /// What has set apart what is, since the last image; what was set apart before the log has no cause here.
+    stuck: Vec<Stuck>,
     /// The cards by the numbers inside.
     cards: BTreeMap<u32, u32>,
     last: u32,
@@ -61,7 +73,7 @@ pub fn named_cars(record: Record) -> usize {
 
 impl Follower {
     fn start() -> Self {
-        Follower { desk: *Desk::new().bytes(), endings: [None; 8], cards: BTreeMap::new(), last: 0 }
+        Follower { desk: *Desk::new().bytes(), endings: [None; 8], stuck: Vec::new(), cards: BTreeMap::new(), last: 0 }
     }
 
     /// From a sound record on, with what is set apart there, the issue that the next set will have, and the cards of its cars.
@@ -106,6 +118,11 @@ impl Follower {
         (0..usize::from(self.desk[8])).map(|at| Held { five: five(at), ending: self.endings[at] }).collect()
     }
 
+    /// The stuck results that have set apart what is, in the order of the log.
+    pub fn stuck(&self) -> &[Stuck] {
+        &self.stuck
+    }
+
     fn number_at(&self, place: usize) -> u32 {
         number_in(&self.desk[Station::SIZE + 4 * place..][..4]) as u32
     }
@@ -134,18 +151,19 @@ impl Follower {
         Floor { record: self.record(), apart: self.apart(), cards: self.cards() }
     }
 
-    /// What a message is answered with, and the message that answers it. Cards go with a begin in or an image, if it is taken.
-    pub fn take(&mut self, bytes: &[u8], message: &Message, cards: Option<&Cards>) -> (Answer, Vec<u8>) {
+    /// What a message is answered with, and the message that answers it. Cards go with a begin in or an image, if it is taken; `at` says
+    /// where the log has it.
+    pub fn take(&mut self, bytes: &[u8], message: &Message, cards: Option<&Cards>, at: &str) -> (Answer, Vec<u8>) {
         let mut station = Station::from_bytes(&self.station()).expect("it is a station");
         let (answer, reply) = station.message(bytes);
         if answer.taken() {
-            self.took(message, cards);
+            self.took(message, cards, at);
         }
         assert!(self.station() == *station.bytes(), "the desk's station is the station");
         (answer, reply)
     }
 
-    fn took(&mut self, message: &Message, cards: Option<&Cards>) {
+    fn took(&mut self, message: &Message, cards: Option<&Cards>, at: &str) {
         match *message {
             Message::Request(ref fives) => {
                 lent::desk_request(&mut self.desk, fives.len() as u8, &fives.concat());
@@ -156,6 +174,10 @@ impl Follower {
                 lent::desk_event(&mut self.desk, way, number);
             }
             Message::Result { issue, number, ending } => {
+                if ending == STUCK {
+                    let five = self.set()[usize::from(number)].five;
+                    self.stuck.push(Stuck { at: at.to_string(), issue, number, five });
+                }
                 lent::desk_result(&mut self.desk, issue, number, ending);
                 self.endings[usize::from(number)] = Some(ending);
             }
@@ -172,6 +194,7 @@ impl Follower {
         let cars = named_cars(record);
         let numbers: Vec<u8> = (0..cars).flat_map(|at| self.new_number(known(at)).to_le_bytes()).collect();
         lent::desk_image(&mut self.desk, record.0, 0, cars as u8, &numbers);
+        self.stuck.clear();
     }
 
     /// A number that no car has had, for the card if it is known. There are more of them than messages in any log.

@@ -216,7 +216,7 @@ impl Explainer {
         self.messages += 1;
         self.sent += 1;
         let (says, before) = (self.says(&message), (self.station.record(), self.station.apart()));
-        let (answer, reply) = self.station.take(bytes, &message, cards.as_ref());
+        let (answer, reply) = self.station.take(bytes, &message, cards.as_ref(), &format!("message {}, {at}", self.messages));
         let fives: &[[u8; 5]] = if let Message::Request(fives) = &message { fives } else { &[] };
         let head = format!("message {}, {at}, to the station\n", self.messages);
         let card = cards.filter(|_| matches!(message, Message::Event(_))).and_then(|cards| *cards.first()?);
@@ -299,9 +299,10 @@ impl Explainer {
         Said { text, wrong }
     }
 
-    /// The last line: how much was explained.
+    /// The end: the floor as the log leaves it, and how much was explained.
     pub fn end(mut self) -> Said {
         let wrong = self.unused_cards();
+        let floor = if self.sent > 0 { self.floor(0, "the floor at the end") + "\n" } else { String::new() };
         let answers = self.messages - self.sent;
         let answered = some(answers, "answer");
         let mut words = vec![format!("{} to the station, {} refused", some(self.sent, "message"), self.refused)];
@@ -313,6 +314,6 @@ impl Explainer {
         if answers > 0 && !self.waiting.is_empty() {
             words.push(format!("{} without answer there", some(self.waiting.len(), "message")));
         }
-        Said { text: words.join("; ") + "\n", wrong }
+        Said { text: floor + &words.join("; ") + "\n", wrong }
     }
 }

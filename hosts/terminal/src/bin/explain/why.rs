@@ -1,8 +1,8 @@
 //! Why a message is refused, in lines: what stands against it on the station as it is, and what to do, as PROTOCOL.md has it in short.
 
 use crate::floor::{drive, outstanding, parts};
-use crate::follow::Follower;
-use crate::message::{bad_fields, both_wide, instruction, Message, BEGIN_IN, BEGIN_OUT};
+use crate::follow::{Follower, Stuck};
+use crate::message::{bad_fields, both, both_wide, instruction, Message, BEGIN_IN, BEGIN_OUT};
 use station::{Answer, Instruction, Parts, Record};
 use terminal::conditions::{explained, has, of_lift, LIFT};
 use terminal::sound::hints;
@@ -41,6 +41,19 @@ fn drive_line(station: &Follower) -> String {
     drive(station.record()).unwrap_or("no drive is under way").to_string()
 }
 
+/// What has set some parts apart: each stuck result whose area has one of them, and the parts that were set apart before the log begins.
+fn causes(station: &Follower, some: Parts) -> Vec<String> {
+    let of = |stuck: &&Stuck| !in_both(area(stuck.five), some).is_empty();
+    let one = |stuck: &Stuck| {
+        let (set, number) = (both_wide(stuck.issue), both(stuck.number));
+        format!("set apart by {}: instruction {number} of set {set}, {}, was stuck", stuck.at, instruction(stuck.five))
+    };
+    let known = station.stuck().iter().fold(0, |all, stuck| all | area(stuck.five).0);
+    let before = Parts(some.0 & !known);
+    let older = (!before.is_empty()).then(|| format!("set apart before the log begins: {}", parts(before)));
+    older.into_iter().chain(station.stuck().iter().filter(of).map(one)).collect()
+}
+
 /// Of an instruction that overlaps earlier ones: each of these, and the parts that both have.
 fn overlaps(fives: &[[u8; 5]], place: usize) -> Vec<String> {
     let own = area(fives[place]);
@@ -57,8 +70,9 @@ fn request(station: &Follower, fives: &[[u8; 5]], answer: Answer) -> Vec<String>
         8 => overlaps(fives, at),
         31 => [vec![drive_line(station)], with_lift(fives)].concat(),
         32 => {
-            let touched = parts(in_both(area(fives[at]), station.apart()));
-            vec![format!("set apart: {}", parts(station.apart())), format!("of that it touches: {touched}")]
+            let touched = in_both(area(fives[at]), station.apart());
+            let told = [format!("set apart: {}", parts(station.apart())), format!("of that it touches: {}", parts(touched))];
+            [told.into(), causes(station, touched)].concat()
         }
         20..=28 => explained(station.record(), read(fives[at])).into_iter().filter(|one| !one.holds).flat_map(|one| one.lines).collect(),
         _ => Vec::new(),
@@ -77,7 +91,7 @@ fn event(station: &Follower, way: u8, number: u8) -> Vec<String> {
         10 if way == BEGIN_IN => vec![lift_line(station), "a drive-in begins at street, with the lift empty".to_string()],
         10 => vec![lift_line(station), "a drive-out begins at street, with a car on the lift".to_string()],
         31 => vec![drive_line(station)],
-        32 => vec![format!("set apart: {}", parts(station.apart()))],
+        32 => [vec![format!("set apart: {}", parts(station.apart()))], causes(station, Parts(1 << LIFT))].concat(),
         33 => vec![
             lift_line(station),
             format!("the record has {} cars, and a drive-in begins with fewer than 27", station.record().cars().unwrap_or(0)),
@@ -171,8 +185,10 @@ pub fn to_do(message: &Message, answer: Answer) -> &'static str {
             "drop it; if a car did come or go, look at the sensors and send the image once no set is outstanding"
         }
         (31, _) => "hand nothing to the motors; send it again when the drive has ended, or now without what has the lift",
-        (32, _) if event.is_some() => "let no driver in; have the place looked at and send an image",
-        (32, _) => "hand nothing to the motors; have the place looked at and send an image, or leave out what touches it",
+        (32, _) if event.is_some() => "let no driver in; have the place looked at and send an image: docs/JAM.md has the commands",
+        (32, _) => {
+            "hand nothing to the motors; leave out what touches it, or have the place looked at and send an image: docs/JAM.md has the commands"
+        }
         (33, _) => "let no driver in; fetch a car and let it drive out, then send the begin again",
         (number, Message::Request(fives)) => match answer.place {
             Some(place) => mend(fives[usize::from(place)], number),
