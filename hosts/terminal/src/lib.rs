@@ -1,7 +1,14 @@
-//! What the hosts for the terminal share: conditions in words, what is not sound in an image, and what they tell of numbers and streams.
+//! What the hosts for the terminal share: messages, conditions and rejections in words, what is not sound in an image, and what they tell of
+//! numbers and streams.
 
 #[cfg(feature = "entries")]
 pub mod conditions;
+#[cfg(feature = "entries")]
+pub mod facts;
+#[cfg(feature = "entries")]
+pub mod message;
 pub mod sound;
 #[cfg(feature = "entries")]
 pub mod told;
+#[cfg(feature = "entries")]
+pub mod why;

@@ -5,9 +5,9 @@
 //! behind it one marked `shown` is all that is written, one marked `told` what is told on standard error.
 
 mod cards;
-mod held;
+pub mod held;
 mod logs;
-mod shown;
+pub mod shown;
 
 use held::{held, plain, views, Beside};
 use reference::{serve, serve_on, sound, Station};
@@ -140,6 +140,7 @@ pub fn main(given: &[String]) {
     let expected: Vec<u8> = (0..=33).filter(|number| !matches!(number, 9 | 14 | 16..=19)).collect();
     assert_eq!(beside.came.iter().copied().collect::<Vec<_>>(), expected, "every number that a program can give comes");
     println!("explain: {messages} messages and {} floors as the reference has them, {found} damaged inputs told", beside.floors);
+    assert!(beside.causes > 0, "no stuck result is named under a 32");
     println!("explain: {} stuck results named under a 32", beside.causes);
     let ([unsound, fine], all) = (hints(4000), instructions(explain));
     println!("explain: {all} instructions in words; {unsound} images that are not sound with hints, {fine} sound ones without");

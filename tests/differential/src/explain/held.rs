@@ -74,6 +74,12 @@ impl Beside {
         Beside { station: Station::start(), endings: [None; 8], stuck, came, floors: 0, causes: 0 }
     }
 
+    /// Another text follows, which begins with a station: how instructions ended is not known there, nor by what something is set apart.
+    pub fn begin_with(&mut self, station: Station) {
+        let answered = |at: usize| (station.to_bytes()[9] >> at & 1 == 1).then_some(3);
+        (self.station, self.endings, self.stuck) = (station, std::array::from_fn(answered), Vec::new());
+    }
+
     /// Another text follows, which begins at the start.
     pub fn restart(&mut self) {
         (self.station, self.endings, self.stuck) = (Station::start(), [None; 8], Vec::new());
@@ -83,17 +89,18 @@ impl Beside {
     fn causes(&mut self, some: u64, lines: &[String]) {
         let told: Vec<String> = lines.iter().map(|line| plain(line.trim())).filter(|line| line.starts_with("set apart by ")).collect();
         let expected: Vec<String> = self.stuck.iter().filter(|stuck| stuck.parts & some != 0).map(|stuck| plain(&stuck.line)).collect();
-        assert!(!told.is_empty() && told == expected, "{lines:?}: expected {expected:?}");
+        assert_eq!(told, expected, "{lines:?}");
         self.causes += told.len();
     }
 
-    fn set_lines(&self) -> Vec<String> {
+    pub fn set_lines(&self) -> Vec<String> {
         if self.station.count == 0 {
             return vec!["no set is outstanding".to_string()];
         }
         let issue = self.station.present_issue();
         let one = |(five, at): (&[u8], usize)| {
-            let state = self.endings[at].map_or("waits for its result", |ending| ["failed", "done", "stuck"][usize::from(ending)]);
+            let state =
+                self.endings[at].map_or("waits for its result", |ending| ["failed", "done", "stuck", "answered"][usize::from(ending)]);
             format!("  {at}: {}: {state}", words(*five.first_chunk().expect("five")).expect("an instruction"))
         };
         let held = self.station.set.chunks(5).take(self.station.count.into()).zip(0..).map(one);
@@ -153,7 +160,7 @@ impl Beside {
     }
 
     /// What stands against any message that is refused.
-    fn refused(&mut self, call: &Call, number: u8, place: u8, lines: &[String]) {
+    pub fn refused(&mut self, call: &Call, number: u8, place: u8, lines: &[String]) {
         let outstanding = || {
             let set = self.set_lines();
             let lines: Vec<String> = lines.iter().map(|line| plain(line.strip_prefix("  ").unwrap_or(line))).collect();

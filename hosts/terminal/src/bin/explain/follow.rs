@@ -1,20 +1,12 @@
 //! The station that the messages of a log make, followed one by one: a desk, which has the station inside. Each car has a number of its own
 //! there that is never shown; of some of them the card is known, and only those are told.
 
-use crate::message::{number_in, Message, BEGIN_IN};
 use station::{lent, Answer, Desk, Parts, Place, Record, Station, Whereabouts};
 use std::collections::BTreeMap;
 use terminal::conditions::LIFT;
+use terminal::facts::{Facts, Stuck, APART, DRIVE_IN, ISSUE};
+use terminal::message::{number_in, Message, BEGIN_IN};
 
-/// Bit 55 of a record: a drive-in is under way. Bit 56: a drive-out.
-pub const DRIVE_IN: u64 = 1 << 55;
-pub const DRIVE_OUT: u64 = 1 << 56;
-/// Where a station has the issue of the next set, and what is set apart.
-const ISSUE: std::ops::Range<usize> = 50..52;
-const APART: std::ops::Range<usize> = 52..60;
-/// Where it has which instructions of its set are answered, and an ending that it does not keep.
-const MARKS: usize = 9;
-const UNKNOWN: u8 = u8::MAX;
 /// An ending that sets the instruction's area apart.
 const STUCK: u8 = 2;
 /// Where a desk has the number of a drive-in under way, of its four-byte places behind the station.
@@ -35,20 +27,6 @@ pub struct Floor {
     pub record: Record,
     pub apart: Parts,
     pub cards: Vec<Known>,
-}
-
-/// An instruction of the outstanding set, and how it ended, where it is answered.
-pub struct Held {
-    pub five: [u8; 5],
-    pub ending: Option<u8>,
-}
-
-/// A stuck result that has set its instruction's area apart: where the log has it, and what it is of.
-pub struct Stuck {
-    pub at: String,
-    pub issue: u16,
-    pub number: u8,
-    pub five: [u8; 5],
 }
 
 /// Cards as somebody gives them for cars in their order: some may not be known.
@@ -90,8 +68,9 @@ impl Follower {
         let mut follower = Follower::start();
         follower.take_image(Record(number_in(&station[..8])), None);
         follower.desk[..Station::SIZE].copy_from_slice(station);
-        let marked = |at: usize| station[MARKS] >> at & 1 == 1;
-        follower.endings = std::array::from_fn(|at| marked(at).then_some(UNKNOWN));
+        for (ending, held) in follower.endings.iter_mut().zip(Facts::of_station(station).set) {
+            *ending = held.ending;
+        }
         follower
     }
 
@@ -107,20 +86,14 @@ impl Follower {
         Parts(number_in(&self.desk[APART]))
     }
 
-    /// The outstanding set's issue; where none is, that of the last one.
-    pub fn present_issue(&self) -> u16 {
-        u16::from_le_bytes([self.desk[50], self.desk[51]]).wrapping_sub(1)
-    }
-
-    /// The outstanding set; empty where there is none.
-    pub fn set(&self) -> Vec<Held> {
-        let five = |at: usize| std::array::from_fn(|byte| self.desk[10 + 5 * at + byte]);
-        (0..usize::from(self.desk[8])).map(|at| Held { five: five(at), ending: self.endings[at] }).collect()
-    }
-
-    /// The stuck results that have set apart what is, in the order of the log.
-    pub fn stuck(&self) -> &[Stuck] {
-        &self.stuck
+    /// What decides about the next message, with how each instruction of the set has ended, and what has set something apart.
+    pub fn facts(&self) -> Facts {
+        let mut facts = Facts::of_station(&self.station());
+        for (held, ending) in facts.set.iter_mut().zip(self.endings) {
+            held.ending = ending;
+        }
+        facts.stuck = Some(self.stuck.clone());
+        facts
     }
 
     fn number_at(&self, place: usize) -> u32 {
@@ -175,7 +148,7 @@ impl Follower {
             }
             Message::Result { issue, number, ending } => {
                 if ending == STUCK {
-                    let five = self.set()[usize::from(number)].five;
+                    let five = self.facts().set[usize::from(number)].five;
                     self.stuck.push(Stuck { at: at.to_string(), issue, number, five });
                 }
                 lent::desk_result(&mut self.desk, issue, number, ending);

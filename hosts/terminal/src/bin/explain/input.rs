@@ -1,10 +1,10 @@
 //! A log, item by item: recorded bytes, or hexadecimal text with marks, cards and comments (docs/EXPLAIN.md).
 
 use crate::follow::Cards;
-use crate::message::{is_answer, length, LENGTHS};
 use station::words::Wrong;
 use std::collections::VecDeque;
 use std::io::{BufRead, Read};
+use terminal::message::{bytes_in, is_answer, length, LENGTHS};
 use terminal::told::failed;
 
 /// What a log says at a place.
@@ -227,19 +227,6 @@ impl<R: BufRead> Hex<R> {
             self.open.line = self.line;
         }
     }
-}
-
-/// The bytes of digits with blanks anywhere.
-pub fn bytes_in(said: &str) -> Result<Vec<u8>, Wrong> {
-    let digits: Vec<char> = said.chars().filter(|letter| !letter.is_whitespace()).collect();
-    if let Some(other) = digits.iter().find(|digit| !digit.is_ascii_hexdigit()) {
-        return Err(format!("expected digits in hexadecimal, found `{}`", other.escape_default()));
-    }
-    if digits.len() % 2 == 1 {
-        return Err(format!("expected two digits for each byte, found {} digits", digits.len()));
-    }
-    let value = |digit: char| digit.to_digit(16).unwrap_or(0) as u8;
-    Ok(digits.chunks_exact(2).map(|two| value(two[0]) << 4 | value(two[1])).collect())
 }
 
 /// The card numbers of a list, with `-` for a car whose card is not known; with `card` one number.

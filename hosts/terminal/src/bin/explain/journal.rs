@@ -2,11 +2,11 @@
 //! ended its sessions. What is damaged is told, and nothing behind it is read.
 
 use crate::input::{Item, Placed};
-use crate::message::length;
 use station::words::Wrong;
 use station::Station;
 use std::collections::VecDeque;
 use std::io::{BufRead, Read};
+use terminal::message::length;
 use terminal::told::failed;
 
 const MAGIC: &[u8] = b"Vargsnida, journal.\n";

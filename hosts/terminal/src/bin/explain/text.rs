@@ -1,14 +1,15 @@
 //! A log in words: a paragraph for each message, with the station followed along.
 
-use crate::floor::{lines as floor_lines, outstanding, parts};
+use crate::floor::lines as floor_lines;
 use crate::follow::{named_cars, Cards, Floor, Follower};
 use crate::input::{Item, Placed};
-use crate::message::{both, both_wide, hexadecimal, instruction, read, word, Message, BEGIN_IN, ENDINGS, EVENTS};
-use crate::why::{against, to_do};
 use station::words::Wrong;
 use station::{Parts, Record};
 use std::collections::VecDeque;
+use terminal::facts::parts;
+use terminal::message::{both, both_wide, hexadecimal, instruction, read, word, Message, BEGIN_IN, ENDINGS, EVENTS};
 use terminal::told::number_in_words;
+use terminal::why::{against, to_do};
 
 /// The place where an answer names no instruction, as its bytes have it.
 const NOWHERE: u8 = 255;
@@ -177,8 +178,9 @@ impl Explainer {
             Message::Result { issue, number, ending } => {
                 let outcome = word(&ENDINGS, ending, "no outcome");
                 let mut lines = vec![format!("result of set {}, instruction {}: {outcome}", both_wide(issue), both(number))];
-                let set = if issue == self.station.present_issue() { self.station.set() } else { Vec::new() };
-                lines.extend(set.get(usize::from(number)).map(|held| format!("  that is {}", instruction(held.five))));
+                let facts = self.station.facts();
+                let held = facts.set.get(usize::from(number)).filter(|_| issue == facts.issue);
+                lines.extend(held.map(|held| format!("  that is {}", instruction(held.five))));
                 lines
             }
             Message::Image { record, apart } => vec![format!("image to take {}", image_line(record, apart))],
@@ -192,7 +194,7 @@ impl Explainer {
     }
 
     fn set_lines(&self) -> Vec<String> {
-        outstanding(self.station.present_issue(), &self.station.set())
+        self.station.facts().outstanding()
     }
 
     /// The floor with the outstanding set; only that it is the same where it was shown last.
@@ -228,7 +230,7 @@ impl Explainer {
             if self.shows.quiet {
                 text += &(self.floor(0, "the floor before the next message") + "\n");
             }
-            text += &(head + &below(2, told) + &below(4, against(&self.station, &message, answer)));
+            text += &(head + &below(2, told) + &below(4, against(&self.station.facts(), &message, answer)));
             text += &below(2, [format!("to do: {}", to_do(&message, answer))]);
             if self.shows.floors && !self.shows.quiet {
                 text += &self.floor(2, "the floor");
