@@ -176,9 +176,9 @@ pub fn to_do(message: &Message, answer: Answer) -> &'static str {
             "drop it; if a car did come or go, look at the sensors and send the image once no set is outstanding"
         }
         (31, _) => "hand nothing to the motors; send it again when the drive has ended, or now without what has the lift",
-        (32, _) if event.is_some() => "let no driver in; have the place looked at and send an image: docs/JAM.md has the commands",
+        (32, _) if event.is_some() => "let no driver in; have the place looked at and send an image: JAM.md has the commands",
         (32, _) => {
-            "hand nothing to the motors; leave out what touches it, or have the place looked at and send an image: docs/JAM.md has the commands"
+            "hand nothing to the motors; leave out what touches it, or have the place looked at and send an image: JAM.md has the commands"
         }
         (33, _) => "let no driver in; fetch a car and let it drive out, then send the begin again",
         (number, Message::Request(fives)) => match answer.place {
