@@ -5,9 +5,9 @@
 //! behind it one marked `shown` is all that is written, one marked `told` what is told on standard error.
 
 mod cards;
-mod held;
+pub mod held;
 mod logs;
-mod shown;
+pub mod shown;
 
 use held::{held, plain, views, Beside};
 use reference::{serve, serve_on, sound, Station};
@@ -33,8 +33,14 @@ fn long(explain: &str, messages: usize, beside: &mut Beside) {
         let bytes = input(seed as u64, LONG);
         let (shown, told, well) = text(explain, &bytes);
         assert_eq!((told.as_str(), well), ("", true));
-        beside.station = Station::start();
+        beside.restart();
         assert!(held(&shown, beside) == serve(&bytes), "seed {seed}");
+        // refusals alone have the same reasons, and it ends with the same floor
+        if seed == 0 {
+            let (quiet, ..) = text(&format!("{explain} --quiet"), &bytes);
+            let causes = |text: &str| text.lines().filter(|line| line.contains("set apart by ")).map(str::to_string).collect::<Vec<_>>();
+            assert!(causes(&quiet) == causes(&shown) && quiet.contains("\nthe floor at the end:"), "--quiet");
+        }
     }
 }
 
@@ -46,7 +52,7 @@ fn damaged(explain: &str, inputs: u64, beside: &mut Beside) -> usize {
         if bytes.len() >= 4 && matches!(bytes[2], 128 | 129) && bytes[3] == 0 {
             continue;
         } // a recording of answers
-        beside.station = Station::start();
+        beside.restart();
         let (answers, used, on) = serve_on(&mut Station::start(), &bytes, true);
         let (shown, told, well) = text(explain, &bytes);
         assert!(held(&shown, beside) == answers, "seed {seed}");
@@ -112,7 +118,8 @@ fn examples(explain: &str, page: &str) -> usize {
             }
             _ => {
                 same(&got.1);
-                assert!(!got.2, "{page}:{line}: the status is 0");
+                let notes = block.lines().all(|line| line.starts_with("explain: note: "));
+                assert_eq!(got.2, notes, "{page}:{line}: the status");
                 count[2] += 1;
             }
         }
@@ -133,6 +140,8 @@ pub fn main(given: &[String]) {
     let expected: Vec<u8> = (0..=33).filter(|number| !matches!(number, 9 | 14 | 16..=19)).collect();
     assert_eq!(beside.came.iter().copied().collect::<Vec<_>>(), expected, "every number that a program can give comes");
     println!("explain: {messages} messages and {} floors as the reference has them, {found} damaged inputs told", beside.floors);
+    assert!(beside.causes > 0, "no stuck result is named under a 32");
+    println!("explain: {} stuck results named under a 32", beside.causes);
     let ([unsound, fine], all) = (hints(4000), instructions(explain));
     println!("explain: {all} instructions in words; {unsound} images that are not sound with hints, {fine} sound ones without");
     views(explain, 4000);

@@ -1,8 +1,10 @@
 //! The panel for the terminal: `panel_text PANEL PAGE`. Every instruction in words on many floors: what is shown is read back and held against
 //! the reference, condition by condition with the parts that decide it and those at fault, the verdict, and the floor after it. Floors as
-//! drawings and as images, texts that mean the same, and each wrong line told with its number. And the page's examples: a block marked
+//! drawings and as images, texts that mean the same, and each wrong line told with its number. Calls on stations of any traffic. And the page's examples: a block marked
 //! `panel` is an input, and of the blocks behind it one marked `shown` is all that is written, one marked `told` what is told on standard
 //! error; every reason from 20 to 28 must be a verdict there.
+
+mod stations;
 
 use reference::{cars, Instruction, REASON_NUMBERS, START};
 use shared::child::run_on as run;
@@ -100,6 +102,7 @@ fn shown<'a>(lines: &mut std::iter::Peekable<impl Iterator<Item = &'a str>>) -> 
         }
     }
     let verdict: u8 = lines.next()?.strip_prefix("verdict ")?.split_once(':')?.0.parse().ok()?;
+    while lines.next_if(|line| line.starts_with("  ")).is_some() {}
     lines.next_if_eq(&"");
     let after = if verdict == 0 { Some(floor(lines)?) } else { None };
     if verdict == 0 {
@@ -155,16 +158,22 @@ fn same_texts() -> Vec<String> {
         image("00000000001b0900"),
         image(" 0000\t0000 001B 0900 "),
         image("00000000001B0900\r"),
+        image("00 00 00 00 00 1B 09 00 00 00 00 00 00 00 00 00"),
+        image("12 00 81 00 00 00 00 00 00 1B 09 00 00 00 00 00 00 00 00 00"),
+        image("2026-11-17T02:12:11.507+00:00 < 12 00 81 00 00 00 00 00 00 1B 09 00 00 00 00 00 00 00 00 00"),
+        image("< 00000000001B0900"),
+        image(&format!("00000000001B0900{}", "00".repeat(52))),
     ]
 }
 
 /// Inputs with a wrong line, and what is told of it.
 fn wrong_texts() -> Vec<(String, String)> {
-    const FLOOR: &str = "expected a floor: twenty marks, each `#` or `.`, or 16 digits in hexadecimal, ";
+    const FLOOR: &str = "expected a floor: twenty marks, each `#` or `.`, or 16, 32 or 120 digits in hexadecimal, ";
     const LETTERS: &str = "expected three letters, each `L`, `T`, `B` or `-`, found ";
     const LIFT: &str = "expected `street`, `rotation` or `basement`, then ` car` or not, then ` in`, ` out` or not, ";
     const UNSOUND: &str = "15, the record is not sound: there is no such garage";
     const INSTRUCTION: &str = "expected `belts`, `shuttles`, `tilt`, `lift` or `rotate`, ";
+    const CALL: &str = "expected `belts`, `shuttles`, `tilt`, `lift`, `rotate`, `begin`, `ended`, `result` or `image`, ";
     let told = |line: usize, why: &str, found: &str| format!("panel: line {line}: {why}{found}\n");
     let mut all = vec![
         (String::new(), told(1, FLOOR, "and the input ends")),
@@ -175,6 +184,8 @@ fn wrong_texts() -> Vec<(String, String)> {
         ("00000000001B09000\n".to_string(), told(1, FLOOR, "found `00000000001B09000`")),
         ("000000000000000é\n".to_string(), told(1, FLOOR, "found `000000000000000é`")),
         ("01 00 00 00 00 1B 09 00\nlift basement\n".to_string(), told(1, UNSOUND, "")),
+        ("00000000001B09000000000000002000\n".to_string(), told(1, "what is set apart has a bit above 52", "")),
+        (format!("{}\n", "FF".repeat(60)), told(1, "16, these 60 bytes are no station's", "")),
         (DRAWN[1..].to_string(), told(1, FLOOR, "found `...................`")),
         (DRAWN.replace('\n', "\r\n"), told(1, FLOOR, "found `....................\\r`")),
         ("....................\n..........\n".to_string(), told(3, "expected ten marks, each `#` or `.`, ", "and the input ends")),
@@ -188,14 +199,26 @@ fn wrong_texts() -> Vec<(String, String)> {
     ];
     let lines = [
         ("lift cellar", "expected `street`, `rotation` or `basement`, ", "found `cellar`"),
-        ("Lift street", INSTRUCTION, "found `Lift`"),
+        ("Lift street", CALL, "found `Lift`"),
+        ("; lift street", CALL, "and the line ends"),
+        ("lift street;", INSTRUCTION, "and the line ends"),
+        ("lift street; begin in", INSTRUCTION, "found `begin`"),
+        ("begin", "expected `in` or `out`, ", "and the line ends"),
+        ("begin in now", "", "`now` and what follows it is more than the line can say"),
+        ("ended done", "expected `and`, ", "found `done`"),
+        ("ended and not", "expected `done`, ", "and the line ends"),
+        ("result", "expected the issue of a set, 0 to 65535, ", "and the line ends"),
+        ("result 65536 0 done", "expected the issue of a set, 0 to 65535, ", "found `65536`"),
+        ("result 1 256 done", "expected the number of an instruction, 0 to 255, ", "found `256`"),
+        ("result 1 0 well", "expected `failed`, `done` or `stuck`, ", "found `well`"),
+        ("image 00", "expected 16 digits in hexadecimal, ", "found `00`"),
         ("belts row 1", "expected `left-shuttle`, `left`, `lift`, `right`, `right-shuttle`, `lower` or `higher`, ", "and the line ends"),
         ("belts row 2 left higher full", "expected `left-shuttle`, `middle`, `right-shuttle`, `lower` or `higher`, ", "found `left`"),
         ("belts row 1 left left higher full", "", "`left` stands twice"),
         ("shuttles left rows 1 2 lowered up", "expected `lower` or `higher`, ", "found `up`"),
         ("tilt left row 4 tilted", "expected `1`, `2` or `3`, ", "found `4`"),
         ("rotate left", "", "`left` and what follows it is more than the line can say"),
-        ("image start", INSTRUCTION, "found `image`"),
+        ("image start", "expected 16 digits in hexadecimal, ", "found `start`"),
     ];
     all.extend(lines.map(|(line, why, found)| (format!("{DRAWN}\n{line}\n"), told(8, why, found))));
     all
@@ -227,6 +250,12 @@ pub fn main(given: &[String]) {
         let drawing = floor(&mut output.lines()).expect("a floor").drawing;
         same("the floor drawn", text(&format!("{drawing}{lines}")).0, output);
     }
+
+    let came = stations::tried(text, 300, 40);
+    let numbers = [0, 6, 8, 10, 11, 12, 13, 15, 29, 30, 31, 32, 33].into_iter().chain(REASON_NUMBERS);
+    let missing: Vec<u8> = numbers.filter(|number| !came.contains_key(number)).collect();
+    assert!(missing.is_empty(), "{missing:?} never came: {came:?}");
+    println!("panel_text: {} calls on 300 stations, each rejection explained; numbers {came:?}", 300 * 40);
 
     let (alike, wrong) = (same_texts(), wrong_texts());
     let expected = text(&alike[0]);

@@ -13,8 +13,16 @@ use std::collections::BTreeSet;
 pub struct Beside {
     pub station: Station,
     endings: [Option<u8>; 8],
+    stuck: Vec<Stuck>,
     pub came: BTreeSet<u8>,
     pub floors: usize,
+    pub causes: usize,
+}
+
+/// A stuck result since the last image: what it has set apart, and the line that tells of it under a 32.
+struct Stuck {
+    parts: u64,
+    line: String,
 }
 
 /// Words that mean the same read the same.
@@ -62,16 +70,37 @@ pub fn views(explain: &str, count: usize) {
 
 impl Beside {
     pub fn new() -> Self {
-        Beside { station: Station::start(), endings: [None; 8], came: BTreeSet::new(), floors: 0 }
+        let (came, stuck) = (BTreeSet::new(), Vec::new());
+        Beside { station: Station::start(), endings: [None; 8], stuck, came, floors: 0, causes: 0 }
     }
 
-    fn set_lines(&self) -> Vec<String> {
+    /// Another text follows, which begins with a station: how instructions ended is not known there, nor by what something is set apart.
+    pub fn begin_with(&mut self, station: Station) {
+        let answered = |at: usize| (station.to_bytes()[9] >> at & 1 == 1).then_some(3);
+        (self.station, self.endings, self.stuck) = (station, std::array::from_fn(answered), Vec::new());
+    }
+
+    /// Another text follows, which begins at the start.
+    pub fn restart(&mut self) {
+        (self.station, self.endings, self.stuck) = (Station::start(), [None; 8], Vec::new());
+    }
+
+    /// Under a 32 the stuck results are named that have set some of these parts apart, and no others.
+    fn causes(&mut self, some: u64, lines: &[String]) {
+        let told: Vec<String> = lines.iter().map(|line| plain(line.trim())).filter(|line| line.starts_with("set apart by ")).collect();
+        let expected: Vec<String> = self.stuck.iter().filter(|stuck| stuck.parts & some != 0).map(|stuck| plain(&stuck.line)).collect();
+        assert_eq!(told, expected, "{lines:?}");
+        self.causes += told.len();
+    }
+
+    pub fn set_lines(&self) -> Vec<String> {
         if self.station.count == 0 {
             return vec!["no set is outstanding".to_string()];
         }
         let issue = self.station.present_issue();
         let one = |(five, at): (&[u8], usize)| {
-            let state = self.endings[at].map_or("waits for its result", |ending| ["failed", "done", "stuck"][usize::from(ending)]);
+            let state =
+                self.endings[at].map_or("waits for its result", |ending| ["failed", "done", "stuck", "answered"][usize::from(ending)]);
             format!("  {at}: {}: {state}", words(*five.first_chunk().expect("five")).expect("an instruction"))
         };
         let held = self.station.set.chunks(5).take(self.station.count.into()).zip(0..).map(one);
@@ -131,7 +160,7 @@ impl Beside {
     }
 
     /// What stands against any message that is refused.
-    fn refused(&self, call: &Call, number: u8, place: u8, lines: &[String]) {
+    pub fn refused(&mut self, call: &Call, number: u8, place: u8, lines: &[String]) {
         let outstanding = || {
             let set = self.set_lines();
             let lines: Vec<String> = lines.iter().map(|line| plain(line.strip_prefix("  ").unwrap_or(line))).collect();
@@ -144,7 +173,12 @@ impl Beside {
             Call::Request { bytes, .. } => {
                 let fives: Vec<[u8; 5]> = bytes.chunks(5).map(|five| *five.first_chunk().expect("five")).collect();
                 self.request(&fives, number, place.into(), lines);
+                if number == 32 {
+                    let area = Instruction::read(fives[usize::from(place)]).map_or(Parts::NONE, |one| one.area());
+                    self.causes(area.number() & self.station.apart_number(), lines);
+                }
             }
+            Call::Event(_) if number == 32 => self.causes(1 << 52, lines),
             Call::Image { image, apart } if number == 15 => {
                 let hint = lines.iter().any(|line| line.trim().starts_with("hint: "));
                 let second = lines.iter().any(|line| line.contains("second number is not 0"));
@@ -175,8 +209,16 @@ impl Beside {
             self.refused(&call, number, reply[5], &told.lines);
             return;
         }
+        if let Call::Result { issue, number, outcome: 2 } = call {
+            let five = *self.station.set[5 * usize::from(number)..].first_chunk().expect("five");
+            let parts = Instruction::read(five).map_or(Parts::NONE, |one| one.area()).number();
+            let (which, words) = (format!("instruction {number} = 0x{number:02X} of set {issue} = 0x{issue:04X}"), words(five));
+            let line = format!("set apart by message {}, {}: {which}, {}, was stuck", told.number, told.at, words.expect("an instruction"));
+            self.stuck.push(Stuck { parts, line });
+        }
         self.station.take(call);
         match call {
+            Call::Image { .. } => self.stuck.clear(),
             Call::Request { .. } => self.endings = [None; 8],
             Call::Result { number, outcome, .. } => self.endings[usize::from(number)] = Some(outcome),
             _ => {}
@@ -198,5 +240,20 @@ pub fn held(text: &str, beside: &mut Beside) -> Vec<u8> {
         answers.extend(told.reply.iter().flatten());
         at += told.bytes.len();
     }
+    if at > 0 {
+        let shown = last_floor(text).unwrap_or_else(|| panic!("no floor at the end: {text}"));
+        beside.floor(&shown, "the end");
+    }
     answers
+}
+
+/// The floor that a text ends with; the last one before it where it says that it is the same.
+fn last_floor(text: &str) -> Option<Floor> {
+    const TITLES: [&str; 3] = ["the floor:", "the log begins on this floor:", "the floor at the end:"];
+    let lines: Vec<&str> = text.lines().collect();
+    let same = lines.contains(&"the floor at the end: the same");
+    let at = lines.iter().rposition(|line| TITLES.contains(&line.trim())).filter(|&at| same || lines[at] == TITLES[2])?;
+    let deep = lines[at].len() - lines[at].trim_start().len();
+    let inner: Vec<String> = lines[at..].iter().map(|line| line.get(deep..).unwrap_or_default().to_string()).collect();
+    floor(&inner, lines[at].trim())
 }

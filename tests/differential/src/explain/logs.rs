@@ -48,6 +48,9 @@ fn same_texts(sent: &[&[u8]]) -> Vec<String> {
         sent.chunks(3).map(|some| format!(">{}\n", hexadecimal(&some.concat()).replace(' ', ""))).collect(),
         lines("\t>  ").replace("\n", " # a comment\r\n\n   # another\n"),
         lines("").trim_end().to_string(),
+        // as owner.py prints them, and as the system's journal has that
+        lines("2026-11-17T18:41:42.007+00:00 > "),
+        lines("Nov 17 18:41:42 north owner.py[77]: 2026-11-17T18:41:42.007+00:00 > "),
     ]
 }
 
@@ -64,6 +67,11 @@ fn forms(explain: &str) {
             let found = paragraphs(&shown);
             let bytes_too = found.iter().zip(&sent).all(|(told, sent)| told.bytes == *sent);
             assert!(well && told.is_empty() && bytes_too && replies(&found) == answers, "seed {seed}: {told}{form}");
+            let timed = |told: &Told| told.at.ends_with(" (2026-11-17T18:41:42.007+00:00)");
+            assert!(found.iter().all(|told| timed(told) == form.contains("2026")), "seed {seed}: {form}");
+            // that it is text is seen by itself, and told
+            let note = "explain: note: this is hexadecimal text, and is read as with --hex\n";
+            assert_eq!(text(explain, form.as_bytes()), (shown, note.to_string(), true), "seed {seed}: {form}");
         }
         let (shown, told, well) = text(&hex, log(&sent, &answered).as_bytes());
         let found = paragraphs(&shown);
@@ -206,6 +214,9 @@ fn wrong_texts() -> Vec<(String, &'static str)> {
         (text(&["0G"]), "line 1: expected digits in hexadecimal, found `G`"),
         (text(&["", "# c", "> 03 00 02 00 0"]), "line 3: expected two digits for each byte, found 9 digits"),
         (text(&["? 03"]), "line 1: expected digits in hexadecimal, found `?`"),
+        (text(&["02 00 > 05 00"]), "line 1: expected digits in hexadecimal, found `>`"),
+        (text(&["18:41> 02 00 05 00"]), "line 1: expected digits in hexadecimal, found `:`"),
+        (text(&[&format!("18:41 > {BEGIN}"), "18:42 < 06"]), "line 2 (18:42): expected the second byte of a length, and the input ends"),
         (text(&["03 00 02"]), "line 1: expected 5 bytes of a message, found 3, and the input ends"),
         (text(&["03"]), "line 1: expected the second byte of a length, and the input ends"),
         (text(&[BEGIN, "> 03 00", "< 06 00"]), "line 2: expected 5 bytes of a message, found 2, and line 3 begins another"),

@@ -2,36 +2,15 @@
 //! with their cards where these are known, and `!` where a part is set apart; then the lift, the drive, what is set apart and the cars in
 //! words.
 
-use crate::follow::{Floor, Held, DRIVE_IN, DRIVE_OUT};
-use crate::message::{both_wide, instruction, ENDINGS};
-use station::{Parts, Place, Record};
-use terminal::conditions::{cells, has, of_lift, slot_words, CELLS, LIFT, SLOTS};
+use crate::follow::Floor;
+use station::Place;
+use terminal::conditions::{cells, has, of_lift, LIFT, SLOTS};
+use terminal::facts::{drive, parts};
 use terminal::sound::hints;
 
 /// Where the cells begin in a line, and how wide a half cell is.
 const MARGIN: usize = 9;
 const HALF: usize = 3;
-
-/// Parts in words: cells, shuttles' slots, the lift.
-pub fn parts(all: Parts) -> String {
-    let mut words = Vec::new();
-    let occupied: Vec<u8> = (0..CELLS).filter(|&cell| all.has(cell)).collect();
-    if !occupied.is_empty() {
-        words.push(cells(&occupied));
-    }
-    words.extend(SLOTS.filter(|&slot| all.has(slot)).map(|slot| {
-        let [side, row, tilted] = slot_words(slot);
-        format!("the {tilted} slot {side} in row {row}")
-    }));
-    if all.lift() {
-        words.push("the lift".to_string());
-    }
-    if words.is_empty() {
-        "nothing".to_string()
-    } else {
-        words.join("; ")
-    }
-}
 
 /// A line that is written at its columns.
 struct Line(Vec<char>);
@@ -161,14 +140,6 @@ fn lift(floor: &Floor) -> String {
     format!("{}{on_it}{}", of_lift(floor.record.0), if floor.apart.lift() { ", set apart" } else { "" })
 }
 
-/// The drive under way in words; nothing where there is none.
-pub fn drive(record: Record) -> Option<&'static str> {
-    if record.0 & DRIVE_IN != 0 {
-        return Some("a drive-in is under way");
-    }
-    (record.0 & DRIVE_OUT != 0).then_some("a drive-out is under way")
-}
-
 /// A floor's lines; of a record that is not sound, what is wrong with it.
 pub fn lines(floor: &Floor, coming: Option<u32>) -> Vec<String> {
     let (Ok(drawing), Ok(cars)) = (floor.record.drawing(), floor.record.places()) else {
@@ -191,16 +162,4 @@ pub fn lines(floor: &Floor, coming: Option<u32>) -> Vec<String> {
         .map(|card| format!("card {} {}{}", card.card, place(card.place), if card.last_known { ", its last known place" } else { "" }));
     lines.push(std::iter::once(format!("cars: {}", cars.len())).chain(known).collect::<Vec<_>>().join("; "));
     lines
-}
-
-/// The outstanding set in lines, with what is answered so far.
-pub fn outstanding(issue: u16, set: &[Held]) -> Vec<String> {
-    if set.is_empty() {
-        return vec!["no set is outstanding".to_string()];
-    }
-    let one = |(held, at): (&Held, usize)| {
-        let ending = held.ending.map_or("waits for its result", |ending| ENDINGS.get(usize::from(ending)).copied().unwrap_or("answered"));
-        format!("  {at}: {}: {ending}", instruction(held.five))
-    };
-    std::iter::once(format!("set {} is outstanding:", both_wide(issue))).chain(set.iter().zip(0..).map(one)).collect()
 }

@@ -1,20 +1,14 @@
 //! The station that the messages of a log make, followed one by one: a desk, which has the station inside. Each car has a number of its own
 //! there that is never shown; of some of them the card is known, and only those are told.
 
-use crate::message::{number_in, Message, BEGIN_IN};
 use station::{lent, Answer, Desk, Parts, Place, Record, Station, Whereabouts};
 use std::collections::BTreeMap;
 use terminal::conditions::LIFT;
+use terminal::facts::{Facts, Stuck, APART, DRIVE_IN, ISSUE};
+use terminal::message::{number_in, Message, BEGIN_IN};
 
-/// Bit 55 of a record: a drive-in is under way. Bit 56: a drive-out.
-pub const DRIVE_IN: u64 = 1 << 55;
-pub const DRIVE_OUT: u64 = 1 << 56;
-/// Where a station has the issue of the next set, and what is set apart.
-const ISSUE: std::ops::Range<usize> = 50..52;
-const APART: std::ops::Range<usize> = 52..60;
-/// Where it has which instructions of its set are answered, and an ending that it does not keep.
-const MARKS: usize = 9;
-const UNKNOWN: u8 = u8::MAX;
+/// An ending that sets the instruction's area apart.
+const STUCK: u8 = 2;
 /// Where a desk has the number of a drive-in under way, of its four-byte places behind the station.
 const WAITS: usize = 41;
 /// Places of numbers in a desk.
@@ -35,12 +29,6 @@ pub struct Floor {
     pub cards: Vec<Known>,
 }
 
-/// An instruction of the outstanding set, and how it ended, where it is answered.
-pub struct Held {
-    pub five: [u8; 5],
-    pub ending: Option<u8>,
-}
-
 /// Cards as somebody gives them for cars in their order: some may not be known.
 pub type Cards = Vec<Option<u32>>;
 
@@ -49,6 +37,8 @@ pub struct Follower {
     desk: [u8; Desk::SIZE],
     /// How the instructions of the outstanding set ended; the station keeps only whether they did.
     endings: [Option<u8>; 8],
+    /// What has set apart what is, since the last image; what was set apart before the log has no cause here.
+    stuck: Vec<Stuck>,
     /// The cards by the numbers inside.
     cards: BTreeMap<u32, u32>,
     last: u32,
@@ -61,7 +51,7 @@ pub fn named_cars(record: Record) -> usize {
 
 impl Follower {
     fn start() -> Self {
-        Follower { desk: *Desk::new().bytes(), endings: [None; 8], cards: BTreeMap::new(), last: 0 }
+        Follower { desk: *Desk::new().bytes(), endings: [None; 8], stuck: Vec::new(), cards: BTreeMap::new(), last: 0 }
     }
 
     /// From a sound record on, with what is set apart there, the issue that the next set will have, and the cards of its cars.
@@ -78,8 +68,9 @@ impl Follower {
         let mut follower = Follower::start();
         follower.take_image(Record(number_in(&station[..8])), None);
         follower.desk[..Station::SIZE].copy_from_slice(station);
-        let marked = |at: usize| station[MARKS] >> at & 1 == 1;
-        follower.endings = std::array::from_fn(|at| marked(at).then_some(UNKNOWN));
+        for (ending, held) in follower.endings.iter_mut().zip(Facts::of_station(station).set) {
+            *ending = held.ending;
+        }
         follower
     }
 
@@ -95,15 +86,14 @@ impl Follower {
         Parts(number_in(&self.desk[APART]))
     }
 
-    /// The outstanding set's issue; where none is, that of the last one.
-    pub fn present_issue(&self) -> u16 {
-        u16::from_le_bytes([self.desk[50], self.desk[51]]).wrapping_sub(1)
-    }
-
-    /// The outstanding set; empty where there is none.
-    pub fn set(&self) -> Vec<Held> {
-        let five = |at: usize| std::array::from_fn(|byte| self.desk[10 + 5 * at + byte]);
-        (0..usize::from(self.desk[8])).map(|at| Held { five: five(at), ending: self.endings[at] }).collect()
+    /// What decides about the next message, with how each instruction of the set has ended, and what has set something apart.
+    pub fn facts(&self) -> Facts {
+        let mut facts = Facts::of_station(&self.station());
+        for (held, ending) in facts.set.iter_mut().zip(self.endings) {
+            held.ending = ending;
+        }
+        facts.stuck = Some(self.stuck.clone());
+        facts
     }
 
     fn number_at(&self, place: usize) -> u32 {
@@ -134,18 +124,19 @@ impl Follower {
         Floor { record: self.record(), apart: self.apart(), cards: self.cards() }
     }
 
-    /// What a message is answered with, and the message that answers it. Cards go with a begin in or an image, if it is taken.
-    pub fn take(&mut self, bytes: &[u8], message: &Message, cards: Option<&Cards>) -> (Answer, Vec<u8>) {
+    /// What a message is answered with, and the message that answers it. Cards go with a begin in or an image, if it is taken; `at` says
+    /// where the log has it.
+    pub fn take(&mut self, bytes: &[u8], message: &Message, cards: Option<&Cards>, at: &str) -> (Answer, Vec<u8>) {
         let mut station = Station::from_bytes(&self.station()).expect("it is a station");
         let (answer, reply) = station.message(bytes);
         if answer.taken() {
-            self.took(message, cards);
+            self.took(message, cards, at);
         }
         assert!(self.station() == *station.bytes(), "the desk's station is the station");
         (answer, reply)
     }
 
-    fn took(&mut self, message: &Message, cards: Option<&Cards>) {
+    fn took(&mut self, message: &Message, cards: Option<&Cards>, at: &str) {
         match *message {
             Message::Request(ref fives) => {
                 lent::desk_request(&mut self.desk, fives.len() as u8, &fives.concat());
@@ -156,6 +147,10 @@ impl Follower {
                 lent::desk_event(&mut self.desk, way, number);
             }
             Message::Result { issue, number, ending } => {
+                if ending == STUCK {
+                    let five = self.facts().set[usize::from(number)].five;
+                    self.stuck.push(Stuck { at: at.to_string(), issue, number, five });
+                }
                 lent::desk_result(&mut self.desk, issue, number, ending);
                 self.endings[usize::from(number)] = Some(ending);
             }
@@ -172,6 +167,7 @@ impl Follower {
         let cars = named_cars(record);
         let numbers: Vec<u8> = (0..cars).flat_map(|at| self.new_number(known(at)).to_le_bytes()).collect();
         lent::desk_image(&mut self.desk, record.0, 0, cars as u8, &numbers);
+        self.stuck.clear();
     }
 
     /// A number that no car has had, for the card if it is known. There are more of them than messages in any log.

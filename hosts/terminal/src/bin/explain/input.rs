@@ -1,10 +1,10 @@
 //! A log, item by item: recorded bytes, or hexadecimal text with marks, cards and comments (docs/EXPLAIN.md).
 
 use crate::follow::Cards;
-use crate::message::{is_answer, length, LENGTHS};
 use station::words::Wrong;
 use std::collections::VecDeque;
 use std::io::{BufRead, Read};
+use terminal::message::{bytes_in, is_answer, length, LENGTHS};
 use terminal::told::failed;
 
 /// What a log says at a place.
@@ -99,18 +99,42 @@ struct Open {
 pub struct Hex<R> {
     input: R,
     line: usize,
+    /// The time that this line tells, if it does.
+    time: Option<String>,
     open: Open,
     read: VecDeque<Placed>,
     ended: bool,
 }
 
+/// A line with what stands before its mark, whose last word is the time, taken off: a log with times has a `:` there, and bytes have none.
+fn timed(said: &str) -> (Option<String>, &str) {
+    let before = |mark: usize| said[..mark].ends_with(char::is_whitespace) && said[..mark].contains(':');
+    match said.find(['>', '<']).filter(|&mark| before(mark)) {
+        Some(mark) => (said[..mark].split_whitespace().last().map(str::to_string), &said[mark..]),
+        None => (None, said),
+    }
+}
+
+/// How much of an input is looked at for whether it is text.
+const LOOKED_AT: usize = 256;
+
+/// Whether an input begins as hexadecimal text does. Messages never do: the upper byte of a length is 0, which no text has.
+pub fn is_text(input: &mut impl BufRead) -> Result<bool, Wrong> {
+    let front = input.fill_buf().map_err(|why| failed("input", why))?;
+    let front = &front[..front.len().min(LOOKED_AT)];
+    let letter = |&byte: &u8| byte >= b' ' || byte.is_ascii_whitespace();
+    Ok(front.len() > 1 && front.iter().all(letter) && front.iter().any(u8::is_ascii_hexdigit))
+}
+
 impl<R: BufRead> Hex<R> {
     pub fn new(input: R) -> Self {
-        Hex { input, line: 0, open: Open { bytes: Vec::new(), mark: None, line: 0 }, read: VecDeque::new(), ended: false }
+        let open = Open { bytes: Vec::new(), mark: None, line: 0 };
+        Hex { input, line: 0, time: None, open, read: VecDeque::new(), ended: false }
     }
 
     fn place(&mut self, line: usize, item: Item) {
-        self.read.push_back(Placed { at: format!("line {line}"), item });
+        let time = self.time.as_ref().filter(|_| line == self.line).map_or(String::new(), |time| format!(" ({time})"));
+        self.read.push_back(Placed { at: format!("line {line}{time}"), item });
     }
 
     fn damaged(&mut self, line: usize, bytes: Vec<u8>, why: Wrong) {
@@ -145,7 +169,9 @@ impl<R: BufRead> Hex<R> {
             }
             self.line += 1;
             let text = String::from_utf8_lossy(&line).into_owned();
-            self.take(text.split('#').next().unwrap_or_default().trim());
+            let (time, said) = timed(text.split('#').next().unwrap_or_default().trim());
+            self.time = time;
+            self.take(said);
         }
     }
 
@@ -201,19 +227,6 @@ impl<R: BufRead> Hex<R> {
             self.open.line = self.line;
         }
     }
-}
-
-/// The bytes of digits with blanks anywhere.
-pub fn bytes_in(said: &str) -> Result<Vec<u8>, Wrong> {
-    let digits: Vec<char> = said.chars().filter(|letter| !letter.is_whitespace()).collect();
-    if let Some(other) = digits.iter().find(|digit| !digit.is_ascii_hexdigit()) {
-        return Err(format!("expected digits in hexadecimal, found `{}`", other.escape_default()));
-    }
-    if digits.len() % 2 == 1 {
-        return Err(format!("expected two digits for each byte, found {} digits", digits.len()));
-    }
-    let value = |digit: char| digit.to_digit(16).unwrap_or(0) as u8;
-    Ok(digits.chunks_exact(2).map(|two| value(two[0]) << 4 | value(two[1])).collect())
 }
 
 /// The card numbers of a list, with `-` for a car whose card is not known; with `card` one number.

@@ -5,20 +5,18 @@ mod floor;
 mod follow;
 mod input;
 mod journal;
-mod message;
 mod text;
-mod why;
 
 use follow::{named_cars, Cards, Follower};
-use input::{bytes_in, cards, Bytes, Hex, Item, Placed};
+use input::{cards, is_text, Bytes, Hex, Item, Placed};
 use journal::Journal;
-use message::two_numbers;
 use station::words::Wrong;
 use station::{Parts, Record};
 use std::io::{self, Write};
 use std::process::ExitCode;
 use terminal::conditions::LIFT;
 use terminal::journal::is_journal;
+use terminal::message::{bytes_in, two_numbers};
 use terminal::sound::hints;
 use terminal::told::{failed, told_version};
 use text::{Explainer, Said, Shows};
@@ -102,19 +100,24 @@ fn explained(mut next: impl FnMut() -> Read, mut explainer: Explainer, out: &mut
     Ok(right)
 }
 
-/// A journal, which begins with its own station, or other recorded bytes.
-fn recorded(from: bool, follower: Follower, explainer: impl Fn(Follower) -> Explainer, out: &mut impl Write) -> Result<bool, Wrong> {
+/// A journal, which begins with its own station, or other recorded bytes; or text, which is told.
+fn recorded(from: bool, follower: Follower, explainer: impl Fn(Follower, bool) -> Explainer, out: &mut impl Write) -> Result<bool, Wrong> {
     let mut input = io::BufReader::new(io::stdin().lock());
     if !is_journal(&mut input)? {
+        if is_text(&mut input)? {
+            eprintln!("explain: note: this is hexadecimal text, and is read as with --hex");
+            let mut input = Hex::new(input);
+            return explained(|| input.next(), explainer(follower, true), out);
+        }
         let mut input = Bytes::recorded(input);
-        return explained(|| input.next(), explainer(follower), out);
+        return explained(|| input.next(), explainer(follower, false), out);
     }
     if from {
         return Err("--from: a journal has its own beginning".to_string());
     }
     let (appends, station) = terminal::journal::Journal::opened(input)?;
     let mut journal = Journal::new(appends);
-    explained(|| journal.next(), explainer(Follower::from_station(&station)), out)
+    explained(|| journal.next(), explainer(Follower::from_station(&station), false), out)
 }
 
 fn main() -> ExitCode {
@@ -131,15 +134,14 @@ fn main() -> ExitCode {
         Ok(follower) => follower,
         Err(why) => return told(&why, 2),
     };
-    let both_ways = given.hex || !given.digits.is_empty();
-    let explainer = |follower| Explainer::new(follower, given.shows, both_ways);
+    let explainer = |follower, both_ways| Explainer::new(follower, given.shows, both_ways);
     let out = &mut io::BufWriter::new(io::stdout().lock());
     let done = if !given.digits.is_empty() {
         let mut input = Bytes::mixed(io::Cursor::new(&given.digits));
-        explained(|| input.next(), explainer(follower), out)
+        explained(|| input.next(), explainer(follower, true), out)
     } else if given.hex {
         let mut input = Hex::new(io::stdin().lock());
-        explained(|| input.next(), explainer(follower), out)
+        explained(|| input.next(), explainer(follower, true), out)
     } else {
         recorded(given.from.is_some(), follower, explainer, out)
     };

@@ -1,14 +1,15 @@
 //! A log in words: a paragraph for each message, with the station followed along.
 
-use crate::floor::{lines as floor_lines, outstanding, parts};
+use crate::floor::lines as floor_lines;
 use crate::follow::{named_cars, Cards, Floor, Follower};
 use crate::input::{Item, Placed};
-use crate::message::{both, both_wide, hexadecimal, instruction, read, word, Message, BEGIN_IN, ENDINGS, EVENTS};
-use crate::why::{against, to_do};
 use station::words::Wrong;
 use station::{Parts, Record};
 use std::collections::VecDeque;
+use terminal::facts::parts;
+use terminal::message::{both, both_wide, hexadecimal, instruction, read, word, Message, BEGIN_IN, ENDINGS, EVENTS};
 use terminal::told::number_in_words;
+use terminal::why::{against, to_do};
 
 /// The place where an answer names no instruction, as its bytes have it.
 const NOWHERE: u8 = 255;
@@ -177,8 +178,9 @@ impl Explainer {
             Message::Result { issue, number, ending } => {
                 let outcome = word(&ENDINGS, ending, "no outcome");
                 let mut lines = vec![format!("result of set {}, instruction {}: {outcome}", both_wide(issue), both(number))];
-                let set = if issue == self.station.present_issue() { self.station.set() } else { Vec::new() };
-                lines.extend(set.get(usize::from(number)).map(|held| format!("  that is {}", instruction(held.five))));
+                let facts = self.station.facts();
+                let held = facts.set.get(usize::from(number)).filter(|_| issue == facts.issue);
+                lines.extend(held.map(|held| format!("  that is {}", instruction(held.five))));
                 lines
             }
             Message::Image { record, apart } => vec![format!("image to take {}", image_line(record, apart))],
@@ -192,7 +194,7 @@ impl Explainer {
     }
 
     fn set_lines(&self) -> Vec<String> {
-        outstanding(self.station.present_issue(), &self.station.set())
+        self.station.facts().outstanding()
     }
 
     /// The floor with the outstanding set; only that it is the same where it was shown last.
@@ -216,7 +218,7 @@ impl Explainer {
         self.messages += 1;
         self.sent += 1;
         let (says, before) = (self.says(&message), (self.station.record(), self.station.apart()));
-        let (answer, reply) = self.station.take(bytes, &message, cards.as_ref());
+        let (answer, reply) = self.station.take(bytes, &message, cards.as_ref(), &format!("message {}, {at}", self.messages));
         let fives: &[[u8; 5]] = if let Message::Request(fives) = &message { fives } else { &[] };
         let head = format!("message {}, {at}, to the station\n", self.messages);
         let card = cards.filter(|_| matches!(message, Message::Event(_))).and_then(|cards| *cards.first()?);
@@ -228,7 +230,7 @@ impl Explainer {
             if self.shows.quiet {
                 text += &(self.floor(0, "the floor before the next message") + "\n");
             }
-            text += &(head + &below(2, told) + &below(4, against(&self.station, &message, answer)));
+            text += &(head + &below(2, told) + &below(4, against(&self.station.facts(), &message, answer)));
             text += &below(2, [format!("to do: {}", to_do(&message, answer))]);
             if self.shows.floors && !self.shows.quiet {
                 text += &self.floor(2, "the floor");
@@ -299,9 +301,10 @@ impl Explainer {
         Said { text, wrong }
     }
 
-    /// The last line: how much was explained.
+    /// The end: the floor as the log leaves it, and how much was explained.
     pub fn end(mut self) -> Said {
         let wrong = self.unused_cards();
+        let floor = if self.sent > 0 { self.floor(0, "the floor at the end") + "\n" } else { String::new() };
         let answers = self.messages - self.sent;
         let answered = some(answers, "answer");
         let mut words = vec![format!("{} to the station, {} refused", some(self.sent, "message"), self.refused)];
@@ -313,6 +316,6 @@ impl Explainer {
         if answers > 0 && !self.waiting.is_empty() {
             words.push(format!("{} without answer there", some(self.waiting.len(), "message")));
         }
-        Said { text: words.join("; ") + "\n", wrong }
+        Said { text: floor + &words.join("; ") + "\n", wrong }
     }
 }

@@ -1,20 +1,14 @@
 //! Why a message is refused, in lines: what stands against it on the station as it is, and what to do, as PROTOCOL.md has it in short.
 
-use crate::floor::{drive, outstanding, parts};
-use crate::follow::Follower;
-use crate::message::{bad_fields, both_wide, instruction, Message, BEGIN_IN, BEGIN_OUT};
+use crate::conditions::{explained, has, of_lift, LIFT};
+use crate::facts::{area, drive, parts, Facts, Stuck};
+use crate::message::{bad_fields, both, both_wide, instruction, Message, BEGIN_IN, BEGIN_OUT};
+use crate::sound::hints;
 use station::{Answer, Instruction, Parts, Record};
-use terminal::conditions::{explained, has, of_lift, LIFT};
-use terminal::sound::hints;
 
 /// The instruction of five bytes that the station has read.
 fn read(five: [u8; 5]) -> Instruction {
     Instruction::try_from(five).expect("an instruction")
-}
-
-/// An instruction's area, a bit for each part as what is set apart has them: the lift is 52 alone.
-fn area(five: [u8; 5]) -> Parts {
-    Parts(read(five).area().expect("an instruction") & ((1 << (LIFT + 1)) - 1))
 }
 
 /// The parts that both have.
@@ -28,17 +22,27 @@ fn with_lift(fives: &[[u8; 5]]) -> Vec<String> {
     fives.iter().zip(0..).filter(has_lift).map(|(five, at)| format!("with the lift in its area: {at}: {}", instruction(*five))).collect()
 }
 
-fn set_lines(station: &Follower) -> Vec<String> {
-    outstanding(station.present_issue(), &station.set())
-}
-
-fn held(station: &Follower) -> Vec<[u8; 5]> {
-    station.set().iter().map(|held| held.five).collect()
+fn held(station: &Facts) -> Vec<[u8; 5]> {
+    station.set.iter().map(|held| held.five).collect()
 }
 
 /// The drive under way, or that there is none.
-fn drive_line(station: &Follower) -> String {
-    drive(station.record()).unwrap_or("no drive is under way").to_string()
+fn drive_line(station: &Facts) -> String {
+    drive(station.record).unwrap_or("no drive is under way").to_string()
+}
+
+/// What has set some parts apart: each stuck result whose area has one of them, and the parts that were set apart before the log begins.
+fn causes(station: &Facts, some: Parts) -> Vec<String> {
+    let of = |stuck: &&Stuck| !in_both(area(stuck.five), some).is_empty();
+    let one = |stuck: &Stuck| {
+        let (set, number) = (both_wide(stuck.issue), both(stuck.number));
+        format!("set apart by {}: instruction {number} of set {set}, {}, was stuck", stuck.at, instruction(stuck.five))
+    };
+    let Some(all) = &station.stuck else { return Vec::new() };
+    let known = all.iter().fold(0, |known, stuck| known | area(stuck.five).0);
+    let before = Parts(some.0 & !known);
+    let older = (!before.is_empty()).then(|| format!("set apart before the log begins: {}", parts(before)));
+    older.into_iter().chain(all.iter().filter(of).map(one)).collect()
 }
 
 /// Of an instruction that overlaps earlier ones: each of these, and the parts that both have.
@@ -49,65 +53,66 @@ fn overlaps(fives: &[[u8; 5]], place: usize) -> Vec<String> {
     shared.map(|(shared, at, five)| format!("it overlaps {at}: {}: both have {}", instruction(five), parts(shared))).collect()
 }
 
-fn request(station: &Follower, fives: &[[u8; 5]], answer: Answer) -> Vec<String> {
+fn request(station: &Facts, fives: &[[u8; 5]], answer: Answer) -> Vec<String> {
     let at = answer.place.map_or(fives.len(), usize::from);
     match answer.number as u8 {
         4 => bad_fields(fives[at]),
-        6 => set_lines(station),
+        6 => station.outstanding(),
         8 => overlaps(fives, at),
         31 => [vec![drive_line(station)], with_lift(fives)].concat(),
         32 => {
-            let touched = parts(in_both(area(fives[at]), station.apart()));
-            vec![format!("set apart: {}", parts(station.apart())), format!("of that it touches: {touched}")]
+            let touched = in_both(area(fives[at]), station.apart);
+            let told = [format!("set apart: {}", parts(station.apart)), format!("of that it touches: {}", parts(touched))];
+            [told.into(), causes(station, touched)].concat()
         }
-        20..=28 => explained(station.record(), read(fives[at])).into_iter().filter(|one| !one.holds).flat_map(|one| one.lines).collect(),
+        20..=28 => explained(station.record, read(fives[at])).into_iter().filter(|one| !one.holds).flat_map(|one| one.lines).collect(),
         _ => Vec::new(),
     }
 }
 
-fn lift_line(station: &Follower) -> String {
-    let on_it = if has(station.record().0, LIFT) { "a car on it" } else { "no car on it" };
-    format!("{}, {on_it}", of_lift(station.record().0))
+fn lift_line(station: &Facts) -> String {
+    let on_it = if has(station.record.0, LIFT) { "a car on it" } else { "no car on it" };
+    format!("{}, {on_it}", of_lift(station.record.0))
 }
 
-fn event(station: &Follower, way: u8, number: u8) -> Vec<String> {
+fn event(station: &Facts, way: u8, number: u8) -> Vec<String> {
     match number {
         4 => vec!["an event is 1 to 4".to_string()],
-        6 => [set_lines(station), with_lift(&held(station))].concat(),
+        6 => [station.outstanding(), with_lift(&held(station))].concat(),
         10 if way == BEGIN_IN => vec![lift_line(station), "a drive-in begins at street, with the lift empty".to_string()],
         10 => vec![lift_line(station), "a drive-out begins at street, with a car on the lift".to_string()],
         31 => vec![drive_line(station)],
-        32 => vec![format!("set apart: {}", parts(station.apart()))],
+        32 => [vec![format!("set apart: {}", parts(station.apart))], causes(station, Parts(1 << LIFT))].concat(),
         33 => vec![
             lift_line(station),
-            format!("the record has {} cars, and a drive-in begins with fewer than 27", station.record().cars().unwrap_or(0)),
+            format!("the record has {} cars, and a drive-in begins with fewer than 27", station.record.cars().unwrap_or(0)),
         ],
         _ => Vec::new(),
     }
 }
 
-fn result(station: &Follower, issue: u16, number: u8) -> Vec<String> {
-    let behind = station.present_issue().wrapping_sub(issue);
+fn result(station: &Facts, issue: u16, number: u8) -> Vec<String> {
+    let behind = station.issue.wrapping_sub(issue);
     let mut lines = match number {
         4 => return vec!["a result ends with 0 failed, 1 done or 2 stuck".to_string()],
         29 => vec![format!("it is of set {}, {behind} before the outstanding one", both_wide(issue))],
         30 => vec![format!("it is of set {}, neither the outstanding one nor one of the 32767 before it", both_wide(issue))],
         _ => Vec::new(),
     };
-    lines.extend(set_lines(station));
+    lines.extend(station.outstanding());
     lines
 }
 
-fn image(station: &Follower, record: Record, apart: Parts, number: u8) -> Vec<String> {
+fn image(station: &Facts, record: Record, apart: Parts, number: u8) -> Vec<String> {
     if number == 6 {
-        return set_lines(station);
+        return station.outstanding();
     }
     let second = (!apart.is_empty()).then(|| "its second number is not 0: an image sets nothing apart".to_string());
     second.into_iter().chain(hints(record.0).into_iter().map(|hint| format!("hint: {hint}"))).collect()
 }
 
 /// What stands against a message that was refused.
-pub fn against(station: &Follower, message: &Message, answer: Answer) -> Vec<String> {
+pub fn against(station: &Facts, message: &Message, answer: Answer) -> Vec<String> {
     let number = answer.number as u8;
     match *message {
         Message::Request(ref fives) => request(station, fives, answer),
@@ -171,8 +176,10 @@ pub fn to_do(message: &Message, answer: Answer) -> &'static str {
             "drop it; if a car did come or go, look at the sensors and send the image once no set is outstanding"
         }
         (31, _) => "hand nothing to the motors; send it again when the drive has ended, or now without what has the lift",
-        (32, _) if event.is_some() => "let no driver in; have the place looked at and send an image",
-        (32, _) => "hand nothing to the motors; have the place looked at and send an image, or leave out what touches it",
+        (32, _) if event.is_some() => "let no driver in; have the place looked at and send an image: JAM.md has the commands",
+        (32, _) => {
+            "hand nothing to the motors; leave out what touches it, or have the place looked at and send an image: JAM.md has the commands"
+        }
         (33, _) => "let no driver in; fetch a car and let it drive out, then send the begin again",
         (number, Message::Request(fives)) => match answer.place {
             Some(place) => mend(fives[usize::from(place)], number),

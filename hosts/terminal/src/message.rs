@@ -1,6 +1,6 @@
 //! What the bytes of a message say, of either direction, in words; and what is wrong with those that say nothing.
 
-use station::words::line_of;
+use station::words::{line_of, Wrong};
 use station::{Parts, Record};
 
 pub const BEGIN_IN: u8 = 1;
@@ -74,6 +74,19 @@ pub fn is_answer(bytes: &[u8]) -> bool {
 /// The number that up to eight bytes say, the lowest first.
 pub fn number_in(bytes: &[u8]) -> u64 {
     bytes.iter().rev().fold(0, |number, &byte| number << 8 | u64::from(byte))
+}
+
+/// The bytes of digits with blanks anywhere.
+pub fn bytes_in(said: &str) -> Result<Vec<u8>, Wrong> {
+    let digits: Vec<char> = said.chars().filter(|letter| !letter.is_whitespace()).collect();
+    if let Some(other) = digits.iter().find(|digit| !digit.is_ascii_hexdigit()) {
+        return Err(format!("expected digits in hexadecimal, found `{}`", other.escape_default()));
+    }
+    if digits.len() % 2 == 1 {
+        return Err(format!("expected two digits for each byte, found {} digits", digits.len()));
+    }
+    let value = |digit: char| digit.to_digit(16).unwrap_or(0) as u8;
+    Ok(digits.chunks_exact(2).map(|two| value(two[0]) << 4 | value(two[1])).collect())
 }
 
 /// A record, and what is set apart behind it.
