@@ -1,20 +1,36 @@
--- The replay of a piece as the program's loop has it: the station is the one that the bytes so far make. Assumes nothing.
-use mathlib.Core.Path.{_≡_, refl, sym, ap, _∙_}
+-- A journal of version 1.0, piece by piece: the station is the one that the bytes so far make. Assumes nothing.
+use mathlib.Core.Path.{_≡_, refl, sym, ap, subst, _∙_}
+use borrow.Author.Tests.{le-leb}
 use mathlib.Core.Bool.{false}
 use mathlib.Core.List.{List, []}
 use Prim.Native.Nat.{ℕ, _+_, _-_, _≤_, _<_}
 use native.Mathlib.Omega.{arith}
 use lib.ListN.{length, take, length-take}
 use lib.Seq.{length-slice, length-take-le}
+use Rattle.garage.specs.declared.Station.{Station}
 use Rattle.garage.specs.Station.{startOf}
-use Rattle.service.specs.Runs.{Serving, run, serving, enough}
+use Rattle.service.specs.Runs.{Serving, run, served, serving, enough}
 use Rattle.turns.specs.Turns.{holding, turning}
 use Rattle.turns.proofs.Statements.{rest-is-short}
 use Rattle.journal.specs.declared.Replay.{Replay}
 use Rattle.journal.specs.Journal.{counted, Journaled}
 use Rattle.journal.specs.Pieces.{replaying}
 use Rattle.journal.proofs.Which.{used-within, only-messages, stays-journaled}
-use Rattle.station.proofs.Turning.{all-served}
+use Rattle.streams.specs.declared.Input.{Input}
+use Rattle.streams.specs.declared.Input.the-variants.{Bytes}
+use Rattle.streams.specs.Input.{Fills}
+
+-- in room that is enough all is served
+all-served : (s : Station) (buf : List ℕ) (end : ℕ) (room : List ℕ) → enough (length buf) ≤ length room
+    → serving s (take end buf) room ≡ served (run s (take end buf)) room
+unfolding serving
+all-served s buf end room h =
+    let l = length-take end buf in
+    rw (le-leb (enough (length (take end buf))) (length room) (omega arith))
+
+-- a read fills no more than the buffer
+pub filled : (before after : List ℕ) (have end : ℕ) (r : Input) → Fills before have r after → r ≡ Bytes end → end ≤ length before
+filled before after have end r f e = let g : Fills before have (Bytes end) after = subst (λ (x : Input). Fills before have x after) e f in g .1
 
 -- no bytes make the start
 pub from-start : Journaled startOf 0
