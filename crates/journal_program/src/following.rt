@@ -63,6 +63,31 @@ fn end_at(q: Reading, left: usize) -> End
     }
 }
 
+// The byte behind the last append.
+fn first_left(q: Reading, buf: &[u8]) -> u8 {
+    let at = q.at;
+    if buf.len() <= at {
+        return 0;
+    }
+    buf[at]
+}
+
+// Cuts off what a lost power supply left of the mark that closes the journal, and says how many bytes are left behind the last append. No
+// other append is so short that its first bytes could be taken for the mark's.
+fn cut_mark(fd: i32, place: usize, left: usize, first: u8) -> usize {
+    if (left == 0) | (13 < left) {
+        return left;
+    }
+    if (first != 4) & (first != 0) {
+        return left;
+    }
+    if libc::ftruncate(fd, journal_files::place(place)) != 0 {
+        os::fail(b"station: the journal can't be cut");
+        return left;
+    }
+    0
+}
+
 fn is_synced(fd: i32) -> bool {
     if libc::fsync(fd) != 0 {
         os::fail(b"station: the journal can't be synced");
@@ -247,20 +272,25 @@ fn name_in(head: &[u8]) -> [u8; 40] {
     name
 }
 
+// Follows a journal that was read to its last append.
+fn follow_read(t: &[u32], fd: i32, q: Reading, garage: &[u8], new: &[u8], part: &[u8], buf: &[u8]) {
+    let rest = reading::rest(t, q, buf);
+    if !reading::is_sound(q, rest) {
+        return;
+    }
+    let left = cut_mark(fd, q.place, reading::left_in(q), first_left(q, buf));
+    let e = end_at(q, left);
+    go_on(t, fd, new, part, garage, e);
+}
+
 // Follows a journal whose head was read.
 fn follow_appends(t: &[u32], fd: i32, start: Reading, garage: &[u8], new: &[u8], part: &[u8], buf: &mut [u8], room: &mut [u8])
     requires { ⌜ WithinIfWell start (length (now buf)) ⌝ }
 {
     let q = reading::read_on(t, fd, start, false, buf, room);
-    if !q.well {
-        return;
+    if q.well {
+        follow_read(t, fd, q, garage, new, part, buf);
     }
-    let rest = reading::rest(t, q, buf);
-    if !reading::is_sound(q, rest) {
-        return;
-    }
-    let e = end_at(q, reading::left_in(q));
-    go_on(t, fd, new, part, garage, e);
 }
 
 // Follows the journal behind a descriptor; where a garage is named, it must be its, and a journal of version 1.0 is.
