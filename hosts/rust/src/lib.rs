@@ -45,6 +45,8 @@ mod building;
 #[cfg(feature = "entries")]
 mod desk;
 #[cfg(feature = "entries")]
+mod faults;
+#[cfg(feature = "entries")]
 pub mod lent;
 #[cfg(feature = "entries")]
 pub mod message;
