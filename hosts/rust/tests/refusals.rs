@@ -32,7 +32,7 @@ fn the_parts_of_the_first_condition_that_fails() {
     let refusal = refused(&mut station, &["tilt left row 3 tilted", "lift street"]);
     assert_eq!(refusal.to_string(), "24 (odd count: a car would be torn) at 1: cells 0 to 19, the lift");
     let mut count = 0;
-    for record in [Record::START, HALF_OFF, Record(0x0008_3F00_0000_0000)] {
+    for record in [Record::START, HALF_OFF, Record(0x3F00_0000_0000)] {
         let mut station = Station::new();
         station.image(record).expect("a garage");
         for instruction in every() {
