@@ -1,5 +1,6 @@
-//! Links with the station's archive, libstation.a: the one in the folder that STATION_LIB_DIR names, or else the project's own, which
-//! tools/library makes for this machine where it isn't there, or is older than its sources.
+//! Links with the station's archive, libstation.a: the one in the folder that STATION_LIB_DIR names; or else, where this crate is installed,
+//! the one that is installed with it; or else the project's own, which tools/library makes for this machine where it isn't there, or is
+//! older than its sources.
 
 use std::path::{Path, PathBuf};
 use std::process::Command;
@@ -20,7 +21,7 @@ fn main() {
     let out = PathBuf::from(env::var_os("OUT_DIR").expect("cargo says where to write"));
     let made = match env::var_os(FOLDER) {
         Some(folder) => lent(Path::new(&folder)),
-        None => built(),
+        None => installed().unwrap_or_else(built),
     };
     // a copy, so that what is linked stays the same until this runs again
     fs::copy(&made, out.join(ARCHIVE)).unwrap_or_else(|why| panic!("{} can't be copied to {}: {why}", made.display(), out.display()));
@@ -36,9 +37,24 @@ fn lent(folder: &Path) -> PathBuf {
     archive
 }
 
+/// The folder with this crate's own Cargo.toml.
+fn here() -> PathBuf {
+    PathBuf::from(env::var_os("CARGO_MANIFEST_DIR").expect("cargo says where this stands"))
+}
+
+/// The archive of the folder that this crate is installed in, as share/station/rust.
+fn installed() -> Option<PathBuf> {
+    let prefix = here().ancestors().nth(3)?.to_path_buf();
+    let archive = prefix.join("lib").join(ARCHIVE);
+    (here() == prefix.join("share/station/rust") && archive.is_file()).then(|| {
+        println!("cargo:rerun-if-changed={}", archive.display());
+        archive
+    })
+}
+
 /// The project's own archive, which all that take this crate share.
 fn built() -> PathBuf {
-    let root = PathBuf::from(env::var_os("CARGO_MANIFEST_DIR").expect("cargo says where this stands")).join("../..");
+    let root = here().join("../..");
     let script = root.join("tools/library");
     assert!(script.is_file(), "{} isn't there: take the crate within its project, or {INSTEAD}", script.display());
     let machine = env::var("CARGO_CFG_TARGET_ARCH").expect("cargo says for which machine");

@@ -1,6 +1,6 @@
 //! What a call is answered with.
 
-use crate::Number;
+use crate::{Number, Parts};
 use std::error::Error;
 use std::fmt;
 
@@ -62,7 +62,7 @@ impl Answer {
 
     /// The number and the place alone.
     fn refusal(self) -> Refusal {
-        Refusal { number: self.number, place: self.place }
+        Refusal { place: self.place, ..self.number.into() }
     }
 }
 
@@ -82,10 +82,13 @@ pub(crate) fn place_byte(place: Option<u8>) -> u8 {
 /// use station::{Height, Instruction, Station};
 /// let mut station = Station::new();
 /// let refusal = station.request(&[Instruction::Rotate]).unwrap_err();
-/// assert_eq!(refusal.to_string(), "27 (not at rotation height) at 0");
+/// assert_eq!(refusal.to_string(), "27 (not at rotation height) at 0: the lift");
+/// assert!(refusal.parts.lift());
+/// let down = Instruction::Lift { height: Height::Basement };
+/// let refusal = station.request(&[down, "belts row 1 lift right, lower, full".parse().unwrap()]).unwrap_err();
+/// assert_eq!(refusal.to_string(), "8 (overlap) at 1, with 0: cells 11 to 12, the lift");
 /// let refusal = station.request(&[]).unwrap_err();
 /// assert_eq!(refusal.to_string(), "7 (empty set)");
-/// # station.request(&[Instruction::Lift { height: Height::Rotation }]).unwrap();
 /// ```
 #[derive(Clone, Copy, Debug, PartialEq, Eq, Hash)]
 pub struct Refusal {
@@ -94,11 +97,23 @@ pub struct Refusal {
     /// What is at fault, counted from 0, where the number is told of one: of a request the instruction, of a plan the set, of a drawing the
     /// line, of totals the one that is full.
     pub place: Option<u8>,
+    /// Of an instruction, the parts of the garage that are at fault: those that decide its first condition that fails, that both have of an
+    /// overlap, or that are set apart. None where no part is.
+    pub parts: Parts,
+    /// Of an overlap, the earlier instruction.
+    pub earlier: Option<u8>,
+}
+
+impl Refusal {
+    /// With a place.
+    pub fn at(number: Number, place: u8) -> Refusal {
+        Refusal { place: Some(place), ..number.into() }
+    }
 }
 
 impl From<Number> for Refusal {
     fn from(number: Number) -> Refusal {
-        Refusal { number, place: None }
+        Refusal { number, place: None, parts: Parts::NONE, earlier: None }
     }
 }
 
@@ -116,9 +131,15 @@ impl fmt::Display for Answer {
     }
 }
 
+/// The number and its words, the place, the earlier one of an overlap, and the parts.
 impl fmt::Display for Refusal {
     fn fmt(&self, f: &mut fmt::Formatter) -> fmt::Result {
-        told(f, self.number, self.place)
+        told(f, self.number, self.place)?;
+        self.earlier.map_or(Ok(()), |earlier| write!(f, ", with {earlier}"))?;
+        if self.parts.is_empty() {
+            return Ok(());
+        }
+        write!(f, ": {}", self.parts)
     }
 }
 
@@ -138,7 +159,7 @@ mod tests {
     fn the_three_parts_of_an_answer() {
         assert_eq!(Answer::of(0xFF00), Answer::TAKEN);
         assert_eq!(Answer::of(0x1234_FF00).issued(), Ok(Issue(0x1234)));
-        assert_eq!(Answer::of(0x0218).into_result(), Err(Refusal { number: Number::OddCount, place: Some(2) }));
+        assert_eq!(Answer::of(0x0218).into_result(), Err(Refusal::at(Number::OddCount, 2)));
         assert_eq!(Answer::of(0xFF06).issued(), Err(Number::SetOutstanding.into()));
     }
 }

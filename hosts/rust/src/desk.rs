@@ -1,5 +1,6 @@
 //! The street desk: a station that knows cars by their cards.
 
+use crate::faults::of_set;
 use crate::instruction::bytes_of;
 use crate::lent;
 use crate::station::{both_of, count_of};
@@ -61,7 +62,7 @@ impl Desk {
 
     /// Requests a set, as [`Station::request`].
     pub fn request(&mut self, set: &[Instruction]) -> Result<Issue, Refusal> {
-        lent::desk_request(&mut self.0, count_of(set), &bytes_of(set)).issued()
+        lent::desk_request(&mut self.0, count_of(set), &bytes_of(set)).issued().map_err(|refusal| of_set(refusal, set, self.shown()))
     }
 
     /// A drive begins or ends, as [`Station::event`]; a begin of a drive-in brings its card, and is told 37 where there is none or its

@@ -14,9 +14,10 @@
 //! station = { path = "../vargsnida/hosts/rust" }
 //! ```
 //!
-//! The first build proves and builds the project, which takes some minutes and needs its toolchain (`rt`). With the environment variable
-//! STATION_LIB_DIR set to a folder with libstation.a, that archive is linked and no toolchain is needed. Without the feature `entries`, which
-//! is on by default, nothing is linked: there are the types, the table of numbers and the words alone.
+//! The first build proves and builds the project, which takes some minutes and needs its toolchain (`rt`). Where the project is installed,
+//! take `PREFIX/share/station/rust` instead: it links the archive in `PREFIX/lib`, and no toolchain is needed. With the environment variable
+//! STATION_LIB_DIR set to a folder with libstation.a, that archive is linked, wherever the crate is. Without the feature `entries`, which is
+//! on by default, nothing is linked: there are the types, the table of numbers and the words alone.
 //!
 //! # A refusal, in words
 //!
@@ -44,6 +45,8 @@ pub mod words;
 mod building;
 #[cfg(feature = "entries")]
 mod desk;
+#[cfg(feature = "entries")]
+mod faults;
 #[cfg(feature = "entries")]
 pub mod lent;
 #[cfg(feature = "entries")]

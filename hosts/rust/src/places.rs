@@ -1,7 +1,11 @@
 //! Places of the floor, and parts of it.
 
+use crate::words::{word, ORIENTATIONS, ROWS, SIDES};
 use std::fmt;
+use std::ops::BitAnd;
 
+/// The first of the shuttles' slots.
+const SLOT_FIRST: u8 = 40;
 /// The bit of the lift, and of a car on it while it is raised.
 const LIFT: u8 = 52;
 
@@ -62,6 +66,9 @@ impl Parts {
     /// No part.
     pub const NONE: Parts = Parts(0);
 
+    /// All of them.
+    pub const ALL: Parts = Parts((1 << (LIFT + 1)) - 1);
+
     /// Whether there is none.
     pub fn is_empty(self) -> bool {
         self == Parts::NONE
@@ -80,5 +87,38 @@ impl Parts {
     /// The bits of all of them, from the lowest.
     pub fn bits(self) -> impl Iterator<Item = u8> {
         (0..64).filter(move |&bit| self.has(bit))
+    }
+}
+
+/// Those that both have.
+impl BitAnd for Parts {
+    type Output = Parts;
+
+    fn bitand(self, other: Parts) -> Parts {
+        Parts(self.0 & other.0)
+    }
+}
+
+/// Numbers, those that follow each other as a range.
+fn runs(all: &[u8]) -> String {
+    let run = |run: &[u8]| match run {
+        [first, .., last] => format!("{first} to {last}"),
+        one => one.iter().map(u8::to_string).collect(),
+    };
+    all.chunk_by(|one, next| one + 1 == *next).map(run).collect::<Vec<_>>().join(" and ")
+}
+
+/// In words: `cells 2 to 10, left row 3 lowered, the lift`.
+impl fmt::Display for Parts {
+    fn fmt(&self, f: &mut fmt::Formatter) -> fmt::Result {
+        let cells: Vec<u8> = self.bits().filter(|&bit| bit < SLOT_FIRST).collect();
+        let slot = |bit: u8| {
+            let at = bit - SLOT_FIRST;
+            format!("{} row {} {}", word(&SIDES, at / 3 % 2), word(&ROWS, at % 3), word(&ORIENTATIONS, at / 6))
+        };
+        let slots = self.bits().filter(|bit| (SLOT_FIRST..LIFT).contains(bit)).map(slot);
+        let cells = (!cells.is_empty()).then(|| format!("{} {}", if cells.len() == 1 { "cell" } else { "cells" }, runs(&cells)));
+        let lift = self.lift().then(|| "the lift".to_string());
+        write!(f, "{}", cells.into_iter().chain(slots).chain(lift).collect::<Vec<_>>().join(", "))
     }
 }

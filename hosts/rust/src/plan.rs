@@ -24,7 +24,7 @@ pub enum Wish {
 /// let plan = Plan::new(Record::START, Wish::WithoutACar).then(&to(Height::Basement)).then(&to(Height::Street));
 /// assert_eq!(judge(&plan), Ok(()));
 /// let refusal = judge(&plan.then(&to(Height::Street))).unwrap_err();
-/// assert_eq!(refusal, Refusal { number: Number::SameHeight, place: Some(2) });
+/// assert_eq!(refusal, Refusal::at(Number::SameHeight, 2));
 /// ```
 #[derive(Clone, Debug, PartialEq, Eq, Hash)]
 pub struct Plan {

@@ -1,5 +1,6 @@
 //! Records: questions for planning ahead, which need no station.
 
+use crate::faults::of_one;
 use crate::lent;
 use crate::{Instruction, Number, Parts, Place, Refusal};
 use std::fmt;
@@ -53,13 +54,13 @@ impl Record {
     /// Whether a request of the one instruction would be taken here: 4 where it names a belt that its row doesn't have, 31 where a drive is
     /// under way and the lift is in its area, then the reason, 20 to 28. What is set apart a record doesn't know.
     pub fn allowed(self, instruction: Instruction) -> Result<(), Refusal> {
-        lent::garage_allowed(self.0, &instruction.five()).into_result()
+        lent::garage_allowed(self.0, &instruction.five()).into_result().map_err(|refusal| of_one(refusal, instruction, self))
     }
 
     /// The record after an instruction, or why it isn't allowed.
     pub fn next(self, instruction: Instruction) -> Result<Record, Refusal> {
         let mut next = [0; 8];
-        lent::garage_next(self.0, &instruction.five(), &mut next).into_result()?;
+        lent::garage_next(self.0, &instruction.five(), &mut next).into_result().map_err(|refusal| of_one(refusal, instruction, self))?;
         Ok(Record::from_bytes(next))
     }
 

@@ -1,5 +1,6 @@
 //! The station.
 
+use crate::faults::of_set;
 use crate::instruction::bytes_of;
 use crate::lent;
 use crate::{Answer, Event, Instruction, Issue, Outcome, Parts, Record, Refusal};
@@ -77,9 +78,10 @@ impl Station {
         &self.0
     }
 
-    /// Requests a set: 6, 5, 7, 4, 31, 32, 8, 20 to 28. Taken, the set is outstanding under its issue, and the record is as it was.
+    /// Requests a set: 6, 5, 7, 4, 31, 32, 8, 20 to 28. Taken, the set is outstanding under its issue, and the record is as it was. A refusal
+    /// names the parts at fault; [`Record::conditions`] has all conditions of an instruction.
     pub fn request(&mut self, set: &[Instruction]) -> Result<Issue, Refusal> {
-        lent::station_request(&mut self.0, count_of(set), &bytes_of(set)).issued()
+        lent::station_request(&mut self.0, count_of(set), &bytes_of(set)).issued().map_err(|refusal| of_set(refusal, set, self.shown()))
     }
 
     /// A drive begins or ends: 6, 31, 32, of a begin 10, and of a begin of a drive-in 33.

@@ -8,7 +8,7 @@ const DRAWN: &str = "....................\n..........\n..........\nLLT\nLLT\nstr
 const MOST: usize = 66;
 
 fn bad_line(line: u8) -> Result<Record, Refusal> {
-    Err(Refusal { number: Number::BadLine, place: Some(line) })
+    Err(Refusal::at(Number::BadLine, line))
 }
 
 #[test]

@@ -97,7 +97,7 @@ fn a_belt_of_another_row() {
     }
     let mut station = station::Station::new();
     let belts = Instruction::Belts { row: Row::Two, belts: Belt::Lift.into(), toward: Toward::Lower, size: Size::Full };
-    assert_eq!(station.request(&[Instruction::Rotate, belts]), Err(Refusal { number: Number::BadField, place: Some(1) }));
+    assert_eq!(station.request(&[Instruction::Rotate, belts]), Err(Refusal::at(Number::BadField, 1)));
 }
 
 #[test]
@@ -121,7 +121,8 @@ fn conditions_are_the_reasons() {
         for instruction in fives().filter_map(|five| Instruction::try_from(five).ok()) {
             let conditions = record.conditions(instruction).expect("a sound record");
             assert!((2..=6).contains(&conditions.len()));
-            let first = conditions.iter().find(|condition| !condition.holds).map(|condition| Refusal::from(condition.number));
+            let failed = conditions.iter().find(|condition| !condition.holds);
+            let first = failed.map(|condition| Refusal { parts: condition.parts, ..condition.number.into() });
             assert_eq!(record.allowed(instruction).err(), first, "{instruction} on {record}");
             reasons.extend(first.map(|refusal| refusal.number));
             assert!(conditions.iter().all(|condition| condition.parts.0 < 1 << 53));

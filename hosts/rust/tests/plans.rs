@@ -8,7 +8,7 @@ fn said(line: &str) -> Instruction {
 }
 
 fn told(number: Number, place: u8) -> Result<(), Refusal> {
-    Err(Refusal { number, place: Some(place) })
+    Err(Refusal::at(number, place))
 }
 
 #[test]

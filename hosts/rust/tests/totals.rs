@@ -55,7 +55,7 @@ fn a_total_that_is_full() {
     let mut totals = Totals::from_bytes(&bytes);
     let begin = Message::Event(Event::BeginIn).bytes().expect("a message");
     assert_eq!(totals.messages(Kind::Event), u32::MAX);
-    assert_eq!((totals.count(&Station::new(), &begin), totals.bytes()), (Err(Refusal { number: Number::Full, place: Some(1) }), &bytes));
+    assert_eq!((totals.count(&Station::new(), &begin), totals.bytes()), (Err(Refusal::at(Number::Full, 1)), &bytes));
     assert_eq!(totals.count(&Station::new(), &Message::Ask.bytes().expect("a message")), Ok(()));
     let mut text = [0; 20];
     let length = lent::report_lines(totals.bytes(), 1, &mut text).expect("room enough");

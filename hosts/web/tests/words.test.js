@@ -12,9 +12,10 @@ import { hints } from '../page/record-words.js';
 import { allowedSet, anyFive, Seeded, traffic } from '../traffic.js';
 import { blocks, garage, wrote } from './tree.js';
 
-/** A floor as docs/PANEL.md has it, a drawing or an image, and the lines behind it. */
+/** A floor as docs/PANEL.md has it, a drawing or an image, and the lines behind it; undefined where it has more than a record. */
 function floorAndLines(text) {
   const lines = text.trimEnd().split('\n').filter((line) => line !== '');
+  if (/^[0-9A-Fa-f]/.test(lines[0]) && lines[0].length > 23) return undefined;
   if (/^[0-9A-Fa-f ]+$/.test(lines[0])) return [numberAt(Uint8Array.from(lines[0].split(' '), (two) => parseInt(two, 16))), lines.slice(1)];
   return [garage.drawn(`${lines.slice(0, 6).join('\n')}\n`).record, lines.slice(6)];
 }
@@ -23,7 +24,7 @@ test('conditions are told as the panel tells them', () => {
   const panel = blocks('docs/PANEL.md');
   let conditions = 0;
   panel.forEach(({ word, text }, at) => {
-    if (word !== 'panel') return;
+    if (word !== 'panel' || floorAndLines(text) === undefined) return;
     const shown = panel.slice(at).find((block) => block.word === 'shown').text;
     let [record, lines] = floorAndLines(text), from = 0;
     for (const line of lines) {

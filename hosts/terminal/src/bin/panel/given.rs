@@ -109,7 +109,7 @@ pub fn floor<R: BufRead>(lines: &mut Lines<R>) -> Result<Result<Room, (usize, Wr
         let why = match read(&text) {
             Ok(record) => return Ok(station_of(record, Parts::NONE).map_err(|why| (lines.number, why))),
             // the line that is missing comes next
-            Err(Refusal { number: Number::BadLine, place }) if place.map(usize::from) == Some(lines.number) => continue,
+            Err(Refusal { number: Number::BadLine, place, .. }) if place.map(usize::from) == Some(lines.number) => continue,
             Err(Refusal { number: Number::BadLine, .. }) => bad(lines.number - 1, Some(&line)),
             Err(_) => UNSOUND.to_string(),
         };
