@@ -5,3 +5,4 @@ pub mod Lifting
 pub mod Masking
 pub mod Ruling
 pub mod Answers
+pub mod Shortcuts

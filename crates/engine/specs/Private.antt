@@ -1,10 +1,17 @@
--- What the contracts of private functions cite; no public one rests on it. The bits of the lift. Assumes nothing.
-use mathlib.Core.Bool.{Bool, cond}
+-- What the contracts of private functions cite; no public one rests on it. The bits of the lift, and belts by areas that are looked up.
+-- Assumes nothing.
+use mathlib.Core.Bool.{Bool, cond, not, _&&_}
 use mathlib.Core.List.{List, [], _∷_, _++_}
-use Prim.Native.Nat.{ℕ}
-use lib.Dec.{eqb}
-use Rattle.bits.specs.Bits.{bit}
+use Prim.Native.Nat.{ℕ, _%_}
+use lib.Bits.{bitAnd}
+use lib.Dec.{eqb, leb}
+use Rattle.bits.specs.Bits.{bit, count}
+use Rattle.bits.specs.Places.{places}
 use Rattle.floor.specs.Floor.{liftCells, raisedCar, heightLow, heightHigh, basement}
+use Rattle.rules.specs.declared.Code.{Code}
+use Rattle.rules.specs.Rules.{beltsNamed}
+use Rattle.areas.specs.Private.{beltsMask}
+use Rattle.rows.specs.Private.{gaps}
 
 -- the lift at a height, with a car or without: in the basement the car stands on its two cells
 abbrev pub liftBits : ℕ → Bool → List ℕ
@@ -12,3 +19,16 @@ liftBits height car =
     cond car (cond (eqb height basement) liftCells (raisedCar ∷ [])) []
     ++ cond (bit height 0) (heightLow ∷ []) []
     ++ cond (bit height 1) (heightHigh ∷ []) []
+
+-- belts of a row, at least one and without a gap, and their area
+abbrev pub runs : ℕ → ℕ → ℕ → Bool
+runs row mask a = beltsNamed row mask && not (eqb mask 0) && not (gaps mask) && eqb a (beltsMask row mask)
+
+-- the same of five bytes
+abbrev pub named : Code → ℕ → Bool
+named x a = eqb (x .op) 1 && leb (x .c) 1 && leb (x .d) 1 && runs (x .a) (x .b) a
+
+-- a record has the bits that are needed, room that is there and free, and pairs
+abbrev pub accepting : ℕ → ℕ → ℕ → ℕ → ℕ → Bool
+accepting care need m room r =
+    eqb (bitAnd r care) need && not (eqb room 0) && eqb (bitAnd r room) 0 && eqb (count (places m) (bit r) % 2) 0

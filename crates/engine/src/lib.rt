@@ -21,6 +21,7 @@ mod judging;
 mod lifts;
 mod masks;
 mod moves;
+mod swift;
 
 use floor::masks::DRIVE_IN;
 use floor::masks::DRIVE_OUT;
@@ -142,7 +143,7 @@ pub fn code_moved(x: Code, r: u64) -> Moved
     }
 }
 
-// The area and the verdict of five bytes; bytes that say no instruction have no area.
+// The area and the verdict of five bytes; bytes that say no instruction have no area. Most are told at once.
 pub struct Judged {
     pub area: u64,
     pub verdict: Verdict,
@@ -151,6 +152,13 @@ pub struct Judged {
 pub fn judge(x: Code, r: u64) -> Judged
     ensures { λ j. ⌜ j ≡ judge x r ⌝ }
 {
+    let at_once = swift::area(x, r);
+    if at_once != 0 {
+        return Judged {
+            area: at_once,
+            verdict: Verdict::Allowed,
+        };
+    }
     let l = areas::locate(x);
     let area = l.area;
     let y = l.reading;
@@ -170,8 +178,13 @@ pub fn judge(x: Code, r: u64) -> Judged
 pub fn code_verdict(x: Code, r: u64) -> Verdict
     ensures { λ v. ⌜ v ≡ codeVerdict x r ⌝ }
 {
-    let j = judge(x, r);
-    j.verdict
+    let l = areas::locate(x);
+    let a = l.area;
+    let y = l.reading;
+    match y {
+        Reading::Good(i) => told(i, a, r),
+        Reading::Bad => Verdict::IllFormed,
+    }
 }
 
 // The belts or rows that an instruction names leave no gap.
@@ -207,6 +220,10 @@ fn whole(i: Instruction) -> bool
 pub fn code_next(x: Code, r: u64) -> u64
     ensures { λ n. ⌜ n ≡ codeNext x r ⌝ }
 {
+    let named = swift::named(x);
+    if named != 0 {
+        return belts_next(r, named, x.a, x.c, x.d);
+    }
     let l = areas::locate(x);
     let a = l.area;
     let y = l.reading;

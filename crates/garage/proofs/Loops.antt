@@ -9,7 +9,7 @@ use lib.Bits.{bitAnd, bitOr, or-self, or-add-and, and-le-l, and-le-r}
 use lib.Dec.{eqb, ltb}
 use lib.ListN.{length, getD, take, set, replicate, List·getD-eq-default}
 use lib.Seq.{take-all, take-suc, length-take-le, set-at, append-snoc}
-use borrow.Author.Tests.{lt-ltb, le-ltb, ltb-true, ltb-false, eq-eqb, eqb-true}
+use borrow.Author.Tests.{lt-ltb, le-ltb, ltb-true, ltb-false, eq-eqb, eqb-true, not-true}
 use Rattle.bits.specs.Bits.{bit}
 use Rattle.bits.specs.Search.{every, least}
 use Rattle.bits.proofs.Cases.{split, alike, both, and-intro}
@@ -67,6 +67,24 @@ searches {set} {n} {marks} {r} {apart} {rest = rest} {i = i} v h e g a o d₁ d�
       (ap₂ (λ (y b : Bool). not y && not b) (ap (λ (y : ℕ). eqb (y % 2) 1) (v .unread)) (o ∙ ap (λ (y : Code). heldAllowed y (bit r)) e)));
   unread = ap (λ (y : ℕ). y / 2) (v .unread) ∙ half marks i ∙ ap (λ (y : ℕ). marks / 2 ^ y) (sym (add-one i));
 }
+
+-- one that has no fault leaves what was found
+still : (found n i : ℕ) {b : Bool} → b ≡ false → found ≡ firstOf found n b i
+still found n i e = rw e
+
+pub passes : {set : List ℕ} {n marks r apart seen worst touched overlap closed rest i m : ℕ} {x : Code} {good ok : Bool}
+    → Searched set n marks r apart seen worst touched overlap closed rest i → i < n
+    → x ≡ codeAt set i → good ≡ isGood x → m ≡ heldMask x → ok ≡ heldAllowed x (bit r)
+    → good && not (not (eqb (bitAnd (bitAnd m partsMask) apart) 0)) && not (not (eqb (bitAnd m seen) 0)) && not (not (eqb (rest % 2) 1) && not ok) ≡ true
+    → Searched set n marks r apart (bitOr seen m) worst touched overlap closed (rest / 2) (i + 1)
+passes {apart = apart} {seen = seen} {worst} {touched} {overlap} {closed} {rest} {i} {m} {good = good} {ok} v h e g a o f =
+    let t = not (eqb (bitAnd (bitAnd m partsMask) apart) 0) in
+    let w = not (eqb (bitAnd m seen) 0) in
+    let u = not (eqb (rest % 2) 1) && not ok in
+    let (f₂, p₄) = both (good && not t && not w) (not u) f in
+    let (f₁, p₃) = both (good && not t) (not w) f₂ in
+    let (p₁, p₂) = both good (not t) f₁ in
+    searches v h e g a o (still worst _ i (ap not p₁)) (still touched _ i (not-true t p₂)) (still overlap _ i (not-true w p₃)) (still closed _ i (not-true u p₄))
 
 pub search-ends : {set : List ℕ} {n marks r apart seen worst touched overlap closed rest i : ℕ}
     → Searched set n marks r apart seen worst touched overlap closed rest i → n ≤ i

@@ -72,8 +72,7 @@ pub fn judge(x: Code, r: u64) -> Judged
 
 // The record after it, where it is known that it is allowed: nothing is judged.
 pub fn done(x: Code, r: u64) -> u64
-    requires { ⌜ heldAllowed x (bit r) ≡ true ⌝ }
-    ensures { λ n. ⌜ n ≡ heldAfter x r ⌝ }
+    ensures { λ n. ⌜ (heldAllowed x (bit r) ≡ true → n ≡ heldAfter x r) ⌝ }
 {
     engine::code_next(x, r)
 }

@@ -49,8 +49,8 @@ impl Station {
 
     // The end of a result: 0 failed, 1 done, 2 stuck. A success on a fit station was allowed, and is not judged.
     fn ended(self, i: u8, ending: u8, known: bool) -> Turn
-        requires { ⌜ (self .count ≤ 8) × (i < self .count) × (known ≡ true → heldAllowed (codeAt (self .set) i) (bit (self .bits)) ≡ true) ⌝ }
-        ensures { λ t. ⌜ t ≡ turnOf (ended self i ending) ⌝ }
+        requires { ⌜ (self .count ≤ 8) × (i < self .count) ⌝ }
+        ensures { λ t. ⌜ ((known ≡ true → heldAllowed (codeAt (self .set) i) (bit (self .bits)) ≡ true) → t ≡ turnOf (ended self i ending)) ⌝ }
     {
         let set = self.set;
         let x = sets::code_at(&set, i);
@@ -75,8 +75,7 @@ impl Station {
 
     // A result by its instruction's number.
     fn numbered(self, i: u8, ending: u8, known: bool) -> Turn
-        requires { ⌜ (known ≡ true → fit self ≡ true) ⌝ }
-        ensures { λ t. ⌜ t ≡ turnOf (numbered self i ending) ⌝ }
+        ensures { λ t. ⌜ ((known ≡ true → fit self ≡ true) → t ≡ turnOf (numbered self i ending)) ⌝ }
     {
         if !self.in_set(i) {
             return self.unmoved(Answer::NotInSet);
@@ -96,8 +95,7 @@ impl Station {
 
     // A result by the issue of its set.
     fn timely(self, report: Report, known: bool) -> Turn
-        requires { ⌜ (known ≡ true → fit self ≡ true) ⌝ }
-        ensures { λ t. ⌜ t ≡ turnOf (timely self report) ⌝ }
+        ensures { λ t. ⌜ ((known ≡ true → fit self ≡ true) → t ≡ turnOf (timely self report)) ⌝ }
     {
         match self.behind(report.issue) {
             0 => self.numbered(report.number, report.ending, known),
@@ -106,10 +104,9 @@ impl Station {
         }
     }
 
-    // A result past the test of fitness, which may be known to have been passed.
+    // A result past the test of fitness, which may be known to have been passed: then a success is not judged.
     fn settled(self, report: Report, known: bool) -> Turn
-        requires { ⌜ (known ≡ true → fit self ≡ true) ⌝ }
-        ensures { λ t. ⌜ t ≡ turnOf (resulted self report) ⌝ }
+        ensures { λ t. ⌜ ((known ≡ true → fit self ≡ true) → t ≡ turnOf (resulted self report)) ⌝ }
     {
         if 2 < report.ending {
             return self.unmoved(Answer::BadField(NOWHERE));

@@ -49,7 +49,8 @@ fn first(found: u8, n: u8, here: bool, i: u8) -> u8
 }
 
 // Of the first n instructions the least that is bad, the least that touches a part set apart, the least that overlaps an earlier one and, of
-// those without a mark, the least that is not allowed on the record r, or n; and whether one has the lift in its area. Each is read once.
+// those without a mark, the least that is not allowed on the record r, or n; and whether one has the lift in its area. Each is read once, and
+// one without a fault is passed at once.
 pub struct Faults {
     pub bad: u8,
     pub touching: u8,
@@ -70,10 +71,19 @@ pub fn search(set: [u8; 40], n: u8, marks: u8, r: u64, apart: u64) -> Faults
     let mut i = 0;
     while i < n {
         let x = held::judge(code_at(&set, i), r);
+        let touched = x.area & PARTS & apart != 0;
+        let met = x.area & seen != 0;
+        let shut = (rest % 2 != 1) & !x.allowed;
+        if x.good & !touched & !met & !shut {
+            seen = seen | x.area;
+            rest = rest / 2;
+            i += 1;
+            continue;
+        }
         bad = first(bad, n, !x.good, i);
-        touching = first(touching, n, x.area & PARTS & apart != 0, i);
-        overlap = first(overlap, n, x.area & seen != 0, i);
-        barred = first(barred, n, (rest % 2 != 1) & !x.allowed, i);
+        touching = first(touching, n, touched, i);
+        overlap = first(overlap, n, met, i);
+        barred = first(barred, n, shut, i);
         seen = seen | x.area;
         rest = rest / 2;
         i += 1;

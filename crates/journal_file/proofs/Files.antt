@@ -1,12 +1,13 @@
 -- Appends that are taken carry whole messages: replay is the station's own run, it goes on after a restart, and an append more keeps it a
 -- journal. Assumes nothing.
 use mathlib.Core.Path.{_≡_, refl, sym, ap, ap₂, subst, _∙_}
+use mathlib.Core.Logic.{_⊎_, inl, inr, ⊎-elim}
 use mathlib.Core.Bool.{Bool, true, false, cond, not, _||_}
 use mathlib.Core.List.{List, [], _∷_, _++_, append-nil}
 use Prim.Native.Nat.{ℕ, _+_, _^_, _≤_, _<_}
 use native.Mathlib.Omega.{arith}
-use borrow.Author.Tests.{not-false, eqb-true, eq-eqb, ne-eqb}
-use lib.Dec.{eqb}
+use borrow.Author.Tests.{not-false, eqb-true, eq-eqb, ne-eqb, le-ltb}
+use lib.Dec.{eqb, ltb}
 use lib.ListN.{length, getD, take, drop, length-drop}
 use lib.Seq.{take-length, length-take-le}
 use Rattle.bits.specs.Places.{join}
@@ -22,10 +23,10 @@ use Rattle.journal_file.specs.declared.Front.{Front}
 use Rattle.journal_file.specs.declared.Replay.{Replay}
 use Rattle.journal_file.specs.declared.Step.{Step}
 use Rattle.journal_file.specs.Appends.{around, sumAfter, appendOf, carriedOf, payloadOf, wholeFront, frontOf}
-use Rattle.journal_file.specs.Replaying.{notTaken, taken, messagesTaken, markTaken, stepBy, stepOf, Leads}
-use Rattle.journal_file.specs.Statements.{recordedIn, ReplayFollows, FileGoesOn, FileKeepsUp}
+use Rattle.journal_file.specs.Replaying.{notTaken, taken, messagesTaken, markMost, markTaken, stepBy, stepOf, Leads}
+use Rattle.journal_file.specs.Statements.{recordedIn, ReplayFollows, FileGoesOn, FileKeepsUp, MarkKind, FileKeepsMark}
 use Rattle.journal_file.proofs.Fronts.{Whole, whole}
-use Rattle.journal_file.proofs.Taking.{third-of}
+use Rattle.journal_file.proofs.Taking.{third-of, last-of}
 use Rattle.journal_file.proofs.Forms.{append-reads-back, payload-back, append-long}
 
 -- ---- whole messages
@@ -33,7 +34,7 @@ use Rattle.journal_file.proofs.Forms.{append-reads-back, payload-back, 
 none-follow : (s : Station) → Follows s [] s
 none-follow s = record { messages = []; each = tt; bytes-are = refl; station = refl }
 
-both-follow : {s t u : Station} {a b : List ℕ} → Follows s a t → Follows t b u → Follows s (a ++ b) u
+pub both-follow : {s t u : Station} {a b : List ℕ} → Follows s a t → Follows t b u → Follows s (a ++ b) u
 both-follow {s} {t} {u} {a} {b} f g =
     record {
       messages = f .messages ++ g .messages;
@@ -48,7 +49,7 @@ all-follow s p e =
     subst (λ (l : List ℕ). Follows s l (run s p .station)) (ap (λ (n : ℕ). take n p) e ∙ take-length p) (only-messages s p .follows)
 
 -- and the run of whole messages
-run-of : {s next : Station} {p : List ℕ} → Follows s p next → (run s p .used ≡ length p) × (run s p .station ≡ next)
+pub run-of : {s next : Station} {p : List ℕ} → Follows s p next → (run s p .used ≡ length p) × (run s p .station ≡ next)
 run-of {s} {next} {p} f =
     let e = ap (run s) (f .bytes-are) ∙ messages-alone s (f .messages) (f .each) in
     (ap (λ (r : Ran). r .used) e ∙ sym (ap length (f .bytes-are)), ap (λ (r : Ran). r .station) e ∙ sym (f .station))
@@ -104,11 +105,11 @@ module _ (r : Replay) (a : List ℕ) where
       let x = whole crcOver (r .sum) a e in
       let kind : eqb (getD a 0 0) 1 ≡ false = ap (λ (g : Front). eqb (g .kind) 1) (sym (x .is)) ∙ k in
       let stays : markTaken r f .replay .station ≡ r .station =
-      mark-stays (not (eqb (f .carries) 0)) (eqb (f .kind) 4) (eqb (f .kind) 2 || eqb (f .kind) 3) (r .station) (notTaken r false) (taken (r .station) f true)
+      mark-stays (ltb (markMost (f .kind)) (f .carries)) (eqb (f .kind) 4) (eqb (f .kind) 2 || eqb (f .kind) 3) (r .station) (notTaken r false) (taken (r .station) f true)
       (taken (r .station) f false) refl refl refl in
       rw (kind, stays) (none-follow (r .station))
 
-  one-follows : 0 < stepOf crcOver r a .took → Follows (r .station) carried-messages (stepOf crcOver r a .replay .station)
+  pub one-follows : 0 < stepOf crcOver r a .took → Follows (r .station) carried-messages (stepOf crcOver r a .replay .station)
   unfolding stepOf
   one-follows h =
       by-kind (f .whole) (r .closed) (eqb (f .kind) 1) (notTaken r (f .short)) (notTaken r false) (messagesTaken r f (w .used) (w .station)) (markTaken r f)
@@ -121,18 +122,21 @@ replay-follows r q [] l = record { messages = []; each = tt; bytes-are = refl; s
 replay-follows r q (a ∷ more) (h, t, l) =
     both-follow (one-follows r a (omega (arith, h, t))) (replay-follows (stepOf crcOver r a .replay) q more l)
 
-pub file-goes-on : FileGoesOn
-file-goes-on r q appends input l =
-    let f = replay-follows r q appends l in
+-- whole messages are answered, and then what the station that they make answers
+pub follows-goes-on : {s next : Station} {p : List ℕ} → Follows s p next → (input : List ℕ) → answersOn s (p ++ input) ≡ run s p .bytes ++ answersOn next input
+follows-goes-on {s} {next} {p} f input =
     let ms = f .messages in
-    ap (λ (m : List ℕ). answersOn (r .station) (m ++ input)) (f .bytes-are)
-    ∙ goes-on-from (r .station) ms input (f .each)
-    ∙ ap₂ (λ (m : List ℕ) (s : Station). m ++ answersOn s input)
-    (sym (ap (λ (m : List ℕ). run (r .station) m .bytes) (f .bytes-are) ∙ ap (λ (x : Ran). x .bytes) (messages-alone (r .station) ms (f .each)))) (sym (f .station))
+    ap (λ (m : List ℕ). answersOn s (m ++ input)) (f .bytes-are)
+    ∙ goes-on-from s ms input (f .each)
+    ∙ ap₂ (λ (m : List ℕ) (t : Station). m ++ answersOn t input)
+    (sym (ap (λ (m : List ℕ). run s m .bytes) (f .bytes-are) ∙ ap (λ (x : Ran). x .bytes) (messages-alone s ms (f .each)))) (sym (f .station))
+
+pub file-goes-on : FileGoesOn
+file-goes-on r q appends input l = follows-goes-on (replay-follows r q appends l) input
 
 -- ---- one more
 
-leads-more : (r q next : Replay) (appends : List (List ℕ)) (a : List ℕ) → Leads r appends q → 0 < length a → stepOf crcOver q a .took ≡ length a
+pub leads-more : (r q next : Replay) (appends : List (List ℕ)) (a : List ℕ) → Leads r appends q → 0 < length a → stepOf crcOver q a .took ≡ length a
     → next ≡ stepOf crcOver q a .replay → Leads r (appends ++ (a ∷ [])) next
 leads-more r q next [] a l h t e =
     subst (λ (x : Replay). (0 < length a) × (stepOf crcOver x a .took ≡ length a) × (next ≡ stepOf crcOver x a .replay)) l (h, t, e)
@@ -175,3 +179,55 @@ file-keeps-up r q appends bytes next l unclosed small follows some fits =
     let n = append-long (q .sum) 1 bytes small fits in
     leads-more r q (record { station = next; sum = sumAfter crcOver (q .sum) 1 bytes; closed = false }) appends (appendOf crcOver (q .sum) 1 bytes) l (omega (arith, n))
     (ap (λ (x : Step). x .took) e ∙ sym n) (sym (ap (λ (x : Step). x .replay) e))
+
+-- ---- a mark
+
+module _ (q : Replay) (kind : ℕ) (bytes : List ℕ) (unclosed : q .closed ≡ false) (small : q .sum < 2 ^ 32) (mark : MarkKind kind)
+    (fits : length bytes ≤ markMost kind) where
+  abbrev marked : List ℕ
+  marked = appendOf crcOver (q .sum) kind bytes
+
+  abbrev mark-there : Front
+  mark-there = record { whole = true; short = false; kind = kind; carries = length bytes; sum = sumAfter crcOver (q .sum) kind bytes }
+
+  -- it carries less than an append may
+  few : length bytes ≤ 65536
+  few = let h = cond-most (eqb kind 4) in omega (arith, h, fits)
+    where
+      cond-most : (b : Bool) → cond b 0 44 ≤ 44
+      cond-most true = omega arith
+      cond-most false = omega arith
+
+  no-message : eqb kind 1 ≡ false
+  no-message = ne-eqb kind 1 (λ (e : kind ≡ 1). ⊎-elim (λ (k : kind ≡ 2). omega (arith, e, k)) (⊎-elim (λ (k : kind ≡ 3). omega (arith, e, k)) (λ (k : kind ≡ 4). omega (arith, e, k))) mark)
+
+  front-marked : frontOf crcOver (q .sum) marked ≡ mark-there
+  front-marked = ap (frontOf crcOver (q .sum)) (sym (append-nil marked)) ∙ append-reads-back (q .sum) kind bytes [] small few
+
+  -- what a mark of some kind is taken as
+  abbrev Marks : ℕ → Type 0
+  Marks k =
+      ltb (markMost k) (length bytes) ≡ false
+      → let f : Front = record { whole = true; short = false; kind = k; carries = length bytes; sum = sumAfter crcOver (q .sum) kind bytes } in
+      markTaken q f ≡ taken (q .station) f (eqb k 4)
+
+  of-kind : markTaken q mark-there ≡ taken (q .station) mark-there (eqb kind 4)
+  of-kind =
+      ⊎-elim (λ (e : kind ≡ 2). subst Marks (sym e) (λ n. rw n))
+      (⊎-elim (λ (e : kind ≡ 3). subst Marks (sym e) (λ n. rw n)) (λ (e : kind ≡ 4). subst Marks (sym e) (λ n. rw n))) mark
+      (le-ltb (markMost kind) (length bytes) fits)
+
+  step-marked : stepOf crcOver q marked ≡ taken (q .station) mark-there (eqb kind 4)
+  unfolding stepOf
+  step-marked =
+      let w = run (q .station) (payloadOf marked) in
+      rw front-marked
+      (sym (last-of false (q .closed) (eqb kind 1) (notTaken q false) (notTaken q false) (messagesTaken q mark-there (w .used) (w .station)) (markTaken q mark-there) refl unclosed no-message)
+      ∙ of-kind)
+
+pub file-keeps-mark : FileKeepsMark
+file-keeps-mark r q appends kind bytes l unclosed small mark fits =
+    let e = step-marked q kind bytes unclosed small mark fits in
+    let n = append-long (q .sum) kind bytes small (few q kind bytes unclosed small mark fits) in
+    leads-more r q (record { station = q .station; sum = sumAfter crcOver (q .sum) kind bytes; closed = eqb kind 4 }) appends (appendOf crcOver (q .sum) kind bytes) l
+    (omega (arith, n)) (ap (λ (x : Step). x .took) e ∙ sym n) (sym (ap (λ (x : Step). x .replay) e))

@@ -10,3 +10,5 @@ pub mod HeadForms
 pub mod OneForm
 pub mod Damage
 pub mod OneFile
+pub mod Alone
+mod Names

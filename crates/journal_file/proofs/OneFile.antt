@@ -4,7 +4,7 @@ use mathlib.Core.Bool.{Bool, true, false, cond, not, _||_, _&&_}
 use mathlib.Core.List.{List, [], _∷_, _++_}
 use Prim.Native.Nat.{ℕ, _+_, _-_, _*_, _^_, _≤_, _<_}
 use native.Mathlib.Omega.{arith}
-use lib.Dec.{eqb, leb}
+use lib.Dec.{eqb, leb, ltb}
 use lib.ListN.{length, getD, take, drop, length-append, length-drop, List·getD-append}
 use lib.Seq.{take-at, drop-at, take-append-le, drop-append-le}
 use Rattle.bits.specs.Places.{join}
@@ -22,7 +22,7 @@ use Rattle.journal_file.specs.declared.Front.{Front}
 use Rattle.journal_file.specs.declared.Replay.{Replay}
 use Rattle.journal_file.specs.declared.Step.{Step}
 use Rattle.journal_file.specs.Appends.{messagesKind, cutShortKind, badLengthKind, closedKind, most, endMark, carriedOf, payloadOf, titled, carried, wholeFront, frontOf}
-use Rattle.journal_file.specs.Replaying.{notTaken, taken, messagesTaken, markTaken, stepBy, stepOf, begun, Leads}
+use Rattle.journal_file.specs.Replaying.{notTaken, taken, messagesTaken, markMost, markTaken, stepBy, stepOf, begun, Leads}
 use Rattle.journal_file.specs.Damage.{Journal, JournalBurstFound}
 use Rattle.journal_file.proofs.Fronts.{Whole, whole, whole-at}
 use Rattle.journal_file.proofs.Damage.{title-sum, carried-sum, same-carried, same-append, good-sum, head-sum-is}
@@ -46,7 +46,7 @@ module _ (f : Front) where
 
   fair-mark : (r : Replay) → Fair f (markTaken r f)
   fair-mark r =
-      fair-of (not (eqb (f .carries) 0)) _ _ (fair-none r false)
+      fair-of (ltb (markMost (f .kind)) (f .carries)) _ _ (fair-none r false)
       (fair-of (eqb (f .kind) closedKind) _ _ (fair-taken (r .station) true)
       (fair-of (eqb (f .kind) cutShortKind || eqb (f .kind) badLengthKind) _ _ (fair-taken (r .station) false) (fair-none r false)))
 
@@ -54,13 +54,13 @@ module _ (f : Front) where
   fair-messages r used next =
       fair-of (eqb (f .carries) 0 || not (eqb used (f .carries))) _ _ (fair-none r false) (fair-taken next false)
 
-  fair-step : (r : Replay) (used : ℕ) (next : Station) → Fair f (stepBy r f used next)
+  pub fair-step : (r : Replay) (used : ℕ) (next : Station) → Fair f (stepBy r f used next)
   fair-step r used next =
       fair-of (not (f .whole)) _ _ (fair-none r (f .short))
       (fair-of (r .closed) _ _ (fair-none r false)
       (fair-of (eqb (f .kind) messagesKind) _ _ (fair-messages r used next) (fair-mark r)))
 
-  whole-step : (r : Replay) (used : ℕ) (next : Station) → 0 < stepBy r f used next .took → f .whole ≡ true
+  pub whole-step : (r : Replay) (used : ℕ) (next : Station) → 0 < stepBy r f used next .took → f .whole ≡ true
   whole-step r used next h = split (f .whole) (λ t. t) (λ t. absurd (none t (rw t at h)))
     where
       none : f .whole ≡ false → 0 < 0 → ⊥

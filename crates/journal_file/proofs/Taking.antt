@@ -2,9 +2,9 @@
 use mathlib.Core.Path.{_≡_, refl, sym, ap, _∙_}
 use mathlib.Core.Bool.{Bool, true, false, cond, not, _&&_, _||_}
 use mathlib.Core.List.{List}
-use Prim.Native.Nat.{ℕ, _+_, _-_, _≤_}
+use Prim.Native.Nat.{ℕ, _+_, _-_, _≤_, _<_}
 use native.Mathlib.Omega.{arith}
-use borrow.Author.Tests.{not-true, not-false, eq-eqb, ne-eqb}
+use borrow.Author.Tests.{not-true, not-false, eq-eqb, ne-eqb, lt-ltb, le-ltb}
 use lib.Dec.{eqb}
 use lib.ListN.{length, take, drop}
 use Rattle.bits.proofs.Cases.{clash}
@@ -15,7 +15,7 @@ use Rattle.journal_file.specs.declared.Front.{Front}
 use Rattle.journal_file.specs.declared.Replay.{Replay}
 use Rattle.journal_file.specs.declared.Step.{Step}
 use Rattle.journal_file.specs.Appends.{Over, carriedOf, payloadOf, frontOf}
-use Rattle.journal_file.specs.Replaying.{notTaken, taken, messagesTaken, markTaken, stepBy, Leaves, answersMade, stepping}
+use Rattle.journal_file.specs.Replaying.{notTaken, taken, messagesTaken, markMost, markTaken, stepBy, Leaves, answersMade, stepping}
 use Rattle.journal_file.proofs.Fronts.{Whole, whole, titled-most}
 
 -- ---- messages
@@ -27,20 +27,21 @@ module _ (r : Replay) (f : Front) (w v : Served) (e : w ≡ v) where
   pub all-taken : eqb (f .carries) 0 || not (eqb (w .used) (f .carries)) ≡ false → taken (w .station) f false ≡ messagesTaken r f (v .used) (v .station)
   all-taken t = rw (← e, t)
 
--- ---- what carries nothing
+-- ---- a mark
 
 module _ (r : Replay) (f : Front) where
-  pub carries-some : (f .carries ≡ 0 → ⊥) → notTaken r false ≡ markTaken r f
-  carries-some n = rw (ne-eqb (f .carries) 0 n)
+  pub carries-more : markMost (f .kind) < f .carries → notTaken r false ≡ markTaken r f
+  carries-more n = rw (lt-ltb (markMost (f .kind)) (f .carries) n)
 
-  pub closes : f .carries ≡ 0 → f .kind ≡ 4 → taken (r .station) f true ≡ markTaken r f
-  closes n k = rw (eq-eqb (f .carries) 0 n, eq-eqb (f .kind) 4 k)
+  module _ (n : f .carries ≤ markMost (f .kind)) where
+    pub closes : f .kind ≡ 4 → taken (r .station) f true ≡ markTaken r f
+    closes k = rw (le-ltb (markMost (f .kind)) (f .carries) n, eq-eqb (f .kind) 4 k)
 
-  pub ends : f .carries ≡ 0 → (f .kind ≡ 4 → ⊥) → eqb (f .kind) 2 || eqb (f .kind) 3 ≡ true → taken (r .station) f false ≡ markTaken r f
-  ends n k t = rw (eq-eqb (f .carries) 0 n, ne-eqb (f .kind) 4 k, t)
+    pub ends : (f .kind ≡ 4 → ⊥) → eqb (f .kind) 2 || eqb (f .kind) 3 ≡ true → taken (r .station) f false ≡ markTaken r f
+    ends k t = rw (le-ltb (markMost (f .kind)) (f .carries) n, ne-eqb (f .kind) 4 k, t)
 
-  pub no-kind : f .carries ≡ 0 → (f .kind ≡ 4 → ⊥) → eqb (f .kind) 2 || eqb (f .kind) 3 ≡ false → notTaken r false ≡ markTaken r f
-  no-kind n k t = rw (eq-eqb (f .carries) 0 n, ne-eqb (f .kind) 4 k, t)
+    pub no-kind : (f .kind ≡ 4 → ⊥) → eqb (f .kind) 2 || eqb (f .kind) 3 ≡ false → notTaken r false ≡ markTaken r f
+    no-kind k t = rw (le-ltb (markMost (f .kind)) (f .carries) n, ne-eqb (f .kind) 4 k, t)
 
 -- ---- what a whole append is known by
 
@@ -63,16 +64,16 @@ module _ (over : Over) (sum : ℕ) (m : List ℕ) (f : Front) (e : f ≡ frontOf
 -- ---- the code's answers
 
 module _ {A : Type 0} (x y z : Bool) (a b c d : A) where
-  first-of : x ≡ true → a ≡ cond x a (cond y b (cond z c d))
+  pub first-of : x ≡ true → a ≡ cond x a (cond y b (cond z c d))
   first-of p = rw p
 
-  second-of : x ≡ false → y ≡ true → b ≡ cond x a (cond y b (cond z c d))
+  pub second-of : x ≡ false → y ≡ true → b ≡ cond x a (cond y b (cond z c d))
   second-of p q = rw (p, q)
 
   pub third-of : x ≡ false → y ≡ false → z ≡ true → c ≡ cond x a (cond y b (cond z c d))
   third-of p q s = rw (p, q, s)
 
-  last-of : x ≡ false → y ≡ false → z ≡ false → d ≡ cond x a (cond y b (cond z c d))
+  pub last-of : x ≡ false → y ≡ false → z ≡ false → d ≡ cond x a (cond y b (cond z c d))
   last-of p q s = rw (p, q, s)
 
 -- the room stays as it was where no answers are made

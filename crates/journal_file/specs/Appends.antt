@@ -15,7 +15,8 @@ Over = ℕ → List ℕ → ℕ
 
 -- ---- its bytes
 
--- the kinds: the whole messages of one read; a session that ended by answer 1, by answer 2; the journal is closed, since another follows it
+-- the kinds: the whole messages of one read; a session that ended by answer 1, by answer 2, with what was left of its input; the journal is
+-- closed, since another follows it
 abbrev pub messagesKind : ℕ
 messagesKind = 1
 

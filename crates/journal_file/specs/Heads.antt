@@ -1,8 +1,8 @@
 -- A journal's head: what the file is, whose it is, and the station to begin with. Assumes nothing.
-use mathlib.Core.Bool.{Bool, cond, not}
+use mathlib.Core.Bool.{Bool, false, cond, not, _&&_, _||_}
 use mathlib.Core.List.{List, [], _∷_, _++_}
 use Prim.Native.Nat.{ℕ}
-use lib.Dec.{eqb, ltb}
+use lib.Dec.{eqb, leb, ltb}
 use lib.ListN.{length, getD, take, drop}
 use Rattle.garage.specs.declared.Station.{Station}
 use Rattle.garage.specs.Station.{fit, closed}
@@ -10,6 +10,7 @@ use Rattle.wire.specs.Kinds.{littleEndian}
 use Rattle.fours.specs.Fours.{fourAt}
 use Rattle.version.specs.Version.{version}
 use Rattle.rooms.specs.Rooms.{stationBytes, lentStation}
+use Rattle.bits.specs.Search.{every}
 use Rattle.commands.specs.Words.{isText}
 use Rattle.journal_file.specs.declared.Kind.{Kind}
 use Rattle.journal_file.specs.declared.Kind.the-variants.{NoJournal, OtherFormat, Damaged, Unfit, Good}
@@ -64,3 +65,13 @@ headOf over m =
 -- the name in it
 abbrev pub nameOf : List ℕ → List ℕ
 nameOf m = take 40 (drop 24 m)
+
+-- ---- a garage's name
+
+-- a byte of a name: printable and no space, or part of a letter that has several
+abbrev pub nameByte : ℕ → Bool
+nameByte b = leb 33 b && leb b 126 || leb 128 b
+
+-- a word that can be a garage's name
+abbrev pub isGarage : List ℕ → Bool
+isGarage w = cond (ltb (length w) 1) false (cond (ltb 40 (length w)) false (every (length w) (λ j. nameByte (getD w j 0))))

@@ -3,7 +3,7 @@ use mathlib.Core.Path.{_≡_}
 use mathlib.Core.Bool.{Bool, true, false, cond, not, _&&_, _||_}
 use mathlib.Core.List.{List, [], _∷_, _++_}
 use Prim.Native.Nat.{ℕ, _+_, _-_, _<_, _%_, _^_}
-use lib.Dec.{eqb}
+use lib.Dec.{eqb, ltb}
 use lib.ListN.{length}
 use Rattle.bits.specs.Places.{join}
 use Rattle.garage.specs.declared.Station.{Station}
@@ -34,10 +34,15 @@ taken s f closed = record { replay = record { station = s; sum = f .sum; closed 
 abbrev pub messagesTaken : Replay → Front → ℕ → Station → Step
 messagesTaken r f used next = cond (eqb (f .carries) 0 || not (eqb used (f .carries))) (notTaken r false) (taken next f false)
 
--- what carries nothing: what ended a session, or that the journal is closed
+-- a mark carries at most so many bytes: what was left of the input where a session ended, less than a message, and nothing where the journal
+-- is closed
+abbrev pub markMost : ℕ → ℕ
+markMost kind = cond (eqb kind closedKind) 0 44
+
+-- a mark: what ended a session, or that the journal is closed
 abbrev pub markTaken : Replay → Front → Step
 markTaken r f =
-    cond (not (eqb (f .carries) 0)) (notTaken r false)
+    cond (ltb (markMost (f .kind)) (f .carries)) (notTaken r false)
     (cond (eqb (f .kind) closedKind) (taken (r .station) f true)
     (cond (eqb (f .kind) cutShortKind || eqb (f .kind) badLengthKind) (taken (r .station) f false) (notTaken r false)))
 
@@ -86,10 +91,10 @@ Leads r (a ∷ more) q = (0 < length a) × (stepOf crcOver r a .took ≡ length 
 abbrev pub counted : ℕ → ℕ
 counted n = n % 2 ^ 64
 
--- a good head and appends of so many bytes make this station, and the next append goes on from this checksum
-pub record Journaled (s : Station) (sum n : ℕ) : Type 0 where
+-- a good head and appends of so many bytes make this replay: its station, and the checksum that the next append goes on from
+pub record Journaled (r : Replay) (n : ℕ) : Type 0 where
   pub head : List ℕ
   pub appends : List (List ℕ)
   pub headed : (length head ≡ headSize) × (headOf crcOver head .kind ≡ Good)
-  pub leads : Leads (begun crcOver head) appends (record { station = s; sum = sum; closed = false })
+  pub leads : Leads (begun crcOver head) appends r
   pub long : n ≡ counted (length (head ++ join appends))

@@ -1,5 +1,6 @@
 -- What is promised of a journal's file, from whatever station it begins with. Proved in proofs/. Assumes nothing.
 use mathlib.Core.Path.{_≡_}
+use mathlib.Core.Logic.{_⊎_}
 use mathlib.Core.Bool.{false, cond}
 use mathlib.Core.List.{List, [], _∷_, _++_}
 use Prim.Native.Nat.{ℕ, _^_, _≤_, _<_}
@@ -11,8 +12,8 @@ use Rattle.service.specs.Runs.{run}
 use Rattle.journal.specs.Journal.{Follows}
 use Rattle.checksum.specs.Checksum.{crcOver}
 use Rattle.journal_file.specs.declared.Replay.{Replay}
-use Rattle.journal_file.specs.Appends.{messagesKind, most, sumAfter, appendOf, payloadOf}
-use Rattle.journal_file.specs.Replaying.{Leads}
+use Rattle.journal_file.specs.Appends.{messagesKind, cutShortKind, badLengthKind, closedKind, most, sumAfter, appendOf, payloadOf}
+use Rattle.journal_file.specs.Replaying.{markMost, Leads}
 
 -- the messages that some appends carry, one behind the other: what the station was sent
 abbrev pub recordedIn : List (List ℕ) → List ℕ
@@ -37,3 +38,15 @@ FileKeepsUp =
     → q .closed ≡ false → q .sum < 2 ^ 32 → Follows (q .station) bytes next → 0 < length bytes → length bytes ≤ most
     → Leads r (appends ++ (appendOf crcOver (q .sum) messagesKind bytes ∷ []))
     (record { station = next; sum = sumAfter crcOver (q .sum) messagesKind bytes; closed = false })
+
+-- the kinds of marks
+abbrev pub MarkKind : ℕ → Type 0
+MarkKind kind = (kind ≡ cutShortKind) ⊎ ((kind ≡ badLengthKind) ⊎ (kind ≡ closedKind))
+
+-- with a mark behind it, it is one again, and the station stays; after the mark that closes it, it is closed
+abbrev pub FileKeepsMark : Type 0
+FileKeepsMark =
+    (r q : Replay) (appends : List (List ℕ)) (kind : ℕ) (bytes : List ℕ) → Leads r appends q
+    → q .closed ≡ false → q .sum < 2 ^ 32 → MarkKind kind → length bytes ≤ markMost kind
+    → Leads r (appends ++ (appendOf crcOver (q .sum) kind bytes ∷ []))
+    (record { station = q .station; sum = sumAfter crcOver (q .sum) kind bytes; closed = eqb kind closedKind })

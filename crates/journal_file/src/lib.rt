@@ -11,9 +11,9 @@ ghost use Rattle.wire.specs.Kinds.{fromLittleEndian};
 ghost use Rattle.rooms.specs.Rooms.{lentStation};
 ghost use Rattle.garage.specs.declared.Station.{Station};
 ghost use Rattle.checksum.specs.Slices.{crcBy};
-ghost use Rattle.journal_file.specs.Appends.{openingOf, closingOf, carriedOf, titled, carried, noFront, wholeFront, frontOf, written, lostFrom, zeroed};
-ghost use Rattle.journal_file.specs.Heads.{titleBytes, headKind, headOf};
-ghost use Rattle.journal_file.specs.Replaying.{notTaken, taken, markTaken, messagesTaken, Leaves, stepping};
+ghost use Rattle.journal_file.specs.Appends.{titleOf, openingOf, sumAfter, closingOf, carriedOf, titled, carried, noFront, wholeFront, frontOf, written, lostFrom, zeroed};
+ghost use Rattle.journal_file.specs.Heads.{titleBytes, headSum, headKind, headOf, nameByte, isGarage};
+ghost use Rattle.journal_file.specs.Replaying.{notTaken, taken, markMost, markTaken, messagesTaken, Leaves, stepping};
 use garage::Station;
 
 const MOST: usize = 65536;
@@ -21,6 +21,8 @@ const MOST: usize = 65536;
 const AROUND: usize = 13;
 
 const SECTOR: usize = 512;
+
+const LEFT: usize = 44;
 
 const END: u8 = 10;
 
@@ -36,16 +38,23 @@ pub struct Front {
     pub sum: u32,
 }
 
-// What stands before the bytes of an append of this kind, behind an append with this checksum.
-pub fn opening(t: &[u32], sum: u32, kind: u8, size: usize) -> [u8; 8]
-    ensures { λ b. ⌜ b ≡ openingOf (crcBy (now (t .entry))) sum kind size ⌝ }
+// The kind and the number of bytes carried, as bytes.
+fn title_of(kind: u8, size: usize) -> [u8; 4]
+    ensures { λ b. ⌜ b ≡ titleOf kind size ⌝ }
 {
-    let title = [
+    [
         kind,
         (size % 256) as u8,
         (size / 256 % 256) as u8,
         (size / 256 / 256 % 256) as u8,
-    ];
+    ]
+}
+
+// What stands before the bytes of an append of this kind, behind an append with this checksum.
+pub fn opening(t: &[u32], sum: u32, kind: u8, size: usize) -> [u8; 8]
+    ensures { λ b. ⌜ b ≡ openingOf (crcBy (now (t .entry))) sum kind size ⌝ }
+{
+    let title = title_of(kind, size);
     let s = fours::four_bytes(checksum::continue_by(t, sum, &title));
     [
         title[0],
@@ -57,6 +66,14 @@ pub fn opening(t: &[u32], sum: u32, kind: u8, size: usize) -> [u8; 8]
         s[2],
         s[3],
     ]
+}
+
+// The checksum of an append of this kind that carries these bytes.
+pub fn sum_after(t: &[u32], sum: u32, kind: u8, bytes: &[u8]) -> u32
+    ensures { λ n. ⌜ n ≡ sumAfter (crcBy (now (t .entry))) sum kind (now (bytes .entry)) ⌝ }
+{
+    let title = title_of(kind, bytes.len());
+    checksum::continue_by(t, checksum::continue_by(t, sum, &title), bytes)
 }
 
 // What stands behind them.
@@ -238,6 +255,43 @@ pub fn title() -> [u8; 24]
     ]
 }
 
+// The checksum of a head with this name, filled up with zeros, and this station.
+pub fn head_sum(t: &[u32], name: &[u8], station: Station) -> u32
+    ensures { λ n. ⌜ n ≡ headSum (crcBy (now (t .entry))) (now (name .entry)) station ⌝ }
+{
+    let title = title();
+    let bytes = rooms::station_bytes(station);
+    let named = checksum::continue_by(t, checksum::continue_by(t, 0, &title), name);
+    checksum::continue_by(t, named, &bytes)
+}
+
+// Whether a byte can be one of a garage's name.
+fn is_name_byte(b: u8) -> bool
+    ensures { λ r. ⌜ r ≡ nameByte b ⌝ }
+{
+    ((33 <= b) & (b <= 126)) | (128 <= b)
+}
+
+// Whether a word can be a garage's name.
+pub fn is_garage(word: &[u8]) -> bool
+    ensures { λ b. ⌜ b ≡ isGarage (now (word .entry)) ⌝ }
+{
+    if word.len() < 1 {
+        return false;
+    }
+    if 40 < word.len() {
+        return false;
+    }
+    let mut i: usize = 0;
+    while i < word.len() {
+        if !is_name_byte(word[i]) {
+            return false;
+        }
+        i += 1;
+    }
+    true
+}
+
 // What the bytes of a head are.
 fn kind_of(t: &[u32], m: &[u8], station: Station) -> Kind
     requires { ⌜ (128 ≤ length (now m)) × (station ≡ lentStation (take 60 (drop 64 (now m)))) ⌝ }
@@ -320,13 +374,23 @@ fn take(station: Station, f: Front, closed: bool) -> Step
     }
 }
 
-// An append that carries nothing.
+// How many bytes a mark of this kind carries at most.
+fn mark_most(kind: u8) -> usize
+    ensures { λ n. ⌜ n ≡ markMost kind ⌝ }
+{
+    if kind == 4 {
+        return 0;
+    }
+    LEFT
+}
+
+// A mark: what ended a session, or that the journal is closed.
 fn take_mark(r: Replay, f: Front) -> Step
     requires { ⌜ f .carries ≤ 65536 ⌝ }
     ensures { λ q. ⌜ q ≡ markTaken r f ⌝ }
 {
     let station = r.station;
-    if f.carries != 0 {
+    if mark_most(f.kind) < f.carries {
         return not_taken(r, false);
     }
     if f.kind == 4 {

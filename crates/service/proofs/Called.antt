@@ -94,17 +94,6 @@ past-test known s o {t} {a} q n g =
 
 -- ---- the set that it leaves
 
-kept-on-known : (known : Bool) (s : Station) (set : List ℕ) {o : Outcome} → Kept s set o → Kept s set (onKnown known s o)
+pub kept-on-known : (known : Bool) (s : Station) (set : List ℕ) {o : Outcome} → Kept s set o → Kept s set (onKnown known s o)
 kept-on-known true s set k = k
 kept-on-known false s set k = kept-refused s set Unfit
-
--- one that comes with its unused places zero is the new one as it is
-pub called-kept : (known : Bool) (w : What) (s : Station) (n : ℕ) (set : List ℕ) → set ≡ take (5 * n) set ++ replicate (40 - 5 * n) 0
-    → Kept s set (calledKnown known w s n set)
-called-kept known Request s n set e = kept-on-known known s set (kept-requested s set n set e)
-called-kept known (Event way) s n set e = kept-on-known known s set (kept-evented s set way)
-called-kept known (Result issue number ending) s n set e = kept-on-known known s set (kept-resulted s set _)
-called-kept known (Image bits apart) s n set e = kept-on-known known s set (kept-imaged s set _)
-called-kept known Ask s n set e = kept-on-known known s set (kept-refused s set Taken)
-called-kept known (Answer number place issue) s n set e = kept-refused s set UnknownKind
-called-kept known (Held bits apart) s n set e = kept-refused s set UnknownKind

@@ -1,6 +1,7 @@
 pub mod Replies
 pub mod Readings
 pub mod Called
+mod Hearing
 pub mod Ranges
 pub mod Running
 mod Turns

@@ -1,9 +1,9 @@
--- Replies: what a message that isn't an ask is told; that the fields of every reply are in their ranges, so that it can be written; and
+-- Replies: that the fields of every reply are in their ranges, so that it can be written; and
 -- what writing it leaves. Assumes nothing.
 use mathlib.Core.Path.{_≡_, refl, ap, _∙_}
 use mathlib.Core.Bool.{Bool, true, false, cond}
 use mathlib.Core.List.{List, [], _∷_, _++_}
-use Prim.Native.Nat.{ℕ, _/_, _≤_}
+use Prim.Native.Nat.{ℕ, _/_, _%_, _≤_}
 use native.Mathlib.Omega.{arith}
 use borrow.Author.Tests.{leb-true, le-leb, le-ltb}
 use denote.Enum.Declared.{tagOf}
@@ -14,7 +14,7 @@ use Rattle.bits.specs.Search.{least}
 use Rattle.bits.proofs.Cases.{alike}
 use Rattle.answers.specs.declared.Answer.{Answer}
 use Rattle.answers.specs.declared.Answer.the-variants.{Taken, TooFewBytes, NoRoom}
-use Rattle.garage.specs.declared.Outcome.{Outcome}
+use Rattle.answers.specs.Answers.{numberOf, placeOf, issueOf}
 use Rattle.wire.proofs.What as what
 use Rattle.wire.specs.declared.What.{What}
 use Rattle.wire.specs.declared.What.the-variants.{Request, Event, Result, Image, Ask, Held}
@@ -22,19 +22,9 @@ use Rattle.wire.specs.Kinds.{inRange, plain}
 use Rattle.wire.specs.declared.Written.{Written}
 use Rattle.wire.specs.Writes.{Writing, Leaves, kept, put, writing}
 use Rattle.wire.proofs.Room.{ranged}
-use Rattle.service.specs.Service.{answerMessage, replyMessage, answerBytes}
+use Rattle.service.specs.Service.{answerMessage, answerBytes}
 use Rattle.service.specs.Private.{makesCall}
 use Rattle.service.specs.Runs.{enough, finishing}
-
--- a message that isn't an ask is told its answer
-pub not-asked : (w : What) (o : Outcome) → OneOf (0 ∷ 1 ∷ 2 ∷ 3 ∷ 5 ∷ 6 ∷ []) (tagOf what.the-type w) → replyMessage w o ≡ answerMessage (o .answer)
-not-asked Request o h = refl
-not-asked (Event way) o h = refl
-not-asked (Result issue number ending) o h = refl
-not-asked (Image bits apart) o h = refl
-not-asked Ask o h = absurd (miss (0 ∷ 1 ∷ 2 ∷ 3 ∷ 5 ∷ 6 ∷ []) 4 tt h)
-not-asked (What.Answer number place issue) o h = refl
-not-asked (Held bits apart) o h = refl
 
 -- what is neither of kind 128 nor of 129 makes a call
 pub makes-call : (w : What) → OneOf (0 ∷ 1 ∷ 2 ∷ 3 ∷ 4 ∷ []) (tagOf what.the-type w) → true ≡ makesCall w
@@ -83,6 +73,22 @@ answer-bytes-length (Held bits apart) = omega arith
 pub answer-length : (a : Answer) → length (answerBytes (answerMessage a)) ≤ 8
 unfolding answerBytes
 answer-length a = omega arith
+
+pub eight-bytes : (a : Answer) → length (answerBytes (answerMessage a)) ≡ 8
+unfolding answerBytes
+eight-bytes a = refl
+
+-- and these, laid at the start of a room
+pub put-answer : (a : Answer) (room last : List ℕ) {number place issue : ℕ} → number ≡ numberOf a → place ≡ placeOf a → issue ≡ issueOf a
+    → last ≡ 6 ∷ 0 ∷ 128 ∷ 0 ∷ number ∷ place ∷ issue % 256 ∷ issue / 256 % 256 ∷ drop 8 room
+    → (8 ≡ length (answerBytes (answerMessage a))) × (last ≡ answerBytes (answerMessage a) ++ drop (length (answerBytes (answerMessage a))) room)
+unfolding answerBytes
+put-answer a room last e f g h = (refl, h ∙ rw (e, f, g))
+
+-- what is written of a message, by another name of it
+pub retold : {v w : What} {n : ℕ} {last : List ℕ} (room : List ℕ) → v ≡ w → (n ≡ length (answerBytes w)) × (last ≡ answerBytes w ++ drop (length (answerBytes w)) room)
+    → (n ≡ length (answerBytes v)) × (last ≡ answerBytes v ++ drop (length (answerBytes v)) room)
+retold room e p = rw e p
 
 -- a fifth of the room
 pub fits-by-fifth : (n room : ℕ) → leb n (room / 5) ≡ leb (enough n) room

@@ -1,21 +1,19 @@
 // Messages answered on a station: one, and a run of them. What they are answered with stands in specs/.
 ghost use mathlib.Core.Path.{_≡_};
-ghost use mathlib.Core.Bool.{true, cond};
+ghost use mathlib.Core.Bool.{true};
 ghost use mathlib.Core.List.{_++_};
-ghost use Prim.Native.Nat.{_*_, _-_, _≤_};
-ghost use lib.Dec.{eqb, leb};
-ghost use lib.ListN.{length, take, drop, replicate};
-ghost use Rattle.answers.specs.Answers.{numberOf};
+ghost use Prim.Native.Nat.{_≤_};
+ghost use lib.Dec.{leb};
+ghost use lib.ListN.{length, drop, replicate};
 ghost use Rattle.garage.specs.Calls.{refused};
-ghost use Rattle.garage.specs.Turns.{turnOf};
-ghost use Rattle.wire.specs.declared.What.the-variants.{Held};
-ghost use Rattle.wire.specs.Kinds.{inRange};
+ghost use Rattle.garage.specs.Turns.{turnOf, afterTurn};
+ghost use Rattle.wire.specs.Kinds.{first, request, inRange, setOf};
+ghost use Rattle.wire.specs.Reads.{kindAt};
 ghost use Rattle.wire.specs.Writes.{Leaves};
-ghost use Rattle.service.specs.Service.{answerMessage, replyOf, respond, calledKnown, respondKnown, answerBytes};
-ghost use Rattle.service.specs.Private.{makesCall};
+ghost use Rattle.service.specs.Service.{answerMessage, respond, calledKnown, respondKnown, answerBytes};
+ghost use Rattle.service.specs.Private.{makesCall, heard, told, replied};
 ghost use Rattle.service.specs.Runs.{Serves, run, enough, served, serving, finishing};
 use answers::Answer;
-use garage::Outcome;
 use garage::Picture;
 use garage::Report;
 use garage::Station;
@@ -71,15 +69,20 @@ fn unmoved(s: Station, answer: Answer) -> Turn
     }
 }
 
-// The turn of the call that a message makes on a station of which it is known whether it is fit.
-fn turn(known: bool, what: What, s: Station, count: u8, set: [u8; 40]) -> Turn
-    ensures { λ t. ⌜ t ≡ turnOf (calledKnown known what s count set) ⌝ }
+// The turn of the call that a message without instructions makes on a station of which it is known whether it is fit.
+fn turn(known: bool, what: What, s: Station) -> Turn
+    ensures { λ t. ⌜ t ≡ turnOf (calledKnown known what s 0 (replicate 40 0)) ⌝ }
 {
     if makes_call(what) & !known {
         return unmoved(s, Answer::Unfit);
     }
     match what {
-        What::Request => s.requested(count, set),
+        What::Request => {
+            if 0 < s.count {
+                return unmoved(s, Answer::SetOutstanding);
+            }
+            unmoved(s, Answer::EmptySet)
+        }
         What::Event { way } => s.evented(way),
         What::Result {
             issue,
@@ -101,13 +104,65 @@ fn turn(known: bool, what: What, s: Station, count: u8, set: [u8; 40]) -> Turn
     }
 }
 
-// The call itself. A message's set comes with its unused places zero: it is the new set as it is.
-fn call(known: bool, what: What, s: Station, count: u8, set: [u8; 40]) -> Outcome
-    requires { ⌜ set ≡ take (5 * count) set ++ replicate (40 - 5 * count) 0 ⌝ }
-    ensures { λ o. ⌜ o ≡ calledKnown known what s count set ⌝ }
+// The places of the set that a request brings.
+fn fresh(m: &[u8]) -> [u8; 40]
+    ensures { λ r. ⌜ r ≡ setOf (drop first (now (m .entry))) ⌝ }
 {
-    let t = turn(known, what, s, count, set);
-    s.after(t, set)
+    if m.len() < 5 {
+        return [0; 40];
+    }
+    wire::set_of(&m[5..])
+}
+
+// A request on a fit station that holds no set: its instructions are read once, by the call, which tells a bad one as a reader does.
+fn opening(s: Station, m: &[u8]) -> Turn
+    requires { ⌜ (kindAt (now m) ≡ request) × (s .count ≡ 0) ⌝ }
+    ensures { λ t. ⌜ t ≡ turnOf (heard true s (now (m .entry))) ⌝ }
+{
+    let count = wire::byte(m, 4);
+    if 8 < count {
+        return unmoved(s, Answer::TooMany);
+    }
+    if m.len() != 5 + 5 * (count as usize) {
+        return unmoved(s, Answer::BadLength);
+    }
+    let set = fresh(m);
+    s.requested(count, set)
+}
+
+// A request on any station.
+fn asked(known: bool, s: Station, m: &[u8]) -> Turn
+    requires { ⌜ kindAt (now m) ≡ request ⌝ }
+    ensures { λ t. ⌜ t ≡ turnOf (heard known s (now (m .entry))) ⌝ }
+{
+    if known & (s.count == 0) {
+        return opening(s, m);
+    }
+    let r = wire::request_in(m);
+    let answer = r.answer;
+    if answer.number() != 0 {
+        return unmoved(s, answer);
+    }
+    if known {
+        return unmoved(s, Answer::SetOutstanding);
+    }
+    unmoved(s, Answer::Unfit)
+}
+
+// The turn of a message whose bytes are exactly m.
+fn heard(known: bool, s: Station, m: &[u8]) -> Turn
+    ensures { λ t. ⌜ t ≡ turnOf (heard known s (now (m .entry))) ⌝ }
+{
+    if wire::kind_at(m) == 1 {
+        return asked(known, s, m);
+    }
+    let r = wire::saying(m);
+    let answer = r.answer;
+    if answer.number() != 0 {
+        return unmoved(s, answer);
+    }
+    let what = r.what;
+    turn(known, what, s)
 }
 
 // An answer as a message.
@@ -121,51 +176,50 @@ fn answer_message(answer: Answer) -> What
     }
 }
 
-// The image after an ask that was taken.
-fn image_or(s: Station, answer: Answer) -> What
-    ensures { λ w. ⌜ w ≡ cond (eqb (numberOf answer) 0) (Held (s .bits) (s .apart)) (answerMessage answer) ⌝ }
+// What a message of this kind is told after its turn: an ask that was taken, the image.
+fn told(kind: u16, t: Turn) -> What
+    ensures { λ w. ⌜ w ≡ told kind t ⌝ }
 {
-    if answer.number() == 0 {
+    let answer = t.answer;
+    if (kind == 5) & (answer.number() == 0) {
         return What::Held {
-            bits: s.bits,
-            apart: s.apart,
+            bits: t.bits,
+            apart: t.apart,
         };
     }
     answer_message(answer)
 }
 
-// The reply to a call.
-fn in_reply(what: What, o: Outcome) -> Reply
-    ensures { λ r. ⌜ r ≡ replyOf what o ⌝ }
+// The reply to a message whose bytes are exactly m.
+fn answered(known: bool, s: Station, m: &[u8]) -> Reply
+    ensures { λ r. ⌜ r ≡ replied (kindAt (now (m .entry))) (heard known s (now (m .entry))) ⌝ }
 {
+    let t = heard(known, s, m);
+    let answer = told(wire::kind_at(m), t);
+    let set = fresh(m);
+    let o = s.after(t, set);
     let station = o.station;
-    let answer = o.answer;
-    match what {
-        What::Ask => {
-            let answer = image_or(station, answer);
-            Reply { station, answer }
-        }
-        _ => {
-            let answer = answer_message(answer);
-            Reply { station, answer }
-        }
-    }
+    Reply { station, answer }
+}
+
+// What cannot be read is told, and makes no call.
+fn unread(s: Station, answer: Answer) -> Reply
+    ensures { λ r. ⌜ r ≡ record { station = s; answer = answerMessage answer } ⌝ }
+{
+    let answer = answer_message(answer);
+    Reply { station: s, answer }
 }
 
 // The reply to the first message of m, on a station of which it is known whether it is fit.
 pub fn respond_known(known: bool, s: Station, m: &[u8]) -> Reply
     ensures { λ r. ⌜ r ≡ respondKnown known s (now (m .entry)) ⌝ }
 {
-    let r = wire::read_asked(m);
-    let answer = r.answer;
-    if answer.number() != 0 {
-        let answer = answer_message(answer);
-        return Reply { station: s, answer };
+    let frame = wire::framed(m);
+    match frame {
+        Frame::Cut => unread(s, Answer::TooFewBytes),
+        Frame::Wrong => unread(s, Answer::BadLength),
+        Frame::Whole(n) => answered(known, s, &m[..n]),
     }
-    let message = r.message;
-    let what = message.what;
-    let set = message.set;
-    in_reply(what, call(known, what, s, message.count, set))
 }
 
 // The reply to the first message of m.
@@ -186,7 +240,54 @@ fn say(what: What, out: &mut [u8]) -> usize
     w.size
 }
 
-// Answers every whole message of input, one after another, in room that is long enough. Fitness is tested once: every call keeps it.
+// Puts an answer at the start of out, in its eight bytes, and says how many they are.
+fn put(answer: Answer, out: &mut [u8]) -> usize
+    requires { ⌜ length (answerBytes (answerMessage answer)) ≤ length (now out) ⌝ }
+    ensures { λ n. ⌜ (n ≡ length (answerBytes (answerMessage answer))) × (now (out .exit) ≡ answerBytes (answerMessage answer) ++ drop (length (answerBytes (answerMessage answer))) (now (out .entry))) ⌝ }
+{
+    let number = answer.number();
+    let place = answer.place();
+    let issue = answer.issue();
+    let low = (issue % 256) as u8;
+    let high = (issue / 256 % 256) as u8;
+    bytes::copy(&[6, 0, 128, 0, number, place, low, high], out);
+    8
+}
+
+// The same of what a message of this kind is told after its turn.
+fn tell(kind: u16, t: Turn, out: &mut [u8]) -> usize
+    requires { ⌜ length (answerBytes (told kind t)) ≤ length (now out) ⌝ }
+    ensures { λ n. ⌜ (n ≡ length (answerBytes (told kind t))) × (now (out .exit) ≡ answerBytes (told kind t) ++ drop (length (answerBytes (told kind t))) (now (out .entry))) ⌝ }
+{
+    let answer = t.answer;
+    if (kind == 5) & (answer.number() == 0) {
+        return say(
+            What::Held {
+                bits: t.bits,
+                apart: t.apart,
+            },
+            out,
+        );
+    }
+    put(answer, out)
+}
+
+// The station that a turn leaves where its set changes.
+fn left(s: Station, t: Turn, m: &[u8]) -> Station
+    ensures { λ x. ⌜ x ≡ afterTurn s t (setOf (drop first (now (m .entry)))) .station ⌝ }
+{
+    if s.count < t.count {
+        let set = fresh(m);
+        let o = s.after(t, set);
+        return o.station;
+    }
+    let set = s.set;
+    let o = s.after(t, set);
+    o.station
+}
+
+// Answers every whole message of input, one after another, in room that is long enough. Fitness is tested once: every call keeps it. A set
+// that stays is not copied.
 fn answer_all(s: Station, input: &[u8], out: &mut [u8]) -> Served
     requires { ⌜ enough (length (now input)) ≤ length (now out) ⌝ }
     ensures { λ r. ⌜ Serves (served (run s (now (input .entry))) (now (out .entry))) r (now (out .exit)) ⌝ }
@@ -209,8 +310,7 @@ fn answer_all(s: Station, input: &[u8], out: &mut [u8]) -> Served
                 };
             }
             Frame::Wrong => {
-                let answer = answer_message(Answer::BadLength);
-                let n = say(answer, &mut out[made..]);
+                let n = put(Answer::BadLength, &mut out[made..]);
                 return Served {
                     answer: Answer::Taken,
                     station: s,
@@ -220,11 +320,18 @@ fn answer_all(s: Station, input: &[u8], out: &mut [u8]) -> Served
                 };
             }
             Frame::Whole(n) => {
-                let r = respond_known(known, s, rest);
-                let answer = r.answer;
-                made += say(answer, &mut out[made..]);
-                s = r.station;
+                let m = &rest[..n];
+                let t = heard(known, s, m);
+                made += tell(wire::kind_at(m), t, &mut out[made..]);
                 at += n;
+                if t.count != s.count {
+                    s = left(s, t, m);
+                    continue;
+                }
+                s.bits = t.bits;
+                s.answered = t.answered;
+                s.next = t.next;
+                s.apart = t.apart;
             }
         }
     }

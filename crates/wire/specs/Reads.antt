@@ -15,6 +15,7 @@ use Rattle.wire.specs.declared.What.{What}
 use Rattle.wire.specs.declared.What.the-variants.{Ask}
 use Rattle.wire.specs.declared.Message.{Message}
 use Rattle.wire.specs.declared.Received.{Received}
+use Rattle.wire.specs.declared.Said.{Said}
 use Rattle.wire.specs.declared.Frame.{Frame}
 use Rattle.wire.specs.declared.Frame.the-variants.{Cut, Wrong, Whole}
 use Rattle.wire.specs.Kinds.{fromLittleEndian, first, Kind, request, asked, known, inRange, plain, requesting}
@@ -74,6 +75,10 @@ readRequest m =
 abbrev pub readAmong : List Kind → List ℕ → Received
 readAmong [] m = refused UnknownKind (length m)
 readAmong (k ∷ ks) m = cond (eqb (kindAt m) (k .number)) (sized m (4 + k .size) (k .says m)) (readAmong ks m)
+
+-- what a message says, without the places of a set
+abbrev pub saidIn : Received → Said
+saidIn r = record { answer = r .answer; what = r .message .what }
 
 -- a message whose bytes are exactly m: a request, or one of these kinds
 unfoldable pub readWhole : List Kind → List ℕ → Received

@@ -15,7 +15,7 @@ ghost use Prim.Native.Nat.{_≤_, _+_, _*_};
 ghost use lib.ListN.{length, drop};
 ghost use Rattle.bits.specs.Search.{least};
 ghost use Rattle.wire.specs.Kinds.{first, known, asked, inRange};
-ghost use Rattle.wire.specs.Reads.{sized, isBad, badIn, readRequest, readWhole};
+ghost use Rattle.wire.specs.Reads.{sized, isBad, badIn, readRequest, readAmong, readWhole};
 
 // Whether the fields of a message are in their ranges, a request's instructions aside.
 pub fn in_range(what: What) -> bool
@@ -82,7 +82,8 @@ pub fn least_bad(m: &[u8], n: u8) -> u8
     n
 }
 
-fn read_request(m: &[u8]) -> Received
+// A request whose bytes are exactly m.
+pub fn read_request(m: &[u8]) -> Received
     ensures { λ r. ⌜ r ≡ readRequest (now (m .entry)) ⌝ }
 {
     let used = m.len();
@@ -110,13 +111,12 @@ fn read_request(m: &[u8]) -> Received
     }
 }
 
-// A message whose bytes are exactly m, of a kind that a station reads.
-pub fn whole_asked(m: &[u8]) -> Received
-    ensures { λ r. ⌜ r ≡ readWhole asked (now (m .entry)) ⌝ }
+// A message whose bytes are exactly m, of a kind besides requests that a station reads.
+pub fn among(m: &[u8]) -> Received
+    ensures { λ r. ⌜ r ≡ readAmong asked (now (m .entry)) ⌝ }
 {
     let kind = word_at(m, 2);
     match kind {
-        1 => read_request(m),
         2 => sized(m, 5, What::Event { way: byte(m, 4) }),
         3 => sized(
             m,
@@ -135,6 +135,17 @@ pub fn whole_asked(m: &[u8]) -> Received
         5 => sized(m, 4, What::Ask),
         _ => refused(Answer::UnknownKind, m.len()),
     }
+}
+
+// The same with requests.
+pub fn whole_asked(m: &[u8]) -> Received
+    ensures { λ r. ⌜ r ≡ readWhole asked (now (m .entry)) ⌝ }
+{
+    let kind = word_at(m, 2);
+    if kind == 1 {
+        return read_request(m);
+    }
+    among(m)
 }
 
 // The same for any kind.

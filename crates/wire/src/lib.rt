@@ -5,8 +5,8 @@ ghost use mathlib.Core.Path.{_≡_};
 ghost use mathlib.Core.List.{[], _∷_, _++_};
 ghost use Prim.Native.Nat.{_≤_, _<_, _-_, _*_};
 ghost use lib.ListN.{getD, length, replicate};
-ghost use Rattle.wire.specs.Kinds.{littleEndian, fromLittleEndian, plain, setOf};
-ghost use Rattle.wire.specs.Reads.{frameOf, refused, readMessage, readAsked};
+ghost use Rattle.wire.specs.Kinds.{littleEndian, fromLittleEndian, asked, plain, setOf};
+ghost use Rattle.wire.specs.Reads.{kindAt, frameOf, refused, saidIn, readRequest, readAmong, readMessage, readAsked};
 
 mod kinds;
 pub mod writing;
@@ -34,6 +34,12 @@ pub struct Received {
     pub answer: Answer,
     pub used: usize,
     pub message: Message,
+}
+
+// What a message that is no request says: Taken and what it asks or tells, or why it is refused.
+pub struct Said {
+    pub answer: Answer,
+    pub what: What,
 }
 
 // What a call that writes answers, and how many bytes it wrote.
@@ -198,6 +204,31 @@ fn refused(answer: Answer, used: usize) -> Received
         used,
         message,
     }
+}
+
+// The kind of a message.
+pub fn kind_at(m: &[u8]) -> u16
+    ensures { λ k. ⌜ k ≡ kindAt (now (m .entry)) ⌝ }
+{
+    word_at(m, 2)
+}
+
+// A request whose bytes are exactly m.
+pub fn request_in(m: &[u8]) -> Received
+    ensures { λ r. ⌜ r ≡ readRequest (now (m .entry)) ⌝ }
+{
+    kinds::read_request(m)
+}
+
+// What a message whose bytes are exactly m says to a station, if it is no request: no set is filled in.
+pub fn saying(m: &[u8]) -> Said
+    ensures { λ r. ⌜ r ≡ saidIn (readAmong asked (now (m .entry))) ⌝ }
+{
+    let r = kinds::among(m);
+    let answer = r.answer;
+    let message = r.message;
+    let what = message.what;
+    Said { answer, what }
 }
 
 // The first message of s, of any kind; what stands after it is not looked at.

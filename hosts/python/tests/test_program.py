@@ -5,7 +5,7 @@ import random
 import tempfile
 import unittest
 
-from station import Answer, Ended, Event, Held, Number, Outcome, Program, Record, Station, Totals, messages
+from station import Answer, Ended, Event, Held, Number, Outcome, Program, Record, Station, Totals, journals, messages
 from tree import ROOT, Planner, run
 
 STATION = ROOT / "bin/station"
@@ -29,6 +29,12 @@ class Pipe(unittest.TestCase):
             self.assertEqual(again, Answer(Number.ALREADY_ANSWERED))
             self.assertTrue(messages.read(program.send(messages.result(0, 0, Outcome.STUCK))).taken)
             self.assertEqual(messages.read(program.send(messages.event(Event.BEGIN_IN))).number, Number.SET_APART)
+        read = journals.read(self.journal)
+        self.assertEqual((read.name, read.torn, read.closed, len(list(read.messages()))), ("north", 0, False, 8))
+        follows = self.journal + ".next"
+        self.assertEqual(run("bin/station", "--follow", self.journal, follows).returncode, 0)
+        self.assertTrue(journals.read(self.journal).closed)
+        self.assertEqual(journals.read(follows).station(), read.station())
 
     def test_its_end_is_told_with_its_status_and_its_line(self):
         program = Program(STATION, self.journal)

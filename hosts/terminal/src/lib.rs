@@ -1,10 +1,12 @@
-//! What the hosts for the terminal share: messages, conditions and rejections in words, what is not sound in an image, and what they tell of
-//! numbers and streams.
+//! What the hosts for the terminal share: messages, conditions and rejections in words, what is not sound in an image, what they tell of
+//! numbers and streams, and a journal, append by append.
 
 #[cfg(feature = "entries")]
 pub mod conditions;
 #[cfg(feature = "entries")]
 pub mod facts;
+#[cfg(feature = "entries")]
+pub mod journal;
 #[cfg(feature = "entries")]
 pub mod message;
 pub mod sound;

@@ -3,11 +3,13 @@
 //! one: what the program prints must be the reference's report. Every total that can be raised from the start must have been, and no
 //! other: answers 16 and 17 can't come.
 
-use reference::week::{report_with, totals, Total, Week, EXAMPLES};
-use shared::pipes::answers;
+use reference::week::{happened, report_with, totals, Total, Week, EXAMPLES};
+use reference::{serve_on, Station};
+use shared::journal_form::{read as form, Written, BAD_LENGTH, CUT_SHORT, MESSAGES};
+use shared::pipes::{answers, messages_in};
 use shared::traffic;
 use std::collections::BTreeSet;
-use std::process::exit;
+use std::process::{exit, Command};
 
 /// The reference held against what the papers say of their examples.
 fn examples() {
@@ -37,6 +39,73 @@ fn same(program: &str, name: &str, input: &[u8], seed: u64, came: &mut BTreeSet<
     right
 }
 
+/// Journals from the start and from a later station on, whole, torn and damaged, all of them and behind some of their appends: what is counted
+/// is the messages that were answered, and what ended a session. Gives how many reports there were.
+fn journals(program: &str) -> usize {
+    let path = std::env::temp_dir().join(format!("report.{}", std::process::id()));
+    let file = path.to_str().expect("a name");
+    let printed = |bytes: &[u8], words: &[&str]| {
+        std::fs::write(&path, bytes).expect("a file");
+        let output = Command::new(program).args(words).arg(file).output().expect("it runs");
+        (String::from_utf8_lossy(&output.stdout).into_owned(), String::from_utf8_lossy(&output.stderr).into_owned(), output.status.code())
+    };
+    let (mut later, mut count) = (Station::start(), 0);
+    serve_on(&mut later, &traffic::input(80, 300), true);
+    for (seed, first) in [(81, Station::start()), (82, later)] {
+        let mut journal = Written::begun(b"north", &first);
+        for (at, piece) in messages_in(&traffic::input(seed, 120)).collect::<Vec<_>>().chunks(9).enumerate() {
+            journal.add(MESSAGES, &piece.concat());
+            match at % 4 {
+                1 => journal.add(CUT_SHORT, &[6, 0, 3, 0, 1]),
+                2 => journal.add(BAD_LENGTH, &[44, 0, 1, 0]),
+                _ => {}
+            }
+        }
+        let says = form(&journal.bytes).expect("a journal");
+        for from in 0..=says.appends.len() {
+            let (mut station, mut week) = (first, Week::default());
+            for (append, number) in says.appends.iter().zip(1..) {
+                let parts: Vec<&[u8]> =
+                    if append.kind == MESSAGES { messages_in(&append.carried).collect() } else { vec![&append.carried] };
+                for part in parts {
+                    let happened = happened(&mut station, part);
+                    if number > from {
+                        assert!(week.count(&happened).is_ok(), "nothing is full");
+                    }
+                }
+            }
+            assert_eq!(
+                printed(&journal.bytes, &["--from", &from.to_string()]),
+                (week.report(), String::new(), Some(0)),
+                "seed {seed}, from {from}"
+            );
+            if from == 0 {
+                let torn = journal.clone().with(MESSAGES, &[2, 0, 5, 0]).bytes;
+                let zeros = [&journal.bytes[..], &[0; 30]].concat();
+                for bytes in [&journal.bytes[..], &torn[..torn.len() - 1], &zeros] {
+                    assert_eq!(printed(bytes, &[]), (week.report(), String::new(), Some(0)), "seed {seed}");
+                }
+            }
+            count += 1;
+        }
+        let middle = journal.bytes.len() / 2;
+        let damaged = [&journal.bytes[..middle], &[journal.bytes[middle] ^ 1], &journal.bytes[middle + 1..]].concat();
+        let zeroed = [&journal.bytes[..middle], &[0; 60], &journal.bytes[middle + 60..]].concat();
+        for bytes in [&damaged, &zeroed] {
+            let (shown, told, status) = printed(bytes, &[]);
+            assert!(
+                shown.is_empty() && told.starts_with("report: the journal is damaged at byte ") && status == Some(1),
+                "seed {seed}: {told}"
+            );
+        }
+        let more = (says.appends.len() + 1).to_string();
+        let (shown, told, status) = printed(&journal.bytes, &["--from", &more]);
+        assert!(shown.is_empty() && told.lines().count() == 1 && status == Some(1), "seed {seed}: {told}");
+    }
+    std::fs::remove_file(&path).expect("it goes");
+    count
+}
+
 pub fn main(words: &[String]) {
     let [_, program, messages, sessions] = words else { panic!("usage: report PROGRAM MESSAGES SESSIONS") };
     let messages: usize = messages.parse().expect("a number");
@@ -49,6 +118,7 @@ pub fn main(words: &[String]) {
     inputs.extend((0..short.len()).map(|end| ("cut", short[..end].to_vec())));
     inputs.extend((long.len() - 50..long.len()).map(|end| ("cut near its end", long[..end].to_vec())));
     inputs.extend((0..2).map(|seed| ("long", traffic::input(seed, messages))));
+    println!("report: {} reports of journals, behind each of their appends", journals(program));
     let mut came = BTreeSet::new();
     let wrong = inputs.iter().zip(1..).filter(|((name, input), seed)| !same(program, name, input, *seed, &mut came)).count();
     let wanted: BTreeSet<Total> = totals().filter(|total| !matches!(total, Total::Answer(16 | 17))).collect();

@@ -216,6 +216,8 @@ pub fn traced(program: &str, words: &[&str], folder: &str, input: &[&[u8]]) -> R
             break;
         }
     }
+    // it has ended, and was waited for above
+    drop(child.wait());
     let mut run = tracer.run;
     child.stdout.take().expect("a pipe").read_to_end(&mut run.output).expect("what it wrote");
     run.told = fs::read_to_string(&told).unwrap_or_default();

@@ -1,19 +1,26 @@
 -- `service::answer_all` meets its contract: each turn keeps `Midway`, and what is left of the input shrinks. Assumes nothing.
 use mathlib.Core.Path.{_≡_, refl, sym, ap, _∙_}
-use Prim.Native.Nat.{_-_}
+use mathlib.Core.List.{List}
+use Prim.Native.Nat.{ℕ, _-_}
 use native.Mathlib.Omega.{arith}
-use borrow.Author.Needs.{needs}
 use denote.Ref.{now}
-use lib.ListN.{length, drop, length-drop}
+use lib.ListN.{length, take, drop, length-drop}
+use lib.Seq.{length-take-le}
+use Rattle.answers.specs.declared.Answer.the-variants.{BadLength}
 use Rattle.garage.specs.Station.{fit}
-use Rattle.wire.specs.Reads.{frameOf}
+use Rattle.garage.specs.Turns.{turnOf, afterTurn}
+use Rattle.wire.specs.Kinds.{setOf}
+use Rattle.wire.specs.Reads.{frameOf, kindAt}
 use Rattle.wire.proofs.Frames.{Framed, whole-frame}
 use Rattle.wire.proofs.Parts.{from-on}
-use Rattle.service.specs.Service.{respond}
-use Rattle.service.proofs.Replies.{answer-bytes-length}
-use Rattle.service.proofs.Called.{respond-fit, known-reply}
-use Rattle.service.proofs.Ranges.{replies-in-range}
+use Rattle.service.specs.declared.Reply.{Reply}
+use Rattle.service.specs.Service.{answerMessage}
+use Rattle.service.specs.Private.{heard, told}
+use Rattle.service.proofs.Replies.{answer-bytes-length, eight-bytes}
+use Rattle.service.proofs.Called.{respond-fit}
+use Rattle.service.proofs.Hearing.{reply-new, reply-same}
 use Rattle.service.proofs.Turns.{Midway, started, room-left, room-last, cut-short, wrong-length, answered}
+use borrow.Author.Needs.{needs}
 use Rattle.service.proofs.answer_all.Statement.{statement}
 use Rattle.service.proofs.answer_all.Tie as tie
 
@@ -30,16 +37,25 @@ seen c =
     sym (ap frameOf (from-on (now (c .before .before .before .before .before .before .args .input)) (c .before .before .loop .at)))
     ∙ sym (c .framed .ensures)
 
--- and so is the reply
-heard : (c : tie.After-respond-known Inv-loop μ-loop)
-    → c .respond-known .result ≡ respond (c .before .before .before .before .before .before .loop .s)
-    (drop (c .before .before .before .before .before .before .loop .at) (now (c .before .before .before .before .before .before .before .before .before .before .args .input)))
-heard c = c .respond-known .ensures ∙ known-reply _ _ (c .before .before .before .before .before .before .loop .inv .1) ∙ ap (respond (c .before .before .before .before .before .before .loop .s)) (from-on _ (c .before .before .before .before .before .before .loop .at))
-
 -- and a whole message lies within it
 whole : (c : tie.After-frame Inv-loop μ-loop)
     → Framed (drop (c .before .before .before .before .loop .at) (now (c .before .before .before .before .before .before .before .before .args .input))) (c .frame .given .0 .0)
 whole c = whole-frame _ _ (seen (c .before .before) ∙ c .frame .given .1)
+
+-- the turn is that of the whole message, and so is the kind
+turned : (c : tie.After-kind-at Inv-loop μ-loop)
+    → c .before .heard .result ≡ turnOf (heard (c .before .before .before .before .before .before .before .before .before .fit .result) (c .before .before .before .before .before .before .before .before .loop .s)
+    (take (c .before .before .before .before .frame .given .0 .0) (drop (c .before .before .before .before .before .before .before .before .loop .at) (now (c .before .before .before .before .before .before .before .before .before .before .before .before .args .input)))))
+turned c =
+    c .before .heard .ensures
+    ∙ ap (λ (x : List ℕ). turnOf (heard (c .before .before .before .before .before .before .before .before .before .fit .result) (c .before .before .before .before .before .before .before .before .loop .s) (take (c .before .before .before .before .frame .given .0 .0) x)))
+    (from-on (now (c .before .before .before .before .before .before .before .before .before .before .before .before .args .input)) (c .before .before .before .before .before .before .before .before .loop .at))
+
+kinded : (c : tie.After-kind-at Inv-loop μ-loop)
+    → c .kind-at .result ≡ kindAt (take (c .before .before .before .before .frame .given .0 .0) (drop (c .before .before .before .before .before .before .before .before .loop .at) (now (c .before .before .before .before .before .before .before .before .before .before .before .before .args .input))))
+kinded c =
+    c .kind-at .ensures
+    ∙ ap (λ (x : List ℕ). kindAt (take (c .before .before .before .before .frame .given .0 .0) x)) (from-on (now (c .before .before .before .before .before .before .before .before .before .before .before .before .args .input)) (c .before .before .before .before .before .before .before .before .loop .at))
 
 fit-requires : tie.Need-fit-requires Inv-loop μ-loop
 fit-requires c κs = search needs
@@ -71,66 +87,82 @@ returns c = cut-short (c .before .before .before .before .loop .inv .0) (c .befo
 enum-told-2 : tie.Need-enum-told-2 Inv-loop μ-loop
 enum-told-2 c = search needs
 
-answer-message-requires : tie.Need-answer-message-requires Inv-loop μ-loop
-answer-message-requires c κs = search needs
+sub-put : tie.Need-sub-put Inv-loop μ-loop
+sub-put c = search needs
 
-sub-say : tie.Need-sub-say Inv-loop μ-loop
-sub-say c = search needs
+part-put-start : tie.Need-part-put-start Inv-loop μ-loop
+part-put-start c = search needs
 
-part-say-start : tie.Need-part-say-start Inv-loop μ-loop
-part-say-start c = search needs
+part-put-end : tie.Need-part-put-end Inv-loop μ-loop
+part-put-end c = search needs
 
-part-say-end : tie.Need-part-say-end Inv-loop μ-loop
-part-say-end c = search needs
+put-requires : tie.Need-put-requires Inv-loop μ-loop
+put-requires c κs = room-last (c .before .before .before .before .before .loop .inv .0) (c .before .before .before .before .before .before .before .before .before .pre) _ (seen (c .before .before .before) ∙ c .before .enum-told2 .given .1) refl
 
-say-requires : tie.Need-say-requires Inv-loop μ-loop
-say-requires c κs = (rw (c .before .answer-message .ensures), room-last (c .before .before .before .before .before .before .loop .inv .0) (c .before .before .before .before .before .before .before .before .before .before .pre) (c .before .answer-message .result) (seen (c .before .before .before .before) ∙ c .before .before .enum-told2 .given .1) (c .before .answer-message .ensures))
-
-add-t21 : tie.Need-add-t21 Inv-loop μ-loop
-add-t21 c = omega (arith, c .before .before .say .ensures .0, answer-bytes-length (c .before .before .before .before .answer-message .result))
+add-t20 : tie.Need-add-t20 Inv-loop μ-loop
+add-t20 c = omega (arith, c .before .before .put .ensures .0, eight-bytes BadLength)
 
 same-length-2 : tie.Need-same-length-2 Inv-loop μ-loop
 same-length-2 c = search needs
 
 returns-2 : tie.Need-returns-2 Inv-loop μ-loop
-returns-2 c = wrong-length (c .before .before .before .before .before .before .before .before .before .loop .inv .0) (c .before .before .before .before .before .before .before .before .before .before .before .before .before .pre) (c .before .before .before .before .answer-message .result) (c .before .before .say .ensures .0) (c .before .before .say .ensures .1)
-    (seen (c .before .before .before .before .before .before .before) ∙ c .before .before .before .before .before .enum-told2 .given .1) (c .before .before .before .before .answer-message .ensures)
+returns-2 c = wrong-length (c .before .before .before .before .before .before .before .before .loop .inv .0) (c .before .before .before .before .before .before .before .before .before .before .before .before .pre) (answerMessage BadLength) (c .before .before .put .ensures .0) (c .before .before .put .ensures .1) (seen (c .before .before .before .before .before .before) ∙ c .before .before .before .before .enum-told2 .given .1) refl
 
 enum-known-frame : tie.Need-enum-known-frame Inv-loop μ-loop
 enum-known-frame c = search needs
 
-respond-known-requires : tie.Need-respond-known-requires Inv-loop μ-loop
-respond-known-requires c κs = search needs
+slice-aggregate-m : tie.Need-slice-aggregate-m Inv-loop μ-loop
+slice-aggregate-m c = sym (length-take-le _ _ (rw (from-on (now (c .before .before .before .before .before .before .before .before .before .before .args .input)) (c .before .before .before .before .before .before .loop .at)) (whole (c .before .before) .within)))
 
-sub-say-2 : tie.Need-sub-say-2 Inv-loop μ-loop
-sub-say-2 c = search needs
+heard-requires : tie.Need-heard-requires Inv-loop μ-loop
+heard-requires c κs = search needs
 
-part-say-start-2 : tie.Need-part-say-start-2 Inv-loop μ-loop
-part-say-start-2 c = search needs
+kind-at-requires : tie.Need-kind-at-requires Inv-loop μ-loop
+kind-at-requires c κs = search needs
 
-part-say-end-2 : tie.Need-part-say-end-2 Inv-loop μ-loop
-part-say-end-2 c = search needs
+sub-tell : tie.Need-sub-tell Inv-loop μ-loop
+sub-tell c = search needs
 
-say-requires-2 : tie.Need-say-requires-2 Inv-loop μ-loop
-say-requires-2 c κs = (rw (heard (c .before)) (replies-in-range _ _), room-left (c .before .before .before .before .before .before .before .loop .inv .0) (c .before .before .before .before .before .before .before .before .before .before .before .pre) (c .before .respond-known .result .answer) (c .before .before .before .frame .given .0 .0) (seen (c .before .before .before .before .before) ∙ c .before .before .before .frame .given .1))
+part-tell-start : tie.Need-part-tell-start Inv-loop μ-loop
+part-tell-start c = search needs
+
+part-tell-end : tie.Need-part-tell-end Inv-loop μ-loop
+part-tell-end c = search needs
+
+tell-requires : tie.Need-tell-requires Inv-loop μ-loop
+tell-requires c κs = room-left (c .before .before .before .before .before .before .before .before .before .loop .inv .0) (c .before .before .before .before .before .before .before .before .before .before .before .before .before .pre) _ (c .before .before .before .before .before .frame .given .0 .0) (seen (c .before .before .before .before .before .before .before) ∙ c .before .before .before .before .before .frame .given .1)
 
 add-made : tie.Need-add-made Inv-loop μ-loop
-add-made c = omega (arith, c .before .before .say2 .ensures .0, answer-bytes-length (c .before .before .before .before .respond-known .result .answer))
+add-made c = omega (arith, c .before .before .tell .ensures .0, answer-bytes-length (told (c .before .before .before .before .kind-at .result) (c .before .before .before .before .before .heard .result)))
 
 add-at : tie.Need-add-at Inv-loop μ-loop
-add-at c = omega (arith, whole (c .before .before .before .before .before .before .before) .within, length-drop (c .before .before .before .before .before .before .before .before .before .before .before .loop .at) (now (c .before .before .before .before .before .before .before .before .before .before .before .before .before .before .before .args .input)))
+add-at c = omega (arith, whole (c .before .before .before .before .before .before .before .before) .within, length-drop (c .before .before .before .before .before .before .before .before .before .before .before .before .loop .at) (now (c .before .before .before .before .before .before .before .before .before .before .before .before .before .before .before .before .args .input)))
+
+left-requires : tie.Need-left-requires Inv-loop μ-loop
+left-requires c κs = search needs
 
 loop-less : tie.Need-loop-less Inv-loop μ-loop
-loop-less c = omega (arith, whole (c .before .before .before .before .before .before .before) .within, whole (c .before .before .before .before .before .before .before) .low, length-drop (c .before .before .before .before .before .before .before .before .before .before .before .loop .at) (now (c .before .before .before .before .before .before .before .before .before .before .before .before .before .before .before .args .input)))
+loop-less c = omega (arith, whole (c .before .before .before .before .before .before .before .before .before .before .before .before) .within, whole (c .before .before .before .before .before .before .before .before .before .before .before .before) .low, length-drop (c .before .before .before .before .before .before .before .before .before .before .before .before .before .before .before .before .loop .at) (now (c .before .before .before .before .before .before .before .before .before .before .before .before .before .before .before .before .before .before .before .before .args .input)))
 
 loop-again : tie.Need-loop-again Inv-loop μ-loop
-loop-again c = (
-  answered (c .before .before .before .before .before .before .before .before .before .before .before .loop .inv .0) (c .before .before .before .before .before .before .before .before .before .before .before .before .before .before .before .pre) (c .before .before .before .before .before .respond-known .result .answer) (c .before .before .before .say2 .ensures .0) (c .before .before .before .say2 .ensures .1)
-      (c .before .before .before .before .before .before .before .frame .given .0 .0) (c .before .before .before .before .before .respond-known .result) (seen (c .before .before .before .before .before .before .before .before .before) ∙ c .before .before .before .before .before .before .before .frame .given .1)
-      (heard (c .before .before .before .before .before)) refl,
-  c .before .before .before .before .before .before .before .before .before .before .before .loop .inv .1
-      ∙ sym (ap (λ r. fit (r .station)) (heard (c .before .before .before .before .before)) ∙ respond-fit _ _),
-)
+loop-again c = 
+    let r = reply-new (c .before .before .before .before .before .before .before .before .before .before .before .before .before .before .before .before .loop .s) (drop (c .before .before .before .before .before .before .before .before .before .before .before .before .before .before .before .before .loop .at) (now (c .before .before .before .before .before .before .before .before .before .before .before .before .before .before .before .before .before .before .before .before .args .input))) (c .before .before .before .before .before .before .before .before .before .before .before .before .before .before .before .before .loop .inv .1) (c .before .before .before .before .before .before .before .before .before .before .before .before .frame .given .0 .0) (seen (c .before .before .before .before .before .before .before .before .before .before .before .before .before .before) ∙ c .before .before .before .before .before .before .before .before .before .before .before .before .frame .given .1) (turned (c .before .before .before .before .before .before .before .before)) (kinded (c .before .before .before .before .before .before .before .before)) 
+    (c .left .ensures ∙ ap (λ (x : List ℕ). afterTurn (c .before .before .before .before .before .before .before .before .before .before .before .before .before .before .before .before .loop .s) (c .before .before .before .before .before .before .before .before .before .heard .result) (setOf (drop 5 (take (c .before .before .before .before .before .before .before .before .before .before .before .before .frame .given .0 .0) x))) .station) (from-on (now (c .before .before .before .before .before .before .before .before .before .before .before .before .before .before .before .before .before .before .before .before .args .input)) (c .before .before .before .before .before .before .before .before .before .before .before .before .before .before .before .before .loop .at))) in
+    (
+      answered (c .before .before .before .before .before .before .before .before .before .before .before .before .before .before .before .before .loop .inv .0) (c .before .before .before .before .before .before .before .before .before .before .before .before .before .before .before .before .before .before .before .before .pre) (told (c .before .before .before .before .before .before .before .before .kind-at .result) (c .before .before .before .before .before .before .before .before .before .heard .result)) (c .before .before .before .before .before .before .tell .ensures .0) (c .before .before .before .before .before .before .tell .ensures .1) (c .before .before .before .before .before .before .before .before .before .before .before .before .frame .given .0 .0) _ (seen (c .before .before .before .before .before .before .before .before .before .before .before .before .before .before) ∙ c .before .before .before .before .before .before .before .before .before .before .before .before .frame .given .1) r refl,
+      c .before .before .before .before .before .before .before .before .before .before .before .before .before .before .before .before .loop .inv .1 ∙ sym (ap (λ (r : Reply). fit (r .station)) r ∙ respond-fit _ _),
+    )
+
+loop-less-2 : tie.Need-loop-less-2 Inv-loop μ-loop
+loop-less-2 c = omega (arith, whole (c .before .before .before .before .before .before .before .before .before .before .before) .within, whole (c .before .before .before .before .before .before .before .before .before .before .before) .low, length-drop (c .before .before .before .before .before .before .before .before .before .before .before .before .before .before .before .loop .at) (now (c .before .before .before .before .before .before .before .before .before .before .before .before .before .before .before .before .before .before .before .args .input)))
+
+loop-again-2 : tie.Need-loop-again-2 Inv-loop μ-loop
+loop-again-2 c = 
+    let r = reply-same (c .before .before .before .before .before .before .before .before .before .before .before .before .before .before .before .loop .s) (drop (c .before .before .before .before .before .before .before .before .before .before .before .before .before .before .before .loop .at) (now (c .before .before .before .before .before .before .before .before .before .before .before .before .before .before .before .before .before .before .before .args .input))) (c .before .before .before .before .before .before .before .before .before .before .before .before .before .before .before .loop .inv .1) (c .before .before .before .before .before .before .before .before .before .before .before .frame .given .0 .0) (seen (c .before .before .before .before .before .before .before .before .before .before .before .before .before) ∙ c .before .before .before .before .before .before .before .before .before .before .before .frame .given .1) (turned (c .before .before .before .before .before .before .before)) (kinded (c .before .before .before .before .before .before .before)) (c .if1 .left) in
+    (
+      answered (c .before .before .before .before .before .before .before .before .before .before .before .before .before .before .before .loop .inv .0) (c .before .before .before .before .before .before .before .before .before .before .before .before .before .before .before .before .before .before .before .pre) (told (c .before .before .before .before .before .before .before .kind-at .result) (c .before .before .before .before .before .before .before .before .heard .result)) (c .before .before .before .before .before .tell .ensures .0) (c .before .before .before .before .before .tell .ensures .1) (c .before .before .before .before .before .before .before .before .before .before .before .frame .given .0 .0) _ (seen (c .before .before .before .before .before .before .before .before .before .before .before .before .before) ∙ c .before .before .before .before .before .before .before .before .before .before .before .frame .given .1) r refl,
+      c .before .before .before .before .before .before .before .before .before .before .before .before .before .before .before .loop .inv .1 ∙ sym (ap (λ (r : Reply). fit (r .station)) r ∙ respond-fit _ _),
+    )
 
 pub answer-all-spec : {M : Type 1} → statement M
 answer-all-spec =
@@ -148,21 +180,25 @@ answer-all-spec =
     same-length
     returns
     enum-told-2
-    answer-message-requires
-    sub-say
-    part-say-start
-    part-say-end
-    say-requires
-    add-t21
+    sub-put
+    part-put-start
+    part-put-end
+    put-requires
+    add-t20
     same-length-2
     returns-2
     enum-known-frame
-    respond-known-requires
-    sub-say-2
-    part-say-start-2
-    part-say-end-2
-    say-requires-2
+    slice-aggregate-m
+    heard-requires
+    kind-at-requires
+    sub-tell
+    part-tell-start
+    part-tell-end
+    tell-requires
     add-made
     add-at
+    left-requires
     loop-less
-    loop-again)
+    loop-again
+    loop-less-2
+    loop-again-2)

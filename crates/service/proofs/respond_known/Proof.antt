@@ -1,43 +1,58 @@
--- `service::respond_known` meets its contract: refused in reading, or the call's reply. Assumes nothing.
-use mathlib.Core.Path.{sym, subst, _∙_}
-use borrow.Author.Tests.{eq-eqb, ne-eqb}
+-- `service::respond_known` meets its contract: cut short, of a wrong length, or the reply to a whole message. Assumes nothing.
+use mathlib.Core.Path.{sym, _∙_}
+use denote.Ref.{now}
+use lib.Seq.{length-take-le}
+use Rattle.wire.proofs.Frames.{whole-frame}
+use Rattle.service.proofs.Hearing.{respond-cut, respond-wrong, respond-whole}
 use borrow.Author.Needs.{needs}
-use Rattle.service.specs.Service.{respondKnown}
-use Rattle.service.proofs.Readings.{Received-fine, read-fine}
 use Rattle.service.proofs.respond_known.Statement.{statement}
 use Rattle.service.proofs.respond_known.Tie as tie
 
-read-asked-requires : tie.Need-read-asked-requires
-read-asked-requires c κs = search needs
+framed-requires : tie.Need-framed-requires
+framed-requires c κs = search needs
 
-number-requires : tie.Need-number-requires
-number-requires c κs = search needs
+enum-told : tie.Need-enum-told
+enum-told c = search needs
 
-answer-message-requires : tie.Need-answer-message-requires
-answer-message-requires c κs = search needs
+unread-requires : tie.Need-unread-requires
+unread-requires c κs = search needs
+
+enum-told-2 : tie.Need-enum-told-2
+enum-told-2 c = search needs
+
+unread-requires-2 : tie.Need-unread-requires-2
+unread-requires-2 c κs = search needs
+
+enum-known-frame : tie.Need-enum-known-frame
+enum-known-frame c = search needs
+
+slice-aggregate-answered : tie.Need-slice-aggregate-answered
+slice-aggregate-answered c = sym (length-take-le (c .before .before .frame .given .0 .0) (now (c .before .before .before .before .before .before .args .m)) (whole-frame (now (c .before .before .before .before .before .before .args .m)) (c .before .before .frame .given .0 .0) (sym (c .before .before .before .before .framed .ensures) ∙ c .before .before .frame .given .1) .within))
+
+answered-requires : tie.Need-answered-requires
+answered-requires c κs = search needs
 
 returns : tie.Need-returns
-unfolding respondKnown
-returns c = rw (c .answer-message .ensures, ← c .before .before .before .read-asked .ensures, ne-eqb _ _ (rw (c .before .before .number .ensures) at (c .before .if1 .taken)))
-
-call-requires : tie.Need-call-requires
-call-requires c κs = subst Received-fine (sym (c .before .before .before .before .read-asked .ensures)) (read-fine _) .padded
-
-in-reply-requires : tie.Need-in-reply-requires
-in-reply-requires c κs = search needs
+returns c = let a = c .before .before .before .before .before .args in c .unread .ensures ∙ (respond-cut (a .known) (a .s) (now (a .m)) (sym (c .before .before .before .framed .ensures) ∙ c .before .enum-told .given .1))
 
 returns-2 : tie.Need-returns-2
-unfolding respondKnown
-returns-2 c = c .in-reply .ensures ∙ rw (c .before .call .ensures, ← c .before .before .before .before .before .before .read-asked .ensures, eq-eqb _ _ (rw (c .before .before .before .before .before .number .ensures) at (c .before .before .before .before .if1 .left)))
+returns-2 c = let a = c .before .before .before .before .before .args in c .unread2 .ensures ∙ (respond-wrong (a .known) (a .s) (now (a .m)) (sym (c .before .before .before .framed .ensures) ∙ c .before .enum-told2 .given .1))
+
+returns-3 : tie.Need-returns-3
+returns-3 c = let a = c .before .before .before .before .before .before .before .args in c .answered .ensures ∙ sym (respond-whole (a .known) (a .s) (now (a .m)) _ (sym (c .before .before .before .before .before .framed .ensures) ∙ c .before .before .before .frame .given .1))
 
 pub respond-known-spec : {M : Type 1} → statement M
 respond-known-spec =
     tie.close
     (tie.spec
-    read-asked-requires
-    number-requires
-    answer-message-requires
+    framed-requires
+    enum-told
+    unread-requires
+    enum-told-2
+    unread-requires-2
+    enum-known-frame
+    slice-aggregate-answered
+    answered-requires
     returns
-    call-requires
-    in-reply-requires
-    returns-2)
+    returns-2
+    returns-3)

@@ -73,7 +73,9 @@ impl Place<'_> {
     fn run(&self, program: &str, words: &[&str], bytes: &[u8]) -> Output {
         let mut child = started(program, words, Trouble::Nothing);
         drop(child.stdin.take().expect("a pipe").write_all(bytes));
-        child.wait_with_output().expect("it ends")
+        let output = child.wait_with_output().expect("it ends");
+        assert!(output.status.code().is_some(), "{words:?}: it was ended by a signal: {}", output.status);
+        output
     }
 
     /// As the command does it: where the old journal is torn, a station is started on it first, and given nothing.

@@ -14,14 +14,16 @@ code-at-requires : tie.Need-code-at-requires
 code-at-requires c κs = search needs
 
 done-requires : tie.Need-done-requires
-done-requires c κs = ap (λ (x : Code). heldAllowed x (bit (c .before .before .before .before .before .args .self .bits))) (c .before .before .code-at .ensures) ∙ c .before .before .before .before .before .pre .2 (c .if2 .taken)
+done-requires c κs = search needs
 
 answering-requires : tie.Need-answering-requires
 answering-requires c κs = search needs
 
 returns : tie.Need-returns
 unfolding ended
-returns c = c .answering .ensures ∙ rw (c .before .done .ensures, c .before .before .before .before .code-at .ensures, c .before .before .before .if1 .taken)
+returns c = λ h. c .answering .ensures ∙ rw (
+      c .before .done .ensures (ap (λ (x : Code). heldAllowed x (bit (c .before .before .before .before .before .before .before .args .self .bits))) (c .before .before .before .before .code-at .ensures) ∙ h (c .before .before .if2 .taken)),
+      c .before .before .before .before .code-at .ensures, c .before .before .before .if1 .taken)
 
 after-requires : tie.Need-after-requires
 after-requires c κs = search needs
@@ -31,7 +33,7 @@ answering-requires-2 c κs = search needs
 
 returns-2 : tie.Need-returns-2
 unfolding ended
-returns-2 c = c .answering2 .ensures ∙ rw (c .before .after .ensures, c .before .before .before .before .code-at .ensures, c .before .before .before .if1 .taken)
+returns-2 c = λ h. c .answering2 .ensures ∙ rw (c .before .after .ensures, c .before .before .before .before .code-at .ensures, c .before .before .before .if1 .taken)
 
 parts-requires : tie.Need-parts-requires
 parts-requires c κs = search needs
@@ -41,14 +43,14 @@ answering-requires-3 c κs = search needs
 
 returns-3 : tie.Need-returns-3
 unfolding ended
-returns-3 c = c .answering3 .ensures ∙ rw (c .before .before .parts .ensures, c .before .before .before .before .before .code-at .ensures, c .before .before .before .if3 .taken)
+returns-3 c = λ h. c .answering3 .ensures ∙ rw (c .before .before .parts .ensures, c .before .before .before .before .before .code-at .ensures, c .before .before .before .if3 .taken)
 
 answering-requires-4 : tie.Need-answering-requires-4
 answering-requires-4 c κs = search needs
 
 returns-4 : tie.Need-returns-4
 unfolding ended
-returns-4 c = c .answering4 .ensures ∙ rw (ne-eqb _ _ (c .before .before .if1 .left), ne-eqb _ _ (c .before .if3 .left))
+returns-4 c = λ h. c .answering4 .ensures ∙ rw (ne-eqb _ _ (c .before .before .if1 .left), ne-eqb _ _ (c .before .if3 .left))
 
 pub ended-spec : {M : Type 1} → statement M
 ended-spec =

@@ -20,7 +20,7 @@ unmoved-requires c κs = search needs
 
 returns : tie.Need-returns
 unfolding numbered
-returns c = c .unmoved .ensures ∙ rw (failed (c .before .before .in-set .ensures) (c .before .if1 .taken))
+returns c = λ p. c .unmoved .ensures ∙ rw (failed (c .before .before .in-set .ensures) (c .before .if1 .taken))
 
 shr-if2 : tie.Need-shr-if2
 shr-if2 c = let a = c .before .before .before .args in let h = in-set (a .self) (a .i) (passed (c .before .before .in-set .ensures) (c .before .if1 .left)) in omega (arith, h .0, h .1)
@@ -30,22 +30,21 @@ unmoved-requires-2 c κs = search needs
 
 returns-2 : tie.Need-returns-2
 unfolding numbered
-returns-2 c =
+returns-2 c = λ p.
     let a = c .before .before .before .before .before .args in
     let answered : marked (a .self) (a .i) ≡ true = eq-eqb _ _ (c .before .if2 .taken) in
     c .unmoved2 .ensures ∙ rw (passed (c .before .before .before .before .in-set .ensures) (c .before .before .before .if1 .left), answered)
 
 ended-requires : tie.Need-ended-requires
-ended-requires c κs = let a = c .before .before .before .before .args in let h = in-set (a .self) (a .i) (passed (c .before .before .before .in-set .ensures) (c .before .before .if1 .left)) in
-    let waits : marked (a .self) (a .i) ≡ false = ne-eqb _ _ (c .if2 .left) in
-    (h .0, h .1, λ e. waiting-allowed (a .self) (a .i) (c .before .before .before .before .pre e) (h .1) waits)
+ended-requires c κs = let a = c .before .before .before .before .args in in-set (a .self) (a .i) (passed (c .before .before .before .in-set .ensures) (c .before .before .if1 .left))
 
 returns-3 : tie.Need-returns-3
 unfolding numbered
-returns-3 c =
+returns-3 c = λ p.
     let a = c .before .before .before .before .before .args in
+    let h = in-set (a .self) (a .i) (passed (c .before .before .before .before .in-set .ensures) (c .before .before .before .if1 .left)) in
     let waits : marked (a .self) (a .i) ≡ false = ne-eqb _ _ (c .before .if2 .left) in
-    c .ended .ensures ∙ rw (passed (c .before .before .before .before .in-set .ensures) (c .before .before .before .if1 .left), waits)
+    c .ended .ensures (λ e. waiting-allowed (a .self) (a .i) (p e) (h .1) waits) ∙ rw (passed (c .before .before .before .before .in-set .ensures) (c .before .before .before .if1 .left), waits)
 
 pub numbered-spec : {M : Type 1} → statement M
 numbered-spec =

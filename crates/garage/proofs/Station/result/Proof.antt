@@ -18,14 +18,14 @@ unfolding result
 returns c = c .refused .ensures ∙ rw (failed (c .before .before .fit .ensures) (c .before .if1 .taken))
 
 settled-requires : tie.Need-settled-requires
-settled-requires c κs = λ e. passed (c .before .fit .ensures) (c .if1 .left)
+settled-requires c κs = search needs
 
 after-requires : tie.Need-after-requires
 after-requires c κs = search needs
 
 returns-2 : tie.Need-returns-2
 unfolding result
-returns-2 c = c .after .ensures ∙ rw (passed (c .before .before .before .before .fit .ensures) (c .before .before .before .if1 .left)) (rebuilt _ _ (c .before .before .settled .ensures) (kept-resulted _ _ _))
+returns-2 c = c .after .ensures ∙ rw (passed (c .before .before .before .before .fit .ensures) (c .before .before .before .if1 .left)) (rebuilt _ _ (c .before .before .settled .ensures (λ e. passed (c .before .before .before .before .fit .ensures) (c .before .before .before .if1 .left))) (kept-resulted _ _ _))
 
 pub result-spec : {M : Type 1} → statement M
 result-spec = tie.close (tie.spec fit-requires refused-requires returns settled-requires after-requires returns-2)

@@ -19,13 +19,13 @@ unmoved-requires-2 : tie.Need-unmoved-requires-2
 unmoved-requires-2 c κs = search needs
 
 returns : tie.Need-returns
-returns c = c .numbered .ensures ∙ ap turnOf (is-present _ _ (search needs) (sym (c .before .before .behind .ensures) ∙ c .before .match .keys1))
+returns c = λ p. c .numbered .ensures p ∙ ap turnOf (is-present _ _ (search needs) (sym (c .before .before .behind .ensures) ∙ c .before .match .keys1))
 
 returns-2 : tie.Need-returns-2
-returns-2 c = c .unmoved .ensures ∙ ap turnOf (let e = c .before .before .before .behind .ensures in is-late _ _ (search needs) (omega arith) (omega arith))
+returns-2 c = λ p. c .unmoved .ensures ∙ ap turnOf (let e = c .before .before .before .behind .ensures in is-late _ _ (search needs) (omega arith) (omega arith))
 
 returns-3 : tie.Need-returns-3
-returns-3 c = c .unmoved2 .ensures ∙ ap turnOf (let e = c .before .before .before .behind .ensures in not-issued _ _ (search needs) (omega arith))
+returns-3 c = λ p. c .unmoved2 .ensures ∙ ap turnOf (let e = c .before .before .before .behind .ensures in not-issued _ _ (search needs) (omega arith))
 
 pub timely-spec : {M : Type 1} → statement M
 timely-spec =

@@ -9,7 +9,7 @@ code-next-requires : tie.Need-code-next-requires
 code-next-requires c κs = search needs
 
 returns : tie.Need-returns
-returns c = c .code-next .ensures ∙ held-done (c .before .args .x) (c .before .args .r) (c .before .pre)
+returns c = λ h. c .code-next .ensures ∙ held-done (c .before .args .x) (c .before .args .r) h
 
 pub done-spec : {M : Type 1} → statement M
 done-spec = tie.close (tie.spec code-next-requires returns)

@@ -1,6 +1,6 @@
 -- `garage::sets::search` meets its contract: four searches in one, with the areas passed gathered in one mask. Assumes nothing.
-use Rattle.garage.proofs.Loops.{Searched, search-starts, searches, search-ends}
 use Prim.Native.Nat.{_-_}
+use Rattle.garage.proofs.Loops.{Searched, search-starts, searches, passes, search-ends}
 use borrow.Author.Needs.{needs}
 use Rattle.garage.proofs.sets.search.Statement.{statement}
 use Rattle.garage.proofs.sets.search.Tie as tie
@@ -20,6 +20,15 @@ code-at-requires c κs = search needs
 judge-requires : tie.Need-judge-requires Inv-loop μ-loop
 judge-requires c κs = search needs
 
+add-i : tie.Need-add-i Inv-loop μ-loop
+add-i c = search needs
+
+loop-less : tie.Need-loop-less Inv-loop μ-loop
+loop-less c = search needs
+
+loop-again : tie.Need-loop-again Inv-loop μ-loop
+loop-again c = let j = c .before .before .before .before .before .before .judge .ensures in passes (c .before .before .before .before .before .before .before .before .before .before .loop .inv) (c .before .before .before .before .before .before .before .before .before .loop-test .taken) (c .before .before .before .before .before .before .before .code-at .ensures) (j .0) (j .1) (j .2) (c .before .if1 .taken)
+
 first-requires : tie.Need-first-requires Inv-loop μ-loop
 first-requires c κs = search needs
 
@@ -32,15 +41,14 @@ first-requires-3 c κs = search needs
 first-requires-4 : tie.Need-first-requires-4 Inv-loop μ-loop
 first-requires-4 c κs = search needs
 
-add-i : tie.Need-add-i Inv-loop μ-loop
-add-i c = search needs
+add-i-2 : tie.Need-add-i-2 Inv-loop μ-loop
+add-i-2 c = search needs
 
-loop-less : tie.Need-loop-less Inv-loop μ-loop
-loop-less c = search needs
+loop-less-2 : tie.Need-loop-less-2 Inv-loop μ-loop
+loop-less-2 c = search needs
 
-loop-again : tie.Need-loop-again Inv-loop μ-loop
-loop-again c = let j = c .before .before .before .before .before .before .before .before .before .judge .ensures in
-    searches (c .before .before .before .before .before .before .before .before .before .before .before .before .before .loop .inv) (c .before .before .before .before .before .before .before .before .before .before .before .before .loop-test .taken) (c .before .before .before .before .before .before .before .before .before .before .code-at .ensures) (j .0) (j .1) (j .2) (c .before .before .before .before .before .before .before .first .ensures) (c .before .before .before .before .before .first2 .ensures) (c .before .before .before .first3 .ensures) (c .before .first4 .ensures)
+loop-again-2 : tie.Need-loop-again-2 Inv-loop μ-loop
+loop-again-2 c = let j = c .before .before .before .before .before .before .before .before .before .before .before .judge .ensures in searches (c .before .before .before .before .before .before .before .before .before .before .before .before .before .before .before .loop .inv) (c .before .before .before .before .before .before .before .before .before .before .before .before .before .before .loop-test .taken) (c .before .before .before .before .before .before .before .before .before .before .before .before .code-at .ensures) (j .0) (j .1) (j .2) (c .before .before .before .before .first .ensures) (c .before .before .before .first2 .ensures) (c .before .before .first3 .ensures) (c .before .first4 .ensures)
 
 returns : tie.Need-returns Inv-loop μ-loop
 returns c = search-ends (c .before .loop .inv) (c .loop-test .left)
@@ -54,11 +62,14 @@ search-spec =
     loop-holds
     code-at-requires
     judge-requires
+    add-i
+    loop-less
+    loop-again
     first-requires
     first-requires-2
     first-requires-3
     first-requires-4
-    add-i
-    loop-less
-    loop-again
+    add-i-2
+    loop-less-2
+    loop-again-2
     returns)

@@ -1,8 +1,6 @@
-use Rattle.wire.proofs.Reading.{event-said, result-said, image-said}
 use Rattle.wire.specs.Reads.{readWhole}
-use borrow.Author.Tests.{ne-eqb}
-use mathlib.Core.Path.{_∙_, sym}
-use denote.Ref.{now}
+use borrow.Author.Tests.{eq-eqb, ne-eqb}
+use mathlib.Core.Path.{_∙_}
 use borrow.Author.Needs.{needs}
 use Rattle.wire.proofs.kinds.whole_asked.Statement.{statement}
 use Rattle.wire.proofs.kinds.whole_asked.Tie as tie
@@ -13,100 +11,16 @@ word-at-requires c κs = search needs
 read-request-requires : tie.Need-read-request-requires
 read-request-requires c κs = search needs
 
-byte-requires : tie.Need-byte-requires
-byte-requires c κs = search needs
-
-sized-requires : tie.Need-sized-requires
-sized-requires c κs = search needs
-
-word-at-requires-2 : tie.Need-word-at-requires-2
-word-at-requires-2 c κs = search needs
-
-byte-requires-2 : tie.Need-byte-requires-2
-byte-requires-2 c κs = search needs
-
-byte-requires-3 : tie.Need-byte-requires-3
-byte-requires-3 c κs = search needs
-
-sized-requires-2 : tie.Need-sized-requires-2
-sized-requires-2 c κs = search needs
-
-image-at-requires : tie.Need-image-at-requires
-image-at-requires c κs = search needs
-
-image-at-requires-2 : tie.Need-image-at-requires-2
-image-at-requires-2 c κs = search needs
-
-sized-requires-3 : tie.Need-sized-requires-3
-sized-requires-3 c κs = search needs
-
-sized-requires-4 : tie.Need-sized-requires-4
-sized-requires-4 c κs = search needs
-
-refused-requires : tie.Need-refused-requires
-refused-requires c κs = search needs
+among-requires : tie.Need-among-requires
+among-requires c κs = search needs
 
 returns : tie.Need-returns
 unfolding readWhole
-returns c = rw (sym (c .before .before .word-at .ensures) ∙ c .before .match .keys1) (c .read-request .ensures)
+returns c = c .read-request .ensures ∙ rw (← c .before .before .word-at .ensures, eq-eqb _ _ (c .before .if1 .taken))
 
 returns-2 : tie.Need-returns-2
 unfolding readWhole
-returns-2 c =
-    let m = now (c .before .before .before .before .before .args .m) in
-    rw (sym (c .before .before .before .word-at .ensures) ∙ c .before .before .match .keys2) (c .sized .ensures ∙ event-said m (c .before .byte .ensures))
-
-returns-3 : tie.Need-returns-3
-unfolding readWhole
-returns-3 c =
-    let m = now (c .before .before .before .before .before .before .before .args .m) in
-    rw (sym (c .before .before .before .before .before .word-at .ensures) ∙ c .before .before .before .before .match .keys3)
-    (c .sized2 .ensures ∙ result-said m (c .before .before .before .word-at2 .ensures) (c .before .before .byte2 .ensures) (c .before .byte3 .ensures))
-
-returns-4 : tie.Need-returns-4
-unfolding readWhole
-returns-4 c =
-    let m = now (c .before .before .before .before .before .before .args .m) in
-    rw (sym (c .before .before .before .before .word-at .ensures) ∙ c .before .before .before .match .keys4)
-    (c .sized3 .ensures ∙ image-said m (c .before .before .image-at .ensures) (c .before .image-at2 .ensures))
-
-returns-5 : tie.Need-returns-5
-unfolding readWhole
-returns-5 c = rw (sym (c .before .before .word-at .ensures) ∙ c .before .match .keys5) (c .sized4 .ensures)
-
-returns-6 : tie.Need-returns-6
-unfolding readWhole
-returns-6 c =
-    let others = c .before .match .rest in
-    c .refused .ensures ∙ rw (← c .before .before .word-at .ensures)
-    (simp (
-      ne-eqb _ _ (others .0 .0 .0 .0 .1),
-      ne-eqb _ _ (others .0 .0 .0 .1),
-      ne-eqb _ _ (others .0 .0 .1),
-      ne-eqb _ _ (others .0 .1),
-      ne-eqb _ _ (others .1),
-    ))
+returns-2 c = c .among .ensures ∙ rw (← c .before .before .word-at .ensures, ne-eqb _ _ (c .before .if1 .left))
 
 pub whole-asked-spec : {M : Type 1} → statement M
-whole-asked-spec =
-    tie.close
-    (tie.spec
-    word-at-requires
-    read-request-requires
-    byte-requires
-    sized-requires
-    word-at-requires-2
-    byte-requires-2
-    byte-requires-3
-    sized-requires-2
-    image-at-requires
-    image-at-requires-2
-    sized-requires-3
-    sized-requires-4
-    refused-requires
-    returns
-    returns-2
-    returns-3
-    returns-4
-    returns-5
-    returns-6)
+whole-asked-spec = tie.close (tie.spec word-at-requires read-request-requires returns among-requires returns-2)

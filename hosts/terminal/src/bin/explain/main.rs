@@ -9,12 +9,13 @@ mod text;
 
 use follow::{named_cars, Cards, Follower};
 use input::{cards, is_text, Bytes, Hex, Item, Placed};
-use journal::{is_journal, Journal};
+use journal::Journal;
 use station::words::Wrong;
 use station::{Parts, Record};
 use std::io::{self, Write};
 use std::process::ExitCode;
 use terminal::conditions::LIFT;
+use terminal::journal::is_journal;
 use terminal::message::{bytes_in, two_numbers};
 use terminal::sound::hints;
 use terminal::told::{failed, told_version};
@@ -114,7 +115,8 @@ fn recorded(from: bool, follower: Follower, explainer: impl Fn(Follower, bool) -
     if from {
         return Err("--from: a journal has its own beginning".to_string());
     }
-    let (mut journal, station) = Journal::opened(input)?;
+    let (appends, station) = terminal::journal::Journal::opened(input)?;
+    let mut journal = Journal::new(appends);
     explained(|| journal.next(), explainer(Follower::from_station(&station), false), out)
 }
 

@@ -104,8 +104,7 @@ impl Place<'_> {
     fn torn(&self) {
         let (messages, last) = (input(8, 40), input(9, 3));
         let whole = journal(&messages);
-        let next =
-            read(&whole).map(|read| Written { bytes: Vec::new(), sum: read.sum }.with(MESSAGES, &last).bytes).ok().expect("a journal");
+        let next = read(&whole).map(|read| Written { bytes: Vec::new(), sum: read.sum }.with(MESSAGES, &last).bytes).expect("a journal");
         let tails = (1..next.len()).map(|size| next[..size].to_vec()).chain([1, 7, 8, 12, 500, 65_549].map(|size| vec![0; size]));
         let mut before = Vec::new();
         for (time, tail) in tails.enumerate() {
@@ -155,7 +154,7 @@ impl Place<'_> {
             let (path, bytes) = (self.without("stops"), [&messages[..], end].concat());
             let answers = serve(&bytes);
             assert_eq!(run(self.program, &new(&path), &bytes, Trouble::Nothing).stdout, answers, "a session that ends in {end:?}");
-            let read = read(&fs::read(&path).expect("the journal")).ok().expect("a journal");
+            let read = read(&fs::read(&path).expect("the journal")).expect("a journal");
             assert!(read.recorded() == messages, "{end:?} is among the messages, or one of them is not");
             let last = read.appends.last().expect("an append");
             let kind = if answers[answers.len() - 4] == 1 { CUT_SHORT } else { BAD_LENGTH };
@@ -254,7 +253,7 @@ impl Place<'_> {
         assert_eq!(exchanged(&mut other, &ASK, 20), image, "the second goes on");
         assert!(other.wait_with_output().expect("it ends").stderr.is_empty());
         // both have appended behind the same end: the second's is wrong there
-        let read = read(&fs::read(&path).expect("the journal")).ok().expect("a journal");
+        let read = read(&fs::read(&path).expect("the journal")).expect("a journal");
         assert!(!read.appends.is_empty(), "what the first has answered is lost");
     }
 
@@ -296,7 +295,7 @@ impl Place<'_> {
                 drop(station.stdin.take().expect("a pipe").write_all(bytes));
             }
             let ended = both.map(|station| station.wait_with_output().expect("it ends"));
-            let messages = read(&fs::read(&path).expect("the journal")).ok().expect("a journal").recorded();
+            let messages = read(&fs::read(&path).expect("the journal")).expect("a journal").recorded();
             let answering: Vec<_> = ended.iter().zip(&inputs).filter(|(output, _)| !output.stdout.is_empty()).collect();
             assert!(answering.len() < 2, "both of two stations have answered");
             for (output, bytes) in &answering {

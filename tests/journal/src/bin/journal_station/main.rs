@@ -168,7 +168,7 @@ fn opened(fault: &Fault, path: &str, garage: Option<&str>) -> (Station, Journal)
     let (mut station, mut whole, mut sum) = (read.station, read.whole, read.sum);
     let before = (torn && fault.is("cuts_too_much") || fault.is("loses_the_last")) && last > 0;
     if before {
-        let again = shared::journal_form::read(&bytes[..whole - last]).ok().expect("the appends before");
+        let again = shared::journal_form::read(&bytes[..whole - last]).expect("the appends before");
         (station, whole, sum) = (again.station, again.whole, again.sum);
         fault.done(file.set_len(whole as u64), "the journal can't be cut");
     } else if torn && !fault.is("keeps_the_tail") && !fault.is("up_to_the_damage") {

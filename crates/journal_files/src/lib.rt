@@ -1,0 +1,166 @@
+// What the programs that change journals share: what they tell of one, and how bytes and names come to the disk. What C writes no contract can
+// say.
+ghost use mathlib.Core.Path.{_≡_};
+ghost use Rattle.io.specs.Counts.{Counts};
+ghost use Rattle.journal_files.specs.Places.{placeOf};
+use garage::Station;
+use journal_file::Kind;
+use journal_reader::Reading;
+
+// ---- what is told
+
+fn tell(text: &[u8]) {
+    io::write_all(libc::STDERR_FILENO, text);
+}
+
+// Tells something, and that it can't be gone on with.
+fn refused(text: &[u8]) -> bool {
+    tell(text);
+    false
+}
+
+// Tells a number and what follows it.
+fn tell_number(n: usize, text: &[u8]) {
+    io::print_decimal(libc::STDERR_FILENO, n as u64);
+    tell(text);
+}
+
+// Tells where a journal is damaged.
+pub fn tell_damage(q: Reading) {
+    tell(b"station: the journal is damaged at byte ");
+    tell_number(q.place, b", in append ");
+    tell_number(std::num::wrapping_add_usize(q.appends, 1), b" behind ");
+    tell_number(
+        q.messages,
+        b" messages; nothing is answered: put a good copy in its place\n",
+    );
+}
+
+// Whether a head is a good one; where it isn't, that is told.
+pub fn is_good(kind: Kind, empty: bool) -> bool {
+    if empty {
+        return refused(b"station: the journal is an empty file: put the right one in its place, or make one with --new\n");
+    }
+    match kind {
+        Kind::NoJournal => refused(b"station: the file is no journal of a station (one of version 1.0 is taken over: --follow OLD NEW --garage NAME)\n"),
+        Kind::OtherFormat => refused(b"station: the journal has another format: start the version of station that wrote it\n"),
+        Kind::Damaged => refused(b"station: the journal's head is damaged; nothing is answered: put a good copy in its place\n"),
+        Kind::Unfit => refused(b"station: the journal begins with a station that is not fit; put a good copy in its place\n"),
+        Kind::Good => true,
+    }
+}
+
+// How many bytes there are up to the last that is this one, or is not.
+fn last(name: &[u8], byte: u8, is: bool) -> usize
+    ensures { λ n. ⌜ Counts n (now (name .entry)) ⌝ }
+{
+    let mut n = name.len();
+    while 0 < n {
+        if (name[n - 1] == byte) == is {
+            return n;
+        }
+        n -= 1;
+    }
+    0
+}
+
+// How many bytes of a garage's name there are before the zeros.
+pub fn name_size(name: &[u8]) -> usize
+    ensures { λ n. ⌜ Counts n (now (name .entry)) ⌝ }
+{
+    last(name, 0, false)
+}
+
+// Whether a journal of this name is the garage's that is asked for; where it isn't, both are told.
+pub fn is_of(asked: &[u8], name: &[u8]) -> bool {
+    if commands::is_text(name, asked) {
+        return true;
+    }
+    tell(b"station: the journal is of the garage ");
+    let n = name_size(name);
+    tell(&name[..n]);
+    tell(b", not of ");
+    let n = name_size(asked);
+    tell(&asked[..n]);
+    refused(b"\n")
+}
+
+// ---- the disk
+
+// A number of bytes as a place in a file; no file goes further than 2^63.
+pub fn place(n: usize) -> i64
+    ensures { λ r. ⌜ r ≡ placeOf n ⌝ }
+{
+    if n < 9223372036854775808 {
+        return n as i64;
+    }
+    -1
+}
+
+// Whether the file is so long; where it isn't, that is told. What is written next stands at its end.
+pub fn has_length(fd: i32, n: usize) -> bool {
+    let end = libc::lseek(fd, 0, libc::SEEK_END);
+    if end < 0 {
+        os::fail(b"station: the journal's length can't be told");
+        return false;
+    }
+    if end != place(n) {
+        return refused(b"station: the journal has another length than it should: is another station running on it?\n");
+    }
+    true
+}
+
+// Opens the folder that the name stands in: the bytes up to the last slash.
+fn open_folder(name: &[u8]) -> i32 {
+    let n = last(name, b'/', true);
+    if n == 0 {
+        return os::open_read(b".");
+    }
+    os::open_read(&name[..n])
+}
+
+// Waits until a name is on the disk.
+pub fn sync_folder(name: &[u8]) -> bool {
+    let fd = open_folder(name);
+    if fd < 0 {
+        os::fail(b"station: the journal's folder can't be opened");
+        return false;
+    }
+    if libc::fsync(fd) != 0 {
+        os::fail(b"station: the journal's folder can't be synced");
+        return false;
+    }
+    libc::close(fd);
+    true
+}
+
+fn write(fd: i32, bytes: &[u8]) -> bool {
+    streams::send(
+        fd,
+        bytes,
+        bytes.len(),
+        b"station: the journal can't be written",
+    )
+}
+
+// Writes an append in its three parts.
+pub fn write_append(fd: i32, opening: &[u8], bytes: &[u8], closing: &[u8]) -> bool {
+    if !write(fd, opening) {
+        return false;
+    }
+    if !write(fd, bytes) {
+        return false;
+    }
+    write(fd, closing)
+}
+
+// Writes the head of a garage with this name, filled up with zeros, which begins with this station.
+pub fn write_head(t: &[u32], fd: i32, garage: &[u8], station: Station) -> bool {
+    let title = journal_file::title();
+    let bytes = rooms::station_bytes(station);
+    let sum = fours::four_bytes(journal_file::head_sum(t, garage, station));
+    if !write(fd, &title) {
+        return false;
+    }
+    write_append(fd, garage, &bytes, &sum)
+}

@@ -1,0 +1,2 @@
+mod Replaying
+mod Beginning
