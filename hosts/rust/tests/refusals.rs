@@ -53,6 +53,10 @@ fn an_overlap_names_the_earlier_one_and_what_both_have() {
     let refusal = refused(&mut Station::new(), &["lift basement", "tilt left row 3 tilted", "tilt left row 3 tilted"]);
     assert_eq!((refusal.earlier, refusal.parts), (Some(1), Parts(1 << 30 | 1 << 42 | 1 << 48)));
     assert_eq!(refusal.to_string(), "8 (overlap) at 2, with 1: cell 30, left row 3 lowered, left row 3 tilted");
+    // the first of two
+    let lines = ["belts row 1 left, higher, full", "belts row 1 right, higher, full", "belts row 1 left lift right, higher, full"];
+    let refusal = refused(&mut Station::new(), &lines);
+    assert_eq!(refusal.to_string(), "8 (overlap) at 2, with 0: cells 2 to 10");
 }
 
 #[test]
@@ -63,6 +67,11 @@ fn what_is_set_apart_and_touched() {
     let refusal = refused(&mut station, &["tilt left row 3 tilted", "belts row 1 left lift, lower, full"]);
     assert_eq!(refusal.parts.bits().collect::<Vec<_>>(), [11, 12, 52]);
     assert_eq!(refusal.to_string(), "32 (a part is set apart) at 1: cells 11 to 12, the lift");
+    // of what is set apart only what is touched
+    station.image(Record(Record::START.0 | 2 << 53)).expect("a garage");
+    let issue = station.request(&set(&["belts row 1 left lift, lower, full"])).expect("allowed");
+    station.result(issue, 0, Outcome::Stuck).expect("outstanding");
+    assert_eq!(refused(&mut station, &["belts row 1 left, higher, full"]).to_string(), "32 (a part is set apart) at 0: cells 2 to 10");
 }
 
 #[test]

@@ -307,5 +307,6 @@ pub fn all(explain: &str, page: &str) {
     let (shown, _, status) = words(explain, &[&from[..], &["08 00 01 00 01 01 01 02 01 01", "08 00 01 00 01 01 01 08 01 01"]].concat());
     let (set_apart, taken) = ([6, 0, 128, 0, 32, 0, 0, 0], [6, 0, 128, 0, 0, 255, 255, 255]);
     assert_eq!((replies(&paragraphs(&shown)), status), ([set_apart, taken].concat(), Some(0)), "{shown}");
+    assert!(shown.contains("\n    set apart before the log begins: cells 2 to 10\n"), "{shown}");
     println!("explain: logs of both ways; {sessions} sessions of {page}; {} wrong texts, {} wrong words", texts.len(), given.len());
 }
