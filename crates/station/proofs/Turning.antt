@@ -17,10 +17,10 @@ use Rattle.streams.specs.declared.Input.the-variants.{Bytes}
 use Rattle.streams.specs.Input.{Fills}
 use Rattle.turns.specs.Turns.{Holding, Holds, holding, turning}
 use Rattle.turns.proofs.Statements.{rest-is-short}
-use Rattle.journal.specs.Journal.{counted, Follows, Journaled}
+use Rattle.journal.specs.Journal.{Follows}
 use Rattle.station.specs.declared.Between.{Between}
 use Rattle.station.specs.Keeping.{AsTurn, TurnedOver}
-use Rattle.journal.proofs.Which.{used-within, only-messages, stays-journaled}
+use Rattle.journal.proofs.Which.{used-within, only-messages}
 
 -- in room that is enough all is served
 pub all-served : (s : Station) (buf : List ℕ) (end : ℕ) (room : List ℕ) → enough (length buf) ≤ length room
@@ -92,10 +92,3 @@ pub turned-over : (s : Station) (have : ℕ) (before room read : List ℕ) (end 
     → Fills before have r read → r ≡ Bytes end → AsTurn (turning s read end room) t buf out → TurnedOver s have before room t buf out
 turned-over s have before room read end r f e a =
     record { end = end; read = read; fills = subst (λ (x : Input). Fills before have x read) e f; turned = a }
-
--- what an append that went well leaves
-pub appended : {s station next : Station} {n long : ℕ} {bytes : List ℕ} {safe : Bool} → Journaled s n → Follows s bytes next
-    → (safe ≡ true → (station ≡ next) × (long ≡ counted (n + length bytes))) → not safe ≡ false → (safe ≡ true) × Journaled station long
-appended {s} {station} {next} {n} {long} {bytes} {safe} was follows well told =
-    let e = not-false safe told in
-    (e, rw (well e .0, well e .1) (stays-journaled s next n bytes was follows))
