@@ -1,3 +1,6 @@
+use mathlib.Core.Path.{ap, ap₂}
+use Prim.Native.Nat.{ℕ}
+use Rattle.checksum.specs.Slices.{crcBy}
 use mathlib.Core.Path.{_∙_}
 use borrow.Author.Needs.{needs}
 use Rattle.journal_file.proofs.head_sum.Statement.{statement}
@@ -30,7 +33,11 @@ continue-by-requires-3 : tie.Need-continue-by-requires-3
 continue-by-requires-3 c κs = search needs
 
 returns : tie.Need-returns
-returns c = c .continue-by3 .ensures ∙ rw (c .before .before .continue-by2 .ensures, c .before .before .before .continue-by .ensures, c .before .before .before .before .before .before .title .ensures, c .before .before .before .before .before .station-bytes .ensures)
+returns c =
+    let x = c .before .before .before .before .before .before .before .before .before .args in
+    let over = crcBy (x .t .now) in
+    c .continue-by3 .ensures
+    ∙ ap₂ over (c .before .before .continue-by2 .ensures ∙ ap (λ (n : ℕ). over n (x .name .now)) (c .before .before .before .continue-by .ensures ∙ ap (over 0) (c .before .before .before .before .before .before .title .ensures))) (c .before .before .before .before .before .station-bytes .ensures)
 
 pub head-sum-spec : {M : Type 1} → statement M
 head-sum-spec =

@@ -22,10 +22,10 @@ returns : tie.Need-returns Inv-loop μ-loop
 returns c = too-short (c .before .before .args .word .now) (c .if1 .taken)
 
 returns-2 : tie.Need-returns-2 Inv-loop μ-loop
-returns-2 c = too-long (c .before .before .before .args .word .now) (c .before .if1 .left) (c .if2 .taken)
+returns-2 c = too-long (c .before .before .before .args .word .now) (c .before .if1 .left) (omega (arith, c .if2 .taken))
 
 loop-holds : tie.Need-loop-holds Inv-loop μ-loop
-loop-holds c = named-starts (c .before .before .before .args .word .now) (c .before .if1 .left) (c .if2 .left)
+loop-holds c = named-starts (c .before .before .before .args .word .now) (c .before .if1 .left) (omega (arith, c .if2 .left))
 
 shared-slice-read-is-name-byte : tie.Need-shared-slice-read-is-name-byte Inv-loop μ-loop
 shared-slice-read-is-name-byte c = search needs

@@ -1,3 +1,6 @@
+use mathlib.Core.Path.{ap}
+use Prim.Native.Nat.{ℕ}
+use Rattle.checksum.specs.Slices.{crcBy}
 use mathlib.Core.Path.{_∙_}
 use borrow.Author.Needs.{needs}
 use Rattle.journal_file.proofs.sum_after.Statement.{statement}
@@ -20,7 +23,10 @@ continue-by-requires-2 : tie.Need-continue-by-requires-2
 continue-by-requires-2 c κs = search needs
 
 returns : tie.Need-returns
-returns c = c .continue-by2 .ensures ∙ rw (c .before .continue-by .ensures, c .before .before .before .title-of .ensures)
+returns c =
+    let x = c .before .before .before .before .before .before .args in
+    let over = crcBy (x .t .now) in
+    c .continue-by2 .ensures ∙ ap (λ (n : ℕ). over n (x .bytes .now)) (c .before .continue-by .ensures ∙ ap (over (x .sum)) (c .before .before .before .title-of .ensures))
 
 pub sum-after-spec : {M : Type 1} → statement M
 sum-after-spec =
