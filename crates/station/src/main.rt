@@ -145,7 +145,7 @@ fn main() {
         return;
     }
     let t = checksum::tables();
-    let mut buf = [0u8; 262144];
+    let mut buf = [0u8; 135168];
     let mut out = [0u8; 327680];
     let j = asking::asked(&t, &mut buf, &mut out);
     if j.safe {
