@@ -120,7 +120,7 @@ fn refused(q: Reading) -> Reading
 
 // Append after append; no file has so many that it takes more.
 fn replay_all(t: &[u32], fd: i32, start: Reading, buf: &mut [u8], room: &mut [u8]) -> Reading
-    ensures { λ q. ⌜ (q .well ≡ true → Within q (length (now (buf .entry)))) ⌝ }
+    ensures { λ q. ⌜ (q .well ≡ true → Within q (length (now (buf .exit)))) ⌝ }
 {
     let mut q = start;
     let mut appends = u64::MAX;
@@ -323,7 +323,7 @@ fn begun(t: &[u32], fd: i32, asked: &[u8], buf: &mut [u8]) -> Reading {
 
 // Replays all appends, and looks at what stands behind them: nothing else may.
 fn read_all(t: &[u32], fd: i32, start: Reading, buf: &mut [u8], room: &mut [u8]) -> Reading
-    ensures { λ q. ⌜ (q .well ≡ true → Within q (length (now (buf .entry)))) ⌝ }
+    ensures { λ q. ⌜ (q .well ≡ true → Within q (length (now (buf .exit)))) ⌝ }
 {
     let q = replay_all(t, fd, start, buf, room);
     if !q.well {
@@ -355,6 +355,29 @@ fn cut_rest(fd: i32, q: Reading, buf: &[u8], name: &mut [u8], n: usize) -> bool
     cut(fd, q.place, &buf[at..end], &name[..m])
 }
 
+// Reads a journal of the garage that is asked for from its head to its end.
+fn read_from(t: &[u32], fd: i32, asked: &[u8], buf: &mut [u8], room: &mut [u8]) -> Reading
+    ensures { λ q. ⌜ (q .well ≡ true → Within q (length (now (buf .exit)))) ⌝ }
+{
+    let start = begun(t, fd, asked, buf);
+    if !start.well {
+        return refused(start);
+    }
+    read_all(t, fd, start, buf, room)
+}
+
+// Goes on with a journal that was read to its end; its name is the first n bytes.
+fn go_on(fd: i32, q: Reading, buf: &[u8], name: &mut [u8], n: usize) -> Journal
+    requires { ⌜ Within q (length (now buf)) × (n ≤ length (now name)) ⌝ }
+{
+    if !cut_rest(fd, q, buf, name, n) {
+        return lost();
+    }
+    libc::close(fd);
+    let r = q.replay;
+    to_append(&name[..n], r, q.place)
+}
+
 // The journal whose name is the first n bytes, replayed; where a garage is asked for, it must be its.
 pub fn open(
     t: &[u32],
@@ -370,20 +393,11 @@ pub fn open(
     if fd < 0 {
         return lost();
     }
-    let start = begun(t, fd, asked, buf);
-    if !start.well {
-        return lost();
-    }
-    let q = read_all(t, fd, start, buf, room);
+    let q = read_from(t, fd, asked, buf, room);
     if !q.well {
         return lost();
     }
-    if !cut_rest(fd, q, buf, name, n) {
-        return lost();
-    }
-    libc::close(fd);
-    let r = q.replay;
-    to_append(&name[..n], r, q.place)
+    go_on(fd, q, buf, name, n)
 }
 
 // ---- a new one

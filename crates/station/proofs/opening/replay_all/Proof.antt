@@ -1,12 +1,11 @@
+-- `station::opening::replay_all` meets its contract: the appends that are left shrink. Assumes nothing.
 use lib.ListN.{length}
 use mathlib.Core.Path.{_≡_}
+use native.Mathlib.Omega.{arith}
 use borrow.Author.Needs.{needs}
+use Rattle.bits.proofs.Cases.{clash}
 use Rattle.station.proofs.opening.replay_all.Statement.{statement}
 use Rattle.station.proofs.opening.replay_all.Tie as tie
-use Rattle.station.proofs.opening.replay_all.Reads as reads
-use Rattle.station.proofs.opening.replay_all.Lts as lts
-use Rattle.journal_reader.proofs.next.Reads as next-reads
-use Rattle.station.proofs.opening.refused.Reads as refused-reads
 
 abbrev Inv-loop : tie.InvT-loop
 Inv-loop t fd buf₀ room₀ q₀ appends₀ t8 buf room q appends = (length buf ≡ length buf₀) × (length room ≡ length room₀)
@@ -30,7 +29,11 @@ same-length-2 : tie.Need-same-length-2 Inv-loop μ-loop
 same-length-2 c = search needs
 
 returns : tie.Need-returns Inv-loop μ-loop
-returns c = search needs
+returns c = λ e.
+    let n = c .before .before .before .before .before .before .next in
+    let w = n .ensures .0 e in
+    let k = n .kept .1 .1 .1 .0 in
+    (omega (arith, w .0, k), w .1, w .2, omega (arith, w .3, k))
 
 sub-appends : tie.Need-sub-appends Inv-loop μ-loop
 sub-appends c = search needs
@@ -51,7 +54,7 @@ same-length-4 : tie.Need-same-length-4 Inv-loop μ-loop
 same-length-4 c = search needs
 
 returns-2 : tie.Need-returns-2 Inv-loop μ-loop
-returns-2 c = search needs
+returns-2 c = λ e. clash e (c .refused .ensures)
 
 pub replay-all-spec : {M : Type 1} → statement M
 replay-all-spec =
