@@ -1,2 +1,2 @@
 mod Turning
-mod Replaying
+mod OpeningStands

@@ -17,10 +17,10 @@ use Rattle.streams.specs.declared.Input.the-variants.{Bytes}
 use Rattle.streams.specs.Input.{Fills}
 use Rattle.turns.specs.Turns.{Holding, Holds, holding, turning}
 use Rattle.turns.proofs.Statements.{rest-is-short}
-use Rattle.journal.specs.Journal.{counted, Follows, Journaled}
+use Rattle.journal.specs.Journal.{Follows}
 use Rattle.station.specs.declared.Between.{Between}
-use Rattle.station.specs.Keeping.{AsTurn, TurnedOver}
-use Rattle.journal.proofs.Which.{used-within, only-messages, stays-journaled}
+use Rattle.station.specs.Keeping.{AsTurn, TurnedOver, Roomy}
+use Rattle.journal.proofs.Which.{used-within, only-messages}
 
 -- in room that is enough all is served
 pub all-served : (s : Station) (buf : List ℕ) (end : ℕ) (room : List ℕ) → enough (length buf) ≤ length room
@@ -93,9 +93,10 @@ pub turned-over : (s : Station) (have : ℕ) (before room read : List ℕ) (end 
 turned-over s have before room read end r f e a =
     record { end = end; read = read; fills = subst (λ (x : Input). Fills before have x read) e f; turned = a }
 
--- what an append that went well leaves
-pub appended : {s station next : Station} {n long : ℕ} {bytes : List ℕ} {safe : Bool} → Journaled s n → Follows s bytes next
-    → (safe ≡ true → (station ≡ next) × (long ≡ counted (n + length bytes))) → not safe ≡ false → (safe ≡ true) × Journaled station long
-appended {s} {station} {next} {n} {long} {bytes} {safe} was follows well told =
-    let e = not-false safe told in
-    (e, rw (well e .0, well e .1) (stays-journaled s next n bytes was follows))
+-- the program's buffer is longer than what it reads, and its room is enough for all answers to that
+pub rooms-enough : {n m : ℕ} → 135168 ≡ n → 327680 ≡ m → (65536 ≤ n) × (enough 65536 ≤ m)
+rooms-enough held room = (omega arith, omega arith)
+
+-- of these 64 KiB are read at once: longer than a message, and the room is enough for all answers to them
+pub front-roomy : (buf out : List ℕ) → 65536 ≤ length buf → enough 65536 ≤ length out → Roomy (take 65536 buf) out
+front-roomy buf out held room = let l = length-take-le 65536 buf held in (omega arith, omega arith)

@@ -1,6 +1,6 @@
 -- What holds of a station and its journal between two turns. Assumes nothing.
 use mathlib.Core.Path.{_≡_}
-use mathlib.Core.Bool.{true, false, cond}
+use mathlib.Core.Bool.{Bool, true, false, cond}
 use mathlib.Core.List.{List}
 use Prim.Native.Nat.{ℕ, _≤_, _<_}
 use lib.Dec.{ltb}
@@ -11,24 +11,22 @@ use Rattle.service.specs.Runs.{enough}
 use Rattle.streams.specs.declared.Input.the-variants.{Bytes}
 use Rattle.streams.specs.Input.{Fills}
 use Rattle.turns.specs.Turns.{Turning, turning}
-use Rattle.journal.specs.Journal.{Journaled}
 use Rattle.station.specs.declared.keeping.Journal.{Journal}
-use Rattle.station.specs.declared.opening.Reading.{Reading}
 use Rattle.station.specs.declared.Between.{Between}
 
 -- the place behind so many bytes of a file; there is none past 2^63
 abbrev pub placeOf : ℕ → ℤ
 placeOf n = cond (ltb n 9223372036854775808) (pos n) (negsuc 0)
 
--- the journal is safe, and it is so long that it makes the station
+-- the journal is safe: all that was appended is on the disk and nothing else with it
 abbrev pub Kept : Journal → Type 0
-Kept j = (j .safe ≡ true) × Journaled (j .station) (j .length)
+Kept j = j .safe ≡ true
 
--- whoever finds it safe can go on with it
-abbrev pub KeptIfSafe : Journal → Type 0
-KeptIfSafe j = j .safe ≡ true → Journaled (j .station) (j .length)
+-- where a session ended by an answer, the journal's last append is the mark that says so
+abbrev pub Noted : Bool → Journal → Type 0
+Noted ended j = ended ≡ true → j .kept ≡ true → j .ended ≡ true
 
--- a turn that doesn't stop holds less than a message, and all that was answered is in the journal
+-- a turn that doesn't stop holds less than a message, and the journal is safe
 abbrev pub Goes : Between → Type 0
 Goes t = t .stop ≡ false → (t .have < 45) × Kept (t .journal)
 
@@ -49,10 +47,6 @@ pub record TurnedOver (s : Station) (have : ℕ) (before room : List ℕ) (t : B
   pub read : List ℕ
   pub fills : Fills before have (Bytes end) read
   pub turned : AsTurn (turning s read end room) t buf out
-
--- where the journal went well so far, less than a message is held and the bytes before it make the station; else there is no more of it
-abbrev pub Reads : Reading → Type 0
-Reads q = (q .going ≡ true → q .well ≡ true) × (q .well ≡ true → (q .replay .have < 45) × Journaled (q .replay .station) (q .replay .whole))
 
 -- a buffer that is longer than a message, and room for all answers to it
 abbrev pub Roomy : List ℕ → List ℕ → Type 0

@@ -10,6 +10,10 @@ use Rattle.commands.specs.Words.{isText}
 abbrev pub isNew : List ℕ → Bool
 isNew w = isText (45 ∷ 45 ∷ 110 ∷ 101 ∷ 119 ∷ []) w
 
+-- `--garage`
+abbrev pub isGarageWord : List ℕ → Bool
+isGarageWord w = isText (45 ∷ 45 ∷ 103 ∷ 97 ∷ 114 ∷ 97 ∷ 103 ∷ 101 ∷ []) w
+
 -- a file's name: it is not empty, and does not begin with `-`
 abbrev pub isName : List ℕ → Bool
 isName w = cond (eqb (length w) 0) false (not (eqb (getD w 0 0) 45))

@@ -1,38 +1,41 @@
-// The journal that a session keeps: whole messages are appended to it, and waited for until they are on the disk, before any of them is
-// answered. What a journal is stands in the crate journal; no contract can say what a file holds.
+// The journal that a session keeps: the whole messages of each read are appended to it, and waited for until they are on the disk, before
+// any of them is answered; so is what ends a session. What a journal is stands in the crate journal_file; no contract can say what a file
+// holds.
 ghost use mathlib.Core.Path.{_≡_};
 ghost use mathlib.Core.Bool.{true, false};
-ghost use Prim.Native.Nat.{_+_};
-ghost use lib.ListN.{length};
+ghost use Prim.Native.Nat.{_≤_};
 ghost use Rattle.garage.specs.Station.{startOf};
-ghost use Rattle.journal.specs.Journal.{counted, Follows};
 ghost use Rattle.libc.specs.Io.{Ended};
-ghost use Rattle.station.specs.Keeping.{placeOf};
+ghost use Rattle.station.specs.Keeping.{placeOf, Noted};
 use garage::Station;
 
 // The station, and the journal that makes it: whether one is kept, its descriptor, under which name the system has the file, how many bytes
-// it has, and whether they are safe, which is to say all on the disk and nothing else with them. Where none is kept nothing is asked of a
-// disk.
+// it has, the checksum of its last append, whether that is the mark of a session's end, and whether its bytes are safe, which is to say all
+// on the disk and nothing else with them. Where none is kept nothing is asked of a disk.
 pub struct Journal {
     pub station: Station,
+    pub sum: u32,
     pub length: usize,
     pub kept: bool,
     pub fd: i32,
     pub called: u32,
+    pub ended: bool,
     pub safe: bool,
 }
 
 // No journal is kept: the station is the start's.
 pub fn unkept() -> Journal
-    ensures { λ j. ⌜ (j .station ≡ startOf) × (j .length ≡ 0) ⌝ }
+    ensures { λ j. ⌜ j .station ≡ startOf ⌝ }
 {
     let station = Station::start();
     Journal {
         station,
+        sum: 0,
         length: 0,
         kept: false,
         fd: 0,
         called: 0,
+        ended: false,
         safe: true,
     }
 }
@@ -151,21 +154,31 @@ fn still_called(fd: i32, called: u32) -> bool {
     true
 }
 
-// Whether the bytes are at the end of a file that was so long before, alone, on the disk and under its name; where they aren't, that is
-// told. Name and length are looked at after the write: of two stations that append at once, neither answers, or only the one whose bytes
-// come first.
-fn write_behind(fd: i32, called: u32, before: usize, bytes: &[u8], after: usize) -> bool {
-    if !has_length(fd, before) {
-        return false;
-    }
-    if !streams::send(
+// Writes bytes to the journal's end.
+pub fn write(fd: i32, bytes: &[u8]) -> bool {
+    streams::send(
         fd,
         bytes,
         bytes.len(),
         b"station: the journal can't be written",
-    ) {
+    )
+}
+
+// Writes an append in its three parts.
+fn write_append(fd: i32, opening: &[u8], bytes: &[u8], closing: &[u8]) -> bool {
+    if !write(fd, opening) {
         return false;
     }
+    if !write(fd, bytes) {
+        return false;
+    }
+    write(fd, closing)
+}
+
+// Whether what was written is at the end of a file that is so long now, alone, on the disk and under its name; where it isn't, that is
+// told. Name and length are looked at after the write: of two stations that append at once, neither answers, or only the one whose bytes
+// come first.
+fn is_there(fd: i32, called: u32, after: usize) -> bool {
     if libc::fdatasync(fd) != 0 {
         os::fail(b"station: the journal can't be synced");
         return false;
@@ -176,23 +189,72 @@ fn write_behind(fd: i32, called: u32, before: usize, bytes: &[u8], after: usize)
     has_length(fd, after)
 }
 
-// Appends the messages that take the journal's station to the next.
-pub fn append(j: Journal, next: Station, bytes: &[u8]) -> Journal
-    requires { ⌜ Follows (j .station) (now bytes) next ⌝ }
-    ensures { λ r. ⌜ (r .safe ≡ true → (r .station ≡ next) × (r .length ≡ counted (j .length + length (now (bytes .entry))))) ⌝ }
+// Puts an append of this kind behind the journal, which has this station then.
+fn add(t: &[u32], j: Journal, kind: u8, bytes: &[u8], next: Station, ended: bool) -> Journal
+    ensures { λ r. ⌜ (r .safe ≡ true → (r .station ≡ next) × (r .ended ≡ ended)) ⌝ }
 {
-    let length = std::num::wrapping_add_usize(j.length, bytes.len());
-    if j.kept & (0 < bytes.len()) {
-        if !write_behind(j.fd, j.called, j.length, bytes, length) {
-            return lost();
-        }
+    let opening = journal_file::opening(t, j.sum, kind, bytes.len());
+    let sum = journal_file::sum_after(t, j.sum, kind, bytes);
+    let closing = journal_file::closing(sum);
+    let length = std::num::wrapping_add_usize(j.length, std::num::wrapping_add_usize(bytes.len(), 13));
+    if !has_length(j.fd, j.length) {
+        return lost();
+    }
+    if !write_append(j.fd, &opening, bytes, &closing) {
+        return lost();
+    }
+    if !is_there(j.fd, j.called, length) {
+        return lost();
     }
     Journal {
         station: next,
+        sum,
         length,
+        kept: true,
+        fd: j.fd,
+        called: j.called,
+        ended,
+        safe: true,
+    }
+}
+
+// Appends the messages that take the journal's station to the next.
+pub fn append(t: &[u32], j: Journal, next: Station, bytes: &[u8]) -> Journal
+    ensures { λ r. ⌜ (r .safe ≡ true → r .station ≡ next) ⌝ }
+{
+    if j.kept & (0 < bytes.len()) {
+        return add(t, j, 1, bytes, next, false);
+    }
+    Journal {
+        station: next,
+        sum: j.sum,
+        length: j.length,
         kept: j.kept,
         fd: j.fd,
         called: j.called,
-        safe: true,
+        ended: j.ended,
+        safe: j.safe,
     }
+}
+
+// How many bytes of those that were left a mark carries.
+fn carried(n: usize) -> usize
+    ensures { λ r. ⌜ r ≤ n ⌝ }
+{
+    if n < 44 { n } else { 44 }
+}
+
+// Notes what ended the session, with what was left of the input.
+pub fn note(t: &[u32], j: Journal, kind: u8, left: &[u8]) -> Journal
+    ensures { λ r. ⌜ (r .safe ≡ true → (r .station ≡ j .station) × (j .safe ≡ true) × Noted true r) ⌝ }
+{
+    let station = j.station;
+    if !j.safe {
+        return lost();
+    }
+    if j.kept {
+        let n = carried(left.len());
+        return add(t, j, kind, &left[..n], station, true);
+    }
+    j
 }

@@ -5,9 +5,8 @@ ghost use mathlib.Core.Path.{_≡_};
 ghost use mathlib.Core.Bool.{true, false};
 ghost use Prim.Native.Nat.{_≤_, _<_};
 ghost use lib.ListN.{length};
-ghost use Rattle.journal.specs.Journal.{Journaled};
 ghost use Rattle.service.specs.Runs.{enough};
-ghost use Rattle.station.specs.Keeping.{Kept, Goes, AsTurn, TurnedOver, Roomy};
+ghost use Rattle.station.specs.Keeping.{Kept, Noted, Goes, AsTurn, TurnedOver, Roomy};
 ghost use Rattle.streams.specs.Input.{Fills};
 ghost use Rattle.turns.specs.Turns.{turning};
 
@@ -15,6 +14,7 @@ mod asking;
 mod keeping;
 mod opening;
 
+use garage::Station;
 use keeping::Journal;
 use streams::Input;
 
@@ -34,9 +34,9 @@ fn read_on(buf: &mut [u8], have: usize) -> Input
 }
 
 // Writes the first n bytes of the answers, and says whether that went well. The messages that they answer are in the journal by then: it is
-// safe, and so long that it makes the station that answered.
-fn say(j: Journal, out: &[u8], n: usize) -> bool
-    requires { ⌜ Kept j ⌝ }
+// safe; and so is the mark of a session that these answers end.
+fn say(j: Journal, ended: bool, out: &[u8], n: usize) -> bool
+    requires { ⌜ Kept j × Noted ended j ⌝ }
 {
     streams::send(libc::STDOUT_FILENO, out, n, b"station: standard output")
 }
@@ -52,20 +52,32 @@ fn stopped(j: Journal) -> Between
     }
 }
 
+// Appends the messages that were taken; where a length out of range stopped the turn, that is noted too.
+fn record(t: &[u32], j: Journal, buf: &[u8], used: usize, end: usize, next: Station, stop: bool) -> Journal
+    requires { ⌜ (used ≤ end) × (end ≤ length (now buf)) ⌝ }
+    ensures { λ r. ⌜ (r .safe ≡ true → (r .station ≡ next) × Noted stop r) ⌝ }
+{
+    let kept = keeping::append(t, j, next, &buf[..used]);
+    if stop {
+        return keeping::note(t, kept, 3, &buf[used..end]);
+    }
+    kept
+}
+
 // Works out the answers to what came whole, appends it to the journal, and only then writes them. The rest is held: less than a message, so
 // that a read that brings nothing is always the input's end.
-fn answer(j: Journal, buf: &mut [u8], end: usize, out: &mut [u8]) -> Between
-    requires { ⌜ (end ≤ length (now buf)) × (enough (length (now buf)) ≤ length (now out)) × Journaled (j .station) (j .length) ⌝ }
+fn answer(t: &[u32], j: Journal, buf: &mut [u8], end: usize, out: &mut [u8]) -> Between
+    requires { ⌜ (end ≤ length (now buf)) × (enough (length (now buf)) ≤ length (now out)) ⌝ }
     ensures { λ r. ⌜ Goes r × AsTurn (turning (j .station) (now (buf .entry)) end (now (out .entry))) r (now (buf .exit)) (now (out .exit)) ⌝ }
 {
     let w = service::serve(j.station, &buf[..end], out);
     let used = w.used;
     let next = w.station;
-    let kept = keeping::append(j, next, &buf[..used]);
+    let kept = record(t, j, buf, used, end, next, w.stop);
     if !kept.safe {
         return stopped(kept);
     }
-    let sent = say(kept, out, w.made);
+    let sent = say(kept, w.stop, out, w.made);
     let have = turns::hold(buf, used, end);
     Between {
         journal: kept,
@@ -74,27 +86,34 @@ fn answer(j: Journal, buf: &mut [u8], end: usize, out: &mut [u8]) -> Between
     }
 }
 
-// The end of the input, where the first `have` bytes are left over.
-fn close(j: Journal, buf: &[u8], have: usize, out: &mut [u8])
-    requires { ⌜ (have ≤ length (now buf)) × Kept j ⌝ }
+// The end of the input, where the first `have` bytes are left over: that is noted before it is answered.
+fn close(t: &[u32], j: Journal, buf: &[u8], have: usize, out: &mut [u8])
+    requires { ⌜ have ≤ length (now buf) ⌝ }
 {
+    if have == 0 {
+        return;
+    }
+    let noted = keeping::note(t, j, 2, &buf[..have]);
+    if !noted.safe {
+        return;
+    }
     let w = service::finish(&buf[..have], out);
-    say(j, out, w.size);
+    say(noted, true, out, w.size);
 }
 
 // Reads once, answers what came whole, and holds the rest. It goes on only after a turn over what was read that goes on; after a read that
 // failed nothing more is written.
-fn one_turn(t: Between, buf: &mut [u8], out: &mut [u8]) -> Between
-    requires { ⌜ (t .have < 45) × Roomy (now buf) (now out) × Kept (t .journal) ⌝ }
-    ensures { λ r. ⌜ Goes r × (r .stop ≡ false → TurnedOver (t .journal .station) (t .have) (now (buf .entry)) (now (out .entry)) r (now (buf .exit)) (now (out .exit))) ⌝ }
+fn one_turn(t: &[u32], b: Between, buf: &mut [u8], out: &mut [u8]) -> Between
+    requires { ⌜ (b .have < 45) × Roomy (now buf) (now out) ⌝ }
+    ensures { λ r. ⌜ Goes r × (r .stop ≡ false → TurnedOver (b .journal .station) (b .have) (now (buf .entry)) (now (out .entry)) r (now (buf .exit)) (now (out .exit))) ⌝ }
 {
-    let j = t.journal;
-    let have = t.have;
+    let j = b.journal;
+    let have = b.have;
     let input = read_on(buf, have);
     match input {
-        Input::Bytes(end) => answer(j, buf, end, out),
+        Input::Bytes(end) => answer(t, j, buf, end, out),
         Input::Ended => {
-            close(j, buf, have, out);
+            close(t, j, buf, have, out);
             stopped(j)
         }
         _ => stopped(j),
@@ -102,33 +121,41 @@ fn one_turn(t: Between, buf: &mut [u8], out: &mut [u8]) -> Between
 }
 
 // Turn after turn; no input is so long that it takes more.
-fn session(j: Journal, buf: &mut [u8], out: &mut [u8])
-    requires { ⌜ Roomy (now buf) (now out) × Kept j ⌝ }
+fn session(t: &[u32], j: Journal, buf: &mut [u8], out: &mut [u8])
+    requires { ⌜ Roomy (now buf) (now out) ⌝ }
 {
-    let mut t = Between {
+    let mut b = Between {
         journal: j,
         have: 0,
         stop: false,
     };
     let mut turns = u64::MAX;
     while 0 < turns {
-        t = one_turn(t, buf, out);
-        if t.stop {
+        b = one_turn(t, b, buf, out);
+        if b.stop {
             return;
         }
         turns -= 1;
     }
 }
 
-// 64 KiB of input, and room for all answers to it.
+// The session, in the first 64 KiB of the buffer.
+fn begin(t: &[u32], j: Journal, buf: &mut [u8], out: &mut [u8])
+    requires { ⌜ (65536 ≤ length (now buf)) × (enough 65536 ≤ length (now out)) ⌝ }
+{
+    session(t, j, &mut buf[..65536], out);
+}
+
+// 64 KiB of input, and room for all answers to it; more room to read a journal.
 fn main() {
     if commands::told_version(b"station", b"station: standard output") {
         return;
     }
-    let mut buf = [0u8; 65536];
+    let t = checksum::tables();
+    let mut buf = [0u8; 135168];
     let mut out = [0u8; 327680];
-    let j = asking::asked(&mut buf, &mut out);
+    let j = asking::asked(&t, &mut buf, &mut out);
     if j.safe {
-        session(j, &mut buf, &mut out);
+        begin(&t, j, &mut buf, &mut out);
     }
 }

@@ -1,185 +1,164 @@
-// Opens a journal, new or old, and replays what is in it with no output. Where that can't be done one line says why, and the station does
-// not start: it never falls back to the empty garage.
+// Opens a journal, new or old, and replays what is in it with no output. Where that can't be done one line says why, not a byte of the file
+// is changed, and the station does not start: it never falls back to the empty garage.
 ghost use mathlib.Core.Path.{_≡_};
 ghost use mathlib.Core.Bool.{true, false};
-ghost use Prim.Native.Nat.{_≤_, _<_};
+ghost use Prim.Native.Nat.{_≤_};
 ghost use lib.ListN.{length};
 ghost use Rattle.io.specs.Counts.{Counts};
-ghost use Rattle.journal.specs.Journal.{Journaled};
-ghost use Rattle.service.specs.Runs.{enough};
-ghost use Rattle.station.specs.Keeping.{KeptIfSafe, Reads, Roomy};
+ghost use Rattle.journal_reader.specs.Reading.{Within};
 use crate::keeping::Journal;
 use crate::keeping::called_now;
 use crate::keeping::has_length;
 use crate::keeping::lost;
 use crate::keeping::place;
-use journal::Replay;
-use streams::Input;
+use garage::Station;
+use journal_file::Kind;
+use journal_file::Replay;
+use journal_reader::Reading;
+use journal_reader::Rest;
 
-// How far a journal is read: what its replay tells so far, whether there may be more of it, and whether all went well.
-struct Reading {
-    replay: Replay,
-    going: bool,
-    well: bool,
+// ---- what is told
+
+// Tells something of the journal.
+fn tell(text: &[u8]) {
+    io::write_all(libc::STDERR_FILENO, text);
+}
+
+// Tells a number and what follows it.
+fn tell_number(n: usize, text: &[u8]) {
+    io::print_decimal(libc::STDERR_FILENO, n as u64);
+    tell(text);
+}
+
+// Tells where a journal is damaged.
+fn tell_damage(q: Reading) {
+    tell(b"station: the journal is damaged at byte ");
+    tell_number(q.place, b", in append ");
+    tell_number(std::num::wrapping_add_usize(q.appends, 1), b" behind ");
+    tell_number(
+        q.messages,
+        b" messages; nothing is answered: put a good copy in its place\n",
+    );
+}
+
+// Tells what was cut off.
+fn tell_torn(place: usize, n: usize, name: &[u8]) {
+    tell(b"station: note: ");
+    tell_number(n, b" bytes behind byte ");
+    tell_number(
+        place,
+        b" of the journal were never answered; they are cut off and kept in ",
+    );
+    tell(name);
+    tell(b"\n");
+}
+
+// Whether a head is a good one; where it isn't, that is told.
+fn is_good(kind: Kind, empty: bool) -> bool {
+    if empty {
+        tell(b"station: the journal is an empty file: put the right one in its place, or make one with --new\n");
+        return false;
+    }
+    match kind {
+        Kind::NoJournal => {
+            tell(b"station: the file is no journal of a station (one of version 1.0 is taken over by --follow)\n");
+            false
+        }
+        Kind::OtherFormat => {
+            tell(b"station: the journal has another format: start the version of station that wrote it\n");
+            false
+        }
+        Kind::Damaged => {
+            tell(b"station: the journal's head is damaged; nothing is answered: put a good copy in its place\n");
+            false
+        }
+        Kind::Unfit => {
+            tell(b"station: the journal begins with a station that is not fit; put a good copy in its place\n");
+            false
+        }
+        Kind::Good => true,
+    }
+}
+
+// How many bytes of a garage's name there are before the zeros.
+fn name_size(name: &[u8]) -> usize
+    ensures { λ n. ⌜ Counts n (now (name .entry)) ⌝ }
+{
+    let mut n = name.len();
+    while 0 < n {
+        if name[n - 1] != 0 {
+            return n;
+        }
+        n -= 1;
+    }
+    0
+}
+
+// Whether a journal of this name is the garage's that is asked for; where it isn't, both are told.
+fn is_of(asked: &[u8], name: &[u8]) -> bool {
+    if commands::is_text(name, asked) {
+        return true;
+    }
+    tell(b"station: the journal is of the garage ");
+    tell(&name[..name_size(name)]);
+    tell(b", not of ");
+    tell(&asked[..name_size(asked)]);
+    tell(b"\n");
+    false
 }
 
 // ---- the replay
 
-// Tells that a length out of range stands behind so many bytes.
-fn tell_damage(whole: usize) {
-    io::write_all(
-        libc::STDERR_FILENO,
-        b"station: the journal is damaged: the length at byte ",
-    );
-    io::print_decimal(libc::STDERR_FILENO, whole as u64);
-    io::write_all(libc::STDERR_FILENO, b" is out of range\n");
+// A reading that can't be gone on with: why not was told.
+fn refused(q: Reading) -> Reading
+    ensures { λ r. ⌜ r .well ≡ false ⌝ }
+{
+    let mut r = q;
+    r.well = false;
+    r
 }
 
-// The replay of a piece; a damaged one is told.
-fn checked(r: Replay) -> Reading
-    ensures { λ q. ⌜ (q .going ≡ true → q .well ≡ true) × (q .well ≡ true → (r .damaged ≡ false) × (q .replay ≡ r)) ⌝ }
+// Append after append; no file has so many that it takes more.
+fn replay_all(t: &[u32], fd: i32, start: Reading, buf: &mut [u8], room: &mut [u8]) -> Reading
+    ensures { λ q. ⌜ (q .well ≡ true → Within q (length (now (buf .exit)))) ⌝ }
 {
-    if r.damaged {
-        tell_damage(r.whole);
-    }
-    Reading {
-        replay: r,
-        going: !r.damaged,
-        well: !r.damaged,
-    }
-}
-
-// Replays what came whole.
-fn replayed(r: Replay, buf: &mut [u8], end: usize, room: &mut [u8]) -> Reading
-    requires { ⌜ (end ≤ length (now buf)) × (enough (length (now buf)) ≤ length (now room)) × Journaled (r .station) (r .whole) ⌝ }
-    ensures { λ q. ⌜ Reads q ⌝ }
-{
-    checked(journal::replay_piece(r, buf, end, room))
-}
-
-// Reads once, and replays what came whole.
-fn read_piece(fd: i32, r: Replay, buf: &mut [u8], room: &mut [u8]) -> Reading
-    requires { ⌜ (r .have < 45) × Roomy (now buf) (now room) × Journaled (r .station) (r .whole) ⌝ }
-    ensures { λ q. ⌜ Reads q ⌝ }
-{
-    let have = r.have;
-    let input = streams::fill(fd, buf, have, b"station: the journal can't be read");
-    match input {
-        Input::Bytes(end) => replayed(r, buf, end, room),
-        Input::Ended => Reading {
-            replay: r,
-            going: false,
-            well: true,
-        },
-        _ => Reading {
-            replay: r,
-            going: false,
-            well: false,
-        },
-    }
-}
-
-// Piece after piece; no file is so long that it takes more.
-fn replay_all(fd: i32, buf: &mut [u8], room: &mut [u8]) -> Reading
-    requires { ⌜ Roomy (now buf) (now room) ⌝ }
-    ensures { λ q. ⌜ (q .well ≡ true → Journaled (q .replay .station) (q .replay .whole)) ⌝ }
-{
-    let start = journal::begin();
-    let mut q = Reading {
-        replay: start,
-        going: true,
-        well: true,
-    };
-    let mut pieces = u64::MAX;
-    while 0 < pieces {
-        let r = q.replay;
-        q = read_piece(fd, r, buf, room);
-        if !q.going {
+    let mut q = start;
+    let mut appends = u64::MAX;
+    while 0 < appends {
+        q = journal_reader::next(
+            t,
+            fd,
+            q,
+            buf,
+            room,
+            b"station: the journal can't be read",
+        );
+        if !q.took {
             return q;
         }
-        pieces -= 1;
+        appends -= 1;
     }
-    q
+    refused(q)
 }
 
-// ---- the file
-
-// Cuts off what stands behind the whole messages: less than a message, which was never answered.
-fn cut(fd: i32, r: Replay) -> bool {
-    if !has_length(fd, std::num::wrapping_add_usize(r.whole, r.have)) {
-        return false;
+// Whether a journal that was read to its end can be gone on with: it isn't damaged, and not closed. Where it can't, that is told.
+fn goes_on(q: Reading, rest: Rest) -> bool {
+    match rest {
+        Rest::Damaged => {
+            tell_damage(q);
+            return false;
+        }
+        _ => {}
     }
-    if r.have == 0 {
-        return true;
-    }
-    if libc::ftruncate(fd, place(r.whole)) != 0 {
-        os::fail(b"station: the journal can't be cut");
+    let r = q.replay;
+    if r.closed {
+        tell(b"station: the journal is closed: another one follows it, start with that\n");
         return false;
     }
     true
 }
 
-// The journal to append to, once all that was replayed is on the disk.
-fn to_append(name: &[u8], r: Replay) -> Journal
-    requires { ⌜ Journaled (r .station) (r .whole) ⌝ }
-    ensures { λ j. ⌜ KeptIfSafe j ⌝ }
-{
-    let fd = os::open_append(name);
-    if fd < 0 {
-        os::fail(b"station: the journal can't be opened");
-        return lost();
-    }
-    if libc::fsync(fd) != 0 {
-        os::fail(b"station: the journal can't be synced");
-        return lost();
-    }
-    let station = r.station;
-    Journal {
-        station,
-        length: r.whole,
-        kept: true,
-        fd,
-        called: called_now(fd),
-        safe: true,
-    }
-}
-
-// Opens the file to read and to cut; what has no places, as a pipe, is none.
-fn to_read(name: &[u8]) -> i32 {
-    let fd = os::open_update(name);
-    if fd < 0 {
-        os::fail(b"station: the journal can't be opened");
-        return -1;
-    }
-    if libc::lseek(fd, 0, libc::SEEK_SET) != 0 {
-        os::fail(b"station: the journal is no plain file");
-        return -1;
-    }
-    fd
-}
-
-// The journal of this name, replayed.
-pub fn open(name: &[u8], buf: &mut [u8], room: &mut [u8]) -> Journal
-    requires { ⌜ Roomy (now buf) (now room) ⌝ }
-    ensures { λ j. ⌜ KeptIfSafe j ⌝ }
-{
-    let fd = to_read(name);
-    if fd < 0 {
-        return lost();
-    }
-    let q = replay_all(fd, buf, room);
-    let r = q.replay;
-    if !q.well {
-        return lost();
-    }
-    if !cut(fd, r) {
-        return lost();
-    }
-    libc::close(fd);
-    to_append(name, r)
-}
-
-// ---- a new one
+// ---- the file
 
 // How many bytes of a name are its folder's: those up to the last slash.
 fn folder(name: &[u8]) -> usize
@@ -204,14 +183,8 @@ fn open_folder(name: &[u8]) -> i32 {
     os::open_read(&name[..n])
 }
 
-// Makes the file, and waits until its name is on the disk.
-pub fn make(name: &[u8]) -> bool {
-    let file = os::create(name);
-    if file < 0 {
-        os::fail(b"station: the journal can't be made");
-        return false;
-    }
-    libc::close(file);
+// Waits until a new name is on the disk.
+fn sync_folder(name: &[u8]) -> bool {
     let fd = open_folder(name);
     if fd < 0 {
         os::fail(b"station: the journal's folder can't be opened");
@@ -223,4 +196,244 @@ pub fn make(name: &[u8]) -> bool {
     }
     libc::close(fd);
     true
+}
+
+// Opens the file for what is cut off, made where it is missing.
+fn open_torn(name: &[u8]) -> i32 {
+    let fd = os::open_append(name);
+    if fd < 0 {
+        return os::create(name);
+    }
+    fd
+}
+
+// Keeps bytes that are to be cut off, and waits until they are on the disk.
+fn keep_torn(name: &[u8], rest: &[u8]) -> bool {
+    let fd = open_torn(name);
+    if fd < 0 {
+        os::fail(b"station: the file beside the journal can't be opened");
+        return false;
+    }
+    if !streams::send(
+        fd,
+        rest,
+        rest.len(),
+        b"station: the file beside the journal can't be written",
+    ) {
+        return false;
+    }
+    if libc::fsync(fd) != 0 {
+        os::fail(b"station: the file beside the journal can't be synced");
+        return false;
+    }
+    libc::close(fd);
+    sync_folder(name)
+}
+
+// Cuts off what stands behind the last append, and keeps it in the file of this name.
+fn cut(fd: i32, place: usize, rest: &[u8], name: &[u8]) -> bool {
+    if !keep_torn(name, rest) {
+        return false;
+    }
+    tell_torn(place, rest.len(), name);
+    if libc::ftruncate(fd, crate::keeping::place(place)) != 0 {
+        os::fail(b"station: the journal can't be cut");
+        return false;
+    }
+    true
+}
+
+// Puts .torn behind a name of n bytes, and says how many there are then; 0 where there is no room.
+fn torn_name(name: &mut [u8], n: usize) -> usize
+    ensures { λ r. ⌜ Counts r (now (name .exit)) ⌝ }
+{
+    if name.len() < 5 {
+        return 0;
+    }
+    if name.len() - 5 < n {
+        return 0;
+    }
+    name[n] = b'.';
+    name[n + 1] = b't';
+    name[n + 2] = b'o';
+    name[n + 3] = b'r';
+    name[n + 4] = b'n';
+    n + 5
+}
+
+// The journal to append to, once all that was replayed is on the disk.
+fn to_append(name: &[u8], r: Replay, length: usize) -> Journal {
+    let fd = os::open_append(name);
+    if fd < 0 {
+        os::fail(b"station: the journal can't be opened");
+        return lost();
+    }
+    if libc::fsync(fd) != 0 {
+        os::fail(b"station: the journal can't be synced");
+        return lost();
+    }
+    let station = r.station;
+    Journal {
+        station,
+        sum: r.sum,
+        length,
+        kept: true,
+        fd,
+        called: called_now(fd),
+        ended: false,
+        safe: true,
+    }
+}
+
+// Opens the file to read and to cut; what has no places, as a pipe, is none.
+fn to_read(name: &[u8]) -> i32 {
+    let fd = os::open_update(name);
+    if fd < 0 {
+        os::fail(b"station: the journal can't be opened");
+        return -1;
+    }
+    if libc::lseek(fd, 0, libc::SEEK_SET) != 0 {
+        os::fail(b"station: the journal is no plain file");
+        return -1;
+    }
+    fd
+}
+
+// Reads the head: whether it is a good one, and of the garage that is asked for.
+fn begun(t: &[u32], fd: i32, asked: &[u8], buf: &mut [u8]) -> Reading {
+    let b = journal_reader::begin(t, fd, buf, b"station: the journal can't be read");
+    let q = b.reading;
+    let kind = b.kind;
+    if !q.well {
+        return refused(q);
+    }
+    if !is_good(kind, q.end == 0) {
+        return refused(q);
+    }
+    if 0 < asked.len() {
+        if buf.len() < 64 {
+            return refused(q);
+        }
+        if !is_of(asked, &buf[24..64]) {
+            return refused(q);
+        }
+    }
+    q
+}
+
+// Replays all appends, and looks at what stands behind them: nothing else may.
+fn read_all(t: &[u32], fd: i32, start: Reading, buf: &mut [u8], room: &mut [u8]) -> Reading
+    ensures { λ q. ⌜ (q .well ≡ true → Within q (length (now (buf .exit)))) ⌝ }
+{
+    let q = replay_all(t, fd, start, buf, room);
+    if !q.well {
+        return refused(q);
+    }
+    let at = q.at;
+    let end = q.end;
+    let r = q.replay;
+    let rest = journal_reader::rest_of(t, r.sum, q.place, &buf[at..end]);
+    if !goes_on(q, rest) {
+        return refused(q);
+    }
+    if !has_length(fd, std::num::wrapping_add_usize(q.place, end - at)) {
+        return refused(q);
+    }
+    q
+}
+
+// Cuts off what stands behind the last append, if there is something. The name has n bytes.
+fn cut_rest(fd: i32, q: Reading, buf: &[u8], name: &mut [u8], n: usize) -> bool
+    requires { ⌜ Within q (length (now buf)) ⌝ }
+{
+    let at = q.at;
+    let end = q.end;
+    if at == end {
+        return true;
+    }
+    let m = torn_name(name, n);
+    cut(fd, q.place, &buf[at..end], &name[..m])
+}
+
+// Reads a journal of the garage that is asked for from its head to its end.
+fn read_from(t: &[u32], fd: i32, asked: &[u8], buf: &mut [u8], room: &mut [u8]) -> Reading
+    ensures { λ q. ⌜ (q .well ≡ true → Within q (length (now (buf .exit)))) ⌝ }
+{
+    let start = begun(t, fd, asked, buf);
+    if !start.well {
+        return refused(start);
+    }
+    read_all(t, fd, start, buf, room)
+}
+
+// Goes on with a journal that was read to its end; its name is the first n bytes.
+fn go_on(fd: i32, q: Reading, buf: &[u8], name: &mut [u8], n: usize) -> Journal
+    requires { ⌜ Within q (length (now buf)) × (n ≤ length (now name)) ⌝ }
+{
+    if !cut_rest(fd, q, buf, name, n) {
+        return lost();
+    }
+    libc::close(fd);
+    let r = q.replay;
+    to_append(&name[..n], r, q.place)
+}
+
+// The journal whose name is the first n bytes, replayed; where a garage is asked for, it must be its.
+pub fn open(
+    t: &[u32],
+    name: &mut [u8],
+    n: usize,
+    asked: &[u8],
+    buf: &mut [u8],
+    room: &mut [u8],
+) -> Journal
+    requires { ⌜ n ≤ length (now name) ⌝ }
+{
+    let fd = to_read(&name[..n]);
+    if fd < 0 {
+        return lost();
+    }
+    let q = read_from(t, fd, asked, buf, room);
+    if !q.well {
+        return lost();
+    }
+    go_on(fd, q, buf, name, n)
+}
+
+// ---- a new one
+
+// Writes the head of a garage with this name, which begins with the start.
+fn write_head(t: &[u32], fd: i32, garage: &[u8]) -> bool {
+    let station = Station::start();
+    let title = journal_file::title();
+    let bytes = rooms::station_bytes(station);
+    let sum = fours::four_bytes(journal_file::head_sum(t, garage, station));
+    if !crate::keeping::write(fd, &title) {
+        return false;
+    }
+    if !crate::keeping::write(fd, garage) {
+        return false;
+    }
+    if !crate::keeping::write(fd, &bytes) {
+        return false;
+    }
+    crate::keeping::write(fd, &sum)
+}
+
+// Makes the file, and waits until it and its name are on the disk.
+pub fn make(t: &[u32], name: &[u8], garage: &[u8]) -> bool {
+    let fd = os::create(name);
+    if fd < 0 {
+        os::fail(b"station: the journal can't be made");
+        return false;
+    }
+    if !write_head(t, fd, garage) {
+        return false;
+    }
+    if libc::fsync(fd) != 0 {
+        os::fail(b"station: the journal can't be synced");
+        return false;
+    }
+    libc::close(fd);
+    sync_folder(name)
 }

@@ -1,31 +1,31 @@
--- `station::answer` meets its contract: what is appended is what the run took, and nothing is said before. Assumes nothing.
-use borrow.Author.Tests.{not-true, not-false}
-use borrow.Author.Needs.{needs}
-use mathlib.Core.Path.{sym, ap, _∙_}
-use lib.Seq.{length-take-le}
-use Rattle.bits.proofs.Cases.{clash}
-use Rattle.station.proofs.Turning.{taken-within, taken-long, taken-follows, held-short, as-turn, appended}
 use Rattle.station.specs.declared.keeping.Journal.{Journal}
+use Rattle.station.proofs.Turning.{taken-within, held-short, as-turn}
+use Rattle.bits.proofs.Cases.{clash}
+use lib.Seq.{length-take-le}
+use borrow.Author.Tests.{not-true, not-false}
+use mathlib.Core.Path.{sym, ap, _∙_}
+use borrow.Author.Needs.{needs}
 use Rattle.station.proofs.answer.Statement.{statement}
 use Rattle.station.proofs.answer.Tie as tie
+use Rattle.station.proofs.answer.Reads as reads
+use Rattle.station.proofs.answer.Lts as lts
+use Rattle.service.proofs.serve.Reads as serve-reads
+use Rattle.station.proofs.record.Reads as record-reads
+use Rattle.station.proofs.say.Reads as say-reads
+use Rattle.station.proofs.stopped.Reads as stopped-reads
+use Rattle.turns.proofs.hold.Reads as hold-reads
 
 slice-reshare-prefix-serve : tie.Need-slice-reshare-prefix-serve
 slice-reshare-prefix-serve c = search needs
 
 slice-aggregate-serve : tie.Need-slice-aggregate-serve
-slice-aggregate-serve c = sym (length-take-le _ _ (c .before .before .before .pre .0))
+slice-aggregate-serve c = sym (length-take-le _ _ (c .before .before .before .before .pre .0))
 
 serve-requires : tie.Need-serve-requires
 serve-requires c κs = search needs
 
-slice-reshare-prefix-append : tie.Need-slice-reshare-prefix-append
-slice-reshare-prefix-append c = taken-within _ (c .before .before .before .before .before .before .before .before .args .buf .now) (c .before .before .before .before .before .before .before .before .args .end) (c .before .before .before .before .before .before .before .before .args .out .now) _ (c .before .before .before .before .before .before .before .before .pre .1) (c .before .before .before .serve .ensures .0) .1
-
-slice-aggregate-append : tie.Need-slice-aggregate-append
-slice-aggregate-append c = taken-long _ (c .before .before .before .before .before .before .before .before .before .args .buf .now) (c .before .before .before .before .before .before .before .before .before .args .end) (c .before .before .before .before .before .before .before .before .before .args .out .now) _ (c .before .before .before .before .before .before .before .before .before .pre .1) (c .before .before .before .before .serve .ensures .0)
-
-append-requires : tie.Need-append-requires
-append-requires c κs = taken-follows _ (c .before .before .before .before .before .before .before .before .before .args .buf .now) (c .before .before .before .before .before .before .before .before .before .args .end) (c .before .before .before .before .before .before .before .before .before .args .out .now) _ (c .before .before .before .before .before .before .before .before .before .pre .1) (c .before .before .before .before .serve .ensures .0)
+record-requires : tie.Need-record-requires
+record-requires c κs = (taken-within _ (c .before .before .before .before .before .before .before .before .before .before .args .buf .now) (c .before .before .before .before .before .before .before .before .before .before .args .end) (c .before .before .before .before .before .before .before .before .before .before .args .out .now) _ (c .before .before .before .before .before .before .before .before .before .before .pre .1) (c .before .before .before .before .serve .ensures .0) .0, c .before .before .before .before .before .before .before .before .before .before .pre .0)
 
 stopped-requires : tie.Need-stopped-requires
 stopped-requires c κs = search needs
@@ -37,13 +37,10 @@ same-length-2 : tie.Need-same-length-2
 same-length-2 c = search needs
 
 returns : tie.Need-returns
-returns c =
-    let s = c .stopped .ensures in
-    (λ q. clash (s .0) q, λ q. clash (sym (ap (λ (j : Journal). j .safe) (s .1)) ∙ q) (not-true _ (c .before .if1 .taken)))
+returns c = let s = c .stopped .ensures in (λ q. clash (s .0) q, λ q. clash (sym (ap (λ (j : Journal). j .safe) (s .1)) ∙ q) (not-true _ (c .before .if1 .taken)))
 
--- it is safe, and it is so long that it makes the station
 say-requires : tie.Need-say-requires
-say-requires c κs = (not-false _ (c .before .if1 .left), appended (c .before .before .before .before .before .before .before .before .before .before .before .before .before .pre .2) (taken-follows _ (c .before .before .before .before .before .before .before .before .before .before .before .before .before .args .buf .now) (c .before .before .before .before .before .before .before .before .before .before .before .before .before .args .end) (c .before .before .before .before .before .before .before .before .before .before .before .before .before .args .out .now) _ (c .before .before .before .before .before .before .before .before .before .before .before .before .before .pre .1) (c .before .before .before .before .before .before .before .before .serve .ensures .0)) (c .before .before .before .append .ensures) (c .before .if1 .left) .1)
+say-requires c κs = let s = not-false _ (c .before .if1 .left) in (s, c .before .before .before .«record» .ensures s .1)
 
 hold-requires : tie.Need-hold-requires
 hold-requires c κs = search needs
@@ -55,18 +52,7 @@ same-length-4 : tie.Need-same-length-4
 same-length-4 c = search needs
 
 returns-2 : tie.Need-returns-2
-returns-2 c =
-    let pre = c .before .before .before .before .before .before .before .before .before .before .before .before .before .before .before .before .before .before .before .pre in
-    let args = c .before .before .before .before .before .before .before .before .before .before .before .before .before .before .before .before .before .before .before .args in
-    let serve = c .before .before .before .before .before .before .before .before .before .before .before .before .before .before .serve .ensures in
-    let hold = c .before .before .before .hold .ensures in
-    let append = c .before .before .before .before .before .before .before .before .before .append .ensures in (
-      λ q. (
-        held-short _ (args .buf .now) (args .end) (args .out .now) _ (pre .1) (serve .0) _ _ (hold .0) q,
-        appended (pre .2) (taken-follows _ (args .buf .now) (args .end) (args .out .now) _ (pre .1) (serve .0)) append (c .before .before .before .before .before .before .before .if1 .left),
-      ),
-      λ q. as-turn _ (args .buf .now) (args .end) (args .out .now) _ _ _ _ _ _ serve hold (append q .0),
-    )
+returns-2 c = (λ q. (held-short _ (c .before .before .before .before .before .before .before .before .before .before .before .before .before .before .before .before .before .before .before .before .args .buf .now) (c .before .before .before .before .before .before .before .before .before .before .before .before .before .before .before .before .before .before .before .before .args .end) (c .before .before .before .before .before .before .before .before .before .before .before .before .before .before .before .before .before .before .before .before .args .out .now) _ (c .before .before .before .before .before .before .before .before .before .before .before .before .before .before .before .before .before .before .before .before .pre .1) (c .before .before .before .before .before .before .before .before .before .before .before .before .before .before .serve .ensures .0) _ _ (c .before .before .before .hold .ensures .0) q, not-false _ (c .before .before .before .before .before .before .before .if1 .left)), λ q. as-turn _ (c .before .before .before .before .before .before .before .before .before .before .before .before .before .before .before .before .before .before .before .before .args .buf .now) (c .before .before .before .before .before .before .before .before .before .before .before .before .before .before .before .before .before .before .before .before .args .end) (c .before .before .before .before .before .before .before .before .before .before .before .before .before .before .before .before .before .before .before .before .args .out .now) _ _ _ _ _ _ (c .before .before .before .before .before .before .before .before .before .before .before .before .before .before .serve .ensures) (c .before .before .before .hold .ensures) (c .before .before .before .before .before .before .before .before .before .«record» .ensures q .0))
 
 pub answer-spec : {M : Type 1} → statement M
 answer-spec =
@@ -75,9 +61,7 @@ answer-spec =
     slice-reshare-prefix-serve
     slice-aggregate-serve
     serve-requires
-    slice-reshare-prefix-append
-    slice-aggregate-append
-    append-requires
+    record-requires
     stopped-requires
     same-length
     same-length-2

@@ -1,25 +1,52 @@
--- `station::close` meets its contract. Assumes nothing.
-use borrow.Author.Needs.{needs}
-use mathlib.Core.Path.{sym}
 use lib.Seq.{length-take-le}
+use borrow.Author.Tests.{not-false}
+use mathlib.Core.Path.{sym}
+use borrow.Author.Needs.{needs}
 use Rattle.station.proofs.close.Statement.{statement}
 use Rattle.station.proofs.close.Tie as tie
+use Rattle.station.proofs.close.Reads as reads
+use Rattle.station.proofs.close.Lts as lts
+use Rattle.service.proofs.finish.Reads as finish-reads
+use Rattle.station.proofs.keeping.note.Reads as note-reads
+use Rattle.station.proofs.say.Reads as say-reads
+
+returns : tie.Need-returns
+returns c = search needs
+
+slice-aggregate-note : tie.Need-slice-aggregate-note
+slice-aggregate-note c = sym (length-take-le _ _ (c .before .before .before .before .before .pre))
+
+note-requires : tie.Need-note-requires
+note-requires c κs = search needs
+
+returns-2 : tie.Need-returns-2
+returns-2 c = search needs
 
 slice-aggregate-finish : tie.Need-slice-aggregate-finish
-slice-aggregate-finish c = sym (length-take-le _ _ (c .before .before .before .pre .0))
+slice-aggregate-finish c = sym (length-take-le _ _ (c .before .before .before .before .before .before .before .before .before .pre))
 
 finish-requires : tie.Need-finish-requires
 finish-requires c κs = search needs
 
 say-requires : tie.Need-say-requires
-say-requires c κs = search needs
+say-requires c κs = let s = not-false _ (c .before .before .before .before .before .before .if2 .left) in (s, c .before .before .before .before .before .before .before .before .note .ensures s .2)
 
 same-length : tie.Need-same-length
 same-length c = search needs
 
-returns : tie.Need-returns
-returns c = search needs
+returns-3 : tie.Need-returns-3
+returns-3 c = search needs
 
 pub close-spec : {M : Type 1} → statement M
 close-spec =
-    tie.close (tie.spec slice-aggregate-finish finish-requires say-requires same-length returns)
+    tie.close
+    (tie.spec
+    returns
+    slice-aggregate-note
+    note-requires
+    returns-2
+    slice-aggregate-finish
+    finish-requires
+    say-requires
+    same-length
+    returns-3)

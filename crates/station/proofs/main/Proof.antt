@@ -1,6 +1,6 @@
--- `station::main` meets its contract: the buffer is longer than a message, and the room is enough for all answers. Assumes nothing.
+-- `station::main` meets its contract: the buffer has 64 KiB and more, and the room is enough for all answers to these. Assumes nothing.
 use borrow.Author.Needs.{needs}
-use native.Mathlib.Omega.{arith}
+use Rattle.station.proofs.Turning.{rooms-enough}
 use Rattle.station.proofs.main.Statement.{statement}
 use Rattle.station.proofs.main.Tie as tie
 
@@ -16,30 +16,32 @@ told-version-requires c κs = search needs
 returns : tie.Need-returns
 returns c = search needs
 
+tables-requires : tie.Need-tables-requires
+tables-requires c κs = search needs
+
 slice-aggregate-asked : tie.Need-slice-aggregate-asked
 slice-aggregate-asked c = search needs
 
 slice-aggregate-asked-2 : tie.Need-slice-aggregate-asked-2
 slice-aggregate-asked-2 c = search needs
 
+slice-aggregate-asked-3 : tie.Need-slice-aggregate-asked-3
+slice-aggregate-asked-3 c = search needs
+
 asked-requires : tie.Need-asked-requires
-asked-requires c κs =
-    let held = slice-aggregate-asked (c .before) in
-    let room = slice-aggregate-asked-2 c in
-    (omega arith, omega arith)
+asked-requires c κs = search needs
 
-slice-aggregate-session : tie.Need-slice-aggregate-session
-slice-aggregate-session c = search needs
+slice-aggregate-begin : tie.Need-slice-aggregate-begin
+slice-aggregate-begin c = search needs
 
-slice-aggregate-session-2 : tie.Need-slice-aggregate-session-2
-slice-aggregate-session-2 c = search needs
+slice-aggregate-begin-2 : tie.Need-slice-aggregate-begin-2
+slice-aggregate-begin-2 c = search needs
 
-session-requires : tie.Need-session-requires
-session-requires c κs =
-    let held = slice-aggregate-session (c .before) in
-    let room = slice-aggregate-session-2 c in
-    let safe = c .before .before .if2 .taken in
-    ((omega arith, omega arith), (safe, c .before .before .before .before .before .asked .ensures safe))
+slice-aggregate-begin-3 : tie.Need-slice-aggregate-begin-3
+slice-aggregate-begin-3 c = search needs
+
+begin-requires : tie.Need-begin-requires
+begin-requires c κs = rooms-enough (slice-aggregate-begin-2 (c .before)) (slice-aggregate-begin-3 c)
 
 returns-2 : tie.Need-returns-2
 returns-2 c = search needs
@@ -55,11 +57,14 @@ main-spec =
     slice-aggregate-told-version-2
     told-version-requires
     returns
+    tables-requires
     slice-aggregate-asked
     slice-aggregate-asked-2
+    slice-aggregate-asked-3
     asked-requires
-    slice-aggregate-session
-    slice-aggregate-session-2
-    session-requires
+    slice-aggregate-begin
+    slice-aggregate-begin-2
+    slice-aggregate-begin-3
+    begin-requires
     returns-2
     returns-3)

@@ -1,10 +1,15 @@
--- `station::one_turn` meets its contract: a read fills no more than the buffer. Assumes nothing.
-use borrow.Author.Needs.{needs}
-use native.Mathlib.Omega.{arith}
-use Rattle.bits.proofs.Cases.{clash}
 use Rattle.station.proofs.Turning.{filled, turned-over}
+use Rattle.bits.proofs.Cases.{clash}
+use native.Mathlib.Omega.{arith}
+use borrow.Author.Needs.{needs}
 use Rattle.station.proofs.one_turn.Statement.{statement}
 use Rattle.station.proofs.one_turn.Tie as tie
+use Rattle.station.proofs.one_turn.Reads as reads
+use Rattle.station.proofs.one_turn.Lts as lts
+use Rattle.station.proofs.answer.Reads as answer-reads
+use Rattle.station.proofs.close.Reads as close-reads
+use Rattle.station.proofs.read_on.Reads as read-on-reads
+use Rattle.station.proofs.stopped.Reads as stopped-reads
 
 read-on-requires : tie.Need-read-on-requires
 read-on-requires c κs = search needs
@@ -13,7 +18,7 @@ enum-known-input : tie.Need-enum-known-input
 enum-known-input c = search needs
 
 answer-requires : tie.Need-answer-requires
-answer-requires c κs = (omega (arith, filled _ _ _ _ _ (c .before .before .before .before .before .before .before .read-on .ensures) (c .before .before .before .input .given .1)), search needs, search needs)
+answer-requires c κs = (omega (arith, filled _ _ _ _ _ (c .before .before .before .before .before .before .before .read-on .ensures) (c .before .before .before .input .given .1)), search needs)
 
 enum-told : tie.Need-enum-told
 enum-told c = search needs
@@ -34,9 +39,7 @@ same-length-2 : tie.Need-same-length-2
 same-length-2 c = search needs
 
 returns : tie.Need-returns
-returns c =
-    let a = c .before .before .before .before .answer .ensures in
-    (a .0, λ q. turned-over _ _ _ _ _ _ _ (c .before .before .before .before .before .before .before .before .before .before .before .before .read-on .ensures) (c .before .before .before .before .before .before .before .before .input .given .1) (a .1))
+returns c = let a = c .before .before .before .before .answer .ensures in (a .0, λ q. turned-over _ _ _ _ _ _ _ (c .before .before .before .before .before .before .before .before .before .before .before .before .read-on .ensures) (c .before .before .before .before .before .before .before .before .input .given .1) (a .1))
 
 same-length-3 : tie.Need-same-length-3
 same-length-3 c = search needs

@@ -1,17 +1,18 @@
--- `station::session` meets its contract: less than a message is held, all that was answered is in the journal, and the turns that are left shrink. Assumes nothing.
-use borrow.Author.Needs.{needs}
-use mathlib.Core.Path.{_≡_}
-use Prim.Native.Nat.{_<_}
 use lib.ListN.{length}
-use Rattle.station.specs.Keeping.{Kept}
+use Prim.Native.Nat.{_<_}
+use mathlib.Core.Path.{_≡_}
+use borrow.Author.Needs.{needs}
 use Rattle.station.proofs.session.Statement.{statement}
 use Rattle.station.proofs.session.Tie as tie
+use Rattle.station.proofs.session.Reads as reads
+use Rattle.station.proofs.session.Lts as lts
+use Rattle.station.proofs.one_turn.Reads as one-turn-reads
 
 abbrev Inv-loop : tie.InvT-loop
-Inv-loop buf₀ out₀ t₀ turns₀ buf out t turns = (length buf ≡ length buf₀) × (length out ≡ length out₀) × (t .have < 45) × Kept (t .journal)
+Inv-loop t buf₀ out₀ b₀ turns₀ buf out b turns = (length buf ≡ length buf₀) × (length out ≡ length out₀) × (b .have < 45)
 
 abbrev μ-loop : tie.MeasureT-loop
-μ-loop buf₀ out₀ t₀ turns₀ buf out t turns = turns
+μ-loop t buf₀ out₀ b₀ turns₀ buf out b turns = turns
 
 loop-holds : tie.Need-loop-holds Inv-loop μ-loop
 loop-holds c = search needs
@@ -35,7 +36,7 @@ loop-less : tie.Need-loop-less Inv-loop μ-loop
 loop-less c = search needs
 
 loop-again : tie.Need-loop-again Inv-loop μ-loop
-loop-again c = let g = c .before .before .before .before .before .one-turn .ensures .0 (c .if1 .left) in (search needs, search needs, g .0, g .1)
+loop-again c = let g = c .before .before .before .before .before .one-turn .ensures .0 (c .if1 .left) in (search needs, search needs, g .0)
 
 same-length-3 : tie.Need-same-length-3 Inv-loop μ-loop
 same-length-3 c = search needs

@@ -1,25 +1,19 @@
--- `station::keeping::append` meets its contract. Assumes nothing.
+use mathlib.Core.Path.{refl}
 use borrow.Author.Needs.{needs}
-use Rattle.bits.proofs.Cases.{clash}
 use Rattle.station.proofs.keeping.append.Statement.{statement}
 use Rattle.station.proofs.keeping.append.Tie as tie
+use Rattle.station.proofs.keeping.append.Reads as reads
+use Rattle.station.proofs.keeping.append.Lts as lts
+use Rattle.station.proofs.keeping.add.Reads as add-reads
 
-wrapping-add-usize-requires : tie.Need-wrapping-add-usize-requires
-wrapping-add-usize-requires c κs = search needs
-
-write-behind-requires : tie.Need-write-behind-requires
-write-behind-requires c κs = search needs
-
-lost-requires : tie.Need-lost-requires
-lost-requires c κs = search needs
+add-requires : tie.Need-add-requires
+add-requires c κs = search needs
 
 returns : tie.Need-returns
-returns c = λ q. clash q (c .lost .ensures)
+returns c = λ q. c .add .ensures q .0
 
 returns-2 : tie.Need-returns-2
-returns-2 c = search needs
+returns-2 c = λ q. refl
 
 pub append-spec : {M : Type 1} → statement M
-append-spec =
-    tie.close
-    (tie.spec wrapping-add-usize-requires write-behind-requires lost-requires returns returns-2)
+append-spec = tie.close (tie.spec add-requires returns returns-2)

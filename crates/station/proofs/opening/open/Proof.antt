@@ -1,9 +1,16 @@
 -- `station::opening::open` meets its contract. Assumes nothing.
+use mathlib.Core.Path.{sym}
+use lib.Seq.{length-take-le}
 use borrow.Author.Needs.{needs}
 use borrow.Author.Tests.{not-false}
-use Rattle.bits.proofs.Cases.{clash}
 use Rattle.station.proofs.opening.open.Statement.{statement}
 use Rattle.station.proofs.opening.open.Tie as tie
+
+slice-reshare-prefix-to-read : tie.Need-slice-reshare-prefix-to-read
+slice-reshare-prefix-to-read c = search needs
+
+slice-aggregate-to-read : tie.Need-slice-aggregate-to-read
+slice-aggregate-to-read c = sym (length-take-le _ _ (c .before .before .before .before .before .before .pre))
 
 to-read-requires : tie.Need-to-read-requires
 to-read-requires c κs = search needs
@@ -11,29 +18,20 @@ to-read-requires c κs = search needs
 lost-requires : tie.Need-lost-requires
 lost-requires c κs = search needs
 
-returns : tie.Need-returns
-returns c = λ q. clash q (c .lost .ensures)
+same-length : tie.Need-same-length
+same-length c = search needs
 
-replay-all-requires : tie.Need-replay-all-requires
-replay-all-requires c κs = search needs
+returns : tie.Need-returns
+returns c = search needs
+
+read-from-requires : tie.Need-read-from-requires
+read-from-requires c κs = search needs
 
 lost-requires-2 : tie.Need-lost-requires-2
 lost-requires-2 c κs = search needs
 
-same-length : tie.Need-same-length
-same-length c = search needs
-
 same-length-2 : tie.Need-same-length-2
 same-length-2 c = search needs
-
-returns-2 : tie.Need-returns-2
-returns-2 c = λ q. clash q (c .lost2 .ensures)
-
-cut-requires : tie.Need-cut-requires
-cut-requires c κs = search needs
-
-lost-requires-3 : tie.Need-lost-requires-3
-lost-requires-3 c κs = search needs
 
 same-length-3 : tie.Need-same-length-3
 same-length-3 c = search needs
@@ -41,14 +39,11 @@ same-length-3 c = search needs
 same-length-4 : tie.Need-same-length-4
 same-length-4 c = search needs
 
-returns-3 : tie.Need-returns-3
-returns-3 c = λ q. clash q (c .lost3 .ensures)
+returns-2 : tie.Need-returns-2
+returns-2 c = search needs
 
-close-requires : tie.Need-close-requires
-close-requires c κs = search needs
-
-to-append-requires : tie.Need-to-append-requires
-to-append-requires c κs = c .before .before .before .before .before .before .before .before .before .before .replay-all .ensures (not-false _ (c .before .before .before .if2 .left))
+go-on-requires : tie.Need-go-on-requires
+go-on-requires c κs = (c .before .before .before .before .before .before .before .before .read-from .ensures (not-false _ (c .before .before .if2 .left)), c .before .before .before .before .before .before .before .before .before .before .before .before .before .before .before .before .before .before .before .pre)
 
 same-length-5 : tie.Need-same-length-5
 same-length-5 c = search needs
@@ -56,28 +51,30 @@ same-length-5 c = search needs
 same-length-6 : tie.Need-same-length-6
 same-length-6 c = search needs
 
-returns-4 : tie.Need-returns-4
-returns-4 c = search needs
+same-length-7 : tie.Need-same-length-7
+same-length-7 c = search needs
+
+returns-3 : tie.Need-returns-3
+returns-3 c = search needs
 
 pub open-spec : {M : Type 1} → statement M
 open-spec =
     tie.close
     (tie.spec
+    slice-reshare-prefix-to-read
+    slice-aggregate-to-read
     to-read-requires
     lost-requires
-    returns
-    replay-all-requires
-    lost-requires-2
     same-length
+    returns
+    read-from-requires
+    lost-requires-2
     same-length-2
-    returns-2
-    cut-requires
-    lost-requires-3
     same-length-3
     same-length-4
-    returns-3
-    close-requires
-    to-append-requires
+    returns-2
+    go-on-requires
     same-length-5
     same-length-6
-    returns-4)
+    same-length-7
+    returns-3)

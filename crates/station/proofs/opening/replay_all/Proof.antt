@@ -1,28 +1,26 @@
--- `station::opening::replay_all` meets its contract: the station is the one that the bytes so far make, and the pieces that are left shrink. Assumes nothing.
-use borrow.Author.Needs.{needs}
-use mathlib.Core.Path.{_≡_}
-use Prim.Native.Nat.{_<_}
-use borrow.Author.Tests.{not-false}
+-- `station::opening::replay_all` meets its contract: the appends that are left shrink. Assumes nothing.
 use lib.ListN.{length}
-use Rattle.journal.specs.Journal.{Journaled}
-use Rattle.station.proofs.Replaying.{from-start}
+use mathlib.Core.Path.{_≡_}
+use native.Mathlib.Omega.{arith}
+use borrow.Author.Needs.{needs}
+use Rattle.bits.proofs.Cases.{clash}
 use Rattle.station.proofs.opening.replay_all.Statement.{statement}
 use Rattle.station.proofs.opening.replay_all.Tie as tie
 
 abbrev Inv-loop : tie.InvT-loop
-Inv-loop fd buf₀ room₀ q₀ pieces₀ buf room q pieces = (length buf ≡ length buf₀) × (length room ≡ length room₀) × (q .replay .have < 45) × Journaled (q .replay .station) (q .replay .whole)
+Inv-loop t fd buf₀ room₀ q₀ appends₀ t8 buf room q appends = (length buf ≡ length buf₀) × (length room ≡ length room₀)
 
 abbrev μ-loop : tie.MeasureT-loop
-μ-loop fd buf₀ room₀ q₀ pieces₀ buf room q pieces = pieces
-
-begin-requires : tie.Need-begin-requires Inv-loop μ-loop
-begin-requires c κs = search needs
+μ-loop t fd buf₀ room₀ q₀ appends₀ t8 buf room q appends = appends
 
 loop-holds : tie.Need-loop-holds Inv-loop μ-loop
-loop-holds c = rw (c .begin .ensures) (search needs, search needs, search needs, from-start)
+loop-holds c = search needs
 
-read-piece-requires : tie.Need-read-piece-requires Inv-loop μ-loop
-read-piece-requires c κs = search needs
+slice-aggregate-next : tie.Need-slice-aggregate-next Inv-loop μ-loop
+slice-aggregate-next c = search needs
+
+next-requires : tie.Need-next-requires Inv-loop μ-loop
+next-requires c κs = search needs
 
 same-length : tie.Need-same-length Inv-loop μ-loop
 same-length c = search needs
@@ -31,16 +29,23 @@ same-length-2 : tie.Need-same-length-2 Inv-loop μ-loop
 same-length-2 c = search needs
 
 returns : tie.Need-returns Inv-loop μ-loop
-returns c = λ e. c .before .before .before .before .before .before .read-piece .ensures .1 e .1
+returns c = λ e.
+    let n = c .before .before .before .before .before .before .next in
+    let w = n .ensures .0 e in
+    let k = n .kept .1 .1 .1 .0 in
+    (omega (arith, w .0, k), w .1, w .2, omega (arith, w .3, k))
 
-sub-pieces : tie.Need-sub-pieces Inv-loop μ-loop
-sub-pieces c = search needs
+sub-appends : tie.Need-sub-appends Inv-loop μ-loop
+sub-appends c = search needs
 
 loop-less : tie.Need-loop-less Inv-loop μ-loop
 loop-less c = search needs
 
 loop-again : tie.Need-loop-again Inv-loop μ-loop
-loop-again c = let s = c .before .before .before .before .before .before .read-piece .ensures in let g = s .1 (s .0 (not-false _ (c .if1 .left))) in (search needs, search needs, g .0, g .1)
+loop-again c = search needs
+
+refused-requires : tie.Need-refused-requires Inv-loop μ-loop
+refused-requires c κs = search needs
 
 same-length-3 : tie.Need-same-length-3 Inv-loop μ-loop
 same-length-3 c = search needs
@@ -49,7 +54,7 @@ same-length-4 : tie.Need-same-length-4 Inv-loop μ-loop
 same-length-4 c = search needs
 
 returns-2 : tie.Need-returns-2 Inv-loop μ-loop
-returns-2 c = λ e. c .before .loop .inv .3
+returns-2 c = λ e. clash e (c .refused .ensures)
 
 pub replay-all-spec : {M : Type 1} → statement M
 replay-all-spec =
@@ -57,15 +62,16 @@ replay-all-spec =
     (tie.spec
     Inv-loop
     μ-loop
-    begin-requires
     loop-holds
-    read-piece-requires
+    slice-aggregate-next
+    next-requires
     same-length
     same-length-2
     returns
-    sub-pieces
+    sub-appends
     loop-less
     loop-again
+    refused-requires
     same-length-3
     same-length-4
     returns-2)

@@ -1,0 +1,45 @@
+use Rattle.bits.proofs.Cases.{clash}
+use borrow.Author.Tests.{not-false}
+use mathlib.Core.Path.{refl, sym}
+use lib.Seq.{length-take-le}
+use borrow.Author.Needs.{needs}
+use Rattle.station.proofs.keeping.note.Statement.{statement}
+use Rattle.station.proofs.keeping.note.Tie as tie
+use Rattle.station.proofs.keeping.note.Reads as reads
+use Rattle.station.proofs.keeping.note.Lts as lts
+use Rattle.station.proofs.keeping.add.Reads as add-reads
+use Rattle.station.proofs.keeping.carried.Reads as carried-reads
+use Rattle.station.proofs.keeping.lost.Reads as lost-reads
+
+lost-requires : tie.Need-lost-requires
+lost-requires c κs = search needs
+
+returns : tie.Need-returns
+returns c = λ q. clash q (c .lost .ensures)
+
+carried-requires : tie.Need-carried-requires
+carried-requires c κs = search needs
+
+slice-aggregate-add : tie.Need-slice-aggregate-add
+slice-aggregate-add c = sym (length-take-le _ _ (c .before .carried .ensures))
+
+add-requires : tie.Need-add-requires
+add-requires c κs = search needs
+
+returns-2 : tie.Need-returns-2
+returns-2 c = λ q. let a = c .add .ensures q in (a .0, not-false _ (c .before .before .before .before .if1 .left), λ u v. a .1)
+
+returns-3 : tie.Need-returns-3
+returns-3 c = λ q. (refl, not-false _ (c .before .if1 .left), λ u v. clash v (c .if2 .left))
+
+pub note-spec : {M : Type 1} → statement M
+note-spec =
+    tie.close
+    (tie.spec
+    lost-requires
+    returns
+    carried-requires
+    slice-aggregate-add
+    add-requires
+    returns-2
+    returns-3)

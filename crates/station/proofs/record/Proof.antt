@@ -1,0 +1,48 @@
+use Rattle.bits.proofs.Cases.{clash}
+use mathlib.Core.Path.{refl, sym, _∙_}
+use native.Mathlib.Omega.{arith}
+use lib.Seq.{length-take-le}
+use borrow.Author.Needs.{needs}
+use Rattle.station.proofs.record.Statement.{statement}
+use Rattle.station.proofs.record.Tie as tie
+use Rattle.station.proofs.record.Reads as reads
+use Rattle.station.proofs.record.Lts as lts
+use Rattle.station.proofs.keeping.append.Reads as append-reads
+use Rattle.station.proofs.keeping.note.Reads as note-reads
+
+slice-aggregate-append : tie.Need-slice-aggregate-append
+slice-aggregate-append c = sym (length-take-le _ _ (omega (arith, c .before .before .before .pre .0, c .before .before .before .pre .1)))
+
+append-requires : tie.Need-append-requires
+append-requires c κs = search needs
+
+sub-note : tie.Need-sub-note
+sub-note c = search needs
+
+part-note-start : tie.Need-part-note-start
+part-note-start c = search needs
+
+part-note-end : tie.Need-part-note-end
+part-note-end c = search needs
+
+note-requires : tie.Need-note-requires
+note-requires c κs = search needs
+
+returns : tie.Need-returns
+returns c = λ q. let n = c .note .ensures q in (n .0 ∙ c .before .before .before .append .ensures (n .1), λ u v. n .2 refl v)
+
+returns-2 : tie.Need-returns-2
+returns-2 c = λ q. (c .before .append .ensures q, λ u. clash u (c .if1 .left))
+
+pub record-spec : {M : Type 1} → statement M
+record-spec =
+    tie.close
+    (tie.spec
+    slice-aggregate-append
+    append-requires
+    sub-note
+    part-note-start
+    part-note-end
+    note-requires
+    returns
+    returns-2)
