@@ -19,7 +19,7 @@ use Rattle.turns.specs.Turns.{Holding, Holds, holding, turning}
 use Rattle.turns.proofs.Statements.{rest-is-short}
 use Rattle.journal.specs.Journal.{Follows}
 use Rattle.station.specs.declared.Between.{Between}
-use Rattle.station.specs.Keeping.{AsTurn, TurnedOver}
+use Rattle.station.specs.Keeping.{AsTurn, TurnedOver, Roomy}
 use Rattle.journal.proofs.Which.{used-within, only-messages}
 
 -- in room that is enough all is served
@@ -92,3 +92,11 @@ pub turned-over : (s : Station) (have : ℕ) (before room read : List ℕ) (end 
     → Fills before have r read → r ≡ Bytes end → AsTurn (turning s read end room) t buf out → TurnedOver s have before room t buf out
 turned-over s have before room read end r f e a =
     record { end = end; read = read; fills = subst (λ (x : Input). Fills before have x read) e f; turned = a }
+
+-- the program's buffer is longer than what it reads, and its room is enough for all answers to that
+pub rooms-enough : {n m : ℕ} → 135168 ≡ n → 327680 ≡ m → (65536 ≤ n) × (enough 65536 ≤ m)
+rooms-enough held room = (omega arith, omega arith)
+
+-- of these 64 KiB are read at once: longer than a message, and the room is enough for all answers to them
+pub front-roomy : (buf out : List ℕ) → 65536 ≤ length buf → enough 65536 ≤ length out → Roomy (take 65536 buf) out
+front-roomy buf out held room = let l = length-take-le 65536 buf held in (omega arith, omega arith)

@@ -139,6 +139,13 @@ fn session(t: &[u32], j: Journal, buf: &mut [u8], out: &mut [u8])
     }
 }
 
+// The session, in the first 64 KiB of the buffer.
+fn begin(t: &[u32], j: Journal, buf: &mut [u8], out: &mut [u8])
+    requires { ⌜ (65536 ≤ length (now buf)) × (enough 65536 ≤ length (now out)) ⌝ }
+{
+    session(t, j, &mut buf[..65536], out);
+}
+
 // 64 KiB of input, and room for all answers to it; more room to read a journal.
 fn main() {
     if commands::told_version(b"station", b"station: standard output") {
@@ -149,6 +156,6 @@ fn main() {
     let mut out = [0u8; 327680];
     let j = asking::asked(&t, &mut buf, &mut out);
     if j.safe {
-        session(&t, j, &mut buf[..65536], &mut out);
+        begin(&t, j, &mut buf, &mut out);
     }
 }

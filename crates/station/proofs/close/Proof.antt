@@ -14,7 +14,7 @@ returns : tie.Need-returns
 returns c = search needs
 
 slice-aggregate-note : tie.Need-slice-aggregate-note
-slice-aggregate-note c = search needs
+slice-aggregate-note c = sym (length-take-le _ _ (c .before .before .before .before .before .pre))
 
 note-requires : tie.Need-note-requires
 note-requires c κs = search needs
@@ -23,7 +23,7 @@ returns-2 : tie.Need-returns-2
 returns-2 c = search needs
 
 slice-aggregate-finish : tie.Need-slice-aggregate-finish
-slice-aggregate-finish c = search needs
+slice-aggregate-finish c = sym (length-take-le _ _ (c .before .before .before .before .before .before .before .before .before .pre))
 
 finish-requires : tie.Need-finish-requires
 finish-requires c κs = search needs

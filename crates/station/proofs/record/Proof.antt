@@ -1,5 +1,7 @@
 use Rattle.bits.proofs.Cases.{clash}
-use mathlib.Core.Path.{refl, _∙_}
+use mathlib.Core.Path.{refl, sym, _∙_}
+use native.Mathlib.Omega.{arith}
+use lib.Seq.{length-take-le}
 use borrow.Author.Needs.{needs}
 use Rattle.station.proofs.record.Statement.{statement}
 use Rattle.station.proofs.record.Tie as tie
@@ -9,7 +11,7 @@ use Rattle.station.proofs.keeping.append.Reads as append-reads
 use Rattle.station.proofs.keeping.note.Reads as note-reads
 
 slice-aggregate-append : tie.Need-slice-aggregate-append
-slice-aggregate-append c = search needs
+slice-aggregate-append c = sym (length-take-le _ _ (omega (arith, c .before .before .before .pre .0, c .before .before .before .pre .1)))
 
 append-requires : tie.Need-append-requires
 append-requires c κs = search needs

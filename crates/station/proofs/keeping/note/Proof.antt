@@ -1,6 +1,7 @@
 use Rattle.bits.proofs.Cases.{clash}
 use borrow.Author.Tests.{not-false}
-use mathlib.Core.Path.{refl}
+use mathlib.Core.Path.{refl, sym}
+use lib.Seq.{length-take-le}
 use borrow.Author.Needs.{needs}
 use Rattle.station.proofs.keeping.note.Statement.{statement}
 use Rattle.station.proofs.keeping.note.Tie as tie
@@ -20,7 +21,7 @@ carried-requires : tie.Need-carried-requires
 carried-requires c κs = search needs
 
 slice-aggregate-add : tie.Need-slice-aggregate-add
-slice-aggregate-add c = search needs
+slice-aggregate-add c = sym (length-take-le _ _ (c .before .carried .ensures))
 
 add-requires : tie.Need-add-requires
 add-requires c κs = search needs
