@@ -27,6 +27,8 @@ use Rattle.journal_file.proofs.Alone.{head-by-tables}
 use Rattle.journal_file.proofs.Files.{leads-more}
 use Rattle.journal_reader.specs.declared.Reading.{Reading}
 use Rattle.journal_reader.specs.declared.Beginning.{Beginning}
+use Rattle.journal_reader.specs.declared.Rest.{Rest}
+use Rattle.journal_reader.specs.declared.Rest.the-variants as rests
 use Rattle.journal_reader.specs.Reading.{lastIn, headIn, Begins, Lent, Takes, Stays, Next, lastOf, Stands}
 use Rattle.station.specs.declared.keeping.Journal.{Journal}
 
@@ -167,3 +169,15 @@ module _ {r : Replay} {n : ℕ} {last : List ℕ} (j : Journal) (stands : Stands
         leads = subst (λ (x : Replay). Leads (begun crcOver (stands .head)) (stands .appends) x) same-replay (stands .leads);
         long = as-read .2 ∙ stands .long;
       }
+
+-- what stands behind the last append is one thing only
+abbrev restNumber : Rest → ℕ
+restNumber rests.Nothing = 0
+restNumber rests.Torn = 1
+restNumber rests.Damaged = 2
+
+pub nothing-sound : {r : Rest} → r ≡ rests.Nothing → r ≡ rests.Damaged → ⊥
+nothing-sound n d = omega (arith, ap restNumber (sym n ∙ d))
+
+pub torn-sound : {r : Rest} → r ≡ rests.Torn → r ≡ rests.Damaged → ⊥
+torn-sound n d = omega (arith, ap restNumber (sym n ∙ d))

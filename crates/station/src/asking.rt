@@ -2,6 +2,7 @@
 ghost use mathlib.Core.Path.{_≡_};
 ghost use mathlib.Core.Bool.{false};
 ghost use Rattle.io.specs.Counts.{Counts};
+ghost use Rattle.station.specs.Opened.{OpenedIfSafe};
 ghost use Rattle.station.specs.Words.{isNew, isGarageWord, isName};
 use crate::keeping::Journal;
 use crate::keeping::lost;
@@ -68,7 +69,9 @@ fn misnamed() -> Journal
 }
 
 // The journal that argument i names, made before if it is to be new; where a garage is asked for, it must be its.
-fn named(t: &[u32], i: usize, new: bool, garage: &[u8], buf: &mut [u8], room: &mut [u8]) -> Journal {
+fn named(t: &[u32], i: usize, new: bool, garage: &[u8], buf: &mut [u8], room: &mut [u8]) -> Journal
+    ensures { λ j. ⌜ OpenedIfSafe (now (t .entry)) (now (room .entry)) (now (buf .exit)) j ⌝ }
+{
     let mut name = io::buffer();
     let n = os::arg(i, &mut name);
     if os::errno() != 0 {
@@ -87,7 +90,9 @@ fn named(t: &[u32], i: usize, new: bool, garage: &[u8], buf: &mut [u8], room: &m
 }
 
 // The journal that argument i names, of the garage that argument g names.
-fn of_garage(t: &[u32], i: usize, new: bool, g: usize, buf: &mut [u8], room: &mut [u8]) -> Journal {
+fn of_garage(t: &[u32], i: usize, new: bool, g: usize, buf: &mut [u8], room: &mut [u8]) -> Journal
+    ensures { λ j. ⌜ OpenedIfSafe (now (t .entry)) (now (room .entry)) (now (buf .exit)) j ⌝ }
+{
     let mut garage = [0u8; 40];
     let n = os::arg(g, &mut garage);
     if os::errno() != 0 {
@@ -100,7 +105,9 @@ fn of_garage(t: &[u32], i: usize, new: bool, g: usize, buf: &mut [u8], room: &mu
 }
 
 // The journal that is asked for.
-pub fn asked(t: &[u32], buf: &mut [u8], room: &mut [u8]) -> Journal {
+pub fn asked(t: &[u32], buf: &mut [u8], room: &mut [u8]) -> Journal
+    ensures { λ j. ⌜ OpenedIfSafe (now (t .entry)) (now (room .entry)) (now (buf .exit)) j ⌝ }
+{
     let count = os::arg_count();
     if count < 2 {
         return unkept();

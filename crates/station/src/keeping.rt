@@ -25,7 +25,7 @@ pub struct Journal {
 
 // No journal is kept: the station is the start's.
 pub fn unkept() -> Journal
-    ensures { λ j. ⌜ j .station ≡ startOf ⌝ }
+    ensures { λ j. ⌜ (j .station ≡ startOf) × (j .kept ≡ false) ⌝ }
 {
     let station = Station::start();
     Journal {

@@ -5,7 +5,11 @@ ghost use mathlib.Core.Bool.{true, false};
 ghost use Prim.Native.Nat.{_≤_};
 ghost use lib.ListN.{length};
 ghost use Rattle.io.specs.Counts.{Counts};
-ghost use Rattle.journal_reader.specs.Reading.{Within};
+ghost use Rattle.checksum.specs.Slices.{slices};
+ghost use Rattle.journal_file.specs.declared.Kind.the-variants.{Good};
+ghost use Rattle.journal_reader.specs.Reading.{Within, Lent};
+ghost use Rattle.journal_reader.specs.declared.Rest.the-variants.{Damaged};
+ghost use Rattle.station.specs.Opened.{StandsIn, ReadToEnd, OpenedIfSafe};
 use crate::keeping::Journal;
 use crate::keeping::called_now;
 use crate::keeping::has_length;
@@ -54,7 +58,9 @@ fn tell_torn(place: usize, n: usize, name: &[u8]) {
 }
 
 // Whether a head is a good one; where it isn't, that is told.
-fn is_good(kind: Kind, empty: bool) -> bool {
+fn is_good(kind: Kind, empty: bool) -> bool
+    ensures { λ b. ⌜ (b ≡ true → kind ≡ Good) ⌝ }
+{
     if empty {
         tell(b"station: the journal is an empty file: put the right one in its place, or make one with --new\n");
         return false;
@@ -120,7 +126,8 @@ fn refused(q: Reading) -> Reading
 
 // Append after append; no file has so many that it takes more.
 fn replay_all(t: &[u32], fd: i32, start: Reading, buf: &mut [u8], room: &mut [u8]) -> Reading
-    ensures { λ q. ⌜ (q .well ≡ true → Within q (length (now (buf .exit)))) ⌝ }
+    requires { ⌜ (Lent (now t) (now room) → StandsIn start (now buf)) ⌝ }
+    ensures { λ q. ⌜ (q .well ≡ true → Within q (length (now (buf .exit)))) × (q .well ≡ true → Lent (now (t .entry)) (now (room .entry)) → StandsIn q (now (buf .exit))) ⌝ }
 {
     let mut q = start;
     let mut appends = u64::MAX;
@@ -141,21 +148,30 @@ fn replay_all(t: &[u32], fd: i32, start: Reading, buf: &mut [u8], room: &mut [u8
     refused(q)
 }
 
-// Whether a journal that was read to its end can be gone on with: it isn't damaged, and not closed. Where it can't, that is told.
-fn goes_on(q: Reading, rest: Rest) -> bool {
-    match rest {
-        Rest::Damaged => {
-            tell_damage(q);
-            return false;
-        }
-        _ => {}
-    }
+// Whether a journal is not closed; where it is, that is told.
+fn is_open(q: Reading) -> bool
+    ensures { λ b. ⌜ (b ≡ true → q .replay .closed ≡ false) ⌝ }
+{
     let r = q.replay;
     if r.closed {
         tell(b"station: the journal is closed: another one follows it, start with that\n");
         return false;
     }
     true
+}
+
+// Whether a journal that was read to its end can be gone on with: it isn't damaged, and not closed. Where it can't, that is told.
+fn goes_on(q: Reading, rest: Rest) -> bool
+    ensures { λ b. ⌜ (b ≡ true → (q .replay .closed ≡ false) × (rest ≡ Damaged → ⊥)) ⌝ }
+{
+    match rest {
+        Rest::Nothing => is_open(q),
+        Rest::Torn => is_open(q),
+        Rest::Damaged => {
+            tell_damage(q);
+            false
+        }
+    }
 }
 
 // ---- the file
@@ -262,7 +278,9 @@ fn torn_name(name: &mut [u8], n: usize) -> usize
 }
 
 // The journal to append to, once all that was replayed is on the disk.
-fn to_append(name: &[u8], r: Replay, length: usize) -> Journal {
+fn to_append(name: &[u8], r: Replay, place: usize) -> Journal
+    ensures { λ j. ⌜ (j .safe ≡ true → (j .station ≡ r .station) × (j .sum ≡ r .sum) × (j .length ≡ place)) ⌝ }
+{
     let fd = os::open_append(name);
     if fd < 0 {
         os::fail(b"station: the journal can't be opened");
@@ -276,7 +294,7 @@ fn to_append(name: &[u8], r: Replay, length: usize) -> Journal {
     Journal {
         station,
         sum: r.sum,
-        length,
+        length: place,
         kept: true,
         fd,
         called: called_now(fd),
@@ -300,7 +318,9 @@ fn to_read(name: &[u8]) -> i32 {
 }
 
 // Reads the head: whether it is a good one, and of the garage that is asked for.
-fn begun(t: &[u32], fd: i32, asked: &[u8], buf: &mut [u8]) -> Reading {
+fn begun(t: &[u32], fd: i32, asked: &[u8], buf: &mut [u8]) -> Reading
+    ensures { λ q. ⌜ (q .well ≡ true → now (t .entry) ≡ slices → StandsIn q (now (buf .exit))) ⌝ }
+{
     let b = journal_reader::begin(t, fd, buf, b"station: the journal can't be read");
     let q = b.reading;
     let kind = b.kind;
@@ -323,7 +343,8 @@ fn begun(t: &[u32], fd: i32, asked: &[u8], buf: &mut [u8]) -> Reading {
 
 // Replays all appends, and looks at what stands behind them: nothing else may.
 fn read_all(t: &[u32], fd: i32, start: Reading, buf: &mut [u8], room: &mut [u8]) -> Reading
-    ensures { λ q. ⌜ (q .well ≡ true → Within q (length (now (buf .exit)))) ⌝ }
+    requires { ⌜ (Lent (now t) (now room) → StandsIn start (now buf)) ⌝ }
+    ensures { λ q. ⌜ (q .well ≡ true → ReadToEnd (now (t .entry)) (now (room .entry)) q (now (buf .exit))) ⌝ }
 {
     let q = replay_all(t, fd, start, buf, room);
     if !q.well {
@@ -357,7 +378,7 @@ fn cut_rest(fd: i32, q: Reading, buf: &[u8], name: &mut [u8], n: usize) -> bool
 
 // Reads a journal of the garage that is asked for from its head to its end.
 fn read_from(t: &[u32], fd: i32, asked: &[u8], buf: &mut [u8], room: &mut [u8]) -> Reading
-    ensures { λ q. ⌜ (q .well ≡ true → Within q (length (now (buf .exit)))) ⌝ }
+    ensures { λ q. ⌜ (q .well ≡ true → ReadToEnd (now (t .entry)) (now (room .entry)) q (now (buf .exit))) ⌝ }
 {
     let start = begun(t, fd, asked, buf);
     if !start.well {
@@ -369,6 +390,7 @@ fn read_from(t: &[u32], fd: i32, asked: &[u8], buf: &mut [u8], room: &mut [u8]) 
 // Goes on with a journal that was read to its end; its name is the first n bytes.
 fn go_on(fd: i32, q: Reading, buf: &[u8], name: &mut [u8], n: usize) -> Journal
     requires { ⌜ Within q (length (now buf)) × (n ≤ length (now name)) ⌝ }
+    ensures { λ j. ⌜ (j .safe ≡ true → (j .station ≡ q .replay .station) × (j .sum ≡ q .replay .sum) × (j .length ≡ q .place)) ⌝ }
 {
     if !cut_rest(fd, q, buf, name, n) {
         return lost();
@@ -388,16 +410,17 @@ pub fn open(
     room: &mut [u8],
 ) -> Journal
     requires { ⌜ n ≤ length (now name) ⌝ }
+    ensures { λ j. ⌜ OpenedIfSafe (now (t .entry)) (now (room .entry)) (now (buf .exit)) j ⌝ }
 {
     let fd = to_read(&name[..n]);
     if fd < 0 {
         return lost();
     }
-    let q = read_from(t, fd, asked, buf, room);
-    if !q.well {
+    let all = read_from(t, fd, asked, buf, room);
+    if !all.well {
         return lost();
     }
-    go_on(fd, q, buf, name, n)
+    go_on(fd, all, buf, name, n)
 }
 
 // ---- a new one

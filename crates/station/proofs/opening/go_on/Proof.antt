@@ -3,6 +3,7 @@ use mathlib.Core.Path.{sym}
 use native.Mathlib.Omega.{arith}
 use lib.Seq.{length-take-le}
 use borrow.Author.Needs.{needs}
+use Rattle.bits.proofs.Cases.{clash}
 use Rattle.station.proofs.opening.go_on.Statement.{statement}
 use Rattle.station.proofs.opening.go_on.Tie as tie
 
@@ -16,7 +17,7 @@ same-length : tie.Need-same-length
 same-length c = search needs
 
 returns : tie.Need-returns
-returns c = search needs
+returns c = λ q. clash q (c .lost .ensures)
 
 close-requires : tie.Need-close-requires
 close-requires c κs = search needs
@@ -34,7 +35,7 @@ same-length-2 : tie.Need-same-length-2
 same-length-2 c = search needs
 
 returns-2 : tie.Need-returns-2
-returns-2 c = search needs
+returns-2 c = λ q. c .to-append .ensures q
 
 pub go-on-spec : {M : Type 1} → statement M
 go-on-spec =

@@ -3,6 +3,8 @@ use mathlib.Core.Path.{sym}
 use lib.Seq.{length-take-le}
 use borrow.Author.Needs.{needs}
 use borrow.Author.Tests.{not-false}
+use Rattle.bits.proofs.Cases.{clash}
+use Rattle.station.proofs.OpeningStands.{stands-journaled}
 use Rattle.station.proofs.opening.open.Statement.{statement}
 use Rattle.station.proofs.opening.open.Tie as tie
 
@@ -22,7 +24,7 @@ same-length : tie.Need-same-length
 same-length c = search needs
 
 returns : tie.Need-returns
-returns c = search needs
+returns c = λ s k. clash s (c .lost .ensures)
 
 read-from-requires : tie.Need-read-from-requires
 read-from-requires c κs = search needs
@@ -40,10 +42,10 @@ same-length-4 : tie.Need-same-length-4
 same-length-4 c = search needs
 
 returns-2 : tie.Need-returns-2
-returns-2 c = search needs
+returns-2 c = λ s k. clash s (c .lost2 .ensures)
 
 go-on-requires : tie.Need-go-on-requires
-go-on-requires c κs = (c .before .before .before .before .before .before .before .before .read-from .ensures (not-false _ (c .before .before .if2 .left)), c .before .before .before .before .before .before .before .before .before .before .before .before .before .before .before .before .before .before .before .pre)
+go-on-requires c κs = (c .before .before .before .before .before .before .before .before .read-from .ensures (not-false _ (c .before .before .if2 .left)) .0, c .before .before .before .before .before .before .before .before .before .before .before .before .before .before .before .before .before .before .before .pre)
 
 same-length-5 : tie.Need-same-length-5
 same-length-5 c = search needs
@@ -55,7 +57,10 @@ same-length-7 : tie.Need-same-length-7
 same-length-7 c = search needs
 
 returns-3 : tie.Need-returns-3
-returns-3 c = search needs
+returns-3 c = λ s k.
+    let e = c .before .before .before .before .before .before .before .before .before .before .before .read-from .ensures (not-false _ (c .before .before .before .before .before .if2 .left)) in
+    let a = c .before .before .go-on .ensures s in
+    record { reading = c .before .before .before .before .before .before .before .before .before .before .before .read-from .result; read = e; as-read = a; journaled = λ l. stands-journaled (c .before .before .go-on .result) (e .2 l) (e .1 .0) a }
 
 pub open-spec : {M : Type 1} → statement M
 open-spec =

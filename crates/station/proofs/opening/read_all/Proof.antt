@@ -1,4 +1,5 @@
 -- `station::opening::read_all` meets its contract. Assumes nothing.
+use mathlib.Core.Path.{_∙_}
 use borrow.Author.Needs.{needs}
 use borrow.Author.Tests.{not-false}
 use Rattle.bits.proofs.Cases.{clash}
@@ -6,7 +7,7 @@ use Rattle.station.proofs.opening.read_all.Statement.{statement}
 use Rattle.station.proofs.opening.read_all.Tie as tie
 
 replay-all-requires : tie.Need-replay-all-requires
-replay-all-requires c κs = search needs
+replay-all-requires c κs = c .before .before .before .before .before .pre
 
 refused-requires : tie.Need-refused-requires
 refused-requires c κs = search needs
@@ -21,13 +22,13 @@ returns : tie.Need-returns
 returns c = λ e. clash e (c .refused .ensures)
 
 sub-rest-of : tie.Need-sub-rest-of
-sub-rest-of c = c .before .before .before .before .before .before .before .replay-all .ensures (not-false _ (c .before .if1 .left)) .2
+sub-rest-of c = c .before .before .before .before .before .before .before .replay-all .ensures .0 (not-false _ (c .before .if1 .left)) .2
 
 part-rest-of-start : tie.Need-part-rest-of-start
-part-rest-of-start c = c .before .before .before .before .before .before .before .before .replay-all .ensures (not-false _ (c .before .before .if1 .left)) .2
+part-rest-of-start c = c .before .before .before .before .before .before .before .before .replay-all .ensures .0 (not-false _ (c .before .before .if1 .left)) .2
 
 part-rest-of-end : tie.Need-part-rest-of-end
-part-rest-of-end c = c .before .before .before .before .before .before .before .before .replay-all .ensures (not-false _ (c .before .before .if1 .left)) .3
+part-rest-of-end c = c .before .before .before .before .before .before .before .before .replay-all .ensures .0 (not-false _ (c .before .before .if1 .left)) .3
 
 rest-of-requires : tie.Need-rest-of-requires
 rest-of-requires c κs = search needs
@@ -48,7 +49,7 @@ returns-2 : tie.Need-returns-2
 returns-2 c = λ e. clash e (c .refused2 .ensures)
 
 sub-wrapping-add-usize : tie.Need-sub-wrapping-add-usize
-sub-wrapping-add-usize c = c .before .before .before .before .before .before .before .before .before .before .before .before .replay-all .ensures (not-false _ (c .before .before .before .before .before .before .if1 .left)) .2
+sub-wrapping-add-usize c = c .before .before .before .before .before .before .before .before .before .before .before .before .replay-all .ensures .0 (not-false _ (c .before .before .before .before .before .before .if1 .left)) .2
 
 wrapping-add-usize-requires : tie.Need-wrapping-add-usize-requires
 wrapping-add-usize-requires c κs = search needs
@@ -75,7 +76,10 @@ same-length-8 : tie.Need-same-length-8
 same-length-8 c = search needs
 
 returns-4 : tie.Need-returns-4
-returns-4 c = search needs
+returns-4 c = λ e.
+    let a = c .before .before .before .before .before .before .before .before .before .before .before .before .before .before .before .replay-all .ensures in
+    let g = c .before .before .before .before .goes-on .ensures (not-false _ (c .before .before .before .if2 .left)) in
+    (a .0 e, (g .0, λ d. g .1 (c .before .before .before .before .before .rest-of .ensures ∙ d)), a .1 e)
 
 pub read-all-spec : {M : Type 1} → statement M
 read-all-spec =

@@ -1,5 +1,6 @@
 -- `station::opening::read_from` meets its contract. Assumes nothing.
 use borrow.Author.Needs.{needs}
+use borrow.Author.Tests.{not-false}
 use Rattle.bits.proofs.Cases.{clash}
 use Rattle.station.proofs.opening.read_from.Statement.{statement}
 use Rattle.station.proofs.opening.read_from.Tie as tie
@@ -17,7 +18,7 @@ returns : tie.Need-returns
 returns c = λ e. clash e (c .refused .ensures)
 
 read-all-requires : tie.Need-read-all-requires
-read-all-requires c κs = search needs
+read-all-requires c κs = λ l. c .before .before .before .before .before .before .begun .ensures (not-false _ (c .before .before .if1 .left)) (l .0)
 
 same-length-2 : tie.Need-same-length-2
 same-length-2 c = search needs

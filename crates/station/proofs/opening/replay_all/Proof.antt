@@ -1,20 +1,23 @@
--- `station::opening::replay_all` meets its contract: the appends that are left shrink. Assumes nothing.
-use lib.ListN.{length}
+-- `station::opening::replay_all` meets its contract: what was read so far stands in the buffer, and the appends that are left shrink. Assumes nothing.
 use mathlib.Core.Path.{_≡_}
+use lib.ListN.{length}
 use native.Mathlib.Omega.{arith}
 use borrow.Author.Needs.{needs}
 use Rattle.bits.proofs.Cases.{clash}
+use Rattle.journal_reader.specs.Reading.{Lent}
+use Rattle.station.specs.Opened.{StandsIn}
+use Rattle.station.proofs.OpeningStands.{next-stands}
 use Rattle.station.proofs.opening.replay_all.Statement.{statement}
 use Rattle.station.proofs.opening.replay_all.Tie as tie
 
 abbrev Inv-loop : tie.InvT-loop
-Inv-loop t fd buf₀ room₀ q₀ appends₀ t8 buf room q appends = (length buf ≡ length buf₀) × (length room ≡ length room₀)
+Inv-loop t fd buf₀ room₀ q₀ appends₀ t8 buf room q appends = (length buf ≡ length buf₀) × (length room ≡ length room₀) × (Lent t room₀ → StandsIn q buf)
 
 abbrev μ-loop : tie.MeasureT-loop
 μ-loop t fd buf₀ room₀ q₀ appends₀ t8 buf room q appends = appends
 
 loop-holds : tie.Need-loop-holds Inv-loop μ-loop
-loop-holds c = search needs
+loop-holds c = (search needs, search needs, c .before .before .before .pre)
 
 slice-aggregate-next : tie.Need-slice-aggregate-next Inv-loop μ-loop
 slice-aggregate-next c = search needs
@@ -29,11 +32,13 @@ same-length-2 : tie.Need-same-length-2 Inv-loop μ-loop
 same-length-2 c = search needs
 
 returns : tie.Need-returns Inv-loop μ-loop
-returns c = λ e.
+returns c = (λ e.
     let n = c .before .before .before .before .before .before .next in
     let w = n .ensures .0 e in
     let k = n .kept .1 .1 .1 .0 in
-    (omega (arith, w .0, k), w .1, w .2, omega (arith, w .3, k))
+    (omega (arith, w .0, k), w .1, w .2, omega (arith, w .3, k)),
+    λ e l. next-stands (c .before .before .before .before .before .before .before .before .before .before .before .before .before .before .before .args .t .now) (c .before .before .before .before .before .before .before .before .before .before .before .loop .room) (c .before .before .before .before .before .before .before .before .before .before .before .loop .buf) (c .before .before .before .before .before .before .next .last .1 .1 .1 .0) (c .before .before .before .before .before .before .before .before .before .before .before .loop .q) (c .before .before .before .before .before .before .next .result)
+    (c .before .before .before .before .before .before .next .ensures) (l .0, omega (arith, l .1, c .before .before .before .before .before .before .before .before .before .before .before .loop .inv .1)) (c .before .before .before .before .before .before .before .before .before .before .before .loop .inv .2 l))
 
 sub-appends : tie.Need-sub-appends Inv-loop μ-loop
 sub-appends c = search needs
@@ -42,7 +47,8 @@ loop-less : tie.Need-loop-less Inv-loop μ-loop
 loop-less c = search needs
 
 loop-again : tie.Need-loop-again Inv-loop μ-loop
-loop-again c = search needs
+loop-again c = (search needs, search needs, λ l. next-stands (c .before .before .before .before .before .before .before .before .before .before .before .before .before .before .before .args .t .now) (c .before .before .before .before .before .before .before .before .before .before .before .loop .room) (c .before .before .before .before .before .before .before .before .before .before .before .loop .buf) (c .before .before .before .before .before .before .next .last .1 .1 .1 .0) (c .before .before .before .before .before .before .before .before .before .before .before .loop .q) (c .before .before .before .before .before .before .next .result)
+    (c .before .before .before .before .before .before .next .ensures) (l .0, omega (arith, l .1, c .before .before .before .before .before .before .before .before .before .before .before .loop .inv .1)) (c .before .before .before .before .before .before .before .before .before .before .before .loop .inv .2 l))
 
 refused-requires : tie.Need-refused-requires Inv-loop μ-loop
 refused-requires c κs = search needs
@@ -54,7 +60,7 @@ same-length-4 : tie.Need-same-length-4 Inv-loop μ-loop
 same-length-4 c = search needs
 
 returns-2 : tie.Need-returns-2 Inv-loop μ-loop
-returns-2 c = λ e. clash e (c .refused .ensures)
+returns-2 c = (λ e. clash e (c .refused .ensures), λ e l. clash e (c .refused .ensures))
 
 pub replay-all-spec : {M : Type 1} → statement M
 replay-all-spec =
