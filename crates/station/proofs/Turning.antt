@@ -99,4 +99,8 @@ rooms-enough held room = (omega arith, omega arith)
 
 -- of these 64 KiB are read at once: longer than a message, and the room is enough for all answers to them
 pub front-roomy : (buf out : List ℕ) → 65536 ≤ length buf → enough 65536 ≤ length out → Roomy (take 65536 buf) out
-front-roomy buf out held room = let l = length-take-le 65536 buf held in (omega arith, omega arith)
+front-roomy buf out held room = let l = length-take-le 65536 buf held in (omega arith, omega arith, omega arith)
+
+-- it is enough to read a journal
+pub room-lent : {m : ℕ} → 327680 ≡ m → 327680 ≤ m
+room-lent e = omega arith

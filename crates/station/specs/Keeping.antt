@@ -1,6 +1,7 @@
 -- What holds of a station and its journal between two turns. Assumes nothing.
 use mathlib.Core.Path.{_≡_}
 use mathlib.Core.Bool.{Bool, true, false, cond}
+use mathlib.Core.Logic.{_⊎_}
 use mathlib.Core.List.{List}
 use Prim.Native.Nat.{ℕ, _≤_, _<_}
 use lib.Dec.{ltb}
@@ -11,6 +12,9 @@ use Rattle.service.specs.Runs.{enough}
 use Rattle.streams.specs.declared.Input.the-variants.{Bytes}
 use Rattle.streams.specs.Input.{Fills}
 use Rattle.turns.specs.Turns.{Turning, turning}
+use Rattle.journal.specs.Journal.{Follows}
+use Rattle.journal_file.specs.Appends.{messagesKind, cutShortKind, badLengthKind, most}
+use Rattle.journal_file.specs.Replaying.{Journaled}
 use Rattle.station.specs.declared.keeping.Journal.{Journal}
 use Rattle.station.specs.declared.Between.{Between}
 
@@ -18,15 +22,33 @@ use Rattle.station.specs.declared.Between.{Between}
 abbrev pub placeOf : ℕ → ℤ
 placeOf n = cond (ltb n 9223372036854775808) (pos n) (negsuc 0)
 
--- the journal is safe: all that was appended is on the disk and nothing else with it
+-- where a journal is kept, a good head and appends of so many bytes make its station
+abbrev pub Recorded : Journal → Type 0
+Recorded j = j .kept ≡ true → Journaled (record { station = j .station; sum = j .sum; closed = false }) (j .length)
+
+-- the journal is safe, all that was appended is on the disk and nothing else with it, and it makes the station
 abbrev pub Kept : Journal → Type 0
-Kept j = j .safe ≡ true
+Kept j = (j .safe ≡ true) × Recorded j
+
+-- whoever finds it safe can go on with it
+abbrev pub KeptIfSafe : Journal → Type 0
+KeptIfSafe j = j .safe ≡ true → Recorded j
+
+-- the marks of a session that an answer ended
+abbrev pub EndKind : ℕ → Type 0
+EndKind kind = (kind ≡ cutShortKind) ⊎ (kind ≡ badLengthKind)
+
+-- what is appended: whole messages, which take the station to the next, or the mark of a session's end, which leaves it
+abbrev pub Adds : Station → ℕ → List ℕ → Station → Type 0
+Adds s kind bytes next =
+    ((kind ≡ messagesKind) × Follows s bytes next × (0 < length bytes) × (length bytes ≤ most))
+    ⊎ (EndKind kind × (length bytes ≤ 44) × (next ≡ s))
 
 -- where a session ended by an answer, the journal's last append is the mark that says so
 abbrev pub Noted : Bool → Journal → Type 0
 Noted ended j = ended ≡ true → j .kept ≡ true → j .ended ≡ true
 
--- a turn that doesn't stop holds less than a message, and the journal is safe
+-- a turn that doesn't stop holds less than a message, and all that was answered is in the journal
 abbrev pub Goes : Between → Type 0
 Goes t = t .stop ≡ false → (t .have < 45) × Kept (t .journal)
 
@@ -48,6 +70,6 @@ pub record TurnedOver (s : Station) (have : ℕ) (before room : List ℕ) (t : B
   pub fills : Fills before have (Bytes end) read
   pub turned : AsTurn (turning s read end room) t buf out
 
--- a buffer that is longer than a message, and room for all answers to it
+-- a buffer that is longer than a message, room for all answers to it, and no more in it than an append carries
 abbrev pub Roomy : List ℕ → List ℕ → Type 0
-Roomy buf out = (45 ≤ length buf) × (enough (length buf) ≤ length out)
+Roomy buf out = (45 ≤ length buf) × (enough (length buf) ≤ length out) × (length buf ≤ most)

@@ -4,9 +4,14 @@
 ghost use mathlib.Core.Path.{_≡_};
 ghost use mathlib.Core.Bool.{true, false};
 ghost use Prim.Native.Nat.{_≤_};
+ghost use lib.ListN.{length};
+ghost use Rattle.checksum.specs.Slices.{slices};
 ghost use Rattle.garage.specs.Station.{startOf};
+ghost use Rattle.journal.specs.Journal.{Follows};
+ghost use Rattle.journal_file.specs.Appends.{most};
+ghost use Rattle.journal_file.specs.Replaying.{Journaled};
 ghost use Rattle.libc.specs.Io.{Ended};
-ghost use Rattle.station.specs.Keeping.{placeOf, Noted};
+ghost use Rattle.station.specs.Keeping.{placeOf, Recorded, Kept, KeptIfSafe, EndKind, Adds, Noted};
 use garage::Station;
 
 // The station, and the journal that makes it: whether one is kept, its descriptor, under which name the system has the file, how many bytes
@@ -189,14 +194,26 @@ fn is_there(fd: i32, called: u32, after: usize) -> bool {
     has_length(fd, after)
 }
 
-// Puts an append of this kind behind the journal, which has this station then.
-fn add(t: &[u32], j: Journal, kind: u8, bytes: &[u8], next: Station, ended: bool) -> Journal
-    ensures { λ r. ⌜ (r .safe ≡ true → (r .station ≡ next) × (r .ended ≡ ended)) ⌝ }
+// Puts an append of this kind behind the journal, whose last one has the checksum `was`; it has this station then.
+fn add(
+    t: &[u32],
+    j: Journal,
+    was: u32,
+    kind: u8,
+    bytes: &[u8],
+    next: Station,
+    ended: bool,
+) -> Journal
+    requires { ⌜ (now t ≡ slices) × Journaled (record { station = j .station; sum = was; closed = false }) (j .length) × Adds (j .station) kind (now bytes) next ⌝ }
+    ensures { λ r. ⌜ (r .safe ≡ true → (r .station ≡ next) × (r .ended ≡ ended) × Recorded r) ⌝ }
 {
-    let opening = journal_file::opening(t, j.sum, kind, bytes.len());
-    let sum = journal_file::sum_after(t, j.sum, kind, bytes);
+    let opening = journal_file::opening(t, was, kind, bytes.len());
+    let sum = journal_file::sum_after(t, was, kind, bytes);
     let closing = journal_file::closing(sum);
-    let length = std::num::wrapping_add_usize(j.length, std::num::wrapping_add_usize(bytes.len(), 13));
+    let length = std::num::wrapping_add_usize(
+        j.length,
+        std::num::wrapping_add_usize(bytes.len(), 13),
+    );
     if !has_length(j.fd, j.length) {
         return lost();
     }
@@ -220,10 +237,11 @@ fn add(t: &[u32], j: Journal, kind: u8, bytes: &[u8], next: Station, ended: bool
 
 // Appends the messages that take the journal's station to the next.
 pub fn append(t: &[u32], j: Journal, next: Station, bytes: &[u8]) -> Journal
-    ensures { λ r. ⌜ (r .safe ≡ true → r .station ≡ next) ⌝ }
+    requires { ⌜ (now t ≡ slices) × Kept j × Follows (j .station) (now bytes) next × (length (now bytes) ≤ most) ⌝ }
+    ensures { λ r. ⌜ (r .safe ≡ true → (r .station ≡ next) × Recorded r) ⌝ }
 {
     if j.kept & (0 < bytes.len()) {
-        return add(t, j, 1, bytes, next, false);
+        return add(t, j, j.sum, 1, bytes, next, false);
     }
     Journal {
         station: next,
@@ -239,14 +257,15 @@ pub fn append(t: &[u32], j: Journal, next: Station, bytes: &[u8]) -> Journal
 
 // How many bytes of those that were left a mark carries.
 fn carried(n: usize) -> usize
-    ensures { λ r. ⌜ r ≤ n ⌝ }
+    ensures { λ r. ⌜ (r ≤ n) × (r ≤ 44) ⌝ }
 {
     if n < 44 { n } else { 44 }
 }
 
 // Notes what ended the session, with what was left of the input.
 pub fn note(t: &[u32], j: Journal, kind: u8, left: &[u8]) -> Journal
-    ensures { λ r. ⌜ (r .safe ≡ true → (r .station ≡ j .station) × (j .safe ≡ true) × Noted true r) ⌝ }
+    requires { ⌜ (now t ≡ slices) × KeptIfSafe j × EndKind kind ⌝ }
+    ensures { λ r. ⌜ (r .safe ≡ true → (r .station ≡ j .station) × (j .safe ≡ true) × Noted true r × Recorded r) ⌝ }
 {
     let station = j.station;
     if !j.safe {
@@ -254,7 +273,7 @@ pub fn note(t: &[u32], j: Journal, kind: u8, left: &[u8]) -> Journal
     }
     if j.kept {
         let n = carried(left.len());
-        return add(t, j, kind, &left[..n], station, true);
+        return add(t, j, j.sum, kind, &left[..n], station, true);
     }
     j
 }

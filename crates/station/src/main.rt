@@ -4,9 +4,12 @@
 ghost use mathlib.Core.Path.{_≡_};
 ghost use mathlib.Core.Bool.{true, false};
 ghost use Prim.Native.Nat.{_≤_, _<_};
-ghost use lib.ListN.{length};
+ghost use lib.ListN.{length, take};
+ghost use Rattle.checksum.specs.Slices.{slices};
+ghost use Rattle.journal.specs.Journal.{Follows};
+ghost use Rattle.journal_file.specs.Appends.{most};
 ghost use Rattle.service.specs.Runs.{enough};
-ghost use Rattle.station.specs.Keeping.{Kept, Noted, Goes, AsTurn, TurnedOver, Roomy};
+ghost use Rattle.station.specs.Keeping.{Recorded, Kept, Noted, Goes, AsTurn, TurnedOver, Roomy};
 ghost use Rattle.streams.specs.Input.{Fills};
 ghost use Rattle.turns.specs.Turns.{turning};
 
@@ -53,9 +56,17 @@ fn stopped(j: Journal) -> Between
 }
 
 // Appends the messages that were taken; where a length out of range stopped the turn, that is noted too.
-fn record(t: &[u32], j: Journal, buf: &[u8], used: usize, end: usize, next: Station, stop: bool) -> Journal
-    requires { ⌜ (used ≤ end) × (end ≤ length (now buf)) ⌝ }
-    ensures { λ r. ⌜ (r .safe ≡ true → (r .station ≡ next) × Noted stop r) ⌝ }
+fn record(
+    t: &[u32],
+    j: Journal,
+    buf: &[u8],
+    used: usize,
+    end: usize,
+    next: Station,
+    stop: bool,
+) -> Journal
+    requires { ⌜ (used ≤ end) × (end ≤ length (now buf)) × (length (now buf) ≤ most) × (now t ≡ slices) × Kept j × Follows (j .station) (take used (now buf)) next ⌝ }
+    ensures { λ r. ⌜ (r .safe ≡ true → (r .station ≡ next) × Noted stop r × Recorded r) ⌝ }
 {
     let kept = keeping::append(t, j, next, &buf[..used]);
     if stop {
@@ -67,7 +78,7 @@ fn record(t: &[u32], j: Journal, buf: &[u8], used: usize, end: usize, next: Stat
 // Works out the answers to what came whole, appends it to the journal, and only then writes them. The rest is held: less than a message, so
 // that a read that brings nothing is always the input's end.
 fn answer(t: &[u32], j: Journal, buf: &mut [u8], end: usize, out: &mut [u8]) -> Between
-    requires { ⌜ (end ≤ length (now buf)) × (enough (length (now buf)) ≤ length (now out)) ⌝ }
+    requires { ⌜ (end ≤ length (now buf)) × (enough (length (now buf)) ≤ length (now out)) × (length (now buf) ≤ most) × (now t ≡ slices) × Kept j ⌝ }
     ensures { λ r. ⌜ Goes r × AsTurn (turning (j .station) (now (buf .entry)) end (now (out .entry))) r (now (buf .exit)) (now (out .exit)) ⌝ }
 {
     let w = service::serve(j.station, &buf[..end], out);
@@ -88,7 +99,7 @@ fn answer(t: &[u32], j: Journal, buf: &mut [u8], end: usize, out: &mut [u8]) -> 
 
 // The end of the input, where the first `have` bytes are left over: that is noted before it is answered.
 fn close(t: &[u32], j: Journal, buf: &[u8], have: usize, out: &mut [u8])
-    requires { ⌜ have ≤ length (now buf) ⌝ }
+    requires { ⌜ (have ≤ length (now buf)) × (now t ≡ slices) × Kept j ⌝ }
 {
     if have == 0 {
         return;
@@ -104,7 +115,7 @@ fn close(t: &[u32], j: Journal, buf: &[u8], have: usize, out: &mut [u8])
 // Reads once, answers what came whole, and holds the rest. It goes on only after a turn over what was read that goes on; after a read that
 // failed nothing more is written.
 fn one_turn(t: &[u32], b: Between, buf: &mut [u8], out: &mut [u8]) -> Between
-    requires { ⌜ (b .have < 45) × Roomy (now buf) (now out) ⌝ }
+    requires { ⌜ (b .have < 45) × Roomy (now buf) (now out) × (now t ≡ slices) × Kept (b .journal) ⌝ }
     ensures { λ r. ⌜ Goes r × (r .stop ≡ false → TurnedOver (b .journal .station) (b .have) (now (buf .entry)) (now (out .entry)) r (now (buf .exit)) (now (out .exit))) ⌝ }
 {
     let j = b.journal;
@@ -122,7 +133,7 @@ fn one_turn(t: &[u32], b: Between, buf: &mut [u8], out: &mut [u8]) -> Between
 
 // Turn after turn; no input is so long that it takes more.
 fn session(t: &[u32], j: Journal, buf: &mut [u8], out: &mut [u8])
-    requires { ⌜ Roomy (now buf) (now out) ⌝ }
+    requires { ⌜ Roomy (now buf) (now out) × (now t ≡ slices) × Kept j ⌝ }
 {
     let mut b = Between {
         journal: j,
@@ -141,7 +152,7 @@ fn session(t: &[u32], j: Journal, buf: &mut [u8], out: &mut [u8])
 
 // The session, in the first 64 KiB of the buffer.
 fn begin(t: &[u32], j: Journal, buf: &mut [u8], out: &mut [u8])
-    requires { ⌜ (65536 ≤ length (now buf)) × (enough 65536 ≤ length (now out)) ⌝ }
+    requires { ⌜ (65536 ≤ length (now buf)) × (enough 65536 ≤ length (now out)) × (now t ≡ slices) × Kept j ⌝ }
 {
     session(t, j, &mut buf[..65536], out);
 }

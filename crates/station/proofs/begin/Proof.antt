@@ -13,7 +13,7 @@ slice-aggregate-session : tie.Need-slice-aggregate-session
 slice-aggregate-session c = sym (length-take-le 65536 (c .before .before .before .before .args .buf .now) (c .before .before .before .before .pre .0))
 
 session-requires : tie.Need-session-requires
-session-requires c κs = front-roomy (c .before .before .before .before .before .args .buf .now) (c .before .before .before .before .before .args .out .now) (c .before .before .before .before .before .pre .0) (c .before .before .before .before .before .pre .1)
+session-requires c κs = (front-roomy (c .before .before .before .before .before .args .buf .now) (c .before .before .before .before .before .args .out .now) (c .before .before .before .before .before .pre .0) (c .before .before .before .before .before .pre .1), c .before .before .before .before .before .pre .2, c .before .before .before .before .before .pre .3)
 
 same-length : tie.Need-same-length
 same-length c = search needs

@@ -18,13 +18,13 @@ enum-known-input : tie.Need-enum-known-input
 enum-known-input c = search needs
 
 answer-requires : tie.Need-answer-requires
-answer-requires c κs = (omega (arith, filled _ _ _ _ _ (c .before .before .before .before .before .before .before .read-on .ensures) (c .before .before .before .input .given .1)), search needs)
+answer-requires c κs = (omega (arith, filled _ _ _ _ _ (c .before .before .before .before .before .before .before .read-on .ensures) (c .before .before .before .input .given .1)), search needs, search needs, c .before .before .before .before .before .before .before .before .before .before .before .before .before .pre .2, c .before .before .before .before .before .before .before .before .before .before .before .before .before .pre .3)
 
 enum-told : tie.Need-enum-told
 enum-told c = search needs
 
 close-requires : tie.Need-close-requires
-close-requires c κs = search needs
+close-requires c κs = let pre = c .before .before .before .before .before .before .before .before .before .before .before .before .pre in (search needs, pre .2, pre .3)
 
 stopped-requires : tie.Need-stopped-requires
 stopped-requires c κs = search needs

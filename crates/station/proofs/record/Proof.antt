@@ -1,3 +1,5 @@
+use lib.ListN.{length-take}
+use mathlib.Core.Logic.{inr}
 use Rattle.bits.proofs.Cases.{clash}
 use mathlib.Core.Path.{refl, sym, _∙_}
 use native.Mathlib.Omega.{arith}
@@ -14,7 +16,7 @@ slice-aggregate-append : tie.Need-slice-aggregate-append
 slice-aggregate-append c = sym (length-take-le _ _ (omega (arith, c .before .before .before .pre .0, c .before .before .before .pre .1)))
 
 append-requires : tie.Need-append-requires
-append-requires c κs = search needs
+append-requires c κs = let pre = c .before .before .before .pre in let l = length-take (c .before .before .before .args .used) (c .before .before .before .args .buf .now) in (pre .3, pre .4, pre .5, omega (arith, l, pre .2))
 
 sub-note : tie.Need-sub-note
 sub-note c = search needs
@@ -26,13 +28,13 @@ part-note-end : tie.Need-part-note-end
 part-note-end c = search needs
 
 note-requires : tie.Need-note-requires
-note-requires c κs = search needs
+note-requires c κs = (c .before .before .before .before .before .before .pre .3, λ s. c .before .before .append .ensures s .1, inr refl)
 
 returns : tie.Need-returns
-returns c = λ q. let n = c .note .ensures q in (n .0 ∙ c .before .before .before .append .ensures (n .1), λ u v. n .2 refl v)
+returns c = λ q. let n = c .note .ensures q in (n .0 ∙ c .before .before .before .append .ensures (n .1) .0, λ u v. n .2 refl v, n .3)
 
 returns-2 : tie.Need-returns-2
-returns-2 c = λ q. (c .before .append .ensures q, λ u. clash u (c .if1 .left))
+returns-2 c = λ q. let a = c .before .append .ensures q in (a .0, λ u. clash u (c .if1 .left), a .1)
 
 pub record-spec : {M : Type 1} → statement M
 record-spec =

@@ -1,3 +1,4 @@
+use Rattle.station.specs.Keeping.{Kept}
 use lib.ListN.{length}
 use Prim.Native.Nat.{_<_}
 use mathlib.Core.Path.{_≡_}
@@ -9,7 +10,7 @@ use Rattle.station.proofs.session.Lts as lts
 use Rattle.station.proofs.one_turn.Reads as one-turn-reads
 
 abbrev Inv-loop : tie.InvT-loop
-Inv-loop t buf₀ out₀ b₀ turns₀ buf out b turns = (length buf ≡ length buf₀) × (length out ≡ length out₀) × (b .have < 45)
+Inv-loop t buf₀ out₀ b₀ turns₀ buf out b turns = (length buf ≡ length buf₀) × (length out ≡ length out₀) × (b .have < 45) × Kept (b .journal)
 
 abbrev μ-loop : tie.MeasureT-loop
 μ-loop t buf₀ out₀ b₀ turns₀ buf out b turns = turns
@@ -36,7 +37,7 @@ loop-less : tie.Need-loop-less Inv-loop μ-loop
 loop-less c = search needs
 
 loop-again : tie.Need-loop-again Inv-loop μ-loop
-loop-again c = let g = c .before .before .before .before .before .one-turn .ensures .0 (c .if1 .left) in (search needs, search needs, g .0)
+loop-again c = let g = c .before .before .before .before .before .one-turn .ensures .0 (c .if1 .left) in (search needs, search needs, g .0, g .1)
 
 same-length-3 : tie.Need-same-length-3 Inv-loop μ-loop
 same-length-3 c = search needs

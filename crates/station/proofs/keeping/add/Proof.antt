@@ -1,3 +1,5 @@
+use native.Mathlib.Omega.{arith}
+use Rattle.station.proofs.Adding.{adding}
 use Rattle.bits.proofs.Cases.{clash}
 use mathlib.Core.Path.{refl}
 use borrow.Author.Needs.{needs}
@@ -63,7 +65,7 @@ returns-3 : tie.Need-returns-3
 returns-3 c = λ q. clash q (c .lost3 .ensures)
 
 returns-4 : tie.Need-returns-4
-returns-4 c = λ q. (refl, refl)
+returns-4 c = λ q. (refl, refl, λ k. adding (c .before .before .before .before .before .before .before .before .before .before .before .before .before .before .before .before .before .before .before .args .t .now) (c .before .before .before .before .before .before .before .before .before .before .before .before .before .before .before .before .before .before .before .args .j .station) (c .before .before .before .before .before .before .before .before .before .before .before .before .before .before .before .before .before .before .before .args .next) (c .before .before .before .before .before .before .before .before .before .before .before .before .before .before .before .before .before .before .before .args .was) (c .before .before .before .before .before .before .before .before .before .before .before .before .before .before .before .before .before .before .before .args .j .length) (c .before .before .before .before .before .before .before .before .before .before .before .before .before .before .before .before .before .before .before .args .kind) (c .before .before .before .before .before .before .before .before .before .before .before .before .before .before .before .before .before .before .before .args .bytes .now) (c .before .before .before .before .before .before .before .before .before .before .before .before .before .before .before .before .before .before .before .fits .was .fits) (omega (arith, c .before .before .before .before .before .before .before .before .before .before .before .before .before .before .before .before .before .before .before .fits .kind .fits)) (λ i. omega (arith, c .before .before .before .before .before .before .before .before .before .before .before .before .before .before .before .before .before .shared-slice-known2 .given i)) (c .before .before .before .before .before .before .before .before .before .before .before .before .before .before .before .before .before .before .before .pre .0) (c .before .before .before .before .before .before .before .before .before .before .before .before .before .before .before .before .before .before .before .pre .1) (c .before .before .before .before .before .before .before .before .before .before .before .before .before .before .before .before .before .before .before .pre .2) (c .before .before .before .before .before .before .before .before .before .before .before .before .before .before .before .sum-after .ensures) (c .before .before .before .before .before .before .before .before .before .before .before .before .before .wrapping-add-usize .ensures) (c .before .before .before .before .before .before .before .before .before .before .before .before .wrapping-add-usize2 .ensures))
 
 pub add-spec : {M : Type 1} → statement M
 add-spec =

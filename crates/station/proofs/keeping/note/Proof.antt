@@ -1,3 +1,5 @@
+use mathlib.Core.Logic.{inr}
+use native.Mathlib.Omega.{arith}
 use Rattle.bits.proofs.Cases.{clash}
 use borrow.Author.Tests.{not-false}
 use mathlib.Core.Path.{refl, sym}
@@ -21,16 +23,16 @@ carried-requires : tie.Need-carried-requires
 carried-requires c κs = search needs
 
 slice-aggregate-add : tie.Need-slice-aggregate-add
-slice-aggregate-add c = sym (length-take-le _ _ (c .before .carried .ensures))
+slice-aggregate-add c = sym (length-take-le _ _ (c .before .carried .ensures .0))
 
 add-requires : tie.Need-add-requires
-add-requires c κs = search needs
+add-requires c κs = let pre = c .before .before .before .before .before .before .before .before .pre in let n = c .before .carried .ensures in let l = length-take-le _ (c .before .before .before .before .before .before .before .before .args .left .now) (n .0) in (pre .0, pre .1 (not-false _ (c .before .before .before .if1 .left)) (c .before .before .if2 .taken), inr (pre .2, omega (arith, l, n .1), refl))
 
 returns-2 : tie.Need-returns-2
-returns-2 c = λ q. let a = c .add .ensures q in (a .0, not-false _ (c .before .before .before .before .if1 .left), λ u v. a .1)
+returns-2 c = λ q. let a = c .add .ensures q in (a .0, not-false _ (c .before .before .before .before .if1 .left), λ u v. a .1, a .2)
 
 returns-3 : tie.Need-returns-3
-returns-3 c = λ q. (refl, not-false _ (c .before .if1 .left), λ u v. clash v (c .if2 .left))
+returns-3 c = λ q. (refl, not-false _ (c .before .if1 .left), λ u v. clash v (c .if2 .left), λ v. clash v (c .if2 .left))
 
 pub note-spec : {M : Type 1} → statement M
 note-spec =
