@@ -23,16 +23,16 @@ abbrev pub placeOf : ℕ → ℤ
 placeOf n = cond (ltb n 9223372036854775808) (pos n) (negsuc 0)
 
 -- where a journal is kept, a good head and appends of so many bytes make its station
-abbrev pub Recorded : Journal → Type 0
-Recorded j = j .kept ≡ true → Journaled (record { station = j .station; sum = j .sum; closed = false }) (j .length)
+abbrev pub JournalMakes : Journal → Type 0
+JournalMakes j = j .kept ≡ true → Journaled (record { station = j .station; sum = j .sum; closed = false }) (j .length)
 
 -- the journal is safe, all that was appended is on the disk and nothing else with it, and it makes the station
 abbrev pub Kept : Journal → Type 0
-Kept j = (j .safe ≡ true) × Recorded j
+Kept j = (j .safe ≡ true) × JournalMakes j
 
 -- whoever finds it safe can go on with it
 abbrev pub KeptIfSafe : Journal → Type 0
-KeptIfSafe j = j .safe ≡ true → Recorded j
+KeptIfSafe j = j .safe ≡ true → JournalMakes j
 
 -- the marks of a session that an answer ended
 abbrev pub EndKind : ℕ → Type 0

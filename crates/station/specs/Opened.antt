@@ -16,12 +16,12 @@ abbrev pub StandsIn : Reading → List ℕ → Type 0
 StandsIn q buf = Stands (q .replay) (q .place) (lastIn q buf)
 
 -- it can be gone on with: it is not closed, and what stands behind its last append in the buffer is no damage
-abbrev pub Sound : List ℕ → Reading → List ℕ → Type 0
-Sound t q buf = (q .replay .closed ≡ false) × (restOf (crcBy t) (q .replay .sum) (q .place) (restIn q buf) ≡ Damaged → ⊥)
+abbrev pub CanGoOn : List ℕ → Reading → List ℕ → Type 0
+CanGoOn t q buf = (q .replay .closed ≡ false) × (restOf (crcBy t) (q .replay .sum) (q .place) (restIn q buf) ≡ Damaged → ⊥)
 
 -- what was read to its end: it lies within the buffer, is sound, and with the right tables and room it is what a head and appends make
 abbrev pub ReadToEnd : List ℕ → List ℕ → Reading → List ℕ → Type 0
-ReadToEnd t room q buf = Within q (length buf) × Sound t q buf × (Lent t room → StandsIn q buf)
+ReadToEnd t room q buf = Within q (length buf) × CanGoOn t q buf × (Lent t room → StandsIn q buf)
 
 -- a journal is gone on with from where a reading ended: its station, the checksum of its last append and its length are the reading's
 pub record Opened (t room buf : List ℕ) (j : Journal) : Type 0 where

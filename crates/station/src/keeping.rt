@@ -11,7 +11,7 @@ ghost use Rattle.journal.specs.Journal.{Follows};
 ghost use Rattle.journal_file.specs.Appends.{most};
 ghost use Rattle.journal_file.specs.Replaying.{Journaled};
 ghost use Rattle.libc.specs.Io.{Ended};
-ghost use Rattle.station.specs.Keeping.{placeOf, Recorded, Kept, KeptIfSafe, EndKind, Adds, Noted};
+ghost use Rattle.station.specs.Keeping.{placeOf, JournalMakes, Kept, KeptIfSafe, EndKind, Adds, Noted};
 use garage::Station;
 
 // The station, and the journal that makes it: whether one is kept, its descriptor, under which name the system has the file, how many bytes
@@ -205,7 +205,7 @@ fn add(
     ended: bool,
 ) -> Journal
     requires { ⌜ (now t ≡ slices) × Journaled (record { station = j .station; sum = was; closed = false }) (j .length) × Adds (j .station) kind (now bytes) next ⌝ }
-    ensures { λ r. ⌜ (r .safe ≡ true → (r .station ≡ next) × (r .ended ≡ ended) × Recorded r) ⌝ }
+    ensures { λ r. ⌜ (r .safe ≡ true → (r .station ≡ next) × (r .ended ≡ ended) × JournalMakes r) ⌝ }
 {
     let opening = journal_file::opening(t, was, kind, bytes.len());
     let sum = journal_file::sum_after(t, was, kind, bytes);
@@ -238,7 +238,7 @@ fn add(
 // Appends the messages that take the journal's station to the next.
 pub fn append(t: &[u32], j: Journal, next: Station, bytes: &[u8]) -> Journal
     requires { ⌜ (now t ≡ slices) × Kept j × Follows (j .station) (now bytes) next × (length (now bytes) ≤ most) ⌝ }
-    ensures { λ r. ⌜ (r .safe ≡ true → (r .station ≡ next) × Recorded r) ⌝ }
+    ensures { λ r. ⌜ (r .safe ≡ true → (r .station ≡ next) × JournalMakes r) ⌝ }
 {
     if j.kept & (0 < bytes.len()) {
         return add(t, j, j.sum, 1, bytes, next, false);
@@ -265,7 +265,7 @@ fn carried(n: usize) -> usize
 // Notes what ended the session, with what was left of the input.
 pub fn note(t: &[u32], j: Journal, kind: u8, left: &[u8]) -> Journal
     requires { ⌜ (now t ≡ slices) × KeptIfSafe j × EndKind kind ⌝ }
-    ensures { λ r. ⌜ (r .safe ≡ true → (r .station ≡ j .station) × (j .safe ≡ true) × Noted true r × Recorded r) ⌝ }
+    ensures { λ r. ⌜ (r .safe ≡ true → (r .station ≡ j .station) × (j .safe ≡ true) × Noted true r × JournalMakes r) ⌝ }
 {
     let station = j.station;
     if !j.safe {

@@ -9,7 +9,7 @@ ghost use Rattle.checksum.specs.Slices.{slices};
 ghost use Rattle.journal.specs.Journal.{Follows};
 ghost use Rattle.journal_file.specs.Appends.{most};
 ghost use Rattle.service.specs.Runs.{enough};
-ghost use Rattle.station.specs.Keeping.{Recorded, Kept, Noted, Goes, AsTurn, TurnedOver, Roomy};
+ghost use Rattle.station.specs.Keeping.{JournalMakes, Kept, Noted, Goes, AsTurn, TurnedOver, Roomy};
 ghost use Rattle.streams.specs.Input.{Fills};
 ghost use Rattle.turns.specs.Turns.{turning};
 
@@ -66,7 +66,7 @@ fn record(
     stop: bool,
 ) -> Journal
     requires { ⌜ (used ≤ end) × (end ≤ length (now buf)) × (length (now buf) ≤ most) × (now t ≡ slices) × Kept j × Follows (j .station) (take used (now buf)) next ⌝ }
-    ensures { λ r. ⌜ (r .safe ≡ true → (r .station ≡ next) × Noted stop r × Recorded r) ⌝ }
+    ensures { λ r. ⌜ (r .safe ≡ true → (r .station ≡ next) × Noted stop r × JournalMakes r) ⌝ }
 {
     let kept = keeping::append(t, j, next, &buf[..used]);
     if stop {
