@@ -416,11 +416,11 @@ pub fn open(
     if fd < 0 {
         return lost();
     }
-    let q = read_from(t, fd, asked, buf, room);
-    if !q.well {
+    let all = read_from(t, fd, asked, buf, room);
+    if !all.well {
         return lost();
     }
-    go_on(fd, q, buf, name, n)
+    go_on(fd, all, buf, name, n)
 }
 
 // ---- a new one
