@@ -62,34 +62,24 @@ fn is_good(kind: Kind, empty: bool) -> bool
     ensures { λ b. ⌜ (b ≡ true → kind ≡ Good) ⌝ }
 {
     if empty {
-        tell(
-            b"station: the journal is an empty file: put the right one in its place, or make one with --new\n",
-        );
+        tell(b"station: the journal is an empty file: put the right one in its place, or make one with --new\n");
         return false;
     }
     match kind {
         Kind::NoJournal => {
-            tell(
-                b"station: the file is no journal of a station (one of version 1.0 is taken over by --follow)\n",
-            );
+            tell(b"station: the file is no journal of a station (one of version 1.0 is taken over by --follow)\n");
             false
         }
         Kind::OtherFormat => {
-            tell(
-                b"station: the journal has another format: start the version of station that wrote it\n",
-            );
+            tell(b"station: the journal has another format: start the version of station that wrote it\n");
             false
         }
         Kind::Damaged => {
-            tell(
-                b"station: the journal's head is damaged; nothing is answered: put a good copy in its place\n",
-            );
+            tell(b"station: the journal's head is damaged; nothing is answered: put a good copy in its place\n");
             false
         }
         Kind::Unfit => {
-            tell(
-                b"station: the journal begins with a station that is not fit; put a good copy in its place\n",
-            );
+            tell(b"station: the journal begins with a station that is not fit; put a good copy in its place\n");
             false
         }
         Kind::Good => true,
@@ -142,7 +132,14 @@ fn replay_all(t: &[u32], fd: i32, start: Reading, buf: &mut [u8], room: &mut [u8
     let mut q = start;
     let mut appends = u64::MAX;
     while 0 < appends {
-        q = journal_reader::next(t, fd, q, buf, room, b"station: the journal can't be read");
+        q = journal_reader::next(
+            t,
+            fd,
+            q,
+            buf,
+            room,
+            b"station: the journal can't be read",
+        );
         if !q.took {
             return q;
         }

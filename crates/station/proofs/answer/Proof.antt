@@ -1,19 +1,13 @@
+-- `station::answer` meets its contract: what is appended is what the run took, and nothing is said before. Assumes nothing.
+use borrow.Author.Tests.{not-true, not-false}
+use borrow.Author.Needs.{needs}
+use mathlib.Core.Path.{sym, ap, _∙_}
+use lib.Seq.{length-take-le}
 use Rattle.station.specs.declared.keeping.Journal.{Journal}
 use Rattle.station.proofs.Turning.{taken-within, taken-follows, held-short, as-turn}
 use Rattle.bits.proofs.Cases.{clash}
-use lib.Seq.{length-take-le}
-use borrow.Author.Tests.{not-true, not-false}
-use mathlib.Core.Path.{sym, ap, _∙_}
-use borrow.Author.Needs.{needs}
 use Rattle.station.proofs.answer.Statement.{statement}
 use Rattle.station.proofs.answer.Tie as tie
-use Rattle.station.proofs.answer.Reads as reads
-use Rattle.station.proofs.answer.Lts as lts
-use Rattle.service.proofs.serve.Reads as serve-reads
-use Rattle.station.proofs.record.Reads as record-reads
-use Rattle.station.proofs.say.Reads as say-reads
-use Rattle.station.proofs.stopped.Reads as stopped-reads
-use Rattle.turns.proofs.hold.Reads as hold-reads
 
 slice-reshare-prefix-serve : tie.Need-slice-reshare-prefix-serve
 slice-reshare-prefix-serve c = search needs

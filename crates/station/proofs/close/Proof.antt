@@ -1,15 +1,11 @@
-use mathlib.Core.Logic.{inl}
-use lib.Seq.{length-take-le}
+-- `station::close` meets its contract: the end is noted before it is answered. Assumes nothing.
 use borrow.Author.Tests.{not-false}
-use mathlib.Core.Path.{refl, sym}
 use borrow.Author.Needs.{needs}
+use mathlib.Core.Logic.{inl}
+use mathlib.Core.Path.{refl, sym}
+use lib.Seq.{length-take-le}
 use Rattle.station.proofs.close.Statement.{statement}
 use Rattle.station.proofs.close.Tie as tie
-use Rattle.station.proofs.close.Reads as reads
-use Rattle.station.proofs.close.Lts as lts
-use Rattle.service.proofs.finish.Reads as finish-reads
-use Rattle.station.proofs.keeping.note.Reads as note-reads
-use Rattle.station.proofs.say.Reads as say-reads
 
 returns : tie.Need-returns
 returns c = search needs

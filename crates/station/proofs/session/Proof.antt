@@ -1,13 +1,11 @@
-use Rattle.station.specs.Keeping.{Kept}
-use lib.ListN.{length}
-use Prim.Native.Nat.{_<_}
-use mathlib.Core.Path.{_≡_}
+-- `station::session` meets its contract: less than a message is held, all that was answered is in the journal, and the turns that are left shrink. Assumes nothing.
 use borrow.Author.Needs.{needs}
+use mathlib.Core.Path.{_≡_}
+use Prim.Native.Nat.{_<_}
+use lib.ListN.{length}
+use Rattle.station.specs.Keeping.{Kept}
 use Rattle.station.proofs.session.Statement.{statement}
 use Rattle.station.proofs.session.Tie as tie
-use Rattle.station.proofs.session.Reads as reads
-use Rattle.station.proofs.session.Lts as lts
-use Rattle.station.proofs.one_turn.Reads as one-turn-reads
 
 abbrev Inv-loop : tie.InvT-loop
 Inv-loop t buf₀ out₀ b₀ turns₀ buf out b turns = (length buf ≡ length buf₀) × (length out ≡ length out₀) × (b .have < 45) × Kept (b .journal)

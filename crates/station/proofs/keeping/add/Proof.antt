@@ -1,20 +1,11 @@
+-- `station::keeping::add` meets its contract: with one append more the journal is one again. Assumes nothing.
+use borrow.Author.Needs.{needs}
+use mathlib.Core.Path.{refl}
 use native.Mathlib.Omega.{arith}
 use Rattle.station.proofs.Adding.{adding}
 use Rattle.bits.proofs.Cases.{clash}
-use mathlib.Core.Path.{refl}
-use borrow.Author.Needs.{needs}
 use Rattle.station.proofs.keeping.add.Statement.{statement}
 use Rattle.station.proofs.keeping.add.Tie as tie
-use Rattle.station.proofs.keeping.add.Reads as reads
-use Rattle.station.proofs.keeping.add.Lts as lts
-use Rattle.journal_file.proofs.closing.Reads as closing-reads
-use Rattle.journal_file.proofs.opening.Reads as opening-reads
-use Rattle.journal_file.proofs.sum_after.Reads as sum-after-reads
-use Rattle.station.proofs.keeping.has_length.Reads as has-length-reads
-use Rattle.station.proofs.keeping.is_there.Reads as is-there-reads
-use Rattle.station.proofs.keeping.lost.Reads as lost-reads
-use Rattle.station.proofs.keeping.write_append.Reads as write-append-reads
-use Rattle.std.proofs.num.wrapping_add_usize.Reads as wrapping-add-usize-reads
 
 opening-requires : tie.Need-opening-requires
 opening-requires c κs = search needs

@@ -1,14 +1,12 @@
+-- `station::keeping::append` meets its contract: messages are appended, or there are none. Assumes nothing.
+use borrow.Author.Tests.{ltb-true}
+use borrow.Author.Needs.{needs}
 use mathlib.Core.Logic.{inl}
+use mathlib.Core.Path.{refl}
 use Rattle.station.proofs.Adding.{still}
 use Rattle.bits.proofs.Cases.{both}
-use borrow.Author.Tests.{ltb-true}
-use mathlib.Core.Path.{refl}
-use borrow.Author.Needs.{needs}
 use Rattle.station.proofs.keeping.append.Statement.{statement}
 use Rattle.station.proofs.keeping.append.Tie as tie
-use Rattle.station.proofs.keeping.append.Reads as reads
-use Rattle.station.proofs.keeping.append.Lts as lts
-use Rattle.station.proofs.keeping.add.Reads as add-reads
 
 add-requires : tie.Need-add-requires
 add-requires c κs = let pre = c .before .before .before .before .pre in let t = both _ _ (c .if1 .taken) in (pre .0, pre .1 .1 (t .0), inl (refl, pre .2, ltb-true 0 _ (t .1), pre .3))

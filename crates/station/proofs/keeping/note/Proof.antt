@@ -1,17 +1,13 @@
-use mathlib.Core.Logic.{inr}
-use native.Mathlib.Omega.{arith}
-use Rattle.bits.proofs.Cases.{clash}
+-- `station::keeping::note` meets its contract: a mark carries less than a message. Assumes nothing.
 use borrow.Author.Tests.{not-false}
-use mathlib.Core.Path.{refl, sym}
-use lib.Seq.{length-take-le}
 use borrow.Author.Needs.{needs}
+use mathlib.Core.Logic.{inr}
+use mathlib.Core.Path.{refl, sym}
+use native.Mathlib.Omega.{arith}
+use lib.Seq.{length-take-le}
+use Rattle.bits.proofs.Cases.{clash}
 use Rattle.station.proofs.keeping.note.Statement.{statement}
 use Rattle.station.proofs.keeping.note.Tie as tie
-use Rattle.station.proofs.keeping.note.Reads as reads
-use Rattle.station.proofs.keeping.note.Lts as lts
-use Rattle.station.proofs.keeping.add.Reads as add-reads
-use Rattle.station.proofs.keeping.carried.Reads as carried-reads
-use Rattle.station.proofs.keeping.lost.Reads as lost-reads
 
 lost-requires : tie.Need-lost-requires
 lost-requires c κs = search needs

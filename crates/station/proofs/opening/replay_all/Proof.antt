@@ -32,15 +32,13 @@ same-length-2 : tie.Need-same-length-2 Inv-loop μ-loop
 same-length-2 c = search needs
 
 returns : tie.Need-returns Inv-loop μ-loop
-returns c = (
-  λ e.
-      let n = c .before .before .before .before .before .before .next in
-      let w = n .ensures .0 e in
-      let k = n .kept .1 .1 .1 .0 in
-      (omega (arith, w .0, k), w .1, w .2, omega (arith, w .3, k)),
-  λ e l. next-stands (c .before .before .before .before .before .before .before .before .before .before .before .before .before .before .before .args .t .now) (c .before .before .before .before .before .before .before .before .before .before .before .loop .room) (c .before .before .before .before .before .before .before .before .before .before .before .loop .buf) (c .before .before .before .before .before .before .next .last .1 .1 .1 .0) (c .before .before .before .before .before .before .before .before .before .before .before .loop .q) (c .before .before .before .before .before .before .next .result)
-      (c .before .before .before .before .before .before .next .ensures) (l .0, omega (arith, l .1, c .before .before .before .before .before .before .before .before .before .before .before .loop .inv .1)) (c .before .before .before .before .before .before .before .before .before .before .before .loop .inv .2 l),
-)
+returns c = (λ e.
+    let n = c .before .before .before .before .before .before .next in
+    let w = n .ensures .0 e in
+    let k = n .kept .1 .1 .1 .0 in
+    (omega (arith, w .0, k), w .1, w .2, omega (arith, w .3, k)),
+    λ e l. next-stands (c .before .before .before .before .before .before .before .before .before .before .before .before .before .before .before .args .t .now) (c .before .before .before .before .before .before .before .before .before .before .before .loop .room) (c .before .before .before .before .before .before .before .before .before .before .before .loop .buf) (c .before .before .before .before .before .before .next .last .1 .1 .1 .0) (c .before .before .before .before .before .before .before .before .before .before .before .loop .q) (c .before .before .before .before .before .before .next .result)
+    (c .before .before .before .before .before .before .next .ensures) (l .0, omega (arith, l .1, c .before .before .before .before .before .before .before .before .before .before .before .loop .inv .1)) (c .before .before .before .before .before .before .before .before .before .before .before .loop .inv .2 l))
 
 sub-appends : tie.Need-sub-appends Inv-loop μ-loop
 sub-appends c = search needs
@@ -49,12 +47,8 @@ loop-less : tie.Need-loop-less Inv-loop μ-loop
 loop-less c = search needs
 
 loop-again : tie.Need-loop-again Inv-loop μ-loop
-loop-again c = (
-  search needs,
-  search needs,
-  λ l. next-stands (c .before .before .before .before .before .before .before .before .before .before .before .before .before .before .before .args .t .now) (c .before .before .before .before .before .before .before .before .before .before .before .loop .room) (c .before .before .before .before .before .before .before .before .before .before .before .loop .buf) (c .before .before .before .before .before .before .next .last .1 .1 .1 .0) (c .before .before .before .before .before .before .before .before .before .before .before .loop .q) (c .before .before .before .before .before .before .next .result)
-      (c .before .before .before .before .before .before .next .ensures) (l .0, omega (arith, l .1, c .before .before .before .before .before .before .before .before .before .before .before .loop .inv .1)) (c .before .before .before .before .before .before .before .before .before .before .before .loop .inv .2 l),
-)
+loop-again c = (search needs, search needs, λ l. next-stands (c .before .before .before .before .before .before .before .before .before .before .before .before .before .before .before .args .t .now) (c .before .before .before .before .before .before .before .before .before .before .before .loop .room) (c .before .before .before .before .before .before .before .before .before .before .before .loop .buf) (c .before .before .before .before .before .before .next .last .1 .1 .1 .0) (c .before .before .before .before .before .before .before .before .before .before .before .loop .q) (c .before .before .before .before .before .before .next .result)
+    (c .before .before .before .before .before .before .next .ensures) (l .0, omega (arith, l .1, c .before .before .before .before .before .before .before .before .before .before .before .loop .inv .1)) (c .before .before .before .before .before .before .before .before .before .before .before .loop .inv .2 l))
 
 refused-requires : tie.Need-refused-requires Inv-loop μ-loop
 refused-requires c κs = search needs
