@@ -6,7 +6,7 @@
  * its conditions, in the paper's order: whether it holds, what would be told if it were the first to fail, and which cells, slots or
  * whether the lift decide it. docs/PANEL.md has it in words, and bin/panel is a program over these entries.
  *
- * The entries are proved to answer what the definitions in crates/plain_c/specs/ say, on every input; nothing proves this header or its
+ * The entries are proved to answer what the definitions in crates/panel_c/specs/ say, on every input; nothing proves this header or its
  * caller right, so what a caller must see to is what station.h says of its own entries: pointers valid for the lengths that follow them,
  * room for writing that overlaps nothing else that is lent to the call, no two threads in calls on one station. With a length of 0 any
  * pointer will do, NULL too. Any number and any bytes may be passed. No entry allocates, prints, waits, or keeps anything between calls.

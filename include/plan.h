@@ -3,7 +3,7 @@
  * A plan is a starting record, up to PLAN_SETS_MOST sets of instructions one after the other, and a wish: that at the end the lift be at
  * street, with a car on it or without one. It is accepted exactly if the record would be taken as an image, each set in turn would be, all
  * instructions of the sets before it having succeeded, and the last record meets the wish. The entry is proved to answer what the
- * definitions in crates/plans/specs/Plans.antt say, on every input; nothing proves this header or its caller right, so what a caller must
+ * definitions in crates/plan/specs/Plans.antt say, on every input; nothing proves this header or its caller right, so what a caller must
  * see to is what station.h says of its own entries: the pointer is valid for the length that follows it, and nobody writes those bytes
  * meanwhile. With a length of 0 any pointer will do, NULL too. No station is needed, and the caller's own plays no part. The entry doesn't
  * write anything that is lent, allocate, print or wait, and keeps nothing between calls: any number of threads may be in it. It takes no

@@ -117,8 +117,22 @@ fn open_contract(header: &str, from_c: bool) -> Option<&'static str> {
     let definition = if rooms.is_empty() {
         says.strip_prefix(&format!("{answer} ≡ "))
     } else {
-        let form =
-            ["Leaves ", "Serves ", "Exchanges ", "Holds ", "Turns ", "Counts ", "Replays "].iter().find_map(|form| says.strip_prefix(form));
+        let form = [
+            "Serves ",
+            "Exchanges ",
+            "Holds ",
+            "Turns ",
+            "Counts ",
+            "Replays ",
+            "LeavesCounts ",
+            "LeavesDrawing ",
+            "LeavesMessage ",
+            "LeavesRoom ",
+            "LeavesStep ",
+            "LeavesTotals ",
+        ]
+        .iter()
+        .find_map(|form| says.strip_prefix(form));
         form.and_then(|says| says.strip_suffix(&ending))
     };
     let Some(definition) = definition else { return Some("it is no equation for the answer and each lent room") };

@@ -139,7 +139,7 @@ fn main() {
     let path = std::env::args().nth(1).unwrap_or_default();
     let page = read(&path);
     let answers = read("crates/answers/specs/Answers.antt");
-    let rejections = read("crates/garage_laws/specs/Rejections.antt");
+    let rejections = read("crates/station_laws/specs/Rejections.antt");
     let rules = read("crates/rules/specs/Rules.antt");
     let floor = read("crates/floor/specs/Floor.antt");
     let kinds = read("crates/wire/specs/Kinds.antt");
@@ -208,24 +208,24 @@ fn main() {
     // kinds and lengths; a request's length goes by its count
     let rows = table(&page, "Messages", "kind");
     let sized = |name: &str| {
-        let text = definition(&kinds, &format!("{name} = record"));
+        let text = definition(&kinds, &format!("{name}Kind = record"));
         let field = |name: &str| text.split(&format!("{name} = ")).nth(1)?.split(';').next()?.parse::<u32>().ok();
         [field("number").unwrap_or(u32::MAX), 2 + field("size").unwrap_or(u32::MAX - 2)]
     };
     let defined_kinds: Vec<_> = ["event", "result", "image", "ask", "answer", "held"].map(sized).to_vec();
     let said: Vec<_> = rows.iter().skip(1).map(|row| [numbers(row[0])[0], numbers(row[2])[0]]).collect();
     check.same("kinds and lengths", &said, &defined_kinds);
-    check.same("kind of a request", &numbers(rows.first().map_or("", |row| row[0])), &vec![defined(&kinds, "request")]);
+    check.same("kind of a request", &numbers(rows.first().map_or("", |row| row[0])), &vec![defined(&kinds, "requestKind")]);
 
     // every byte of a message, of a lent station and of a plan's head
     let mut bytes = vec!["0-1", "2-3", "4", "5 on"].into_iter().map(String::from).collect::<Vec<_>>();
     for kind in ["event", "result", "image", "answer", "held"] {
-        bytes.extend(places(definition(&kinds, &format!("{kind} = record"))));
+        bytes.extend(places(definition(&kinds, &format!("{kind}Kind = record"))));
     }
     let column_of = |rows: &[Vec<&str>], at: usize| rows.iter().map(|row| row[at].to_string()).collect::<Vec<_>>();
     check.same("bytes of messages", &column_of(&table(&page, "Messages", "kind | bytes"), 1), &bytes);
     check.same("bytes of a station", &column_of(&table(&page, "A fit station", "bytes"), 0), &places(&found("stationOf m =")));
-    let plans = read("crates/plans/specs/Plans.antt");
+    let plans = read("crates/plan/specs/Plans.antt");
     let mut head = places(definition(&plans, "planIn s ="));
     head.push(format!("{} on", defined(&plans, "head")));
     check.same("bytes of a plan", &column_of(&table(&page, "Plans", "bytes"), 0), &head);

@@ -11,10 +11,11 @@ use borrow.Author.Tests.{eq-eqb, ne-eqb, lt-ltb, le-ltb}
 use Rattle.bits.specs.Places.{places}
 use Rattle.bits.proofs.Cases.{split}
 use Rattle.floor.specs.Floor.{heightLow, heightHigh, raisedCar, driveIn}
+use Rattle.rules.specs.Cells.{cellNamed, rowNamed, rowBehind}
 use Rattle.rules.specs.Named.{higher, step}
-use Rattle.cards.specs.Following.{nowhere, numberAt}
+use Rattle.cards.specs.Following.{noSource, numberAt}
 use Rattle.cards.specs.Held.{numbersIn}
-use Rattle.cards.specs.Private.{cellNamed, against, beltSource, rowAt, placeAt, rowNamed, rowBehind, shuttleSource}
+use Rattle.cards.specs.Private.{against, beltSource, rowAt, placeAt, shuttleSource}
 
 -- ---- belts
 
@@ -28,7 +29,7 @@ module _ (row mask toward size k : ℕ) where
     unfolding beltSource
     comes m = rw (← e, n, m)
 
-    pub none-comes : cellNamed row mask j ≡ false → nowhere ≡ beltSource row mask toward size k
+    pub none-comes : cellNamed row mask j ≡ false → noSource ≡ beltSource row mask toward size k
     unfolding beltSource
     none-comes m = rw (← e, n, m)
 
@@ -52,7 +53,7 @@ module _ (side mask toward k : ℕ) {row : ℕ} (e : row ≡ rowAt side k) where
     unfolding shuttleSource
     brought m q = rw (← e, ← b, ne-eqb row 0 n, m) q
 
-    pub left : rowNamed mask behind ≡ false → rowNamed mask row ≡ true → nowhere ≡ shuttleSource side mask toward k
+    pub left : rowNamed mask behind ≡ false → rowNamed mask row ≡ true → noSource ≡ shuttleSource side mask toward k
     unfolding shuttleSource
     left m q = rw (← e, ← b, ne-eqb row 0 n, m, q)
 
@@ -65,19 +66,19 @@ module _ (side mask toward k : ℕ) {row : ℕ} (e : row ≡ rowAt side k) where
 module _ (a : List ℕ) (k : ℕ) where
   pub at-cell : k < 40 → getD a k 0 ≡ numberAt (numbersIn a) k
   unfolding numbersIn
-  at-cell h = rw (ne-eqb k nowhere (omega arith), lt-ltb k 40 h)
+  at-cell h = rw (ne-eqb k noSource (omega arith), lt-ltb k 40 h)
 
   pub at-lift : 40 ≤ k → k ≡ raisedCar → getD a 40 0 ≡ numberAt (numbersIn a) k
   unfolding numbersIn
-  at-lift h e = rw (ne-eqb k nowhere (omega arith), le-ltb k 40 h, eq-eqb raisedCar k (sym e))
+  at-lift h e = rw (ne-eqb k noSource (omega arith), le-ltb k 40 h, eq-eqb raisedCar k (sym e))
 
   pub at-coming : 40 ≤ k → (k ≡ raisedCar → ⊥) → k ≡ driveIn → getD a 41 0 ≡ numberAt (numbersIn a) k
   unfolding numbersIn
-  at-coming h n e = rw (ne-eqb k nowhere (omega arith), le-ltb k 40 h, ne-eqb raisedCar k (λ q. n (sym q)), eq-eqb driveIn k (sym e))
+  at-coming h n e = rw (ne-eqb k noSource (omega arith), le-ltb k 40 h, ne-eqb raisedCar k (λ q. n (sym q)), eq-eqb driveIn k (sym e))
 
   pub at-none : 40 ≤ k → (k ≡ raisedCar → ⊥) → (k ≡ driveIn → ⊥) → 0 ≡ numberAt (numbersIn a) k
   unfolding numbersIn
-  at-none h n m = split (eqb k nowhere)
+  at-none h n m = split (eqb k noSource)
       (λ t. rw t)
       (λ t. rw (t, le-ltb k 40 h, ne-eqb raisedCar k (λ q. n (sym q)), ne-eqb driveIn k (λ q. m (sym q))))
 

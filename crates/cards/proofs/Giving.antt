@@ -22,10 +22,10 @@ use Rattle.bits.proofs.Search.{each}
 use Rattle.floor.specs.declared.Total.{Total}
 use Rattle.floor.specs.declared.Total.the-variants.{Cars, Unsound}
 use Rattle.floor.specs.Floor.{driveIn}
-use Rattle.floor.specs.Sound.{total}
+use Rattle.floor.specs.Sound.{total, carsIn}
 use Rattle.floor.proofs.Few.{few-cars}
-use Rattle.cards.specs.Given.{bears, numbersGiven, carsIn, wanted}
-use Rattle.cards.specs.Held.{placeOf, held, cardsGiven}
+use Rattle.cards.specs.Given.{bears, numbersGiven, wanted}
+use Rattle.cards.specs.Held.{placeOfElement, heldNumbers, cardsGiven}
 use Rattle.cards.specs.Private.{givenAt}
 use Rattle.cards.proofs.Listing.{Filling, fill-starts, fills, fill-ends, cell-place}
 
@@ -44,9 +44,9 @@ cells-below j h =
 pub one-shifted : (j : ℕ) → j < 64 → 1 ≤ 1 * 2 ^ j % 2 ^ 64
 one-shifted j h = omega (arith, shl-one j h, pow-pos j)
 
-module _ (f : Bits) (j : ℕ) {on : Bool} (e : on ≡ f (placeOf j)) where
+module _ (f : Bits) (j : ℕ) {on : Bool} (e : on ≡ f (placeOfElement j)) where
   pub bears-half : {even : Bool} → j < 20
-      → even ≡ eqb (count (places (1 * 2 ^ j % 2 ^ 64 - 1)) f % 2) 0 → on && even ≡ bears f (placeOf j)
+      → even ≡ eqb (count (places (1 * 2 ^ j % 2 ^ 64 - 1)) f % 2) 0 → on && even ≡ bears f (placeOfElement j)
   bears-half h d =
       let p = cell-place j (omega arith) in
       ap₂ _&&_ (e ∙ ap f p) (d ∙ ap (λ (ks : List ℕ). eqb (count ks f % 2) 0) (cells-below j h))
@@ -55,7 +55,7 @@ module _ (f : Bits) (j : ℕ) {on : Bool} (e : on ≡ f (placeOf j)) where
       half : ltb j 20 ≡ true → bears f j ≡ f j && eqb (count (from 0 j) f % 2) 0
       half t = rw t
 
-  pub bears-whole : 20 ≤ j → on ≡ bears f (placeOf j)
+  pub bears-whole : 20 ≤ j → on ≡ bears f (placeOfElement j)
   bears-whole h = e ∙ sym (split (ltb j 40)
       (λ t. let p = cell-place j (ltb-true j 40 t) in ap (bears f) p ∙ whole (le-ltb j 20 h) t ∙ sym (ap f p))
       (λ t. split (eqb j 40) (λ u. rw (t, u)) (λ u. rw (t, u))))
@@ -73,10 +73,10 @@ getD-past (x ∷ a) (suc k) h = getD-past a k (omega arith)
 
 -- how many places below an element's bear a number
 abbrev before : Bits → ℕ → ℕ
-before f j = count (from 0 (placeOf j)) (bears f)
+before f j = count (from 0 (placeOfElement j)) (bears f)
 
 pub record Giving (f : Bits) (ns new : List ℕ) (t j : ℕ) : Type 0 where
-  pub filled : Filling (λ i. numbersGiven f ns (placeOf i)) 42 new j
+  pub filled : Filling (λ i. numbersGiven f ns (placeOfElement i)) 42 new j
   -- so many have been given
   pub given : j ≤ 41 → t ≡ before f j
   pub upto : j ≤ 42
@@ -90,7 +90,7 @@ pub giving-starts : (f : Bits) (ns : List ℕ) → Giving f ns (replicate 42 0) 
 giving-starts f ns = record { filled = fill-starts _ 42; given = λ h. refl; upto = omega arith; few = omega arith }
 
 -- one place more; between the cells, the raised lift and the one that waits no place bears a number
-before-more : (f : Bits) (j : ℕ) → j < 41 → before f (j + 1) ≡ before f j + digit (bears f (placeOf j))
+before-more : (f : Bits) (j : ℕ) → j < 41 → before f (j + 1) ≡ before f j + digit (bears f (placeOfElement j))
 before-more f j h = split (ltb j 39)
     (λ t.
     let l = ltb-true j 39 t in
@@ -106,16 +106,16 @@ before-more f j h = split (ltb j 39)
 
 module _ {f : Bits} {ns new : List ℕ} {t j : ℕ} (v : Giving f ns new t j) (h : j < 42) (len : length ns ≡ 31) where
   -- a place is given the number that is next
-  gives : {here : Bool} → here ≡ bears f (placeOf j) → givenAt ns t here ≡ numbersGiven f ns (placeOf j)
+  gives : {here : Bool} → here ≡ bears f (placeOfElement j) → givenAt ns t here ≡ numbersGiven f ns (placeOfElement j)
   unfolding numbersGiven
   gives {here} e =
       ap (λ (b : Bool). cond b (cond (ltb t 31) (getD ns t 0) 0) 0) e
-      ∙ ap (λ (x : ℕ). cond (bears f (placeOf j)) x 0) (past ∙ ap (λ (x : ℕ). getD ns x 0) (v .given (omega arith)))
+      ∙ ap (λ (x : ℕ). cond (bears f (placeOfElement j)) x 0) (past ∙ ap (λ (x : ℕ). getD ns x 0) (v .given (omega arith)))
     where
       past : cond (ltb t 31) (getD ns t 0) 0 ≡ getD ns t 0
       past = split (ltb t 31) (λ u. rw u) (λ u. let l = ltb-false t 31 u in rw u (sym (getD-past ns t (omega arith))))
 
-  pub gives-turn : {c : ℕ} {here : Bool} → here ≡ bears f (placeOf j)
+  pub gives-turn : {c : ℕ} {here : Bool} → here ≡ bears f (placeOfElement j)
       → c ≡ givenAt ns t here → Giving f ns (set new j c) (t + boolByte here) (j + 1)
   gives-turn {c} {here} e d = record {
     filled = fills (v .filled) h (d ∙ gives e);
@@ -125,7 +125,7 @@ module _ {f : Bits} {ns new : List ℕ} {t j : ℕ} (v : Giving f ns new t j) (h
   }
 
 pub giving-ends : (r : ℕ) {ns new : List ℕ} {t j : ℕ} → Giving (bit r) ns new t j → 42 ≤ j → new ≡ cardsGiven r ns
-unfolding cardsGiven held
+unfolding cardsGiven heldNumbers
 giving-ends r v h = fill-ends (v .filled) h
 
 -- ---- how many numbers an image comes with

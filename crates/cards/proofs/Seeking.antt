@@ -14,9 +14,9 @@ use Rattle.bits.proofs.Cases.{split}
 use Rattle.bits.proofs.Search.{none-at, some-same, some-at, none-is, every-is}
 use Rattle.bits.proofs.Least.{found-least, least-below, every-not, Passed}
 use Rattle.cards.specs.declared.Offered.the-variants.{Fine, WrongCount, ZeroNumber, TwiceGiven}
-use Rattle.cards.specs.Following.{nowhere}
+use Rattle.cards.specs.Following.{noSource}
 use Rattle.cards.specs.Given.{bears, wanted, zeroAt, twiceAt, givenAs}
-use Rattle.cards.specs.Held.{placeOf, cardsFit, elementOf, whereIs}
+use Rattle.cards.specs.Held.{placeOfElement, cardsFit, elementOf, whereIs}
 use Rattle.cards.specs.Private.{standRight, repeats}
 
 -- ---- the least that passes says whether some do
@@ -38,9 +38,9 @@ none-does {p} {m} v h = sym (none-is m p (λ i l. v .none i (omega arith)))
 
 -- one does so at element j
 abbrev pub rightAt : ℕ → List ℕ → ℕ → Bool
-rightAt r a j = Bool·beq (not (eqb (getD a j 0) 0)) (bears (bit r) (placeOf j))
+rightAt r a j = Bool·beq (not (eqb (getD a j 0) 0)) (bears (bit r) (placeOfElement j))
 
-module _ (r : ℕ) (a : List ℕ) (j : ℕ) {here : Bool} (e : here ≡ bears (bit r) (placeOf j)) where
+module _ (r : ℕ) (a : List ℕ) (j : ℕ) {here : Bool} (e : here ≡ bears (bit r) (placeOfElement j)) where
   asked : not (rightAt r a j) ≡ not (Bool·beq (not (eqb (getD a j 0) 0)) here)
   asked = ap (λ (b : Bool). not (Bool·beq (not (eqb (getD a j 0) 0)) b)) (sym e)
 
@@ -114,15 +114,15 @@ module _ (r n : ℕ) (ns : List ℕ) where
 -- ---- where a card's car is
 
 module _ (a : List ℕ) (c : ℕ) where
-  pub no-card : c ≡ 0 → nowhere ≡ whereIs a c
+  pub no-card : c ≡ 0 → noSource ≡ whereIs a c
   unfolding whereIs
   no-card z = rw (eq-eqb c 0 z)
 
   module _ (z : c ≡ 0 → ⊥) {j : ℕ} (e : j ≡ elementOf a c) where
-    pub stands-there : {k : ℕ} → j < 41 → k ≡ placeOf j → k ≡ whereIs a c
+    pub stands-there : {k : ℕ} → j < 41 → k ≡ placeOfElement j → k ≡ whereIs a c
     unfolding whereIs
     stands-there h p = rw (ne-eqb c 0 z, ← e, lt-ltb j 41 h) p
 
-    pub stands-nowhere : 41 ≤ j → nowhere ≡ whereIs a c
+    pub stands-nowhere : 41 ≤ j → noSource ≡ whereIs a c
     unfolding whereIs
     stands-nowhere h = rw (ne-eqb c 0 z, ← e, le-ltb j 41 h)

@@ -10,19 +10,20 @@ use Rattle.bits.specs.Search.{every}
 use Rattle.bits.proofs.Cases.{split, and-l, and-r}
 use Rattle.bits.proofs.Search.{each as each-below}
 use Rattle.floor.specs.Floor.{beltOf}
+use Rattle.rules.specs.Cells.{rowNamed, rowBehind}
 use Rattle.rules.specs.declared.Instruction.{Instruction}
 use Rattle.rules.specs.Rules.{wellFormed}
 use Rattle.rules.proofs.Every.{everywhere, each}
 use Rattle.cards.specs.Cards.{Numbers}
-use Rattle.cards.specs.Following.{nowhere, Taking, _⟵_, takings, numberAt, taken}
-use Rattle.cards.specs.Private.{source, against, beltSource, rowAt, placeAt, rowNamed, rowBehind, shuttleSource, liftSource, sourceOf}
+use Rattle.cards.specs.Following.{noSource, Taking, _⟵_, takings, numberAt, numbersTaken}
+use Rattle.cards.specs.Private.{source, against, beltSource, rowAt, placeAt, shuttleSource, liftSource, sourceOf}
 
-pub taken-source : (ts : List Taking) (n : Numbers) (k : ℕ) → (k ≡ nowhere → ⊥) → taken ts n k ≡ numberAt n (source ts k)
-unfolding taken source
-taken-source [] n k o = split (eqb k nowhere) (λ e. absurd (o (eqb-true k nowhere e))) (λ e. rw e)
+pub taken-source : (ts : List Taking) (n : Numbers) (k : ℕ) → (k ≡ noSource → ⊥) → numbersTaken ts n k ≡ numberAt n (source ts k)
+unfolding numbersTaken source
+taken-source [] n k o = split (eqb k noSource) (λ e. absurd (o (eqb-true k noSource e))) (λ e. rw e)
 taken-source (j ⟵ s ∷ ts) n k o = go (eqb j k) (taken-source ts n k o)
   where
-    go : (b : Bool) → taken ts n k ≡ numberAt n (source ts k) → cond b (numberAt n s) (taken ts n k) ≡ numberAt n (cond b s (source ts k))
+    go : (b : Bool) → numbersTaken ts n k ≡ numberAt n (source ts k) → cond b (numberAt n s) (numbersTaken ts n k) ≡ numberAt n (cond b s (source ts k))
     go true r = refl
     go false r = r
 

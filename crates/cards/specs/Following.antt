@@ -18,19 +18,19 @@ use Rattle.rules.specs.Named.{higher, cells, step, rowsOf, onward}
 use Rattle.cards.specs.Cards.{Numbers, anchor}
 
 -- no place: nothing comes from there
-abbrev pub nowhere : ℕ
-nowhere = 64
+abbrev pub noSource : ℕ
+noSource = 64
 
 -- the first place of some
-abbrev pub first : List ℕ → ℕ
-first ks = getD ks 0 nowhere
+abbrev pub firstPlace : List ℕ → ℕ
+firstPlace ks = getD ks 0 noSource
 
 -- where the number of a car stands that is on the lift's cells, and of one that is at a shuttle's position
-abbrev pub onLift : ℕ
-onLift = first liftCells
+abbrev pub liftNumberAt : ℕ
+liftNumberAt = firstPlace liftCells
 
 abbrev pub onShuttle : ℕ → ℕ → ℕ
-onShuttle side row = cond (eqb row nowhere) nowhere (first (place side row))
+onShuttle side row = cond (eqb row noSource) noSource (firstPlace (place side row))
 
 -- ---- the numbers after an instruction
 
@@ -40,10 +40,10 @@ pub data Taking : Type 0 where
 
 infix 80 _⟵_
 -- the place or row that is n steps behind k, seen toward d, if it is one of ks; else nowhere
-abbrev pub behind : ℕ → ℕ → List ℕ → ℕ → ℕ
-behind toward n ks k =
-    let j = cond (higher toward) (cond (ltb k n) nowhere (k - n)) (k + n) in
-    cond (elem j ks) j nowhere
+abbrev pub sourceBehind : ℕ → ℕ → List ℕ → ℕ → ℕ
+sourceBehind toward n ks k =
+    let j = cond (higher toward) (cond (ltb k n) noSource (k - n)) (k + n) in
+    cond (elem j ks) j noSource
 
 -- the rows that a mask names, and those next to them toward d
 abbrev pub rowsTouched : ℕ → ℕ → List ℕ
@@ -52,31 +52,31 @@ rowsTouched toward mask = rowsOf mask ++ join (map (onward toward) (rowsOf mask)
 -- what an instruction's success makes of the numbers, where `low` says that the lift is in the basement
 abbrev pub takings : Instruction → Bool → List Taking
 -- each cell of the span takes the number of the cell behind it in the span; cells left behind have none
-takings (Belts row mask toward size) low = map (λ k. k ⟵ behind toward (step row size) (cells row mask) k) (cells row mask)
+takings (Belts row mask toward size) low = map (λ k. k ⟵ sourceBehind toward (step row size) (cells row mask) k) (cells row mask)
 -- lowered shuttles take the numbers of their cars along: each row takes that of the named row behind it
 takings (Shuttles side mask orientation toward) low =
     cond (eqb orientation lowered)
-    (map (λ row. onShuttle side row ⟵ onShuttle side (behind toward 1 (rowsOf mask) row)) (rowsTouched toward mask))
+    (map (λ row. onShuttle side row ⟵ onShuttle side (sourceBehind toward 1 (rowsOf mask) row)) (rowsTouched toward mask))
     []
 takings (Tilt side row orientation) low = []
 -- arriving in the basement, the number goes from the raised lift to its cells; leaving it, the other way
 takings (Lift height) low =
-    cond (eqb height basement) (onLift ⟵ raisedCar ∷ raisedCar ⟵ nowhere ∷ [])
-    (cond low (raisedCar ⟵ onLift ∷ onLift ⟵ nowhere ∷ []) [])
+    cond (eqb height basement) (liftNumberAt ⟵ raisedCar ∷ raisedCar ⟵ noSource ∷ [])
+    (cond low (raisedCar ⟵ liftNumberAt ∷ liftNumberAt ⟵ noSource ∷ []) [])
 takings Rotate low = []
 
 -- the number at a place; nowhere there is none
 abbrev pub numberAt : Numbers → ℕ → ℕ
-numberAt n k = cond (eqb k nowhere) 0 (n k)
+numberAt n k = cond (eqb k noSource) 0 (n k)
 
 -- the numbers with all takings made at once
-unfoldable pub taken : List Taking → Numbers → Numbers
-taken [] n k = n k
-taken (j ⟵ s ∷ ts) n k = cond (eqb j k) (numberAt n s) (taken ts n k)
+unfoldable pub numbersTaken : List Taking → Numbers → Numbers
+numbersTaken [] n k = n k
+numbersTaken (j ⟵ s ∷ ts) n k = cond (eqb j k) (numberAt n s) (numbersTaken ts n k)
 
 -- the numbers after the instruction i has succeeded on the record f
 unfoldable pub numbersAfter : Instruction → Bits → Numbers → Numbers
-numbersAfter i f n = taken (takings i (holds atBasement f)) n
+numbersAfter i f n = numbersTaken (takings i (holds atBasement f)) n
 
 -- ---- the numbers after a car event
 
@@ -85,8 +85,8 @@ numbersAfter i f n = taken (takings i (holds atBasement f)) n
 abbrev pub eventTakings : Event → List Taking
 eventTakings BeginIn = []
 eventTakings BeginOut = []
-eventTakings EndDone = raisedCar ⟵ driveIn ∷ driveIn ⟵ nowhere ∷ []
-eventTakings EndNotDone = driveIn ⟵ nowhere ∷ []
+eventTakings EndDone = raisedCar ⟵ driveIn ∷ driveIn ⟵ noSource ∷ []
+eventTakings EndNotDone = driveIn ⟵ noSource ∷ []
 
 -- the numbers with c waiting
 abbrev pub waiting : ℕ → Numbers → Numbers
@@ -96,8 +96,8 @@ waiting c n k = cond (eqb driveIn k) c (n k)
 unfoldable pub numbersDriven : Event → ℕ → Numbers → Numbers
 numbersDriven BeginIn c n = waiting c n
 numbersDriven BeginOut c n = n
-numbersDriven EndDone c n = taken (eventTakings EndDone) n
-numbersDriven EndNotDone c n = taken (eventTakings EndNotDone) n
+numbersDriven EndDone c n = numbersTaken (eventTakings EndDone) n
+numbersDriven EndNotDone c n = numbersTaken (eventTakings EndNotDone) n
 
 -- ---- where cars go
 
@@ -118,13 +118,13 @@ byShuttle side toward (row ∷ rows) x =
     cond (eqb (onShuttle side row) (anchor x)) (shuttleCar side (cond (higher toward) (row + 1) (row - 1))) (byShuttle side toward rows x)
 
 -- where a car goes when an instruction succeeds
-abbrev pub moved : Instruction → Car → Car
+abbrev pub carMoved : Instruction → Car → Car
 -- a car on the belts goes along with them
-moved (Belts row mask toward size) x = cond (elem (anchor x) (cells row mask)) (along toward (step row size) x) x
+carMoved (Belts row mask toward size) x = cond (elem (anchor x) (cells row mask)) (along toward (step row size) x) x
 -- a car on one of the lowered shuttles goes to the next row
-moved (Shuttles side mask orientation toward) x = cond (eqb orientation lowered) (byShuttle side toward (rowsOf mask) x) x
-moved (Tilt side row orientation) x = x
+carMoved (Shuttles side mask orientation toward) x = cond (eqb orientation lowered) (byShuttle side toward (rowsOf mask) x) x
+carMoved (Tilt side row orientation) x = x
 -- a car on the lift goes up or down with it
-moved (Lift height) x =
-    cond (eqb onLift (anchor x) || eqb raisedCar (anchor x)) (cond (eqb height basement) (pair onLift) raised) x
-moved Rotate x = x
+carMoved (Lift height) x =
+    cond (eqb liftNumberAt (anchor x) || eqb raisedCar (anchor x)) (cond (eqb height basement) (pair liftNumberAt) raised) x
+carMoved Rotate x = x

@@ -9,11 +9,9 @@ use lib.ListN.{length, getD}
 use Rattle.bits.specs.Bits.{Bits, bit, digit, count}
 use Rattle.bits.specs.Places.{from}
 use Rattle.bits.specs.Search.{some}
-use Rattle.floor.specs.declared.Total.{Total}
-use Rattle.floor.specs.declared.Total.the-variants.{Cars, Unsound}
 use Rattle.floor.specs.Floor.{raisedCar, driveIn}
 use Rattle.floor.specs.Cars.{Car}
-use Rattle.floor.specs.Sound.{total}
+use Rattle.floor.specs.Sound.{total, carsIn}
 use Rattle.cards.specs.declared.Offered.{Offered}
 use Rattle.cards.specs.declared.Offered.the-variants.{Fine, WrongCount, ZeroNumber, TwiceGiven}
 use Rattle.cards.specs.Cards.{Numbers, anchor, Among}
@@ -28,11 +26,6 @@ unfoldable pub numbersGiven : Bits → List ℕ → Numbers
 numbersGiven f ns k = cond (bears f k) (getD ns (count (from 0 k) (bears f)) 0) 0
 
 -- ---- whether an image's numbers can be taken
-
--- how many cars a total says, none where the record isn't sound
-abbrev pub carsIn : Total → ℕ
-carsIn (Cars n) = n
-carsIn Unsound = 0
 
 -- how many numbers an image comes with: as many as cars, one more with a drive-in under way
 abbrev pub wanted : ℕ → ℕ

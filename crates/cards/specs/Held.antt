@@ -15,27 +15,27 @@ use Rattle.rules.specs.Codes.{readCode}
 use Rattle.rules.specs.Verdicts.{onCode}
 use Rattle.cards.specs.Cards.{Numbers}
 use Rattle.cards.specs.Given.{bears, numbersGiven}
-use Rattle.cards.specs.Following.{nowhere, numbersAfter, numbersDriven}
+use Rattle.cards.specs.Following.{noSource, numbersAfter, numbersDriven}
 
 -- n 0, n 1, .., m of them
-unfoldable pub listed : ℕ → Numbers → List ℕ
-listed zero n = []
-listed (suc m) n = n 0 ∷ listed m (λ j. n (suc j))
+unfoldable pub listedNumbers : ℕ → Numbers → List ℕ
+listedNumbers zero n = []
+listedNumbers (suc m) n = n 0 ∷ listedNumbers m (λ j. n (suc j))
 
 -- the place of which an element is the number: the forty cells, then the raised lift, then the one that waits
-abbrev pub placeOf : ℕ → ℕ
-placeOf j = cond (ltb j 40) j (cond (eqb j 40) raisedCar driveIn)
+abbrev pub placeOfElement : ℕ → ℕ
+placeOfElement j = cond (ltb j 40) j (cond (eqb j 40) raisedCar driveIn)
 
 -- the numbers as 42 elements, and elements as numbers
-unfoldable pub held : Numbers → List ℕ
-held n = listed 42 (λ j. n (placeOf j))
+unfoldable pub heldNumbers : Numbers → List ℕ
+heldNumbers n = listedNumbers 42 (λ j. n (placeOfElement j))
 
 unfoldable pub numbersIn : List ℕ → Numbers
 numbersIn a k = cond (ltb k 40) (getD a k 0) (cond (eqb raisedCar k) (getD a 40 0) (cond (eqb driveIn k) (getD a 41 0) 0))
 
 -- the numbers after an instruction on the record with the image r; an ill-formed one changes nothing
 unfoldable pub cardsAfter : Instruction → ℕ → List ℕ → List ℕ
-cardsAfter i r a = cond (wellFormed i) (held (numbersAfter i (bit r) (numbersIn a))) a
+cardsAfter i r a = cond (wellFormed i) (heldNumbers (numbersAfter i (bit r) (numbersIn a))) a
 
 -- the same of five bytes
 unfoldable pub codeCards : Code → ℕ → List ℕ → List ℕ
@@ -43,16 +43,16 @@ codeCards x r a = onCode (λ i. cardsAfter i r a) a (readCode x)
 
 -- the numbers after a car event, where c is the number that a begin of a drive-in brings
 unfoldable pub cardsDriven : Event → ℕ → List ℕ → List ℕ
-cardsDriven e c a = held (numbersDriven e c (numbersIn a))
+cardsDriven e c a = heldNumbers (numbersDriven e c (numbersIn a))
 
 -- the numbers ns given to the cars of the record with the image r
 unfoldable pub cardsGiven : ℕ → List ℕ → List ℕ
-cardsGiven r ns = held (numbersGiven (bit r) ns)
+cardsGiven r ns = heldNumbers (numbersGiven (bit r) ns)
 
 -- the numbers fit the record with the image r: one stands at each place that bears one and nowhere else, and none stands twice
 unfoldable pub cardsFit : ℕ → List ℕ → Bool
 cardsFit r a =
-    every 42 (λ j. Bool·beq (not (eqb (getD a j 0) 0)) (bears (bit r) (placeOf j)))
+    every 42 (λ j. Bool·beq (not (eqb (getD a j 0) 0)) (bears (bit r) (placeOfElement j)))
     && every 42 (λ j. eqb (getD a j 0) 0 || not (some j (λ i. eqb (getD a i 0) (getD a j 0))))
 
 -- a number is in the garage, or waits
@@ -64,4 +64,4 @@ abbrev pub elementOf : List ℕ → ℕ → ℕ
 elementOf a c = least 41 (λ j. eqb (getD a j 0) c)
 
 unfoldable pub whereIs : List ℕ → ℕ → ℕ
-whereIs a c = cond (eqb c 0) nowhere (cond (ltb (elementOf a c) 41) (placeOf (elementOf a c)) nowhere)
+whereIs a c = cond (eqb c 0) noSource (cond (ltb (elementOf a c) 41) (placeOfElement (elementOf a c)) noSource)

@@ -6,10 +6,11 @@ ghost use lib.Dec.{eqb};
 ghost use lib.ListN.{length, getD};
 ghost use Rattle.bits.specs.Bits.{bit};
 ghost use Rattle.bits.specs.Search.{some, least};
+ghost use Rattle.floor.specs.Sound.{carsIn};
 ghost use Rattle.rules.specs.declared.Event.{Event};
 ghost use Rattle.cards.specs.Following.{numberAt};
-ghost use Rattle.cards.specs.Given.{bears, carsIn, wanted, givenAs};
-ghost use Rattle.cards.specs.Held.{placeOf, numbersIn, cardsAfter, cardsDriven, cardsGiven, cardsFit, isKnown, whereIs};
+ghost use Rattle.cards.specs.Given.{bears, wanted, givenAs};
+ghost use Rattle.cards.specs.Held.{placeOfElement, numbersIn, cardsAfter, cardsDriven, cardsGiven, cardsFit, isKnown, whereIs};
 ghost use Rattle.cards.specs.Private.{givenAt, standRight, repeats};
 use floor::Total;
 use floor::masks::RAISED;
@@ -49,7 +50,7 @@ fn number_at(n: &[u32; 42], k: u64) -> u32
 
 // The place of which an element is the number.
 fn place_of(j: u8) -> u8
-    ensures { λ k. ⌜ k ≡ placeOf j ⌝ }
+    ensures { λ k. ⌜ k ≡ placeOfElement j ⌝ }
 {
     if j < 40 {
         return j;
@@ -62,7 +63,7 @@ fn place_of(j: u8) -> u8
 
 // Whether a number stands at the place of an element.
 fn bears(r: u64, j: u8) -> bool
-    ensures { λ b. ⌜ b ≡ bears (bit r) (placeOf j) ⌝ }
+    ensures { λ b. ⌜ b ≡ bears (bit r) (placeOfElement j) ⌝ }
 {
     let on = bits::bit(r, place_of(j) as u64);
     if j < 20 {

@@ -3,8 +3,9 @@ ghost use mathlib.Core.Path.{_≡_};
 ghost use Prim.Native.Nat.{_<_};
 ghost use Rattle.bits.specs.Bits.{bit};
 ghost use Rattle.floor.specs.Tests.{holds, atBasement};
+ghost use Rattle.rules.specs.Cells.{cellNamed, rowNamed, rowBehind};
 ghost use Rattle.rules.specs.Named.{step};
-ghost use Rattle.cards.specs.Private.{cellNamed, against, beltSource, rowAt, placeAt, rowNamed, rowBehind, shuttleSource, liftSource, sourceOf};
+ghost use Rattle.cards.specs.Private.{against, beltSource, rowAt, placeAt, shuttleSource, liftSource, sourceOf};
 use floor::Belt;
 use floor::masks::HEIGHT_HIGH;
 use floor::masks::HEIGHT_LOW;
@@ -12,7 +13,7 @@ use floor::masks::RAISED;
 use rules::Instruction;
 
 // No place, and where the number of a car on the lift's cells stands.
-const NOWHERE: u64 = 64;
+const NO_SOURCE: u64 = 64;
 
 const ON_LIFT: u64 = 11;
 
@@ -47,7 +48,7 @@ fn against(cell: u8, up: bool, n: u8) -> u64
 {
     if up {
         if cell < n {
-            return NOWHERE;
+            return NO_SOURCE;
         }
         return (cell - n) as u64;
     }
@@ -65,7 +66,7 @@ fn belt_source(row: u8, mask: u8, toward: u8, size: u8, cell: u8) -> u64
     if named(row, mask, k) {
         return k;
     }
-    NOWHERE
+    NO_SOURCE
 }
 
 // The row of a side's position by the place of its number, 0 for any other place.
@@ -131,7 +132,7 @@ fn shuttle_source(side: u8, mask: u8, toward: u8, k: u8) -> u64
         return place_at(side, behind);
     }
     if row_named(mask, row) {
-        return NOWHERE;
+        return NO_SOURCE;
     }
     k as u64
 }
@@ -145,7 +146,7 @@ fn lift_source(height: u8, low: bool, k: u8) -> u64
             return RAISED;
         }
         if k as u64 == RAISED {
-            return NOWHERE;
+            return NO_SOURCE;
         }
         return k as u64;
     }
@@ -154,7 +155,7 @@ fn lift_source(height: u8, low: bool, k: u8) -> u64
             return ON_LIFT;
         }
         if k as u64 == ON_LIFT {
-            return NOWHERE;
+            return NO_SOURCE;
         }
         return k as u64;
     }

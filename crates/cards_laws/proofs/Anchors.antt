@@ -18,7 +18,7 @@ use Rattle.floor.proofs.Rows.{below}
 use Rattle.rules_laws.proofs.Moves.{row-count}
 use Rattle.cards.specs.Cards.{Numbers, anchor, Among, Cards, Has}
 use Rattle.cards.specs.Given.{bears}
-use Rattle.cards.specs.Following.{nowhere, numberAt}
+use Rattle.cards.specs.Following.{noSource, numberAt}
 use Rattle.cards_laws.specs.Statements.{BearsExactly}
 
 -- ---- the places that bear a number: in row 1, and elsewhere
@@ -200,37 +200,37 @@ marked-cards f n M l y = record {
 
 -- a place's bit in a record, none nowhere
 abbrev pub comes : Bits → ℕ → Bool
-comes f k = cond (eqb k nowhere) false (f k)
+comes f k = cond (eqb k noSource) false (f k)
 
 -- the places of B are those of A, each from its source, and no two have one source
 pub record Carried (A B : Bits) (s : ℕ → ℕ) : Type 0 where
   pub there : (k : ℕ) → B k ≡ comes A (s k)
-  pub one : (j k : ℕ) → s j ≡ s k → (s j ≡ nowhere → ⊥) → j ≡ k
+  pub one : (j k : ℕ) → s j ≡ s k → (s j ≡ noSource → ⊥) → j ≡ k
   pub goes : (k : ℕ) → A k ≡ true → (j : ℕ) × (s j ≡ k)
 
-module _ (A B : Bits) (s : ℕ → ℕ) (n : Numbers) (outside : A nowhere ≡ false) (K : Carried A B s) (M : Marked A n) where
+module _ (A B : Bits) (s : ℕ → ℕ) (n : Numbers) (outside : A noSource ≡ false) (K : Carried A B s) (M : Marked A n) where
   -- a place of B takes the number of a place of A
-  from : (k : ℕ) → B k ≡ true → (s k ≡ nowhere → ⊥) × (A (s k) ≡ true) × (numberAt n (s k) ≡ n (s k))
-  from k e = split (eqb (s k) nowhere)
+  from : (k : ℕ) → B k ≡ true → (s k ≡ noSource → ⊥) × (A (s k) ≡ true) × (numberAt n (s k) ≡ n (s k))
+  from k e = split (eqb (s k) noSource)
       (λ t. clash (rw t at (sym (K .there k) ∙ e)) refl)
-      (λ t. (eqb-false (s k) nowhere t, rw t at (sym (K .there k) ∙ e), rw t))
+      (λ t. (eqb-false (s k) noSource t, rw t at (sym (K .there k) ∙ e), rw t))
 
   pub carried-marked : Marked B (λ k. numberAt n (s k))
   carried-marked = record {
-    none = λ k e. split (eqb (s k) nowhere)
+    none = λ k e. split (eqb (s k) noSource)
         (λ t. rw t)
         (λ t. rw t (M .none (s k) (rw t at (sym (K .there k) ∙ e))));
     some = λ k e z. (let (a, b, c) = from k e in M .some (s k) b (sym c ∙ z));
     once = λ j k q e.
         let (a, b, c) = from j e in
-        split (eqb (s k) nowhere)
+        split (eqb (s k) noSource)
         (λ t. absurd (M .some (s j) b (sym c ∙ q ∙ rw t)))
         (λ t. K .one j k (M .once (s j) (s k) (sym c ∙ q ∙ rw t) b) a);
   }
 
   pub carried-numbers : (c : ℕ) → (c ≡ 0 → ⊥) → (Has (λ k. numberAt n (s k)) c → Has n c) × (Has n c → Has (λ k. numberAt n (s k)) c)
   carried-numbers c z = (
-    λ h. split (eqb (s (h .0)) nowhere)
+    λ h. split (eqb (s (h .0)) noSource)
         (λ t. absurd (z (sym (h .1) ∙ rw t)))
         (λ t. (s (h .0), rw t at (h .1))),
     λ h. split (A (h .0))
@@ -241,6 +241,6 @@ module _ (A B : Bits) (s : ℕ → ℕ) (n : Numbers) (outside : A nowhere ≡ f
   )
     where
       numberAt-at : (k : ℕ) → A k ≡ true → numberAt n k ≡ n k
-      numberAt-at k e = split (eqb k nowhere)
-          (λ t. clash e (ap A (eqb-true k nowhere t) ∙ outside))
+      numberAt-at k e = split (eqb k noSource)
+          (λ t. clash e (ap A (eqb-true k noSource t) ∙ outside))
           (λ t. rw t)

@@ -19,15 +19,15 @@ use Rattle.floor.proofs.Promises.{sound-exactly}
 use Rattle.rules.specs.declared.Instruction.{Instruction}
 use Rattle.rules.specs.declared.Event.{Event}
 use Rattle.rules.specs.declared.Event.the-variants.{BeginIn, BeginOut, EndDone, EndNotDone}
-use Rattle.rules.specs.Rules.{wellFormed, area, allowed, next}
-use Rattle.rules.specs.Events.{possible, after}
+use Rattle.rules.specs.Rules.{wellFormed, area, allowed, nextRecord}
+use Rattle.rules.specs.Events.{possible, afterEvent}
 use Rattle.rules_laws.specs.Laws.{Agree, liftArea}
 use Rattle.rules_laws.proofs.Shift.{below-same}
 use Rattle.cards.specs.declared.Offered.the-variants.{Fine}
 use Rattle.cards.specs.Cards.{Numbers, Cards, Has}
 use Rattle.cards.specs.Given.{bears, numbersGiven, givenAs}
 use Rattle.cards.specs.Following.{numbersAfter, numbersDriven}
-use Rattle.cards.specs.Held.{held, numbersIn, cardsAfter, cardsDriven, cardsGiven, cardsFit, isKnown}
+use Rattle.cards.specs.Held.{heldNumbers, numbersIn, cardsAfter, cardsDriven, cardsGiven, cardsFit, isKnown}
 use Rattle.cards.proofs.Listing.{in-held}
 use Rattle.cards_laws.specs.Statements.{SameOn, BringsNew, Remains}
 use Rattle.cards_laws.proofs.Anchors.{isPlace, bears-same, no-place, Marked, cards-marked, marked-cards}
@@ -55,20 +55,20 @@ image-bears g k = split (isPlace k)
         (λ u. let q = eqb-true driveIn k (rw (t, u) at e) in omega arith))
 
 -- what is held are the numbers
-pub held-same : (A : Bits) (n : Numbers) → ((k : ℕ) → isPlace k ≡ false → A k ≡ false) → Marked A n → numbersIn (held n) ≡ n
+pub held-same : (A : Bits) (n : Numbers) → ((k : ℕ) → isPlace k ≡ false → A k ≡ false) → Marked A n → numbersIn (heldNumbers n) ≡ n
 held-same A n o M = fun-ext (λ k. in-held n k ∙ split (isPlace k)
     (λ t. ap (λ (b : Bool). cond b (n k) 0) t)
     (λ t. ap (λ (b : Bool). cond b (n k) 0) t ∙ sym (M .none k (o k t))))
 
 module _ (g : Bits) (n : Numbers) (M : Marked (bears g) n) where
-  pub held-bears : numbersIn (held n) ≡ n
+  pub held-bears : numbersIn (heldNumbers n) ≡ n
   held-bears = held-same (bears g) n (no-place g) M
 
   -- they fit the record's image
-  pub held-fit : cardsFit (image g) (held n) ≡ true
+  pub held-fit : cardsFit (image g) (heldNumbers n) ≡ true
   held-fit =
       let in-image : Marked (bears (bit (image g))) n = subst (λ (A : Bits). Marked A n) (sym (fun-ext (image-bears g))) M in
-      marked-fit (image g) (held n) (subst (Marked (bears (bit (image g)))) (sym held-bears) in-image)
+      marked-fit (image g) (heldNumbers n) (subst (Marked (bears (bit (image g)))) (sym held-bears) in-image)
 
 -- ---- an array that fits a sound record
 
@@ -84,18 +84,18 @@ module _ (r : ℕ) (a : List ℕ) (s : sound r ≡ true) (t : cardsFit r a ≡ t
     abbrev new : Numbers
     new = numbersAfter i (bit r) (numbersIn a)
 
-    marked : Marked (bears (next i (bit r))) new
+    marked : Marked (bears (nextRecord i (bit r))) new
     marked = next-marked i (bit r) is-sound ok (numbersIn a) fit-cards
 
-    is-held : cardsAfter i r a ≡ held new
+    is-held : cardsAfter i r a ≡ heldNumbers new
     unfolding cardsAfter
     is-held = rw (fine i (bit r) is-sound ok .0)
 
     pub after-numbers : numbersIn (cardsAfter i r a) ≡ numbersAfter i (bit r) (numbersIn a)
-    after-numbers = ap numbersIn is-held ∙ held-bears (next i (bit r)) new marked
+    after-numbers = ap numbersIn is-held ∙ held-bears (nextRecord i (bit r)) new marked
 
-    pub after-fit : cardsFit (image (next i (bit r))) (cardsAfter i r a) ≡ true
-    after-fit = ap (cardsFit (image (next i (bit r)))) is-held ∙ held-fit (next i (bit r)) new marked
+    pub after-fit : cardsFit (image (nextRecord i (bit r))) (cardsAfter i r a) ≡ true
+    after-fit = ap (cardsFit (image (nextRecord i (bit r)))) is-held ∙ held-fit (nextRecord i (bit r)) new marked
 
     -- no number is lost or made
     pub after-known : (c : ℕ) → (c ≡ 0 → ⊥) → isKnown (cardsAfter i r a) c ≡ isKnown a c
@@ -109,16 +109,16 @@ module _ (r : ℕ) (a : List ℕ) (s : sound r ≡ true) (t : cardsFit r a ≡ t
     brings : BringsNew e c (numbersIn a)
     brings q = new-exactly c a .0 (new q)
 
-    driven : Marked (bears (after e (bit r))) (numbersDriven e c (numbersIn a))
+    driven : Marked (bears (afterEvent e (bit r))) (numbersDriven e c (numbersIn a))
     driven = after-marked e (bit r) (numbersIn a) c is-sound ok fit-cards brings
 
     pub driven-numbers : numbersIn (cardsDriven e c a) ≡ numbersDriven e c (numbersIn a)
     unfolding cardsDriven
-    driven-numbers = held-bears (after e (bit r)) (numbersDriven e c (numbersIn a)) driven
+    driven-numbers = held-bears (afterEvent e (bit r)) (numbersDriven e c (numbersIn a)) driven
 
-    pub driven-fit : cardsFit (image (after e (bit r))) (cardsDriven e c a) ≡ true
+    pub driven-fit : cardsFit (image (afterEvent e (bit r))) (cardsDriven e c a) ≡ true
     unfolding cardsDriven
-    driven-fit = held-fit (after e (bit r)) (numbersDriven e c (numbersIn a)) driven
+    driven-fit = held-fit (afterEvent e (bit r)) (numbersDriven e c (numbersIn a)) driven
 
     pub driven-has : (d : ℕ) → (d ≡ 0 → ⊥) → Has (numbersIn (cardsDriven e c a)) d ↔ Remains e (bit r) (numbersIn a) c d
     driven-has d z =
@@ -190,7 +190,7 @@ empty-fit r y idle =
 -- ---- areas: of any records and arrays
 
 module _ (i : Instruction) (w : wellFormed i ≡ true) where
-  well-held : (r : ℕ) (a : List ℕ) → cardsAfter i r a ≡ held (numbersAfter i (bit r) (numbersIn a))
+  well-held : (r : ℕ) (a : List ℕ) → cardsAfter i r a ≡ heldNumbers (numbersAfter i (bit r) (numbersIn a))
   unfolding cardsAfter
   well-held r a = rw w
 

@@ -26,7 +26,7 @@ use Rattle.rules.specs.Rules.{wellFormed, conditions, changes}
 use Rattle.rules.proofs.Every.{everywhere, each}
 use Rattle.rules_laws.proofs.Tried.{targets, not-target}
 use Rattle.cards.specs.Given.{bears}
-use Rattle.cards.specs.Following.{nowhere, first, Taking, takings}
+use Rattle.cards.specs.Following.{noSource, firstPlace, Taking, takings}
 use Rattle.cards.specs.Private.{source}
 use Rattle.cards_laws.proofs.Anchors.{comes, free-none}
 use Rattle.cards_laws.proofs.Sliding.{Slid, slid-outside, slid-inside}
@@ -37,7 +37,7 @@ use Rattle.cards_laws.proofs.Sources.{takers, source-same}
 -- of the m + n places from a on the last n are at the end toward which the numbers go, and each takes from n places behind
 abbrev slides : Bool → ℕ → ℕ → ℕ → List Taking → List ℕ → Bool
 slides up a m n ts ends =
-    every n (λ d. cond up (eqb (source ts (a + d)) nowhere && elem (a + m + d) ends) (eqb (source ts (a + m + d)) nowhere && elem (a + d) ends))
+    every n (λ d. cond up (eqb (source ts (a + d)) noSource && elem (a + m + d) ends) (eqb (source ts (a + m + d)) noSource && elem (a + d) ends))
     && every m (λ d. cond up (eqb (source ts (a + d + n)) (a + d)) (eqb (source ts (a + d)) (a + d + n)))
 
 -- what a move does to the places that bear a number
@@ -74,14 +74,14 @@ module _ (a m n : ℕ) (ts : List Taking) (ends : List ℕ) (f g : Bits)
 
     -- a place that takes from the span, or from nowhere
     some : (h : Bits) (j k : ℕ) → j < 40 → s k ≡ j → comes h (s k) ≡ h j
-    some h j k l e = ap (comes h) e ∙ rw (ne-eqb j nowhere (omega arith))
+    some h j k l e = ap (comes h) e ∙ rw (ne-eqb j noSource (omega arith))
 
-    none : (h : Bits) (k : ℕ) → s k ≡ nowhere → comes h (s k) ≡ false
+    none : (h : Bits) (k : ℕ) → s k ≡ noSource → comes h (s k) ≡ false
     none h k e = ap (comes h) e
 
     outside : (k : ℕ) → (k < a) ⊎ (a + m + n ≤ k) → bears g k ≡ bears f k → bears g k ≡ comes (bears f) (s k)
-    outside k o e = split (eqb k nowhere)
-        (λ t. let i = eqb→eq k nowhere (true→T t) in ap (bears g) i ∙ sym (none (bears f) k (kept k o .1 ∙ i)))
+    outside k o e = split (eqb k noSource)
+        (λ t. let i = eqb→eq k noSource (true→T t) in ap (bears g) i ∙ sym (none (bears f) k (kept k o .1 ∙ i)))
         (λ t. e ∙ sym (ap (comes (bears f)) (kept k o .1) ∙ rw t))
 
     -- place k takes what is due
@@ -92,10 +92,10 @@ module _ (a m n : ℕ) (ts : List Taking) (ends : List ℕ) (f g : Bits)
     swap k o = ⊎-elim (λ (l : k < a). inl l) (λ (l : a + n + m ≤ k). inr (omega arith)) o
 
     module _ (t : T (slides true a m n ts ends)) where
-      left : (d : ℕ) → d < n → (s (a + d) ≡ nowhere) × T (elem (a + m + d) ends)
+      left : (d : ℕ) → d < n → (s (a + d) ≡ noSource) × T (elem (a + m + d) ends)
       left d h =
           let p = each-below n _ (and-l (every n _) (every m _) t) d h in
-          (eqb→eq (s (a + d)) nowhere (and-l (eqb (s (a + d)) nowhere) (elem (a + m + d) ends) p), and-r (eqb (s (a + d)) nowhere) (elem (a + m + d) ends) p)
+          (eqb→eq (s (a + d)) noSource (and-l (eqb (s (a + d)) noSource) (elem (a + m + d) ends) p), and-r (eqb (s (a + d)) noSource) (elem (a + m + d) ends) p)
 
       behind : (d : ℕ) → d < m → s (a + d + n) ≡ a + d
       behind d h = eqb→eq (s (a + d + n)) (a + d) (each-below m _ (and-r (every n _) (every m _) t) d h)
@@ -124,10 +124,10 @@ module _ (a m n : ℕ) (ts : List Taking) (ends : List ℕ) (f g : Bits)
       up-goes k (rear d h q) e = clash e (subst (λ (x : ℕ). bears f x ≡ false) q (free-none f (a + m + d) (up .end d h)))
 
     module _ (t : T (slides false a m n ts ends)) where
-      right : (d : ℕ) → d < n → (s (a + m + d) ≡ nowhere) × T (elem (a + d) ends)
+      right : (d : ℕ) → d < n → (s (a + m + d) ≡ noSource) × T (elem (a + d) ends)
       right d h =
           let p = each-below n _ (and-l (every n _) (every m _) t) d h in
-          (eqb→eq (s (a + m + d)) nowhere (and-l (eqb (s (a + m + d)) nowhere) (elem (a + d) ends) p), and-r (eqb (s (a + m + d)) nowhere) (elem (a + d) ends) p)
+          (eqb→eq (s (a + m + d)) noSource (and-l (eqb (s (a + m + d)) noSource) (elem (a + d) ends) p), and-r (eqb (s (a + m + d)) noSource) (elem (a + d) ends) p)
 
       before : (d : ℕ) → d < m → s (a + d) ≡ a + d + n
       before d h = eqb→eq (s (a + d)) (a + d + n) (each-below m _ (and-r (every n _) (every m _) t) d h)
@@ -161,9 +161,9 @@ module _ (a m n : ℕ) (ts : List Taking) (ends : List ℕ) (f g : Bits)
 -- ---- the test that gives a bit asks for one place alone, or says that the bit is 0 where nothing comes
 
 abbrev asks : Test → ℕ → Bool
-asks (fact b) s = not b && eqb s nowhere
+asks (fact b) s = not b && eqb s noSource
 asks (set []) s = false
-asks (set (x ∷ [])) s = eqb x s && not (eqb s nowhere)
+asks (set (x ∷ [])) s = eqb x s && not (eqb s noSource)
 asks (set (x ∷ y ∷ ks)) s = false
 asks (exactly n ks) s = false
 asks (even ks) s = false
@@ -173,11 +173,11 @@ asks (either t u) s = false
 
 asks-law : (f : Bits) (t : Test) (s : ℕ) → T (asks t s) → holds t f ≡ comes f s
 asks-law f (fact true) s h = absurd h
-asks-law f (fact false) s h = rw (T→true (eqb s nowhere) h)
+asks-law f (fact false) s h = rw (T→true (eqb s noSource) h)
 asks-law f (set []) s h = absurd h
 asks-law f (set (x ∷ [])) s h =
-    let o : not (eqb s nowhere) ≡ true = T→true _ (and-r (eqb x s) (not (eqb s nowhere)) h) in
-    rw (not-true (eqb s nowhere) o) (and-true (f x) ∙ ap f (eqb→eq x s (and-l (eqb x s) (not (eqb s nowhere)) h)))
+    let o : not (eqb s noSource) ≡ true = T→true _ (and-r (eqb x s) (not (eqb s noSource)) h) in
+    rw (not-true (eqb s noSource) o) (and-true (f x) ∙ ap f (eqb→eq x s (and-l (eqb x s) (not (eqb s noSource)) h)))
 asks-law f (set (x ∷ y ∷ ks)) s h = absurd h
 asks-law f (exactly n ks) s h = absurd h
 asks-law f (even ks) s h = absurd h
@@ -201,7 +201,7 @@ module _ (row mask toward size : ℕ) where
   m = length cs - n
 
   abbrev a : ℕ
-  a = first cs
+  a = firstPlace cs
 
   abbrev ts : List Taking
   ts = takings i true
@@ -248,7 +248,7 @@ belts-follow row mask toward size f w t =
     M = length C - N
 
     A : ℕ
-    A = first C
+    A = firstPlace C
 
     S : List Taking
     S = takings (Belts row mask toward size) true

@@ -9,7 +9,7 @@ use borrow.Author.Tests.{eqb-true, eqb-false, eq-eqb, ne-eqb}
 use Rattle.bits.specs.Bits.{Bits}
 use Rattle.bits.proofs.Cases.{split, clash}
 use Rattle.cards.specs.Cards.{Numbers, Has}
-use Rattle.cards.specs.Following.{nowhere}
+use Rattle.cards.specs.Following.{noSource}
 use Rattle.cards_laws.specs.Statements.{New}
 use Rattle.cards_laws.proofs.Anchors.{comes, Marked, Carried}
 
@@ -97,22 +97,22 @@ module _ (p : ℕ) (A B : Bits) (n : Numbers) (M : Marked A n) where
 
 -- from where each place then takes its number
 abbrev pub arriving : ℕ → ℕ → ℕ → ℕ
-arriving p q k = cond (eqb p k) q (cond (eqb q k) nowhere k)
+arriving p q k = cond (eqb p k) q (cond (eqb q k) noSource k)
 
-pub arrives : (p q : ℕ) (A B : Bits) → (q ≡ nowhere → ⊥) → A nowhere ≡ false → A p ≡ false → A q ≡ true
+pub arrives : (p q : ℕ) (A B : Bits) → (q ≡ noSource → ⊥) → A noSource ≡ false → A p ≡ false → A q ≡ true
     → ((k : ℕ) → B k ≡ cond (eqb p k) true (cond (eqb q k) false (A k))) → Carried A B (arriving p q)
 arrives p q A B here outside free waits e = record { there = there; one = one; goes = goes }
   where
     there : (k : ℕ) → B k ≡ comes A (arriving p q k)
     there k = split (eqb p k)
-        (λ t. e k ∙ rw (t, ne-eqb q nowhere here) (sym waits))
+        (λ t. e k ∙ rw (t, ne-eqb q noSource here) (sym waits))
         (λ t. split (eqb q k)
         (λ u. e k ∙ rw (t, u))
-        (λ u. split (eqb k nowhere)
-        (λ v. e k ∙ rw (t, u, v) (ap A (eqb-true k nowhere v) ∙ outside))
+        (λ u. split (eqb k noSource)
+        (λ v. e k ∙ rw (t, u, v) (ap A (eqb-true k noSource v) ∙ outside))
         (λ v. e k ∙ rw (t, u, v))))
 
-    one : (j k : ℕ) → arriving p q j ≡ arriving p q k → (arriving p q j ≡ nowhere → ⊥) → j ≡ k
+    one : (j k : ℕ) → arriving p q j ≡ arriving p q k → (arriving p q j ≡ noSource → ⊥) → j ≡ k
     one j k i n = split (eqb p j)
         (λ t. split (eqb p k)
         (λ u. sym (eqb-true p j t) ∙ eqb-true p k u)

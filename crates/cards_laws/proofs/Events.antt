@@ -16,12 +16,12 @@ use Rattle.floor.specs.Sound.{Sound, soundRules}
 use Rattle.floor.proofs.Reading.{nth-holds}
 use Rattle.rules.specs.declared.Event.{Event}
 use Rattle.rules.specs.declared.Event.the-variants.{BeginIn, BeginOut, EndDone, EndNotDone}
-use Rattle.rules.specs.Events.{eventConditions, possible, after}
+use Rattle.rules.specs.Events.{eventConditions, possible, afterEvent}
 use Rattle.rules_laws.specs.Laws.{liftArea}
 use Rattle.rules_laws.proofs.Shift.{below-same}
 use Rattle.cards.specs.Cards.{Numbers, Cards, Has}
 use Rattle.cards.specs.Given.{bears}
-use Rattle.cards.specs.Following.{nowhere, numberAt, taken, numbersDriven}
+use Rattle.cards.specs.Following.{noSource, numberAt, numbersTaken, numbersDriven}
 use Rattle.cards_laws.specs.Statements.{BringsNew, New, EventKept, Remains, EventHas, DrivenInHas, SameOn, EventNumbers}
 use Rattle.cards_laws.proofs.Anchors.{bears-same, isPlace, no-place, Marked, cards-marked, marked-cards, Carried, carried-marked, carried-numbers}
 use Rattle.cards_laws.proofs.Driving.{put, put-marked, put-numbers, drop-marked, drop-numbers, arriving, arrives}
@@ -29,48 +29,48 @@ use Rattle.cards_laws.proofs.Driving.{put, put-marked, put-numbers, dro
 -- ---- the places that bear a number after an event
 
 -- row 1 stays as it is
-row-kept : (e : Event) (f : Bits) (k : ℕ) → k < 20 → after e f k ≡ f k
-unfolding after
+row-kept : (e : Event) (f : Bits) (k : ℕ) → k < 20 → afterEvent e f k ≡ f k
+unfolding afterEvent
 row-kept BeginIn f k h = rw (ne-eqb driveIn k (λ q. omega arith))
 row-kept BeginOut f k h = rw (ne-eqb driveOut k (λ q. omega arith))
 row-kept EndDone f k h = rw (ne-eqb raisedCar k (λ q. omega arith), ne-eqb driveIn k (λ q. omega arith), ne-eqb driveOut k (λ q. omega arith))
 row-kept EndNotDone f k h = rw (ne-eqb driveIn k (λ q. omega arith), ne-eqb driveOut k (λ q. omega arith))
 
 -- so what doesn't change bears a number as before
-stays : (e : Event) (f : Bits) (k : ℕ) → after e f k ≡ f k → bears (after e f) k ≡ bears f k
+stays : (e : Event) (f : Bits) (k : ℕ) → afterEvent e f k ≡ f k → bears (afterEvent e f) k ≡ bears f k
 stays e f k q =
-    bears-same f (after e f) k q (λ h. ap (λ (x : ℕ). x % 2) (below-same f (after e f) 20 (row-kept e f) k (omega arith)))
+    bears-same f (afterEvent e f) k q (λ h. ap (λ (x : ℕ). x % 2) (below-same f (afterEvent e f) 20 (row-kept e f) k (omega arith)))
 
 -- where a drive-out is told no number stands
-no-out : (e : Event) (f : Bits) (k : ℕ) → eqb driveOut k ≡ true → bears (after e f) k ≡ bears f k
+no-out : (e : Event) (f : Bits) (k : ℕ) → eqb driveOut k ≡ true → bears (afterEvent e f) k ≡ bears f k
 no-out e f k t =
     let o : isPlace k ≡ false = ap isPlace (sym (eqb-true driveOut k t)) in
-    no-place (after e f) k o ∙ sym (no-place f k o)
+    no-place (afterEvent e f) k o ∙ sym (no-place f k o)
 
-begin-in : (f : Bits) (k : ℕ) → bears (after BeginIn f) k ≡ cond (eqb driveIn k) true (bears f k)
-unfolding after
+begin-in : (f : Bits) (k : ℕ) → bears (afterEvent BeginIn f) k ≡ cond (eqb driveIn k) true (bears f k)
+unfolding afterEvent
 begin-in f k = split (eqb driveIn k)
-    (λ t. ap (bears (after BeginIn f)) (sym (eqb-true driveIn k t)) ∙ rw t)
+    (λ t. ap (bears (afterEvent BeginIn f)) (sym (eqb-true driveIn k t)) ∙ rw t)
     (λ t. stays BeginIn f k (rw t) ∙ rw t)
 
-begin-out : (f : Bits) (k : ℕ) → bears (after BeginOut f) k ≡ bears f k
-unfolding after
+begin-out : (f : Bits) (k : ℕ) → bears (afterEvent BeginOut f) k ≡ bears f k
+unfolding afterEvent
 begin-out f k = split (eqb driveOut k) (no-out BeginOut f k) (λ t. stays BeginOut f k (rw t))
 
-end-not-done : (f : Bits) (k : ℕ) → bears (after EndNotDone f) k ≡ cond (eqb driveIn k) false (bears f k)
-unfolding after
+end-not-done : (f : Bits) (k : ℕ) → bears (afterEvent EndNotDone f) k ≡ cond (eqb driveIn k) false (bears f k)
+unfolding afterEvent
 end-not-done f k = split (eqb driveIn k)
-    (λ t. ap (bears (after EndNotDone f)) (sym (eqb-true driveIn k t)) ∙ rw t)
+    (λ t. ap (bears (afterEvent EndNotDone f)) (sym (eqb-true driveIn k t)) ∙ rw t)
     (λ t. split (eqb driveOut k)
     (λ u. no-out EndNotDone f k u ∙ rw t)
     (λ u. stays EndNotDone f k (rw (t, u)) ∙ rw t))
 
-end-done : (f : Bits) (k : ℕ) → bears (after EndDone f) k ≡ cond (eqb raisedCar k) (f driveIn) (cond (eqb driveIn k) false (bears f k))
-unfolding after
+end-done : (f : Bits) (k : ℕ) → bears (afterEvent EndDone f) k ≡ cond (eqb raisedCar k) (f driveIn) (cond (eqb driveIn k) false (bears f k))
+unfolding afterEvent
 end-done f k = split (eqb raisedCar k)
-    (λ s. ap (bears (after EndDone f)) (sym (eqb-true raisedCar k s)) ∙ rw s (and-true (f driveIn)))
+    (λ s. ap (bears (afterEvent EndDone f)) (sym (eqb-true raisedCar k s)) ∙ rw s (and-true (f driveIn)))
     (λ s. split (eqb driveIn k)
-    (λ t. ap (bears (after EndDone f)) (sym (eqb-true driveIn k t)) ∙ rw (s, t))
+    (λ t. ap (bears (afterEvent EndDone f)) (sym (eqb-true driveIn k t)) ∙ rw (s, t))
     (λ t. split (eqb driveOut k)
     (λ u. no-out EndDone f k u ∙ rw (s, t))
     (λ u. stays EndDone f k (rw (s, t, u)) ∙ rw (s, t))))
@@ -114,40 +114,40 @@ out-of f ok e = go (f driveIn) (f driveOut) e (T→true _ (nth-holds f (eventCon
 
 module _ (f : Bits) (n : Numbers) (c : ℕ) (M : Marked (bears f) n) where
   -- a begin of a drive-out changes none
-  same-bears : bears (after BeginOut f) ≡ bears f
+  same-bears : bears (afterEvent BeginOut f) ≡ bears f
   same-bears = fun-ext (begin-out f)
 
   -- an end that isn't done drops what waits
   dropped : numbersDriven EndNotDone c n ≡ put driveIn 0 n
-  unfolding numbersDriven taken
+  unfolding numbersDriven numbersTaken
   dropped = refl
 
   -- an end that is done, of a drive-in: what waits arrives on the raised lift
   arrived : numbersDriven EndDone c n ≡ (λ k. numberAt n (arriving raisedCar driveIn k))
-  unfolding numbersDriven taken
+  unfolding numbersDriven numbersTaken
   arrived = fun-ext (λ k. split (eqb raisedCar k)
       (λ t. rw t)
       (λ t. split (eqb driveIn k)
       (λ u. rw (t, u))
-      (λ u. split (eqb k nowhere)
-      (λ v. rw (t, u, v) (ap n (eqb-true k nowhere v) ∙ M .none nowhere refl))
+      (λ u. split (eqb k noSource)
+      (λ v. rw (t, u, v) (ap n (eqb-true k noSource v) ∙ M .none noSource refl))
       (λ v. rw (t, u, v)))))
 
-  arriving-bears : Sound f → f driveIn ≡ true → Carried (bears f) (bears (after EndDone f)) (arriving raisedCar driveIn)
+  arriving-bears : Sound f → f driveIn ≡ true → Carried (bears f) (bears (afterEvent EndDone f)) (arriving raisedCar driveIn)
   arriving-bears s e =
-      arrives raisedCar driveIn (bears f) (bears (after EndDone f)) (λ q. omega arith) refl (into f s e .1) e
+      arrives raisedCar driveIn (bears f) (bears (afterEvent EndDone f)) (λ q. omega arith) refl (into f s e .1) e
       (λ k. end-done f k ∙ ap (λ (b : Bool). cond (eqb raisedCar k) b (cond (eqb driveIn k) false (bears f k))) e)
 
   -- of a drive-out: what is on the raised lift is dropped, since nothing waits
   left : f driveIn ≡ false → numbersDriven EndDone c n ≡ put raisedCar 0 n
-  unfolding numbersDriven taken
+  unfolding numbersDriven numbersTaken
   left e = fun-ext (λ k. split (eqb raisedCar k)
       (λ t. rw t (M .none driveIn e))
       (λ t. split (eqb driveIn k)
       (λ u. rw (t, u) (sym (ap n (sym (eqb-true driveIn k u)) ∙ M .none driveIn e)))
       (λ u. rw (t, u))))
 
-  leaving-bears : f driveIn ≡ false → (k : ℕ) → bears (after EndDone f) k ≡ cond (eqb raisedCar k) false (bears f k)
+  leaving-bears : f driveIn ≡ false → (k : ℕ) → bears (afterEvent EndDone f) k ≡ cond (eqb raisedCar k) false (bears f k)
   leaving-bears e k =
       end-done f k
       ∙ none-waits (eqb raisedCar k) (eqb driveIn k) (f driveIn) (bears f k) e (λ t. ap (bears f) (sym (eqb-true driveIn k t)) ∙ e)
@@ -158,20 +158,20 @@ module _ (f : Bits) (n : Numbers) (c : ℕ) (M : Marked (bears f) n) where
       none-waits false false x y o h = refl
 
 marked-after : (e : Event) (f : Bits) (n : Numbers) (c : ℕ) → Sound f → possible e f ≡ true → Marked (bears f) n → BringsNew e c n
-    → Marked (bears (after e f)) (numbersDriven e c n)
+    → Marked (bears (afterEvent e f)) (numbersDriven e c n)
 unfolding numbersDriven
-marked-after BeginIn f n c s ok M new = put-marked driveIn (bears f) (bears (after BeginIn f)) n M (idle f ok) (begin-in f) c (new refl)
+marked-after BeginIn f n c s ok M new = put-marked driveIn (bears f) (bears (afterEvent BeginIn f)) n M (idle f ok) (begin-in f) c (new refl)
 marked-after BeginOut f n c s ok M new = subst (λ (A : Bits). Marked A n) (sym (same-bears f n c M)) M
 marked-after EndDone f n c s ok M new = split (f driveIn)
     (λ e.
-    subst (Marked (bears (after EndDone f))) (sym (arrived f n c M))
-    (carried-marked (bears f) (bears (after EndDone f)) (arriving raisedCar driveIn) n refl (arriving-bears f n c M s e) M))
+    subst (Marked (bears (afterEvent EndDone f))) (sym (arrived f n c M))
+    (carried-marked (bears f) (bears (afterEvent EndDone f)) (arriving raisedCar driveIn) n refl (arriving-bears f n c M s e) M))
     (λ e.
-    subst (Marked (bears (after EndDone f))) (sym (left f n c M e))
-    (drop-marked raisedCar (bears f) (bears (after EndDone f)) n M (leaving-bears f n c M e)))
+    subst (Marked (bears (afterEvent EndDone f))) (sym (left f n c M e))
+    (drop-marked raisedCar (bears f) (bears (afterEvent EndDone f)) n M (leaving-bears f n c M e)))
 marked-after EndNotDone f n c s ok M new =
-    subst (Marked (bears (after EndNotDone f))) (sym (dropped f n c M))
-    (drop-marked driveIn (bears f) (bears (after EndNotDone f)) n M (end-not-done f))
+    subst (Marked (bears (afterEvent EndNotDone f))) (sym (dropped f n c M))
+    (drop-marked driveIn (bears f) (bears (afterEvent EndNotDone f)) n M (end-not-done f))
 
 -- those that are there
 abbrev Right : Event → Bits → Numbers → ℕ → ℕ → Type 0
@@ -180,7 +180,7 @@ Right e f n c d = Has (numbersDriven e c n) d ↔ Remains e f n c d
 module _ (f : Bits) (n : Numbers) (c : ℕ) (M : Marked (bears f) n) (d : ℕ) (z : d ≡ 0 → ⊥) where
   begun-in : possible BeginIn f ≡ true → New c n → Right BeginIn f n c d
   unfolding numbersDriven
-  begun-in ok new = put-numbers driveIn (bears f) (bears (after BeginIn f)) n M (idle f ok) (begin-in f) c new d z
+  begun-in ok new = put-numbers driveIn (bears f) (bears (afterEvent BeginIn f)) n M (idle f ok) (begin-in f) c new d z
 
   begun-out : Right BeginOut f n c d
   unfolding numbersDriven
@@ -190,28 +190,28 @@ module _ (f : Bits) (n : Numbers) (c : ℕ) (M : Marked (bears f) n) (d : ℕ) (
   done-in s e =
       subst (λ (m : Numbers). Has m d ↔ Remains EndDone f n c d) (sym (arrived f n c M))
       (let (there, back) =
-      carried-numbers (bears f) (bears (after EndDone f)) (arriving raisedCar driveIn) n refl (arriving-bears f n c M s e) M d z in
+      carried-numbers (bears f) (bears (afterEvent EndDone f)) (arriving raisedCar driveIn) n refl (arriving-bears f n c M s e) M d z in
       (λ h. (there h, λ o. clash o (into f s e .0)), λ h. back (h .0)))
 
   done-out : possible EndDone f ≡ true → f driveIn ≡ false → Right EndDone f n c d
   done-out ok e =
       subst (λ (m : Numbers). Has m d ↔ Remains EndDone f n c d) (sym (left f n c M e))
-      (let (there, back) = drop-numbers raisedCar (bears f) (bears (after EndDone f)) n M (leaving-bears f n c M e) d z in
+      (let (there, back) = drop-numbers raisedCar (bears f) (bears (afterEvent EndDone f)) n M (leaving-bears f n c M e) d z in
       (λ h. (there h .0, λ o. there h .1), λ h. back (h .0, h .1 (out-of f ok e))))
 
   not-done : Right EndNotDone f n c d
   not-done =
       subst (λ (m : Numbers). Has m d ↔ Remains EndNotDone f n c d) (sym (dropped f n c M))
-      (drop-numbers driveIn (bears f) (bears (after EndNotDone f)) n M (end-not-done f) d z)
+      (drop-numbers driveIn (bears f) (bears (afterEvent EndNotDone f)) n M (end-not-done f) d z)
 
 -- ---- the statements
 
 pub after-marked : (e : Event) (f : Bits) (n : Numbers) (c : ℕ) → Sound f → possible e f ≡ true → Cards f n → BringsNew e c n
-    → Marked (bears (after e f)) (numbersDriven e c n)
+    → Marked (bears (afterEvent e f)) (numbersDriven e c n)
 after-marked e f n c s ok cards = marked-after e f n c s ok (cards-marked f n (s .layout .0) (s .layout .1) cards)
 
 pub event-kept : EventKept
-event-kept e f n c s ok cards new = marked-cards (after e f) (numbersDriven e c n) (after-marked e f n c s ok cards new)
+event-kept e f n c s ok cards new = marked-cards (afterEvent e f) (numbersDriven e c n) (after-marked e f n c s ok cards new)
 
 pub event-has : EventHas
 event-has e f n c s ok cards new d z = go e ok new (cards-marked f n (s .layout .0) (s .layout .1) cards)
@@ -223,11 +223,11 @@ event-has e f n c s ok cards new d z = go e ok new (cards-marked f n (s .layout 
     go EndNotDone ok new M = not-done f n c M d z
 
 pub driven-in-has : DrivenInHas
-unfolding numbersDriven taken
+unfolding numbersDriven numbersTaken
 driven-in-has n c = refl
 
 pub event-numbers : EventNumbers
-unfolding numbersDriven taken
+unfolding numbersDriven numbersTaken
 event-numbers = record {
   outside = λ e c n k o. outside e c n k (not-here raisedCar k refl o) (not-here driveIn k refl o);
   inside = λ e c n m a k h. inside e c n m a k h;

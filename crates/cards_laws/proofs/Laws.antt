@@ -16,13 +16,13 @@ use Rattle.floor.proofs.Rows.{Whole, whole-iff-paired}
 use Rattle.floor.proofs.Promises.{layout-exactly}
 use Rattle.rules.specs.declared.Instruction.{Instruction}
 use Rattle.rules.specs.declared.Instruction.the-variants.{Belts, Shuttles, Tilt, Lift, Rotate}
-use Rattle.rules.specs.Rules.{wellFormed, areaOf, area, conditions, changes, allowed, next}
+use Rattle.rules.specs.Rules.{wellFormed, areaOf, area, conditions, changes, allowed, nextRecord}
 use Rattle.rules_laws.proofs.Moves.{safe}
 use Rattle.cards.specs.Cards.{Numbers, Cards, Has}
 use Rattle.cards.specs.Given.{bears}
-use Rattle.cards.specs.Following.{nowhere, takings, numberAt, numbersAfter}
+use Rattle.cards.specs.Following.{noSource, takings, numberAt, numbersAfter}
 use Rattle.cards.specs.Private.{source}
-use Rattle.cards_laws.specs.Statements.{Kept, SameNumbers, StaysWithin}
+use Rattle.cards_laws.specs.Statements.{NumbersKept, SameNumbers, StaysWithin}
 use Rattle.cards_laws.proofs.Anchors.{Marked, cards-marked, marked-cards, Carried, carried-marked, carried-numbers}
 use Rattle.cards_laws.proofs.Sources.{source-same, taker-in, one-source, one-to-one, taken-all}
 use Rattle.cards_laws.proofs.Belts.{Follows, belts-follow}
@@ -47,18 +47,18 @@ module _ (i : Instruction) (f : Bits) (s : Sound f) (ok : allowed i f ≡ true) 
   whole : Whole 20 f
   whole = whole-iff-paired f .0 (layout-exactly f .1 (s .layout))
 
-  pub follows : Follows f (next i f) from
-  unfolding next
+  pub follows : Follows f (nextRecord i f) from
+  unfolding nextRecord
   follows = follow i f (true→T (fine .0)) (true→T (fine .1)) (true→T (s .rules)) whole
 
   -- the next record has a layout, clear of drives or not
-  pub next-layout : (l : List Car) × Layout (next i f) l
-  unfolding next
+  pub next-layout : (l : List Car) × Layout (nextRecord i f) l
+  unfolding nextRecord
   next-layout =
-      layout-exactly (next i f) .0
-      (whole-iff-paired (next i f) .1 (safe i f (true→T (fine .0)) (true→T (fine .1)) (true→T (s .rules)) whole .whole))
+      layout-exactly (nextRecord i f) .0
+      (whole-iff-paired (nextRecord i f) .1 (safe i f (true→T (fine .0)) (true→T (fine .1)) (true→T (s .rules)) whole .whole))
 
-  carried : Carried (bears f) (bears (next i f)) from
+  carried : Carried (bears f) (bears (nextRecord i f)) from
   carried = record {
     there = follows .there;
     one = one-source (takings i (holds atBasement f)) (one-to-one i (true→T (fine .0)) (holds atBasement f));
@@ -72,23 +72,23 @@ module _ (i : Instruction) (f : Bits) (s : Sound f) (ok : allowed i f ≡ true) 
     -- the numbers after are those of the sources
     after-from : numbersAfter i f n ≡ (λ k. numberAt n (from k))
     unfolding numbersAfter
-    after-from = taken-all i (fine .0) (holds atBasement f) n (marked .none nowhere refl)
+    after-from = taken-all i (fine .0) (holds atBasement f) n (marked .none noSource refl)
 
-    pub next-marked : Marked (bears (next i f)) (numbersAfter i f n)
+    pub next-marked : Marked (bears (nextRecord i f)) (numbersAfter i f n)
     next-marked =
-        subst (Marked (bears (next i f))) (sym after-from)
-        (carried-marked (bears f) (bears (next i f)) from n refl carried marked)
+        subst (Marked (bears (nextRecord i f))) (sym after-from)
+        (carried-marked (bears f) (bears (nextRecord i f)) from n refl carried marked)
 
-    pub cards-after : Cards (next i f) (numbersAfter i f n)
-    cards-after = marked-cards (next i f) (numbersAfter i f n) next-marked
+    pub cards-after : Cards (nextRecord i f) (numbersAfter i f n)
+    cards-after = marked-cards (nextRecord i f) (numbersAfter i f n) next-marked
 
-pub kept : Kept
+pub kept : NumbersKept
 kept i f n s ok c = cards-after i f s ok n c
 
 pub same-numbers : SameNumbers
 same-numbers i f n s ok c d z =
     subst (λ (m : Numbers). (Has m d → Has n d) × (Has n d → Has m d)) (sym (after-from i f s ok n c))
-    (carried-numbers (bears f) (bears (next i f)) (from i f s ok) n refl (carried i f s ok) (marked i f s ok n c) d z)
+    (carried-numbers (bears f) (bears (nextRecord i f)) (from i f s ok) n refl (carried i f s ok) (marked i f s ok n c) d z)
 
 pub stays-within : StaysWithin
 unfolding area
@@ -96,9 +96,9 @@ stays-within i f n s ok c k here z =
     let M = marked i f s ok n c in
     let a : bears f k ≡ true = split (bears f k) (λ t. t) (λ t. absurd (z (M .none k t))) in
     let (j, q) = follows i f s ok .goes k a in
-    let there : (k ≡ nowhere → ⊥) = λ e. clash a (ap (bears f) e) in
+    let there : (k ≡ noSource → ⊥) = λ e. clash a (ap (bears f) e) in
     let number : numbersAfter i f n j ≡ n k =
-    ap (λ (m : Numbers). m j) (after-from i f s ok n c) ∙ ap (numberAt n) q ∙ ap (λ (b : Bool). cond b 0 (n k)) (ne-eqb k nowhere there) in
+    ap (λ (m : Numbers). m j) (after-from i f s ok n c) ∙ ap (numberAt n) q ∙ ap (λ (b : Bool). cond b 0 (n k)) (ne-eqb k noSource there) in
     let low = holds atBasement f in
     split (elem j (areaOf i))
     (λ t. (j, t, number))

@@ -19,14 +19,14 @@ use Rattle.floor.specs.Sound.{Sound, soundRules}
 use Rattle.floor.proofs.Reading.{nth-holds}
 use Rattle.rules.specs.declared.Instruction.{Instruction}
 use Rattle.rules.specs.declared.Instruction.the-variants.{Belts, Shuttles, Tilt, Lift, Rotate}
-use Rattle.rules.specs.Rules.{wellFormed, allowed, next}
+use Rattle.rules.specs.Rules.{wellFormed, allowed, nextRecord}
 use Rattle.rules.proofs.Every.{everywhere, each}
 use Rattle.cards.specs.Cards.{anchor, Among}
 use Rattle.cards.specs.Given.{bears}
-use Rattle.cards.specs.Following.{nowhere, onLift, Taking, takings, numberAt, numbersAfter, moved}
+use Rattle.cards.specs.Following.{noSource, liftNumberAt, Taking, takings, numberAt, numbersAfter, carMoved}
 use Rattle.cards.specs.Private.{source}
 use Rattle.cards.proofs.Takings.{taken-source}
-use Rattle.cards_laws.specs.Statements.{OneLayout, EmptyGarage, Followed, Brought, OnlyThese}
+use Rattle.cards_laws.specs.Statements.{OneLayout, EmptyGarage, NumbersFollowed, Brought, OnlyThese}
 use Rattle.cards_laws.proofs.Anchors.{comes, free-none, stands, car-bears, bears-car, cards-marked}
 use Rattle.cards_laws.proofs.Sources.{back, way-back, one-source, one-to-one, drive-stays, drive-kept}
 use Rattle.cards_laws.proofs.Others.{gapless, is-gapless}
@@ -86,7 +86,7 @@ abbrev away : Instruction → Bool → ℕ → Bool
 away (Belts row mask toward size) low k = false
 away (Shuttles side mask orientation toward) low k = false
 away (Tilt side row orientation) low k = false
-away (Lift height) low k = not low && eqb onLift k
+away (Lift height) low k = not low && eqb liftNumberAt k
 away Rotate low k = false
 
 -- a place whose number goes somewhere: the car there goes to that place
@@ -94,7 +94,7 @@ abbrev goesRight : Instruction → Bool → Car → Bool
 goesRight i low x =
     let ts = takings i low in
     let to = source (back ts) (anchor x) in
-    cond (eqb (source ts to) (anchor x) && not (away i low (anchor x))) (eqb (anchor (moved i x)) to && kind (moved i x)) true
+    cond (eqb (source ts to) (anchor x) && not (away i low (anchor x))) (eqb (anchor (carMoved i x)) to && kind (carMoved i x)) true
 
 abbrev carsRight : Instruction → Bool → Bool
 carsRight i low = every 19 (λ c. goesRight i low (pair c)) && (every 20 (λ c. goesRight i low (single (20 + c))) && goesRight i low raised)
@@ -132,11 +132,11 @@ module _ (i : Instruction) (w : T (wellFormed i)) (p : T (gapless i)) (low : Boo
 -- ---- what the rules of a sound record say
 
 module _ (f : Bits) (r : T (allHold soundRules f)) (k : ℕ) (e : bears f k ≡ true) where
-  lift-away : (low : Bool) → holds atBasement f ≡ low → not low && eqb onLift k ≡ false
+  lift-away : (low : Bool) → holds atBasement f ≡ low → not low && eqb liftNumberAt k ≡ false
   lift-away true q = refl
-  lift-away false q = off (eqb onLift k) (λ t.
+  lift-away false q = off (eqb liftNumberAt k) (λ t.
       let z : holds (free liftCells) f ≡ true = one-of (holds (free liftCells) f) (holds atBasement f) q (nth-holds f soundRules r 6) in
-      clash (ap (bears f) (eqb-true onLift k t) ∙ e) (free-none f onLift (count-zero liftCells f (eqb-true (count liftCells f) 0 z) onLift tt)))
+      clash (ap (bears f) (eqb-true liftNumberAt k t) ∙ e) (free-none f liftNumberAt (count-zero liftCells f (eqb-true (count liftCells f) 0 z) liftNumberAt tt)))
     where
       one-of : (a b : Bool) → b ≡ false → T (a || b) → a ≡ true
       one-of true b o t = refl
@@ -162,71 +162,71 @@ module _ (i : Instruction) (f : Bits) (s : Sound f) (ok : allowed i f ≡ true) 
   well = true→T (fine i f s ok .0)
 
   -- the way back leads from a car's anchor to its new one
-  leads : (x : Car) → Stands x → bears f (anchor x) ≡ true → (source ts (anchor (moved i x)) ≡ anchor x) × T (kind (moved i x))
+  leads : (x : Car) → Stands x → bears f (anchor x) ≡ true → (source ts (anchor (carMoved i x)) ≡ anchor x) × T (kind (carMoved i x))
   leads x t e =
       let (j, q) = follows i f s ok .goes (anchor x) e in
-      let there : (anchor x ≡ nowhere → ⊥) = λ z. clash e (ap (bears f) z) in
+      let there : (anchor x ≡ noSource → ⊥) = λ z. clash e (ap (bears f) z) in
       let back-to : source (back ts) (anchor x) ≡ j = ap (source (back ts)) (sym q) ∙ way-back ts (one-to-one i well low) j (λ z. there (sym q ∙ z)) in
       let comes-from : source ts (source (back ts) (anchor x)) ≡ anchor x = ap (source ts) back-to ∙ q in
-      let test : T (eqb (anchor (moved i x)) (source (back ts) (anchor x)) && kind (moved i x)) =
+      let test : T (eqb (anchor (carMoved i x)) (source (back ts) (anchor x)) && kind (carMoved i x)) =
       under (eqb (source ts (source (back ts) (anchor x))) (anchor x) && not (away i low (anchor x))) _
       (and-intro (eq-eqb _ (anchor x) comes-from) (ap not (not-away f (true→T (s .rules)) (anchor x) e i)))
       (car-right i well (is-gapless i f (true→T (fine i f s ok .1))) low x t) in (
-        ap (source ts) (eqb→eq _ _ (and-l (eqb (anchor (moved i x)) (source (back ts) (anchor x))) (kind (moved i x)) test)) ∙ comes-from,
-        and-r (eqb (anchor (moved i x)) (source (back ts) (anchor x))) (kind (moved i x)) test,
+        ap (source ts) (eqb→eq _ _ (and-l (eqb (anchor (carMoved i x)) (source (back ts) (anchor x))) (kind (carMoved i x)) test)) ∙ comes-from,
+        and-r (eqb (anchor (carMoved i x)) (source (back ts) (anchor x))) (kind (carMoved i x)) test,
       )
 
-pub followed : Followed
+pub followed : NumbersFollowed
 unfolding numbersAfter
 followed i f n s ok l m y z x a =
     let e = car-bears f l y x a in
     let ts = takings i (holds atBasement f) in
     let (from, right) = leads i f s ok x (stands l x (y .stand) a) e in
-    let new : bears (next i f) (anchor (moved i x)) ≡ true =
-    follows i f s ok .there (anchor (moved i x)) ∙ ap (comes (bears f)) from ∙ there (bears f) (anchor x) false e ∙ e in
-    let (b, c, d) = bears-car (next i f) m z (anchor (moved i x)) (not-waiting (moved i x) right) new in (
-      subst (λ (v : Car). Among v m) (same-car b (moved i x) (stands m b (z .stand) c) right d) c,
-      taken-source ts n (anchor (moved i x)) (λ q. clash new (ap (bears (next i f)) q)) ∙ ap (numberAt n) from ∙ there n (anchor x) 0 e,
+    let new : bears (nextRecord i f) (anchor (carMoved i x)) ≡ true =
+    follows i f s ok .there (anchor (carMoved i x)) ∙ ap (comes (bears f)) from ∙ there (bears f) (anchor x) false e ∙ e in
+    let (b, c, d) = bears-car (nextRecord i f) m z (anchor (carMoved i x)) (not-waiting (carMoved i x) right) new in (
+      subst (λ (v : Car). Among v m) (same-car b (carMoved i x) (stands m b (z .stand) c) right d) c,
+      taken-source ts n (anchor (carMoved i x)) (λ q. clash new (ap (bears (nextRecord i f)) q)) ∙ ap (numberAt n) from ∙ there n (anchor x) 0 e,
     )
   where
     -- an anchor is a place
-    there : {A : Type 0} (h : ℕ → A) (k : ℕ) (none : A) → bears f k ≡ true → cond (eqb k nowhere) none (h k) ≡ h k
-    there h k none e = split (eqb k nowhere) (λ t. clash e (ap (bears f) (eqb-true k nowhere t))) (λ t. rw t)
+    there : {A : Type 0} (h : ℕ → A) (k : ℕ) (none : A) → bears f k ≡ true → cond (eqb k noSource) none (h k) ≡ h k
+    there h k none e = split (eqb k noSource) (λ t. clash e (ap (bears f) (eqb-true k noSource t))) (λ t. rw t)
 
 -- every car came from one
 pub brought : Brought
 brought i f s ok l m y z b a =
     let ts = takings i (holds atBasement f) in
-    let new = car-bears (next i f) m z b a in
+    let new = car-bears (nextRecord i f) m z b a in
     let old : comes (bears f) (source ts (anchor b)) ≡ true = sym (follows i f s ok .there (anchor b)) ∙ new in
-    split (eqb (source ts (anchor b)) nowhere)
+    split (eqb (source ts (anchor b)) noSource)
     (λ t. clash (rw t at old) refl)
     (λ t.
     let e : bears f (source ts (anchor b)) ≡ true = rw t at old in
     let w = fine i f s ok .0 in
     let one = one-source ts (one-to-one i (true→T w) (holds atBasement f)) in
-    let come = eqb-false (source ts (anchor b)) nowhere t in
+    let come = eqb-false (source ts (anchor b)) noSource t in
     let away : source ts (anchor b) ≡ driveIn → ⊥ = λ q.
     not-waiting b (stands-kind b (stands m b (z .stand) a)) (one (anchor b) driveIn (q ∙ sym (drive-stays i w (holds atBasement f))) come) in
     let (x, among, at) = bears-car f l y (source ts (anchor b)) away e in
     let (from, right) = leads i f s ok x (stands l x (y .stand) among) (ap (bears f) at ∙ e) in
-    let same : anchor b ≡ anchor (moved i x) = one (anchor b) (anchor (moved i x)) (sym (from ∙ at)) come in
-    (x, among, sym (same-car b (moved i x) (stands m b (z .stand) a) right same)))
+    let same : anchor b ≡ anchor (carMoved i x) = one (anchor b) (anchor (carMoved i x)) (sym (from ∙ at)) come in
+    (x, among, sym (same-car b (carMoved i x) (stands m b (z .stand) a) right same)))
 
 pub only-these : OnlyThese
 only-these i f n m s ok cards after same waits k =
     let (l, y) = s .layout in
     let (u, z) = next-layout i f s ok in
-    let M = cards-marked (next i f) m u z after in
+    let M = cards-marked (nextRecord i f) m u z after in
     let N = next-marked i f s ok n cards in
     split (eqb driveIn k)
     (λ t.
     let here = eqb-true driveIn k t in
     ap m (sym here) ∙ waits ∙ sym (drive-kept i f n (fine i f s ok .0)) ∙ ap (numbersAfter i f n) here)
-    (λ t. split (bears (next i f) k)
+    (λ t. split (bears (nextRecord i f) k)
     (λ e.
-    let (b, a, p) = bears-car (next i f) u z k (λ q. eqb-false driveIn k t (sym q)) e in
+    let (b, a, p) = bears-car (nextRecord i f) u z k (λ q. eqb-false driveIn k t (sym q)) e in
     let (x, q, r) = brought i f s ok l u y z b a in
-    let there : anchor (moved i x) ≡ k = ap anchor r ∙ p in
+    let there : anchor (carMoved i x) ≡ k = ap anchor r ∙ p in
     ap m (sym there) ∙ same l y x q ∙ sym (followed i f n s ok l u y z x q .1) ∙ ap (numbersAfter i f n) there)
     (λ e. M .none k e ∙ sym (N .none k e)))

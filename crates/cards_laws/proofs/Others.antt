@@ -33,7 +33,7 @@ use Rattle.rules_laws.proofs.Pair.{low, high}
 use Rattle.rules_laws.proofs.Moves.{Ready, ready, pair-cells, alone}
 use Rattle.rules_laws.proofs.Shift.{below-same}
 use Rattle.cards.specs.Given.{bears}
-use Rattle.cards.specs.Following.{nowhere, onLift, onShuttle, rowsTouched, Taking, takings}
+use Rattle.cards.specs.Following.{noSource, liftNumberAt, onShuttle, rowsTouched, Taking, takings}
 use Rattle.cards.specs.Private.{source}
 use Rattle.cards_laws.proofs.Anchors.{bears-row, isPlace, bears-place, bears-same, no-place, comes}
 use Rattle.cards_laws.proofs.Sources.{takers, back, source-same, or-else}
@@ -64,7 +64,7 @@ abbrev spots : Instruction → List ℕ
 spots (Belts row mask toward size) = []
 spots (Shuttles side mask orientation toward) = cond (eqb orientation lowered) (map (onShuttle side) (rowsTouched toward mask)) []
 spots (Tilt side row orientation) = []
-spots (Lift height) = raisedCar ∷ onLift ∷ []
+spots (Lift height) = raisedCar ∷ liftNumberAt ∷ []
 spots Rotate = []
 
 -- the lift is in the basement or not
@@ -89,13 +89,13 @@ abbrev placed : Instruction → List Taking → ℕ → Bool
 placed i ts k =
     let js = targets (changes i) in
     let ks = sources (changes i) js in
-    elem k js && (elem k ks && (eqb (source ts k) nowhere || elem (source ts k) ks))
+    elem k js && (elem k ks && (eqb (source ts k) noSource || elem (source ts k) ks))
 
 -- a spot is a place outside row 1 or the pair's lower cell, and takes from a spot
 abbrev spotRight : Instruction → List Taking → ℕ → Bool
 spotRight i ts k =
     ((leb 20 k && isPlace k) || (touches i && eqb (pairAt i) k))
-    && (eqb (source ts k) nowhere || elem (source ts k) (spots i))
+    && (eqb (source ts k) noSource || elem (source ts k) (spots i))
 
 -- a place that changes is of row 1, a spot, or one where no number may stand
 abbrev changeRight : Instruction → ℕ → Bool
@@ -168,9 +168,9 @@ module _ (i : Instruction) (w : T (wellFormed i)) (o : other i && gapless i ≡ 
   is-spot = pass-at (spotRight i ts) (spots i) (and-l (allPass (spotRight i ts) (spots i)) _ rest)
 
   -- a spot takes from a spot
-  spot-source : (k : ℕ) → T (elem k (spots i)) → eqb (source ts k) nowhere ≡ false → T (elem (source ts k) (spots i))
+  spot-source : (k : ℕ) → T (elem k (spots i)) → eqb (source ts k) noSource ≡ false → T (elem (source ts k) (spots i))
   spot-source k m n =
-      or-else (eqb (source ts k) nowhere) (elem (source ts k) (spots i)) n
+      or-else (eqb (source ts k) noSource) (elem (source ts k) (spots i)) n
       (and-r ((leb 20 k && isPlace k) || (touches i && eqb (pairAt i) k)) _ (is-spot k m))
 
   -- any other place keeps its number
@@ -191,9 +191,9 @@ module _ (i : Instruction) (w : T (wellFormed i)) (o : other i && gapless i ≡ 
   local f f′ g g′ a b = all-same (follows ts f g) (follows ts f′ g′) (spots i) (λ k m.
       let p = is-placed k m in
       let q = and-r (elem k js) _ p in
-      let come : comes f (source ts k) ≡ comes f′ (source ts k) = split (eqb (source ts k) nowhere)
+      let come : comes f (source ts k) ≡ comes f′ (source ts k) = split (eqb (source ts k) noSource)
       (λ z. rw z)
-      (λ z. rw z (a (source ts k) (or-else (eqb (source ts k) nowhere) (elem (source ts k) ks) z (and-r (elem k ks) _ q)))) in
+      (λ z. rw z (a (source ts k) (or-else (eqb (source ts k) noSource) (elem (source ts k) ks) z (and-r (elem k ks) _ q)))) in
       let here : f k ≡ f′ k = a k (and-l (elem k ks) _ q) in
       ap₂ _&&_ (ap₂ Bool·beq (b k (and-l (elem k js) _ p)) come) (ap (λ (x : Bool). not x || eqb (source ts (source (back ts) k)) k) here))
 
@@ -333,11 +333,11 @@ module _ (i : Instruction) (o : other i ≡ true) (f : Bits) (v : T (wellFormed 
   }
     where
       taken : (k : ℕ) → T (elem k (spots i)) → comes f (s k) ≡ comes (bears f) (s k)
-      taken k m = split (eqb (s k) nowhere)
+      taken k m = split (eqb (s k) noSource)
           (λ z. rw z)
           (λ z. rw z (sym (spot-bears (s k) (spot-source i v og at k m z) .0)))
 
       stays : (k : ℕ) → elem k (spots i) ≡ false → comes (bears f) (s k) ≡ bears f k
-      stays k m = ap (comes (bears f)) (not-spot i v og at k m) ∙ split (eqb k nowhere)
-          (λ z. rw z (sym (ap (bears f) (eqb-true k nowhere z))))
+      stays k m = ap (comes (bears f)) (not-spot i v og at k m) ∙ split (eqb k noSource)
+          (λ z. rw z (sym (ap (bears f) (eqb-true k noSource z))))
           (λ z. rw z)

@@ -21,7 +21,7 @@ use Rattle.rules.specs.Rules.{wellFormed, areaOf, area}
 use Rattle.rules.proofs.Every.{everywhere, each}
 use Rattle.rules.proofs.Frame.{area-small}
 use Rattle.cards.specs.Cards.{Numbers}
-use Rattle.cards.specs.Following.{nowhere, Taking, _⟵_, takings, numberAt, taken, numbersAfter}
+use Rattle.cards.specs.Following.{noSource, Taking, _⟵_, takings, numberAt, numbersTaken, numbersAfter}
 use Rattle.cards.specs.Private.{source}
 use Rattle.cards.proofs.Takings.{taken-source}
 use Rattle.cards_laws.specs.Statements.{NumbersOutside, NumbersInside, WaitsOn}
@@ -69,11 +69,11 @@ back (k ⟵ s ∷ ts) = s ⟵ k ∷ back ts
 
 -- who takes takes from nowhere or from one that takes, and the way back leads to it
 abbrev leadsBack : List Taking → ℕ → Bool
-leadsBack ts k = eqb (source ts k) nowhere || eqb (source (back ts) (source ts k)) k
+leadsBack ts k = eqb (source ts k) noSource || eqb (source (back ts) (source ts k)) k
 
 -- nowhere, or one of some places
 abbrev nowhereOr : List ℕ → ℕ → Bool
-nowhereOr ks k = eqb k nowhere || elem k ks
+nowhereOr ks k = eqb k noSource || elem k ks
 
 abbrev oneToOne : List Taking → Bool
 oneToOne ts = allPass (leadsBack ts) (takers ts) && allPass (nowhereOr (takers ts)) (givers ts)
@@ -87,15 +87,15 @@ takers-back [] k = refl
 takers-back (j ⟵ s ∷ ts) k = ap (λ (b : Bool). eqb s k || b) (takers-back ts k)
 
 module _ (ts : List Taking) (t : T (oneToOne ts)) where
-  giver-takes : (k : ℕ) → (k ≡ nowhere → ⊥) → T (elem k (givers ts)) → T (elem k (takers ts))
+  giver-takes : (k : ℕ) → (k ≡ noSource → ⊥) → T (elem k (givers ts)) → T (elem k (takers ts))
   giver-takes k n m =
-      or-else (eqb k nowhere) (elem k (takers ts)) (ne-eqb k nowhere n)
+      or-else (eqb k noSource) (elem k (takers ts)) (ne-eqb k noSource n)
       (pass-at (nowhereOr (takers ts)) (givers ts) (and-r (allPass (leadsBack ts) (takers ts)) _ t) k m)
 
   -- the way back from a source
-  pub way-back : (k : ℕ) → (source ts k ≡ nowhere → ⊥) → source (back ts) (source ts k) ≡ k
+  pub way-back : (k : ℕ) → (source ts k ≡ noSource → ⊥) → source (back ts) (source ts k) ≡ k
   way-back k n = split (elem k (takers ts))
-      (λ m. eqb→eq _ k (or-else (eqb (source ts k) nowhere) _ (ne-eqb (source ts k) nowhere n)
+      (λ m. eqb→eq _ k (or-else (eqb (source ts k) noSource) _ (ne-eqb (source ts k) noSource n)
       (pass-at (leadsBack ts) (takers ts) (and-l (allPass (leadsBack ts) (takers ts)) (allPass (nowhereOr (takers ts)) (givers ts)) t) k (true→T m))))
       (λ m.
       let e = source-same ts k m in
@@ -103,7 +103,7 @@ module _ (ts : List Taking) (t : T (oneToOne ts)) where
       clash (T→true (elem k (takers ts)) (giver-takes k (λ z. n (e ∙ z)) (true→T g))) m) in
       ap (source (back ts)) e ∙ source-same (back ts) k (takers-back ts k ∙ o))
 
-  pub one-source : (j k : ℕ) → source ts j ≡ source ts k → (source ts j ≡ nowhere → ⊥) → j ≡ k
+  pub one-source : (j k : ℕ) → source ts j ≡ source ts k → (source ts j ≡ noSource → ⊥) → j ≡ k
   one-source j k e n = sym (way-back j n) ∙ ap (source (back ts)) e ∙ way-back k (λ z. n (e ∙ z))
 
 -- ---- an instruction's takings, with the lift in the basement or not
@@ -145,12 +145,12 @@ module _ (i : Instruction) (w : T (wellFormed i)) where
       clash (T→true (elem k (areaOf i)) (pass-at (λ k. elem k (areaOf i)) (takers (takings i low))
       (and-l (allPass (λ k. elem k (areaOf i)) (takers (takings i low))) (allPass (nowhereOr (areaOf i)) (givers (takings i low))) (in-area low)) k (true→T m))) o)
 
-  giver-in : (low : Bool) (k : ℕ) → (k ≡ nowhere → ⊥) → T (elem k (givers (takings i low))) → T (elem k (areaOf i))
-  giver-in low k n m = or-else (eqb k nowhere) (elem k (areaOf i)) (ne-eqb k nowhere n)
+  giver-in : (low : Bool) (k : ℕ) → (k ≡ noSource → ⊥) → T (elem k (givers (takings i low))) → T (elem k (areaOf i))
+  giver-in low k n m = or-else (eqb k noSource) (elem k (areaOf i)) (ne-eqb k noSource n)
       (pass-at (nowhereOr (areaOf i)) (givers (takings i low)) (and-r (allPass (λ k. elem k (areaOf i)) (takers (takings i low))) _ (in-area low)) k m)
 
   -- a place of the area takes from the area
-  source-in : (low : Bool) (k : ℕ) → T (elem k (areaOf i)) → (source (takings i low) k ≡ nowhere → ⊥) → T (elem (source (takings i low) k) (areaOf i))
+  source-in : (low : Bool) (k : ℕ) → T (elem k (areaOf i)) → (source (takings i low) k ≡ noSource → ⊥) → T (elem (source (takings i low) k) (areaOf i))
   source-in low k a n = split (elem k (takers (takings i low)))
       (λ m. giver-in low (source (takings i low) k) n (source-giver (takings i low) k (true→T m)))
       (λ m. subst (λ (x : ℕ). T (elem x (areaOf i))) (sym (source-same (takings i low) k m)) a)
@@ -171,17 +171,17 @@ same-takings Rotate w f g e = refl
 -- ---- the numbers outside an area and in it
 
 -- a place that takes nothing keeps its number
-taken-same : (ts : List Taking) (n : Numbers) (k : ℕ) → elem k (takers ts) ≡ false → taken ts n k ≡ n k
-unfolding taken
+taken-same : (ts : List Taking) (n : Numbers) (k : ℕ) → elem k (takers ts) ≡ false → numbersTaken ts n k ≡ n k
+unfolding numbersTaken
 taken-same [] n k o = refl
 taken-same (j ⟵ s ∷ ts) n k o = go (eqb j k) o (taken-same ts n k)
   where
-    go : (b : Bool) → b || elem k (takers ts) ≡ false → (elem k (takers ts) ≡ false → taken ts n k ≡ n k) → cond b (numberAt n s) (taken ts n k) ≡ n k
+    go : (b : Bool) → b || elem k (takers ts) ≡ false → (elem k (takers ts) ≡ false → numbersTaken ts n k ≡ n k) → cond b (numberAt n s) (numbersTaken ts n k) ≡ n k
     go true o r = clash refl o
     go false o r = r o
 
 -- a place of the area is not nowhere
-in-not-nowhere : (i : Instruction) → wellFormed i ≡ true → (k : ℕ) → elem k (areaOf i) ≡ true → k ≡ nowhere → ⊥
+in-not-nowhere : (i : Instruction) → wellFormed i ≡ true → (k : ℕ) → elem k (areaOf i) ≡ true → k ≡ noSource → ⊥
 in-not-nowhere i w k a e = let l : k < 64 = area-small i w k a in omega arith
 
 pub numbers-outside : NumbersOutside
@@ -198,23 +198,23 @@ numbers-inside i w f g n m a e k h =
     let o = in-not-nowhere i w k h in
     let same : ts ≡ us = same-takings i (true→T w) f g (λ j t. a j (T→true (elem j (areaOf i)) t)) in
     taken-source ts n k o
-    ∙ split (eqb (source ts k) nowhere)
+    ∙ split (eqb (source ts k) noSource)
     (λ z. rw z)
     (λ z. rw z (e (source ts k) (T→true (elem (source ts k) (areaOf i))
-    (source-in i (true→T w) (holds atBasement f) k (true→T h) (eqb-false (source ts k) nowhere z)))))
+    (source-in i (true→T w) (holds atBasement f) k (true→T h) (eqb-false (source ts k) noSource z)))))
     ∙ ap (λ (v : List Taking). numberAt m (source v k)) same
     ∙ sym (taken-source us m k o)
 
 -- where nowhere has no number, the numbers after are those of the sources
-pub taken-all : (i : Instruction) → wellFormed i ≡ true → (low : Bool) (n : Numbers) → n nowhere ≡ 0
-    → taken (takings i low) n ≡ (λ k. numberAt n (source (takings i low) k))
-taken-all i w low n z = fun-ext (λ k. split (eqb k nowhere)
-    (λ e. let q = eqb-true k nowhere e in
-    let out : elem nowhere (areaOf i) ≡ false = off (elem nowhere (areaOf i)) (λ m. in-not-nowhere i w nowhere m refl) in
-    let o = taker-in i (true→T w) low nowhere out in
-    subst (λ (x : ℕ). taken (takings i low) n x ≡ numberAt n (source (takings i low) x)) (sym q)
-    (taken-same (takings i low) n nowhere o ∙ z ∙ sym (ap (numberAt n) (source-same (takings i low) nowhere o))))
-    (λ e. taken-source (takings i low) n k (eqb-false k nowhere e)))
+pub taken-all : (i : Instruction) → wellFormed i ≡ true → (low : Bool) (n : Numbers) → n noSource ≡ 0
+    → numbersTaken (takings i low) n ≡ (λ k. numberAt n (source (takings i low) k))
+taken-all i w low n z = fun-ext (λ k. split (eqb k noSource)
+    (λ e. let q = eqb-true k noSource e in
+    let out : elem noSource (areaOf i) ≡ false = off (elem noSource (areaOf i)) (λ m. in-not-nowhere i w noSource m refl) in
+    let o = taker-in i (true→T w) low noSource out in
+    subst (λ (x : ℕ). numbersTaken (takings i low) n x ≡ numberAt n (source (takings i low) x)) (sym q)
+    (taken-same (takings i low) n noSource o ∙ z ∙ sym (ap (numberAt n) (source-same (takings i low) noSource o))))
+    (λ e. taken-source (takings i low) n k (eqb-false k noSource e)))
 
 -- ---- no instruction has a drive in its area
 

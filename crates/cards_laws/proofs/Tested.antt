@@ -22,7 +22,7 @@ use Rattle.cards.specs.declared.Offered.{Offered}
 use Rattle.cards.specs.declared.Offered.the-variants.{Fine, WrongCount, ZeroNumber, TwiceGiven}
 use Rattle.cards.specs.Cards.{Has}
 use Rattle.cards.specs.Given.{bears, wanted, zeroAt, twiceAt, givenAs, AllNew}
-use Rattle.cards.specs.Held.{placeOf, numbersIn, cardsFit, isKnown}
+use Rattle.cards.specs.Held.{placeOfElement, numbersIn, cardsFit, isKnown}
 use Rattle.cards.proofs.Listing.{none-in}
 use Rattle.cards_laws.specs.Statements.{FitExactly, KnownExactly, FineExactly, New, ThatMany}
 use Rattle.cards_laws.proofs.Anchors.{isPlace, no-place, Marked, cards-marked, marked-cards}
@@ -36,7 +36,7 @@ number-place a k z = split (isPlace k) (λ t. t) (λ t. absurd (z (none-in a k t
 
 module _ (r : ℕ) (a : List ℕ) where
   abbrev marks : ℕ → Bool
-  marks j = Bool·beq (not (eqb (getD a j 0) 0)) (bears (bit r) (placeOf j))
+  marks j = Bool·beq (not (eqb (getD a j 0) 0)) (bears (bit r) (placeOfElement j))
 
   -- element i is element j
   abbrev alike-at : ℕ → ℕ → Bool
@@ -53,7 +53,7 @@ module _ (r : ℕ) (a : List ℕ) where
       parts = both (every 42 marks) (every 42 onces) t
 
       -- an element is 0 exactly if its place bears none
-      mark : (j : ℕ) → j < 42 → not (eqb (numbersIn a (placeOf j)) 0) ≡ bears (bit r) (placeOf j)
+      mark : (j : ℕ) → j < 42 → not (eqb (numbersIn a (placeOfElement j)) 0) ≡ bears (bit r) (placeOfElement j)
       mark j h = ap (λ (x : ℕ). not (eqb x 0)) (element-number a j h) ∙ beq→eq _ _ (true→T (every-at 42 marks (parts .0) j h))
 
       mark-place : (k : ℕ) → isPlace k ≡ true → not (eqb (numbersIn a k) 0) ≡ bears (bit r) k
@@ -89,16 +89,16 @@ module _ (r : ℕ) (a : List ℕ) where
           let (y, l, s) = has-element k (number-place a k (λ o. z (q ∙ o))) in
           let at-x : numbersIn a j ≡ getD a x 0 = ap (numbersIn a) (sym p) ∙ element-number a x h in
           let at-y : numbersIn a k ≡ getD a y 0 = ap (numbersIn a) (sym s) ∙ element-number a y l in
-          sym p ∙ ap placeOf (one x y h l (λ o. z (at-x ∙ o)) (sym at-x ∙ q ∙ at-y)) ∙ s
+          sym p ∙ ap placeOfElement (one x y h l (λ o. z (at-x ∙ o)) (sym at-x ∙ q ∙ at-y)) ∙ s
 
   pub marked-fit : Marked (bears (bit r)) (numbersIn a) → cardsFit r a ≡ true
   unfolding cardsFit
   marked-fit M = and-intro (every-is 42 marks mark) (every-is 42 onces once)
     where
       mark : (j : ℕ) → j < 42 → marks j ≡ true
-      mark j h = split (bears (bit r) (placeOf j))
-          (λ e. same (eqb (getD a j 0) 0) _ (ne-eqb (getD a j 0) 0 (λ z. M .some (placeOf j) e (element-number a j h ∙ z))) e)
-          (λ e. other (eqb (getD a j 0) 0) _ (eq-eqb (getD a j 0) 0 (sym (element-number a j h) ∙ M .none (placeOf j) e)) e)
+      mark j h = split (bears (bit r) (placeOfElement j))
+          (λ e. same (eqb (getD a j 0) 0) _ (ne-eqb (getD a j 0) 0 (λ z. M .some (placeOfElement j) e (element-number a j h ∙ z))) e)
+          (λ e. other (eqb (getD a j 0) 0) _ (eq-eqb (getD a j 0) 0 (sym (element-number a j h) ∙ M .none (placeOfElement j) e)) e)
         where
           same : (x y : Bool) → x ≡ false → y ≡ true → Bool·beq (not x) y ≡ true
           same x y p q = rw (p, q)
@@ -106,10 +106,10 @@ module _ (r : ℕ) (a : List ℕ) where
           other : (x y : Bool) → x ≡ true → y ≡ false → Bool·beq (not x) y ≡ true
           other x y p q = rw (p, q)
 
-      bearing : (j : ℕ) → j < 42 → eqb (getD a j 0) 0 ≡ false → bears (bit r) (placeOf j) ≡ true
-      bearing j h z = split (bears (bit r) (placeOf j))
+      bearing : (j : ℕ) → j < 42 → eqb (getD a j 0) 0 ≡ false → bears (bit r) (placeOfElement j) ≡ true
+      bearing j h z = split (bears (bit r) (placeOfElement j))
           (λ e. e)
-          (λ e. absurd (eqb-false (getD a j 0) 0 z (sym (element-number a j h) ∙ M .none (placeOf j) e)))
+          (λ e. absurd (eqb-false (getD a j 0) 0 z (sym (element-number a j h) ∙ M .none (placeOfElement j) e)))
 
       once : (j : ℕ) → j < 42 → onces j ≡ true
       once j h = split (eqb (getD a j 0) 0)
@@ -118,7 +118,7 @@ module _ (r : ℕ) (a : List ℕ) where
           ap (λ (b : Bool). b || not (some j (alike-at j))) z
           ∙ ap not (none-is j (alike-at j) (λ i l. ne-eqb (getD a i 0) (getD a j 0) (λ q.
           let w : i < 42 = omega arith in
-          let p : placeOf j ≡ placeOf i = M .once (placeOf j) (placeOf i) (element-number a j h ∙ sym q ∙ sym (element-number a i w)) (bearing j h z) in
+          let p : placeOfElement j ≡ placeOfElement i = M .once (placeOfElement j) (placeOfElement i) (element-number a j h ∙ sym q ∙ sym (element-number a i w)) (bearing j h z) in
           let e : j ≡ i = one-place j i h w p in
           omega arith))))
 
@@ -133,7 +133,7 @@ fit-exactly r a s = (
 pub known-exactly : KnownExactly
 unfolding isKnown
 known-exactly a c o = (
-  λ t. let (j, h, e) = some-is 42 (λ j. eqb (getD a j 0) c) t in (placeOf j, element-number a j h ∙ eqb-true (getD a j 0) c e),
+  λ t. let (j, h, e) = some-is 42 (λ j. eqb (getD a j 0) c) t in (placeOfElement j, element-number a j h ∙ eqb-true (getD a j 0) c e),
   λ m.
       let (k, e) = m in
       let (j, h, p) = has-element k (number-place a k (λ z. o (sym e ∙ z))) in

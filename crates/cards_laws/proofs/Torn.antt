@@ -29,7 +29,7 @@ use Rattle.floor.proofs.Promises.{layout-exactly}
 use Rattle.rules.specs.declared.Instruction.{Instruction}
 use Rattle.rules.specs.declared.Instruction.the-variants.{Belts, Shuttles, Tilt, Lift, Rotate}
 use Rattle.rules.specs.Named.{higher, cells, step, end}
-use Rattle.rules.specs.Rules.{wellFormed, areaOf, area, conditions, changes, allowed, next}
+use Rattle.rules.specs.Rules.{wellFormed, areaOf, area, conditions, changes, allowed, nextRecord}
 use Rattle.rules.proofs.Every.{everywhere, each}
 use Rattle.rules_laws.proofs.BeltMove.{besides, belts-carried}
 use Rattle.rules_laws.proofs.CarsKept.{other, pairAt, touches}
@@ -37,7 +37,7 @@ use Rattle.rules_laws.proofs.Moves.{belts-named, other-kept}
 use Rattle.rules_laws.proofs.RulesKept.{both-lists}
 use Rattle.rules_laws.proofs.Tried.{tried, tried-law}
 use Rattle.cards.specs.Cards.{Among}
-use Rattle.cards.specs.Following.{first}
+use Rattle.cards.specs.Following.{firstPlace}
 use Rattle.cards_laws.specs.Statements.{NoneTorn}
 use Rattle.cards_laws.proofs.Anchors.{bears-row, stands, car-bears}
 use Rattle.cards_laws.proofs.Sources.{or-else}
@@ -72,7 +72,7 @@ module _ (row mask toward size : ℕ) where
   n = length cs
 
   abbrev a : ℕ
-  a = first cs
+  a = firstPlace cs
 
   -- the last cell toward d
   abbrev head : ℕ
@@ -126,7 +126,7 @@ module _ (row mask toward size : ℕ) (f : Bits)
       C = cells row mask
 
       A : ℕ
-      A = first C
+      A = firstPlace C
 
       N : ℕ
       N = length C
@@ -178,7 +178,7 @@ module _ (row mask toward size : ℕ) (f : Bits)
   belts-same : below (changed (changes (Belts row mask toward size)) f) (suc b) ≡ below f (suc b)
   belts-same =
       belts-carried row mask toward size f (belts-named row mask toward size v) t .same (suc b)
-      (and-r (eqb (first (cells row mask)) (suc b) || eqb (first (cells row mask) + length (cells row mask)) (suc b)) _
+      (and-r (eqb (firstPlace (cells row mask)) (suc b) || eqb (firstPlace (cells row mask) + length (cells row mask)) (suc b)) _
       (and-r (eqb row 1) _ ends))
 
 -- ---- the others
@@ -270,8 +270,8 @@ module _ (i : Instruction) (f : Bits) (s : Sound f) (ok : allowed i f ≡ true) 
   abbrev Even : Instruction → Type 0
   Even i = (below f (suc b) % 2 ≡ 0) × (below (changed (changes i) f) (suc b) % 2 ≡ 0)
 
-  borders : border i b ≡ true → (below f (suc b) % 2 ≡ 0) × (below (next i f) (suc b) % 2 ≡ 0)
-  unfolding next
+  borders : border i b ≡ true → (below f (suc b) % 2 ≡ 0) × (below (nextRecord i f) (suc b) % 2 ≡ 0)
+  unfolding nextRecord
   borders = go i (true→T (fine i f s ok .0)) (true→T (fine i f s ok .1))
     where
       r : T (allHold soundRules f)
@@ -307,9 +307,9 @@ none-torn i f s ok l y c m = split (border i c)
     let even = borders i f s ok c low e in
     ⊎-elim
     (λ (z : Layout f l). let q = half-odd f l z c m in absurd (omega (arith, even .0)))
-    (λ (z : Layout (next i f) l). let q = half-odd (next i f) l z c m in absurd (omega (arith, even .1))) y)
+    (λ (z : Layout (nextRecord i f) l). let q = half-odd (nextRecord i f) l z c m in absurd (omega (arith, even .1))) y)
     (λ e.
     beq→eq (elem c (areaOf i)) (elem (suc c) (areaOf i)) (true→T (not-false (Bool·beq (elem c (areaOf i)) (elem (suc c) (areaOf i))) e)))
   where
     low : c < 19
-    low = ⊎-elim (λ (z : Layout f l). stands l (pair c) (z .stand) m) (λ (z : Layout (next i f) l). stands l (pair c) (z .stand) m) y
+    low = ⊎-elim (λ (z : Layout f l). stands l (pair c) (z .stand) m) (λ (z : Layout (nextRecord i f) l). stands l (pair c) (z .stand) m) y

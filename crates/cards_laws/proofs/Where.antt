@@ -11,14 +11,14 @@ use Rattle.floor.specs.Floor.{driveIn}
 use Rattle.floor.specs.Cars.{Car, pair, single, raised, Stands}
 use Rattle.cards.specs.Cards.{anchor, Among}
 use Rattle.cards.specs.Given.{bears}
-use Rattle.cards.specs.Following.{nowhere}
-use Rattle.cards.specs.Held.{placeOf, numbersIn, elementOf, whereIs}
+use Rattle.cards.specs.Following.{noSource}
+use Rattle.cards.specs.Held.{placeOfElement, numbersIn, elementOf, whereIs}
 use Rattle.cards_laws.specs.Statements.{WhereRight}
 use Rattle.cards_laws.proofs.Anchors.{stands, car-bears, bears-car, Marked, cards-marked}
 use Rattle.cards_laws.proofs.Elements.{element-number, one-place}
 
 -- a car's element is not the one that waits
-car-element : (x : Car) → Stands x → (j : ℕ) × (j < 41) × (placeOf j ≡ anchor x)
+car-element : (x : Car) → Stands x → (j : ℕ) × (j < 41) × (placeOfElement j ≡ anchor x)
 car-element (pair c) s = (c, omega (arith, s), rw (lt-ltb c 40 (omega (arith, s))))
 car-element (single c) s = (c, omega (arith, s .1), rw (lt-ltb c 40 (s .1)))
 car-element raised s = (40, omega arith, refl)
@@ -37,21 +37,21 @@ where-right f a l y cards c o = (here, none)
         let found : elementOf a c ≡ j =
         least-is 41 j (λ i. eqb (getD a i 0) c) h
         (λ i l. ne-eqb (getD a i 0) c (λ q.
-        let s : anchor x ≡ placeOf i = M .once (anchor x) (placeOf i) (e ∙ sym (element-number a i (omega arith) ∙ q)) b in
+        let s : anchor x ≡ placeOfElement i = M .once (anchor x) (placeOfElement i) (e ∙ sym (element-number a i (omega arith) ∙ q)) b in
         let z : j ≡ i = one-place j i (omega arith) (omega arith) (p ∙ s) in
         omega arith))
         (eq-eqb (getD a j 0) c (sym (element-number a j (omega arith)) ∙ ap (numbersIn a) p ∙ e)) in
         rw (ne-eqb c 0 o, found, lt-ltb j 41 h) p
 
-    not-waiting : (i : ℕ) → i < 41 → placeOf i ≡ driveIn → ⊥
+    not-waiting : (i : ℕ) → i < 41 → placeOfElement i ≡ driveIn → ⊥
     not-waiting i h e = let z : i ≡ 41 = one-place i 41 (omega arith) (omega arith) e in omega arith
 
-    none : ((x : Car) → Among x l → numbersIn a (anchor x) ≡ c → ⊥) → whereIs a c ≡ nowhere
+    none : ((x : Car) → Among x l → numbersIn a (anchor x) ≡ c → ⊥) → whereIs a c ≡ noSource
     none n =
         let absent : elementOf a c ≡ 41 =
         least-none 41 (λ i. eqb (getD a i 0) c) (λ i h. ne-eqb (getD a i 0) c (λ q.
         let number = element-number a i (omega arith) in
-        split (bears f (placeOf i))
-        (λ b. let (x, m, s) = bears-car f l y (placeOf i) (not-waiting i h) b in n x m (ap (numbersIn a) s ∙ number ∙ q))
-        (λ b. o (sym q ∙ sym number ∙ M .none (placeOf i) b)))) in
+        split (bears f (placeOfElement i))
+        (λ b. let (x, m, s) = bears-car f l y (placeOfElement i) (not-waiting i h) b in n x m (ap (numbersIn a) s ∙ number ∙ q))
+        (λ b. o (sym q ∙ sym number ∙ M .none (placeOfElement i) b)))) in
         rw (ne-eqb c 0 o, absent)

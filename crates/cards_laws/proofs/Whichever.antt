@@ -15,7 +15,7 @@ use Rattle.floor.specs.Tests.{holds, underWay}
 use Rattle.floor.specs.Sound.{Sound}
 use Rattle.rules.specs.declared.Instruction.{Instruction}
 use Rattle.rules.specs.declared.Instruction.the-variants.{Belts, Shuttles, Tilt, Lift, Rotate}
-use Rattle.rules.specs.Rules.{wellFormed, areaOf, area, overlap, seen, allowed, next}
+use Rattle.rules.specs.Rules.{wellFormed, areaOf, area, overlap, seen, allowed, nextRecord}
 use Rattle.rules_laws.specs.Laws.{Clear}
 use Rattle.rules_laws.specs.Undoing.{recordAfter}
 use Rattle.rules_laws.proofs.Laws.{same-verdict, kept-outside, sides-kept, stays-sound}
@@ -29,16 +29,16 @@ module _ (i : Instruction) (f : Bits) (s : Sound f) (ok : allowed i f ≡ true) 
   well = fine i f s ok .0
 
   -- no drive begins or ends
-  same-drives : holds underWay (next i f) ≡ holds underWay f
+  same-drives : holds underWay (nextRecord i f) ≡ holds underWay f
   same-drives =
       ap₂ (λ (a b : Bool). not (eqb (digit a + (digit b + 0)) 0))
       (kept-outside i well f driveIn (drive-outside i well driveIn tt)) (kept-outside i well f driveOut (drive-outside i well driveOut tt))
 
-  still-clear : (j : Instruction) → Clear j f → Clear j (next i f)
+  still-clear : (j : Instruction) → Clear j f → Clear j (nextRecord i f)
   still-clear j c = ⊎-elim (λ (idle : holds underWay f ≡ false). inl (same-drives ∙ idle)) (λ (o : share (areaOf j) lift ≡ false). inr o) c
 
   -- what a lift run sees besides its area stays, where it has no place in common with it
-  seen-kept : (j : Instruction) → ((k : ℕ) → area i k ≡ true → area j k ≡ false) → seen j (next i f) ≡ seen j f
+  seen-kept : (j : Instruction) → ((k : ℕ) → area i k ≡ true → area j k ≡ false) → seen j (nextRecord i f) ≡ seen j f
   unfolding area overlap
   seen-kept (Belts row mask toward size) p = refl
   seen-kept (Shuttles side mask orientation toward) p = refl
@@ -48,10 +48,10 @@ module _ (i : Instruction) (f : Bits) (s : Sound f) (ok : allowed i f ≡ true) 
   seen-kept Rotate p = refl
 
   -- those that are apart from it stay allowed
-  still : (is : List Instruction) → AllAllowed is f → ((k : ℕ) → area i k ≡ true → InNone is k) → AllAllowed is (next i f)
+  still : (is : List Instruction) → AllAllowed is f → ((k : ℕ) → area i k ≡ true → InNone is k) → AllAllowed is (nextRecord i f)
   still [] a p = tt
   still (j ∷ is) a p = (
-    same-verdict j (next i f) f
+    same-verdict j (nextRecord i f) f
         (λ k h. kept-outside i well f k (off (area i k) (λ t. clash h (p k t .0)))) (seen-kept j (λ k t. p k t .0))
         ∙ a .0,
     still-clear j (a .1),
@@ -64,5 +64,5 @@ whichever [] f n s c a p = (s, c, λ k h. refl)
 whichever (i ∷ is) f n s c a p =
     let ok = a .0 in
     let (sound, cards, out) =
-    whichever is (next i f) (numbersAfter i f n) (stays-sound i f s (a .1) ok) (cards-after i f s ok n c) (still i f s ok is (a .2) (p .0)) (p .1) in
+    whichever is (nextRecord i f) (numbersAfter i f n) (stays-sound i f s (a .1) ok) (cards-after i f s ok n c) (still i f s ok is (a .2) (p .0)) (p .1) in
     (sound, cards, λ k h. out k (h .1) ∙ numbers-outside i (well i f s ok) f n k (h .0))

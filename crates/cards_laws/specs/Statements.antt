@@ -13,15 +13,15 @@ use Rattle.floor.specs.Sound.{Sound}
 use Rattle.rules.specs.declared.Instruction.{Instruction}
 use Rattle.rules.specs.declared.Event.{Event}
 use Rattle.rules.specs.declared.Event.the-variants.{BeginIn, BeginOut, EndDone, EndNotDone}
-use Rattle.rules.specs.Rules.{wellFormed, area, allowed, next}
-use Rattle.rules.specs.Events.{possible, after}
+use Rattle.rules.specs.Rules.{wellFormed, area, allowed, nextRecord}
+use Rattle.rules.specs.Events.{possible, afterEvent}
 use Rattle.rules_laws.specs.Laws.{Agree, liftArea, Clear}
 use Rattle.rules_laws.specs.Undoing.{recordAfter}
 use Rattle.cards.specs.Cards.{Numbers, anchor, Among, Cards, Has}
 use Rattle.cards.specs.declared.Offered.the-variants.{Fine}
 use Rattle.cards.specs.Given.{bears, numbersGiven, givenAs, AllNew, Rising}
 use Rattle.cards.specs.Held.{numbersIn, cardsFit, isKnown, whereIs}
-use Rattle.cards.specs.Following.{nowhere, numbersAfter, numbersDriven, moved}
+use Rattle.cards.specs.Following.{noSource, numbersAfter, numbersDriven, carMoved}
 
 -- ---- the cars of a record
 
@@ -81,13 +81,13 @@ abbrev pub WhereRight : Type 0
 WhereRight =
     (f : Bits) (a : List ℕ) (l : List Car) → Layout f l → Cards f (numbersIn a) → (c : ℕ) → (c ≡ 0 → ⊥)
     → ((x : Car) → Among x l → numbersIn a (anchor x) ≡ c → whereIs a c ≡ anchor x)
-    × (((x : Car) → Among x l → numbersIn a (anchor x) ≡ c → ⊥) → whereIs a c ≡ nowhere)
+    × (((x : Car) → Among x l → numbersIn a (anchor x) ≡ c → ⊥) → whereIs a c ≡ noSource)
 
 -- ---- instructions
 
 -- after an allowed instruction the numbers are again those of the cars, each once
-abbrev pub Kept : Type 0
-Kept = (i : Instruction) (f : Bits) (n : Numbers) → Sound f → allowed i f ≡ true → Cards f n → Cards (next i f) (numbersAfter i f n)
+abbrev pub NumbersKept : Type 0
+NumbersKept = (i : Instruction) (f : Bits) (n : Numbers) → Sound f → allowed i f ≡ true → Cards f n → Cards (nextRecord i f) (numbersAfter i f n)
 
 -- an allowed instruction on a sound record loses no number and makes none
 abbrev pub SameNumbers : Type 0
@@ -96,18 +96,18 @@ SameNumbers =
     → (c : ℕ) → (c ≡ 0 → ⊥) → Has (numbersAfter i f n) c ↔ Has n c
 
 -- each follows its car: a car of the record is a car of the next record where the instruction takes it, with the same number
-abbrev pub Followed : Type 0
-Followed =
+abbrev pub NumbersFollowed : Type 0
+NumbersFollowed =
     (i : Instruction) (f : Bits) (n : Numbers) → Sound f → allowed i f ≡ true
-    → (l m : List Car) → Layout f l → Layout (next i f) m
-    → (x : Car) → Among x l → Among (moved i x) m × (numbersAfter i f n (anchor (moved i x)) ≡ n (anchor x))
+    → (l m : List Car) → Layout f l → Layout (nextRecord i f) m
+    → (x : Car) → Among x l → Among (carMoved i x) m × (numbersAfter i f n (anchor (carMoved i x)) ≡ n (anchor x))
 
 -- after an allowed instruction every car of the next record is one that the instruction brought there
 abbrev pub Brought : Type 0
 Brought =
     (i : Instruction) (f : Bits) → Sound f → allowed i f ≡ true
-    → (l m : List Car) → Layout f l → Layout (next i f) m
-    → (y : Car) → Among y m → (x : Car) × Among x l × (moved i x ≡ y)
+    → (l m : List Car) → Layout f l → Layout (nextRecord i f) m
+    → (y : Car) → Among y m → (x : Car) × Among x l × (carMoved i x ≡ y)
 
 -- a number that waits goes on waiting
 abbrev pub WaitsOn : Type 0
@@ -117,8 +117,8 @@ WaitsOn = (i : Instruction) (f : Bits) (n : Numbers) → wellFormed i ≡ true �
 -- same one waits, are these
 abbrev pub OnlyThese : Type 0
 OnlyThese =
-    (i : Instruction) (f : Bits) (n m : Numbers) → Sound f → allowed i f ≡ true → Cards f n → Cards (next i f) m
-    → ((l : List Car) → Layout f l → (x : Car) → Among x l → m (anchor (moved i x)) ≡ n (anchor x))
+    (i : Instruction) (f : Bits) (n m : Numbers) → Sound f → allowed i f ≡ true → Cards f n → Cards (nextRecord i f) m
+    → ((l : List Car) → Layout f l → (x : Car) → Among x l → m (anchor (carMoved i x)) ≡ n (anchor x))
     → m driveIn ≡ n driveIn
     → (k : ℕ) → m k ≡ numbersAfter i f n k
 
@@ -149,7 +149,7 @@ StaysWithin =
 -- after it
 abbrev pub NoneTorn : Type 0
 NoneTorn =
-    (i : Instruction) (f : Bits) → Sound f → allowed i f ≡ true → (l : List Car) → Layout f l ⊎ Layout (next i f) l
+    (i : Instruction) (f : Bits) → Sound f → allowed i f ≡ true → (l : List Car) → Layout f l ⊎ Layout (nextRecord i f) l
     → (c : ℕ) → Among (pair c) l → area i c ≡ area i (suc c)
 
 -- ---- several instructions, as those of a set of which it is not known which have finished
@@ -157,7 +157,7 @@ NoneTorn =
 -- the numbers after them, one after the other
 abbrev pub numbersAfterAll : List Instruction → Bits → Numbers → Numbers
 numbersAfterAll [] f n = n
-numbersAfterAll (i ∷ is) f n = numbersAfterAll is (next i f) (numbersAfter i f n)
+numbersAfterAll (i ∷ is) f n = numbersAfterAll is (nextRecord i f) (numbersAfter i f n)
 
 -- each is allowed on the record and clear of drives; a place is in none of their areas; no two areas share a place
 abbrev pub AllAllowed : List Instruction → Bits → Type 0
@@ -193,7 +193,7 @@ BringsNew e c n = e ≡ BeginIn → New c n
 abbrev pub EventKept : Type 0
 EventKept =
     (e : Event) (f : Bits) (n : Numbers) (c : ℕ) → Sound f → possible e f ≡ true → Cards f n → BringsNew e c n
-    → Cards (after e f) (numbersDriven e c n)
+    → Cards (afterEvent e f) (numbersDriven e c n)
 
 -- the number d is there after an event on the record f: a begin of a drive-in adds its own; a drive-out that is done takes away the one on
 -- the raised lift; an end that isn't done drops the one that waits

@@ -11,11 +11,10 @@ use lib.ListN.{length, getD, take, drop, length-append, length-take, length-drop
 use lib.Pow.{pow-mono, pow-pos, shr-shr}
 use lib.Seq.{getD-take, getD-drop, getD-append-add, ext-getD, take-at}
 use Rattle.bits.proofs.Search.{lt-or-ge}
-use Rattle.wire.specs.Kinds.{littleEndian, fromLittleEndian}
-use Rattle.wire_laws.specs.Statements.{Bytes}
-use Rattle.wire_laws.proofs.Numbers.{number-back}
-use Rattle.checksum.specs.Checksum.{polynomial, step, overBits, lowBits, bitsOf, inverted, crcOver}
-use Rattle.checksum.specs.Slices.{moved}
+use Rattle.codec.specs.Bytes.{littleEndian, fromLittleEndian, Bytes}
+use Rattle.codec.proofs.Numbers.{number-back}
+use Rattle.checksum.specs.Checksum.{polynomial, bitStep, overBits, lowBits, bitsOf, inverted, crcOver}
+use Rattle.checksum.specs.Slices.{zerosOn}
 use Rattle.checksum.specs.Bursts.{bitAt, Burst, BurstFound, checked, CheckedBurstFound, StartFound, NoLonger}
 use Rattle.checksum.proofs.Xor.{xor-assoc, xor-cancel}
 use Rattle.checksum.proofs.Moves.{AreBits, valueOf, moved-bits, step-lt, over-append, over-lt}
@@ -31,7 +30,7 @@ top a d h l =
     let high : d * polynomial / 2 ^ 31 ≡ d = omega arith in
     xor-shr a (d * polynomial) 31 ∙ ap₂ bitXor low high
 
-step-back : (s t b : ℕ) → s < 2 ^ 32 → t < 2 ^ 32 → step s b ≡ step t b → s ≡ t
+step-back : (s t b : ℕ) → s < 2 ^ 32 → t < 2 ^ 32 → bitStep s b ≡ bitStep t b → s ≡ t
 step-back s t b hs ht e =
     let low : (s + b) % 2 ≡ (t + b) % 2 =
         sym (top (s / 2) ((s + b) % 2) (omega arith) (mod-lt (s + b) (zero-lt-suc 1))) ∙ ap (λ (x : ℕ). x / 2 ^ 31) e
@@ -47,12 +46,12 @@ pub over-back : (s t : ℕ) (bs : List ℕ) → s < 2 ^ 32 → t < 2 ^ 32 → ov
 unfolding overBits
 over-back s t [] hs ht e = e
 over-back s t (b ∷ bs) hs ht e =
-    step-back s t b hs ht (over-back (step s b) (step t b) bs (step-lt s b hs) (step-lt t b ht) e)
+    step-back s t b hs ht (over-back (bitStep s b) (bitStep t b) bs (step-lt s b hs) (step-lt t b ht) e)
 
-moved-back : (n s t : ℕ) → s < 2 ^ 32 → t < 2 ^ 32 → moved n s ≡ moved n t → s ≡ t
-unfolding moved
+moved-back : (n s t : ℕ) → s < 2 ^ 32 → t < 2 ^ 32 → zerosOn n s ≡ zerosOn n t → s ≡ t
+unfolding zerosOn
 moved-back zero s t hs ht e = e
-moved-back (suc n) s t hs ht e = step-back s t 0 hs ht (moved-back n (step s 0) (step t 0) (step-lt s 0 hs) (step-lt t 0 ht) e)
+moved-back (suc n) s t hs ht e = step-back s t 0 hs ht (moved-back n (bitStep s 0) (bitStep t 0) (step-lt s 0 hs) (step-lt t 0 ht) e)
 
 -- ---- a window of 32 bits
 
@@ -75,7 +74,7 @@ window s a b h p q l m e =
     let fits′ : valueOf b < 2 ^ 32 = lt-of-lt-of-le (value-lt b q) (pow-mono {i = length b} {j = 32} (omega arith)) in
     let added : bitXor s (valueOf a) ≡ bitXor s (valueOf b) =
         moved-back (length a) (bitXor s (valueOf a)) (bitXor s (valueOf b)) (xor-lt 32 s (valueOf a) h fits) (xor-lt 32 s (valueOf b) h fits′)
-        (sym (moved-bits s a p) ∙ e ∙ moved-bits s b q ∙ ap (λ (n : ℕ). moved n (bitXor s (valueOf b))) (sym l)) in
+        (sym (moved-bits s a p) ∙ e ∙ moved-bits s b q ∙ ap (λ (n : ℕ). zerosOn n (bitXor s (valueOf b))) (sym l)) in
     value-back a b p q l (xor-cancel (valueOf a) (valueOf b) s (xor-comm (valueOf a) s ∙ added ∙ xor-comm s (valueOf b)))
 
 -- ---- a window in a longer run of bits
@@ -178,23 +177,23 @@ burst-found c k x y h u e =
     same-end s k x y (inverted-lt c h) u (xor-cancel (overBits s (bitsOf x)) (overBits s (bitsOf y)) 0xFFFFFFFF e)
 
 -- behind its own checksum every run of bytes leaves the same state
-four-end : (s n : ℕ) → n < 2 ^ 32 → overBits s (bitsOf (littleEndian 4 n)) ≡ moved 32 (bitXor s n)
+four-end : (s n : ℕ) → n < 2 ^ 32 → overBits s (bitsOf (littleEndian 4 n)) ≡ zerosOn 32 (bitXor s n)
 four-end s n h =
     after-four s (n % 256) (n / 256 % 256) (n / 256 / 256 % 256) (n / 256 / 256 / 256 % 256)
     (mod-lt n low) (mod-lt (n / 256) low) (mod-lt (n / 256 / 256) low) (mod-lt (n / 256 / 256 / 256) low)
-    ∙ ap (λ (v : ℕ). moved 32 (bitXor s v)) (number-back 4 n [] h)
+    ∙ ap (λ (v : ℕ). zerosOn 32 (bitXor s v)) (number-back 4 n [] h)
   where
     low : 0 < 256
     low = zero-lt-suc 255
 
-checked-end : (c : ℕ) (x : List ℕ) → c < 2 ^ 32 → overBits (inverted c) (bitsOf (checked c x)) ≡ moved 32 0xFFFFFFFF
+checked-end : (c : ℕ) (x : List ℕ) → c < 2 ^ 32 → overBits (inverted c) (bitsOf (checked c x)) ≡ zerosOn 32 0xFFFFFFFF
 unfolding crcOver
 checked-end c x h =
     let s = overBits (inverted c) (bitsOf x) in
     ap (overBits (inverted c)) (bits-append x (littleEndian 4 (crcOver c x)))
     ∙ over-append (inverted c) (bitsOf x) (bitsOf (littleEndian 4 (crcOver c x)))
     ∙ four-end s (crcOver c x) (crc-lt c x h)
-    ∙ ap (moved 32) (sym (xor-assoc s s 0xFFFFFFFF) ∙ ap (λ (z : ℕ). bitXor z 0xFFFFFFFF) (xor-self s))
+    ∙ ap (zerosOn 32) (sym (xor-assoc s s 0xFFFFFFFF) ∙ ap (λ (z : ℕ). bitXor z 0xFFFFFFFF) (xor-self s))
 
 pub checked-burst-found : CheckedBurstFound
 checked-burst-found c k x y h u =

@@ -15,12 +15,12 @@ use borrow.Author.Tests.{eqb-true}
 use Rattle.bits.specs.Search.{every}
 use Rattle.bits.proofs.Cases.{T→true}
 use Rattle.bits.proofs.Search.{each}
-use Rattle.wire.specs.Kinds.{fromLittleEndian}
-use Rattle.wire_laws.proofs.Numbers.{read-from}
-use Rattle.fours.specs.Fours.{fourAt}
-use Rattle.fours.proofs.Fours.{four-there}
+use Rattle.codec.specs.Bytes.{fromLittleEndian}
+use Rattle.codec.proofs.Numbers.{read-from}
+use Rattle.codec.specs.Fours.{fourAt}
+use Rattle.codec.proofs.Fours.{four-there}
 use Rattle.checksum.specs.Checksum.{overBits, lowBits, bitsOf}
-use Rattle.checksum.specs.Slices.{moved, entry, slices, overByte, overFour, overBytes, overFours}
+use Rattle.checksum.specs.Slices.{zerosOn, tableEntry, slices, overByte, overFour, overBytes, overFours}
 use Rattle.checksum.proofs.Moves.{moved-add, over-append}
 use Rattle.checksum.proofs.Slices.{slices-long, entries, after-byte}
 
@@ -29,16 +29,16 @@ use Rattle.checksum.proofs.Slices.{slices-long, entries, after-byte}
 -- the first p entries are there
 pub record Made (t : List ℕ) (p : ℕ) : Type 0 where
   pub long : length t ≡ 1024
-  pub done : (q : ℕ) → q < p → getD t q 0 ≡ entry q
+  pub done : (q : ℕ) → q < p → getD t q 0 ≡ tableEntry q
 
 pub made-none : Made (replicate 1024 0) 0
 made-none = record { long = length-replicate {A = ℕ} 1024 0; done = λ q h. absurd (omega arith) }
 
-pub made-more : {t : List ℕ} {p v : ℕ} → Made t p → p < 1024 → v ≡ entry p → Made (set t p v) (p + 1)
+pub made-more : {t : List ℕ} {p v : ℕ} → Made t p → p < 1024 → v ≡ tableEntry p → Made (set t p v) (p + 1)
 made-more {t} {p} {v} m h e = record {
     long = length-set t p v ∙ m .long;
     done = λ q l. ⊎-elim
-      (λ (z : q ≡ p). ap (λ (x : ℕ). getD (set t p v) x 0) z ∙ getD-set-same t p v 0 (omega (arith, m .long)) ∙ e ∙ ap entry (sym z))
+      (λ (z : q ≡ p). ap (λ (x : ℕ). getD (set t p v) x 0) z ∙ getD-set-same t p v 0 (omega (arith, m .long)) ∙ e ∙ ap tableEntry (sym z))
       (λ (z : q < p). getD-set-other t p q v 0 (λ n. omega arith) ∙ m .done q z)
       (eq-or-lt-of-le (omega arith));
   }
@@ -49,17 +49,17 @@ made-all {t} {p} m h =
     (λ q l. m .done q (omega (arith, m .long)) ∙ sym (entries q (omega (arith, m .long))))
 
 -- an entry of the first table, and one of a further table from the one before
-pub entry-first : (p : ℕ) → p < 256 → moved 8 p ≡ entry p
+pub entry-first : (p : ℕ) → p < 256 → zerosOn 8 p ≡ tableEntry p
 entry-first p h =
     let i : 8 ≡ 8 * (p / 256 + 1) = omega arith in
     let j : p ≡ p % 256 = omega arith in
-    ap₂ moved i j
+    ap₂ zerosOn i j
 
-pub entry-next : {t : List ℕ} {p : ℕ} → Made t p → 256 ≤ p → moved 8 (getD t (p - 256) 0) ≡ entry p
+pub entry-next : {t : List ℕ} {p : ℕ} → Made t p → 256 ≤ p → zerosOn 8 (getD t (p - 256) 0) ≡ tableEntry p
 entry-next {t} {p} m h =
     let i : 8 * ((p - 256) / 256 + 1) + 8 ≡ 8 * (p / 256 + 1) = omega arith in
     let j : (p - 256) % 256 ≡ p % 256 = omega arith in
-    ap (moved 8) (m .done (p - 256) (omega arith)) ∙ sym (moved-add (8 * ((p - 256) / 256 + 1)) 8 ((p - 256) % 256)) ∙ ap₂ moved i j
+    ap (zerosOn 8) (m .done (p - 256) (omega arith)) ∙ sym (moved-add (8 * ((p - 256) / 256 + 1)) 8 ((p - 256) % 256)) ∙ ap₂ zerosOn i j
 
 -- ---- bytes from the front
 
@@ -93,7 +93,7 @@ abbrev pub overAll : ℕ → List ℕ → ℕ
 overAll s xs = overBits s (bitsOf xs)
 
 pub bits-more : {all s i r : ℕ} {bytes : List ℕ} → Rest overAll all bytes s i → i < length bytes → getD bytes i 0 < 256
-    → r ≡ moved 8 (bitXor s (getD bytes i 0)) → Rest overAll all bytes r (i + 1)
+    → r ≡ zerosOn 8 (bitXor s (getD bytes i 0)) → Rest overAll all bytes r (i + 1)
 unfolding bitsOf
 bits-more {all} {s} {i} {r} {bytes} v h l e =
     let x = getD bytes i 0 in
@@ -146,9 +146,9 @@ abbrev becomes : ℕ → ℕ
 becomes x =
     bitXor (bitXor (bitXor (bitXor (bitXor (bitXor (bitXor (x % 2 * 0xF26B8303) (x / 2 % 2 * 0xE13B70F7)) (x / 4 % 2 * 0xC79A971F)) (x / 8 % 2 * 0x8AD958CF)) (x / 16 % 2 * 0x105EC76F)) (x / 32 % 2 * 0x20BD8EDE)) (x / 64 % 2 * 0x417B1DBC)) (x / 128 % 2 * 0x82F63B78)
 
-all-become : T (every 256 (λ x. eqb (becomes x) (moved 8 x)))
-unfolding every moved
+all-become : T (every 256 (λ x. eqb (becomes x) (zerosOn 8 x)))
+unfolding every zerosOn
 all-become = tt
 
-pub byte-becomes : (x : ℕ) → x < 256 → becomes x ≡ moved 8 x
-byte-becomes x h = eqb-true (becomes x) (moved 8 x) (T→true (eqb (becomes x) (moved 8 x)) (each 256 (λ x. eqb (becomes x) (moved 8 x)) all-become x h))
+pub byte-becomes : (x : ℕ) → x < 256 → becomes x ≡ zerosOn 8 x
+byte-becomes x h = eqb-true (becomes x) (zerosOn 8 x) (T→true (eqb (becomes x) (zerosOn 8 x)) (each 256 (λ x. eqb (becomes x) (zerosOn 8 x)) all-become x h))

@@ -7,11 +7,10 @@ use native.Mathlib.Nat.{mod-lt, zero-lt-suc, add-assoc}
 use lib.Bits.{bitXor, xor-lt}
 use lib.ListN.{length, getD, length-append, List·getD-append, List·getD-eq-default}
 use lib.Seq.{getD-append-add}
-use Rattle.wire.specs.Kinds.{fromLittleEndian}
-use Rattle.wire_laws.specs.Statements.{Bytes}
-use Rattle.fours.proofs.Fours.{valued-length, valued-at}
+use Rattle.codec.specs.Bytes.{fromLittleEndian, Bytes}
+use Rattle.codec.proofs.Fours.{valued-length, valued-at}
 use Rattle.checksum.specs.Checksum.{overBits, lowBits, bitsOf, inverted, crcOver}
-use Rattle.checksum.specs.Slices.{moved, entry, slices, overByte, overFour, overBytes, overFours, crcBy}
+use Rattle.checksum.specs.Slices.{zerosOn, tableEntry, slices, overByte, overFour, overBytes, overFours, crcBy}
 use Rattle.checksum.proofs.Xor.{xor-twice}
 use Rattle.checksum.proofs.Moves.{AreBits, valueOf, moved-bits, moved-sum, moved-add, moved-split, moved-lt, over-append, over-lt}
 
@@ -19,39 +18,39 @@ use Rattle.checksum.proofs.Moves.{AreBits, valueOf, moved-bits, moved-s
 
 pub slices-long : length slices ≡ 1024
 unfolding slices
-slices-long = valued-length entry 0 1024
+slices-long = valued-length tableEntry 0 1024
 
-pub entries : (p : ℕ) → p < 1024 → getD slices p 0 ≡ entry p
+pub entries : (p : ℕ) → p < 1024 → getD slices p 0 ≡ tableEntry p
 unfolding slices
-entries p l = valued-at entry 0 1024 p l ∙ ap entry (omega arith)
+entries p l = valued-at tableEntry 0 1024 p l ∙ ap tableEntry (omega arith)
 
 -- entry i of table j
-slice-at : (p j i : ℕ) → i < 256 → p ≡ 256 * j + i → p < 1024 → getD slices p 0 ≡ moved (8 * (j + 1)) i
+slice-at : (p j i : ℕ) → i < 256 → p ≡ 256 * j + i → p < 1024 → getD slices p 0 ≡ zerosOn (8 * (j + 1)) i
 slice-at p j i h e l =
     let q : p / 256 ≡ j = omega arith in
     let r : p % 256 ≡ i = omega arith in
-    entries p l ∙ ap₂ (λ (x y : ℕ). moved (8 * (x + 1)) y) q r
+    entries p l ∙ ap₂ (λ (x y : ℕ). zerosOn (8 * (x + 1)) y) q r
 
 -- ---- a byte, four bytes
 
-pub by-byte : (z : ℕ) → overByte slices z ≡ moved 8 z
+pub by-byte : (z : ℕ) → overByte slices z ≡ zerosOn 8 z
 by-byte z =
     ap (bitXor (z / 256)) (slice-at (z % 256) 0 (z % 256) (mod-lt z (zero-lt-suc 255)) (omega arith) (omega arith)) ∙ sym (moved-split 8 z)
 
 -- the lowest byte moves on by itself
-lowest : (n z : ℕ) → moved (8 + n) z ≡ bitXor (moved n (z / 256)) (moved (8 + n) (z % 256))
+lowest : (n z : ℕ) → zerosOn (8 + n) z ≡ bitXor (zerosOn n (z / 256)) (zerosOn (8 + n) (z % 256))
 lowest n z =
-    moved-add 8 n z ∙ ap (moved n) (moved-split 8 z) ∙ moved-sum n (z / 256) (moved 8 (z % 256))
-    ∙ ap (bitXor (moved n (z / 256))) (sym (moved-add 8 n (z % 256)))
+    moved-add 8 n z ∙ ap (zerosOn n) (moved-split 8 z) ∙ moved-sum n (z / 256) (zerosOn 8 (z % 256))
+    ∙ ap (bitXor (zerosOn n (z / 256))) (sym (moved-add 8 n (z % 256)))
 
-pub by-four : (z : ℕ) → z < 2 ^ 32 → overFour slices z ≡ moved 32 z
+pub by-four : (z : ℕ) → z < 2 ^ 32 → overFour slices z ≡ zerosOn 32 z
 by-four z h =
     let b : z / 256 / 256 ≡ z / 65536 = omega arith in
     let c : z / 65536 / 256 ≡ z / 16777216 = omega arith in
-    let third : moved 24 (z / 256) ≡ bitXor (moved 16 (z / 65536)) (moved 24 (z / 256 % 256)) =
-        lowest 16 (z / 256) ∙ ap (λ (x : ℕ). bitXor (moved 16 x) (moved 24 (z / 256 % 256))) b in
-    let second : moved 16 (z / 65536) ≡ bitXor (moved 8 (z / 16777216)) (moved 16 (z / 65536 % 256)) =
-        lowest 8 (z / 65536) ∙ ap (λ (x : ℕ). bitXor (moved 8 x) (moved 16 (z / 65536 % 256))) c in
+    let third : zerosOn 24 (z / 256) ≡ bitXor (zerosOn 16 (z / 65536)) (zerosOn 24 (z / 256 % 256)) =
+        lowest 16 (z / 256) ∙ ap (λ (x : ℕ). bitXor (zerosOn 16 x) (zerosOn 24 (z / 256 % 256))) b in
+    let second : zerosOn 16 (z / 65536) ≡ bitXor (zerosOn 8 (z / 16777216)) (zerosOn 16 (z / 65536 % 256)) =
+        lowest 8 (z / 65536) ∙ ap (λ (x : ℕ). bitXor (zerosOn 8 x) (zerosOn 16 (z / 65536 % 256))) c in
     let t0 = slice-at (z / 16777216) 0 (z / 16777216) (omega arith) (omega arith) (omega arith) in
     let t1 = slice-at (256 + z / 65536 % 256) 1 (z / 65536 % 256) (omega arith) (omega arith) (omega arith) in
     let t2 = slice-at (512 + z / 256 % 256) 2 (z / 256 % 256) (omega arith) (omega arith) (omega arith) in
@@ -101,21 +100,21 @@ value-four a b c d ha hb hc hd = rw (value-byte a _ ha, value-byte b _ hb, value
     nothing = unfold valueOf in refl
 
 -- a state after some bytes: their bits added to it, and moved on
-pub after : (s : ℕ) (xs : List ℕ) → overBits s (bitsOf xs) ≡ moved (8 * length xs) (bitXor s (valueOf (bitsOf xs)))
-after s xs = moved-bits s (bitsOf xs) (are-bits xs) ∙ ap (λ (n : ℕ). moved n (bitXor s (valueOf (bitsOf xs)))) (bits-long xs)
+pub after : (s : ℕ) (xs : List ℕ) → overBits s (bitsOf xs) ≡ zerosOn (8 * length xs) (bitXor s (valueOf (bitsOf xs)))
+after s xs = moved-bits s (bitsOf xs) (are-bits xs) ∙ ap (λ (n : ℕ). zerosOn n (bitXor s (valueOf (bitsOf xs)))) (bits-long xs)
 
-pub after-byte : (s x : ℕ) → x < 256 → overBits s (lowBits 8 x) ≡ moved 8 (bitXor s x)
+pub after-byte : (s x : ℕ) → x < 256 → overBits s (lowBits 8 x) ≡ zerosOn 8 (bitXor s x)
 after-byte s x h =
     ap (overBits s) (sym (append-nil (lowBits 8 x))) ∙ moved-bits s (lowBits 8 x ++ []) (low-bits 8 x [] (λ i. omega arith))
-    ∙ ap₂ (λ (n v : ℕ). moved n (bitXor s v)) (length-append (lowBits 8 x) [] ∙ omega (arith, low-long 8 x)) (value-byte x [] h ∙ none)
+    ∙ ap₂ (λ (n v : ℕ). zerosOn n (bitXor s v)) (length-append (lowBits 8 x) [] ∙ omega (arith, low-long 8 x)) (value-byte x [] h ∙ none)
   where
     none : x + 256 * valueOf [] ≡ x
     none = unfold valueOf in omega arith
 
 pub after-four : (s a b c d : ℕ) → a < 256 → b < 256 → c < 256 → d < 256
-    → overBits s (bitsOf (a ∷ b ∷ c ∷ d ∷ [])) ≡ moved 32 (bitXor s (fromLittleEndian 4 0 (a ∷ b ∷ c ∷ d ∷ [])))
+    → overBits s (bitsOf (a ∷ b ∷ c ∷ d ∷ [])) ≡ zerosOn 32 (bitXor s (fromLittleEndian 4 0 (a ∷ b ∷ c ∷ d ∷ [])))
 after-four s a b c d ha hb hc hd =
-    after s (a ∷ b ∷ c ∷ d ∷ []) ∙ ap (λ (v : ℕ). moved 32 (bitXor s v)) (value-four a b c d ha hb hc hd)
+    after s (a ∷ b ∷ c ∷ d ∷ []) ∙ ap (λ (v : ℕ). zerosOn 32 (bitXor s v)) (value-four a b c d ha hb hc hd)
 
 -- ---- bytes one by one, and four by four
 

@@ -7,10 +7,9 @@ use native.Mathlib.Omega.{arith}
 use lib.ListN.{length, getD, take, drop, length-take, length-drop, List·getD-eq-default}
 use lib.Seq.{getD-take, getD-drop, take-add}
 use Rattle.bits.proofs.Search.{lt-or-ge}
-use Rattle.wire.specs.Kinds.{littleEndian}
-use Rattle.wire_laws.specs.Statements.{Bytes}
-use Rattle.wire_laws.proofs.Numbers.{bytes-take, bytes-drop, number-form}
-use Rattle.fours.specs.Fours.{fourAt}
+use Rattle.codec.specs.Bytes.{littleEndian, Bytes}
+use Rattle.codec.proofs.Numbers.{bytes-take, bytes-drop, number-form}
+use Rattle.codec.specs.Fours.{fourAt}
 use Rattle.checksum.specs.Checksum.{crcOver}
 use Rattle.checksum.specs.Bursts.{bitAt, Burst, checked, StoredBurstFound}
 use Rattle.checksum.proofs.Running.{four-at}

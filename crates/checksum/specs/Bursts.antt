@@ -5,9 +5,8 @@ use mathlib.Core.Logic.{_⊎_}
 use mathlib.Core.List.{List, [], _∷_, _++_}
 use Prim.Native.Nat.{ℕ, _+_, _/_, _%_, _^_, _≤_, _<_}
 use lib.ListN.{length, getD, take}
-use Rattle.wire.specs.Kinds.{littleEndian}
-use Rattle.fours.specs.Fours.{fourAt}
-use Rattle.wire_laws.specs.Statements.{Bytes}
+use Rattle.codec.specs.Bytes.{littleEndian, Bytes}
+use Rattle.codec.specs.Fours.{fourAt}
 use Rattle.checksum.specs.Checksum.{crcOver}
 
 -- bit i of some bytes, the lowest of each byte first

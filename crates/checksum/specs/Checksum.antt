@@ -9,13 +9,13 @@ abbrev pub polynomial : ℕ
 polynomial = 0x82F63B78
 
 -- the state after one bit b, 0 or 1: it moves down by one, and where what falls out differs from b the polynomial is added, without carries
-abbrev pub step : ℕ → ℕ → ℕ
-step s b = bitXor (s / 2) ((s + b) % 2 * polynomial)
+abbrev pub bitStep : ℕ → ℕ → ℕ
+bitStep s b = bitXor (s / 2) ((s + b) % 2 * polynomial)
 
 -- after several bits
 unfoldable pub overBits : ℕ → List ℕ → ℕ
 overBits s [] = s
-overBits s (b ∷ bs) = overBits (step s b) bs
+overBits s (b ∷ bs) = overBits (bitStep s b) bs
 
 -- the n lowest bits of a number, the lowest first
 unfoldable pub lowBits : ℕ → ℕ → List ℕ

@@ -7,20 +7,20 @@ use lib.Bits.{bitXor}
 use lib.Dec.{eqb}
 use lib.ListN.{length, getD}
 use Rattle.bits.specs.Places.{from}
-use Rattle.wire.specs.Kinds.{fromLittleEndian}
-use Rattle.checksum.specs.Checksum.{step, inverted}
+use Rattle.codec.specs.Bytes.{fromLittleEndian}
+use Rattle.checksum.specs.Checksum.{bitStep, inverted}
 
 -- a state after n bits that are 0
-unfoldable pub moved : ℕ → ℕ → ℕ
-moved zero s = s
-moved (suc n) s = moved n (step s 0)
+unfoldable pub zerosOn : ℕ → ℕ → ℕ
+zerosOn zero s = s
+zerosOn (suc n) s = zerosOn n (bitStep s 0)
 
 -- four tables, one behind the other: in each an entry for every byte, after 8 bits that are 0 in the first, 16, 24 and 32 in the others
-abbrev pub entry : ℕ → ℕ
-entry p = moved (8 * (p / 256 + 1)) (p % 256)
+abbrev pub tableEntry : ℕ → ℕ
+tableEntry p = zerosOn (8 * (p / 256 + 1)) (p % 256)
 
 unfoldable pub slices : List ℕ
-slices = map entry (from 0 1024)
+slices = map tableEntry (from 0 1024)
 
 -- a state and a byte in one number, by the first table
 abbrev pub overByte : List ℕ → ℕ → ℕ

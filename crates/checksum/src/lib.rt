@@ -3,14 +3,14 @@ ghost use mathlib.Core.Path.{_≡_};
 ghost use Prim.Native.Nat.{_≤_, _<_};
 ghost use lib.ListN.{length, drop};
 ghost use Rattle.checksum.specs.Checksum.{overBits, bitsOf, crcOver};
-ghost use Rattle.checksum.specs.Slices.{moved, slices, overByte, overFour, overBytes, overFours, crcBy};
+ghost use Rattle.checksum.specs.Slices.{zerosOn, slices, overByte, overFour, overBytes, overFours, crcBy};
 
 const ONES: u32 = 0xFFFFFFFF;
 
 // A byte after eight bits that are 0: the sum of what its bits become.
 fn byte_moved(x: u32) -> u32
     requires { ⌜ x < 256 ⌝ }
-    ensures { λ r. ⌜ r ≡ moved 8 x ⌝ }
+    ensures { λ r. ⌜ r ≡ zerosOn 8 x ⌝ }
 {
     (x % 2 * 0xF26B8303)
         ^ (x / 2 % 2 * 0xE13B70F7)
@@ -24,7 +24,7 @@ fn byte_moved(x: u32) -> u32
 
 // A state after eight of them.
 fn eight(s: u32) -> u32
-    ensures { λ r. ⌜ r ≡ moved 8 s ⌝ }
+    ensures { λ r. ⌜ r ≡ zerosOn 8 s ⌝ }
 {
     (s / 256) ^ byte_moved(s % 256)
 }
@@ -84,7 +84,7 @@ fn over_fours(t: &[u32], s: u32, bytes: &[u8]) -> u32
     let mut state = s;
     let mut i: usize = 0;
     while 4 <= bytes.len() - i {
-        state = over_four(t, state ^ fours::four_at(bytes, i));
+        state = over_four(t, state ^ codec::four_at(bytes, i));
         i += 4;
     }
     over_rest(t, state, bytes, i)

@@ -8,7 +8,7 @@ use lib.ListN.{getD}
 use borrow.Author.Tests.{eq-eqb, ne-eqb}
 use Rattle.bits.specs.Bits.{bit}
 use Rattle.floor.specs.Floor.{raisedCar, driveOut}
-use Rattle.cards.specs.Following.{nowhere}
+use Rattle.cards.specs.Following.{noSource}
 use Rattle.cards.specs.Held.{numbersIn, whereIs}
 use Rattle.desk.specs.declared.Desk.{Desk}
 use Rattle.desk.specs.declared.Whereabouts.{Whereabouts}
@@ -16,7 +16,7 @@ use Rattle.desk.specs.declared.Whereabouts.the-variants.{At, LastKnown, 
 use Rattle.desk.specs.declared.Leaving.{Leaving}
 use Rattle.desk.specs.declared.Leaving.the-variants.{Card, Nobody}
 use Rattle.desk.specs.Desk.{deskFit}
-use Rattle.desk.specs.Questions.{unsure, placed, whereabouts, leaving}
+use Rattle.desk.specs.Questions.{unsure, placeKnown, whereabouts, leaving}
 
 module _ (apart k : ℕ) where
   -- one of the cells of the car whose number stands there is set apart
@@ -27,26 +27,26 @@ module _ (apart k : ℕ) where
   abbrev told : (gone doubt : Bool) → Whereabouts
   told gone doubt = cond gone NotHere (cond doubt (LastKnown k) (At k))
 
-  pub placed-not : k ≡ nowhere → NotHere ≡ placed apart k
-  placed-not e = ap (λ (t : Bool). told t (unsure apart k)) (sym (eq-eqb k nowhere e))
+  pub placed-not : k ≡ noSource → NotHere ≡ placeKnown apart k
+  placed-not e = ap (λ (t : Bool). told t (unsure apart k)) (sym (eq-eqb k noSource e))
 
-  pub placed-last : (k ≡ nowhere → ⊥) → unsure apart k ≡ true → LastKnown k ≡ placed apart k
-  placed-last e u = ap₂ told (sym (ne-eqb k nowhere e)) (sym u)
+  pub placed-last : (k ≡ noSource → ⊥) → unsure apart k ≡ true → LastKnown k ≡ placeKnown apart k
+  placed-last e u = ap₂ told (sym (ne-eqb k noSource e)) (sym u)
 
-  pub placed-at : (k ≡ nowhere → ⊥) → unsure apart k ≡ false → At k ≡ placed apart k
-  placed-at e u = ap₂ told (sym (ne-eqb k nowhere e)) (sym u)
+  pub placed-at : (k ≡ noSource → ⊥) → unsure apart k ≡ false → At k ≡ placeKnown apart k
+  placed-at e u = ap₂ told (sym (ne-eqb k noSource e)) (sym u)
 
 module _ (d : Desk) where
   -- where a card's car is
   module _ (c : ℕ) where
     abbrev found : Bool → Whereabouts
-    found t = cond t (placed (d .station .apart) (whereIs (d .numbers) c)) Whereabouts.Unfit
+    found t = cond t (placeKnown (d .station .apart) (whereIs (d .numbers) c)) Whereabouts.Unfit
 
     pub where-unfit : deskFit d ≡ false → Whereabouts.Unfit ≡ whereabouts d c
     unfolding whereabouts
     where-unfit e = ap found (sym e)
 
-    pub where-fit : deskFit d ≡ true → placed (d .station .apart) (whereIs (d .numbers) c) ≡ whereabouts d c
+    pub where-fit : deskFit d ≡ true → placeKnown (d .station .apart) (whereIs (d .numbers) c) ≡ whereabouts d c
     unfolding whereabouts
     where-fit e = ap found (sym e)
 

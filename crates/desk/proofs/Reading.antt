@@ -9,8 +9,8 @@ use borrow.Rule.Slice.PartAt.{part-to-end}
 use Rattle.rules.specs.declared.Code.{Code}
 use Rattle.rules.specs.declared.Reading.{Reading}
 use Rattle.rules.specs.Codes.{readCode, readBytes}
-use Rattle.garage.specs.Held.{codeAt}
-use Rattle.garage.proofs.Loops.{past-eighth}
+use Rattle.station.specs.Held.{codeAt}
+use Rattle.station.proofs.Loops.{past-eighth}
 
 -- past the eighth there is none
 pub read-past : (set : List ℕ) (i : ℕ) → length set ≡ 40 → 8 ≤ i → Reading.Bad ≡ readCode (codeAt set i)

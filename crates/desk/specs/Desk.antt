@@ -6,7 +6,7 @@ use lib.Dec.{eqb}
 use lib.ListN.{replicate}
 use Rattle.answers.specs.declared.Answer.{Answer}
 use Rattle.answers.specs.Answers.{numberOf, placeOf, issueOf, nowhere}
-use Rattle.garage.specs.Station.{startOf, fit}
+use Rattle.station.specs.Station.{startOf, fit}
 use Rattle.cards.specs.Held.{cardsFit}
 use Rattle.desk.specs.declared.Desk.{Desk}
 use Rattle.desk.specs.declared.Reply.{Reply}

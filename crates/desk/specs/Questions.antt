@@ -4,7 +4,7 @@ use Prim.Native.Nat.{ℕ, suc}
 use lib.Dec.{eqb, ltb}
 use Rattle.bits.specs.Bits.{bit}
 use Rattle.floor.specs.Floor.{raisedCar, driveOut}
-use Rattle.cards.specs.Following.{nowhere}
+use Rattle.cards.specs.Following.{noSource}
 use Rattle.cards.specs.Held.{numbersIn, whereIs}
 use Rattle.desk.specs.declared.Desk.{Desk}
 use Rattle.desk.specs.declared.Whereabouts.{Whereabouts}
@@ -18,12 +18,12 @@ abbrev pub unsure : ℕ → ℕ → Bool
 unsure apart k = bit apart k || (ltb k 20 && bit apart (suc k))
 
 -- the place of the number c: for sure, or the last that is known, or it is not here
-abbrev pub placed : ℕ → ℕ → Whereabouts
-placed apart k = cond (eqb k nowhere) NotHere (cond (unsure apart k) (LastKnown k) (At k))
+abbrev pub placeKnown : ℕ → ℕ → Whereabouts
+placeKnown apart k = cond (eqb k noSource) NotHere (cond (unsure apart k) (LastKnown k) (At k))
 
 -- where the car with the number c is
 unfoldable pub whereabouts : Desk → ℕ → Whereabouts
-whereabouts d c = cond (deskFit d) (placed (d .station .apart) (whereIs (d .numbers) c)) Whereabouts.Unfit
+whereabouts d c = cond (deskFit d) (placeKnown (d .station .apart) (whereIs (d .numbers) c)) Whereabouts.Unfit
 
 -- which card is leaving: the number on the raised lift while a drive-out is under way
 unfoldable pub leaving : Desk → Leaving

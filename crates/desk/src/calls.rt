@@ -4,23 +4,23 @@ ghost use mathlib.Core.Path.{_≡_};
 ghost use mathlib.Core.Bool.{cond};
 ghost use lib.Dec.{eqb};
 ghost use Rattle.rules.specs.Codes.{readCode, readEvent};
-ghost use Rattle.garage.specs.Held.{codeAt};
+ghost use Rattle.station.specs.Held.{codeAt};
 ghost use Rattle.cards.specs.Given.{givenAs};
 ghost use Rattle.cards.specs.Held.{codeCards, cardsGiven};
 ghost use Rattle.desk.specs.Desk.{isTaken};
-ghost use Rattle.desk.specs.Calls.{refused, holding, following, request, result, begun, passed, event, offered, takeImage, ask};
+ghost use Rattle.desk.specs.Calls.{deskRefused, deskHolding, deskFollowing, deskRequest, deskResult, deskBegun, passed, deskEvent, offered, deskTakeImage, deskAsk};
 use super::Desk;
 use super::DeskOutcome;
 use super::Reply;
 use answers::Answer;
 use cards::Offered;
-use garage::Outcome;
-use garage::Picture;
-use garage::Report;
-use garage::Station;
 use rules::Event;
 use rules::EventReading;
 use rules::Reading;
+use station::Outcome;
+use station::Picture;
+use station::Report;
+use station::Station;
 
 // The number of the event that brings a card.
 const BEGIN_IN: u8 = 1;
@@ -29,14 +29,14 @@ const BEGIN_IN: u8 = 1;
 const DONE: u8 = 1;
 
 fn refused(desk: Desk, reply: Reply) -> DeskOutcome
-    ensures { λ o. ⌜ o ≡ refused desk reply ⌝ }
+    ensures { λ o. ⌜ o ≡ deskRefused desk reply ⌝ }
 {
     DeskOutcome { desk, reply }
 }
 
 // The station's answer, its station, and these numbers.
 fn holding(o: Outcome, numbers: [u32; 42]) -> DeskOutcome
-    ensures { λ p. ⌜ p ≡ holding o numbers ⌝ }
+    ensures { λ p. ⌜ p ≡ deskHolding o numbers ⌝ }
 {
     let station = o.station;
     let answer = o.answer;
@@ -67,7 +67,7 @@ fn read_at(set: [u8; 40], i: u8) -> Reading
 impl Desk {
     // The station's call, and these numbers where it is taken.
     fn following(self, o: Outcome, numbers: [u32; 42]) -> DeskOutcome
-        ensures { λ p. ⌜ p ≡ following self o numbers ⌝ }
+        ensures { λ p. ⌜ p ≡ deskFollowing self o numbers ⌝ }
     {
         let answer = o.answer;
         if is_taken(answer) {
@@ -78,7 +78,7 @@ impl Desk {
 
     // A request.
     pub fn request(self, count: u8, set: [u8; 40]) -> DeskOutcome
-        ensures { λ o. ⌜ o ≡ request self count set ⌝ }
+        ensures { λ o. ⌜ o ≡ deskRequest self count set ⌝ }
     {
         if !self.numbers_fit() {
             return refused(self, Reply::Told(Answer::Unfit));
@@ -115,7 +115,7 @@ impl Desk {
 
     // A result.
     pub fn result(self, report: Report) -> DeskOutcome
-        ensures { λ o. ⌜ o ≡ result self report ⌝ }
+        ensures { λ o. ⌜ o ≡ deskResult self report ⌝ }
     {
         if !self.numbers_fit() {
             return refused(self, Reply::Told(Answer::Unfit));
@@ -127,7 +127,7 @@ impl Desk {
 
     // A drive-in begins with this number: it isn't zero, and not in the garage.
     fn begun(self, o: Outcome, card: u32) -> DeskOutcome
-        ensures { λ p. ⌜ p ≡ begun self o card ⌝ }
+        ensures { λ p. ⌜ p ≡ deskBegun self o card ⌝ }
     {
         if card == 0 {
             return refused(self, Reply::ZeroNumber);
@@ -152,7 +152,7 @@ impl Desk {
 
     // A car event, with the number of a card: only the begin of a drive-in looks at it.
     pub fn event(self, way: u8, card: u32) -> DeskOutcome
-        ensures { λ o. ⌜ o ≡ event self way card ⌝ }
+        ensures { λ o. ⌜ o ≡ deskEvent self way card ⌝ }
     {
         if !self.numbers_fit() {
             return refused(self, Reply::Told(Answer::Unfit));
@@ -183,7 +183,7 @@ impl Desk {
 
     // An image with `count` numbers; those past them are not looked at.
     pub fn image(self, picture: Picture, count: u8, given: [u32; 31]) -> DeskOutcome
-        ensures { λ o. ⌜ o ≡ takeImage self picture count given ⌝ }
+        ensures { λ o. ⌜ o ≡ deskTakeImage self picture count given ⌝ }
     {
         if !self.numbers_fit() {
             return refused(self, Reply::Told(Answer::Unfit));
@@ -199,7 +199,7 @@ impl Desk {
 
     // The record is asked for.
     pub fn ask(self) -> DeskOutcome
-        ensures { λ o. ⌜ o ≡ ask self ⌝ }
+        ensures { λ o. ⌜ o ≡ deskAsk self ⌝ }
     {
         if !self.fit() {
             return refused(self, Reply::Told(Answer::Unfit));

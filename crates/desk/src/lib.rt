@@ -6,7 +6,7 @@ ghost use Rattle.cards.specs.Held.{cardsFit};
 ghost use Rattle.desk.specs.Desk.{startDesk, deskFit, replyNumber, replyPlace, replyIssue};
 use answers::Answer;
 use answers::NOWHERE;
-use garage::Station;
+use station::Station;
 
 mod calls;
 mod questions;

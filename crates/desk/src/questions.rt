@@ -1,6 +1,6 @@
 // What the desk is asked: where a card's car is, and which card is leaving.
 ghost use mathlib.Core.Path.{_≡_};
-ghost use Rattle.desk.specs.Questions.{unsure, placed, whereabouts, leaving};
+ghost use Rattle.desk.specs.Questions.{unsure, placeKnown, whereabouts, leaving};
 use super::Desk;
 use super::Leaving;
 use super::Whereabouts;
@@ -23,7 +23,7 @@ fn unsure(apart: u64, k: u8) -> bool
 
 // What is told of a place.
 fn placed(apart: u64, k: u8) -> Whereabouts
-    ensures { λ w. ⌜ w ≡ placed apart k ⌝ }
+    ensures { λ w. ⌜ w ≡ placeKnown apart k ⌝ }
 {
     if k == NOT_HERE {
         return Whereabouts::NotHere;

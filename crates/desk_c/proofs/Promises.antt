@@ -11,11 +11,11 @@ use lib.ListN.{length, drop, length-append, length-drop}
 use lib.Seq.{take-add, drop-at}
 use Rattle.bits.proofs.Cases.{split}
 use Rattle.answers.specs.declared.Answer.the-variants.{NoRoom}
-use Rattle.garage.specs.declared.Station.{Station}
-use Rattle.wire_laws.proofs.Numbers.{bytes-drop}
-use Rattle.fours.specs.Fours.{foursIn, foursBytes}
-use Rattle.fours.proofs.Fours.{bytesTo, bytes-length}
-use Rattle.fours.proofs.Forms.{fours-read-back, fours-one-form}
+use Rattle.station.specs.declared.Station.{Station}
+use Rattle.codec.proofs.Numbers.{bytes-drop}
+use Rattle.codec.specs.Fours.{foursIn, foursBytes}
+use Rattle.codec.proofs.Fours.{bytesTo, bytes-length}
+use Rattle.codec.proofs.Forms.{fours-read-back, fours-one-form}
 use Rattle.rooms.specs.Rooms.{stationBytes, imageBytes, writes}
 use Rattle.rooms.proofs.Promises.{station-fits, station-reads-back, station-one-form}
 use Rattle.desk.specs.declared.Desk.{Desk}
@@ -26,10 +26,10 @@ use Rattle.desk.specs.declared.Whereabouts.{Whereabouts}
 use Rattle.desk.specs.declared.Whereabouts.the-variants.{At, LastKnown, NotHere}
 use Rattle.desk.specs.declared.Leaving.{Leaving}
 use Rattle.desk.specs.declared.Leaving.the-variants.{Card, Nobody}
-use Rattle.desk.specs.Calls.{ask}
+use Rattle.desk.specs.Calls.{deskAsk}
 use Rattle.desk.specs.Questions.{whereabouts, leaving}
-use Rattle.desk_c.specs.Entries.{deskBytes, deskOf, replied, shows, entry, asking, whereSaid, finding, leavingEntry, parting}
-use Rattle.desk_c.specs.Promises.{DeskFits, DeskReadsBack, DeskOneForm, RepliedReadsBack, WhereReadsBack, RefusedUntouched, OfDesk, NumbersReturned}
+use Rattle.desk_c.specs.Entries.{deskBytes, deskOf, replied, shows, deskEntry, deskAsking, whereSaid, finding, leavingEntry, parting}
+use Rattle.desk_c.specs.Promises.{DeskFits, DeskReadsBack, DeskOneForm, RepliedReadsBack, WhereReadsBack, DeskEntryUntouched, OfDesk, DeskNumbersReturned}
 use Rattle.desk_c.proofs.Rooms.{reply-byte, reply-number}
 
 -- ---- a desk in bytes
@@ -91,15 +91,15 @@ refused-leaving (Card c) out h = absurd (h refl)
 refused-leaving Nobody out h = absurd (h refl)
 refused-leaving Leaving.Unfit out h = refl
 
-pub refused-untouched : RefusedUntouched
-unfolding entry asking parting shows
+pub refused-untouched : DeskEntryUntouched
+unfolding deskEntry deskAsking parting shows
 refused-untouched = (
   λ call room h. split (ltb (length room) 228)
       (λ t. rw t)
       (λ t. let o = call (deskOf room) in rw t (refused-shows (o .reply) (deskBytes (o .desk)) room (λ z. h (rw t z)))),
   λ room image h. split (ltb (length room) 228 || ltb (length image) 16)
       (λ t. rw t)
-      (λ t. let d = deskOf room in rw t (refused-shows (ask d .reply) (imageBytes (d .station .bits) (d .station .apart)) image (λ z. h (rw t z)))),
+      (λ t. let d = deskOf room in rw t (refused-shows (deskAsk d .reply) (imageBytes (d .station .bits) (d .station .apart)) image (λ z. h (rw t z)))),
   λ room out h. split (ltb (length room) 228 || ltb (length out) 4)
       (λ t. rw t)
       (λ t. rw t (refused-leaving (leaving (deskOf room)) out (λ z. h (rw t z)))),
@@ -125,13 +125,13 @@ leaving-number (Card c) out = inl refl
 leaving-number Nobody out = inl refl
 leaving-number Leaving.Unfit out = inr (inl refl)
 
-pub numbers-returned : NumbersReturned
-unfolding entry asking finding parting shows
+pub numbers-returned : DeskNumbersReturned
+unfolding deskEntry deskAsking finding parting shows
 numbers-returned = (
   λ call room. split (ltb (length room) 228) (λ t. rw t (of-desk (Told NoRoom))) (λ t. rw t (of-desk (call (deskOf room) .reply))),
   λ room image. split (ltb (length room) 228 || ltb (length image) 16)
       (λ t. rw t (of-desk (Told NoRoom)))
-      (λ t. rw t (of-desk (ask (deskOf room) .reply))),
+      (λ t. rw t (of-desk (deskAsk (deskOf room) .reply))),
   λ room c. split (ltb (length room) 228) (λ t. rw t (inr (inr refl))) (λ t. rw t (where-number (whereabouts (deskOf room) c))),
   λ room out. split (ltb (length room) 228 || ltb (length out) 4)
       (λ t. rw t (inr (inr refl)))

@@ -10,13 +10,14 @@ use lib.Dec.{eqb, ltb}
 use lib.ListN.{length, take, drop, replicate}
 use lib.Seq.{take-length}
 use Rattle.bits.proofs.Cases.{split}
+use Rattle.codec.specs.Bytes.{littleEndian}
 use Rattle.answers.specs.declared.Answer.the-variants.{Taken, TooFewBytes, NoRoom, Unfit}
 use Rattle.answers.proofs.Promises.{number-byte}
-use Rattle.garage.specs.declared.Station.{Station}
-use Rattle.wire.specs.Kinds.{littleEndian, setOf}
+use Rattle.station.specs.declared.Station.{Station}
+use Rattle.wire.specs.Kinds.{setOf}
 use Rattle.wire.proofs.Parts.{zeros-past, from-on}
-use Rattle.fours.specs.Fours.{foursIn, foursBytes}
-use Rattle.rooms.specs.Rooms.{stationBytes, stationOf, lentStation, imageBytes, returned, Leaves, writes, told}
+use Rattle.codec.specs.Fours.{foursIn, foursBytes}
+use Rattle.rooms.specs.Rooms.{stationBytes, stationOf, lentStation, imageBytes, returned, LeavesRoom, writes, telling}
 use Rattle.desk.specs.declared.Desk.{Desk}
 use Rattle.desk.specs.declared.DeskOutcome.{DeskOutcome}
 use Rattle.desk.specs.declared.Reply.{Reply}
@@ -24,9 +25,9 @@ use Rattle.desk.specs.declared.Reply.the-variants.{Told, ZeroNumber, KnownNumbe
 use Rattle.desk.specs.declared.Whereabouts.{Whereabouts}
 use Rattle.desk.specs.declared.Leaving.{Leaving}
 use Rattle.desk.specs.Desk.{replyNumber}
-use Rattle.desk.specs.Calls.{refused, request, takeImage, ask}
+use Rattle.desk.specs.Calls.{deskRefused, deskRequest, deskTakeImage, deskAsk}
 use Rattle.desk.specs.Questions.{whereabouts, leaving}
-use Rattle.desk_c.specs.Entries.{deskBytes, deskOf, replied, shows, entry, lentBytes, requestOf, imageOf, asking, whereSaid, finding, leavingEntry, parting}
+use Rattle.desk_c.specs.Entries.{deskBytes, deskOf, replied, shows, deskEntry, lentBytes, deskRequestOf, deskImageOf, deskAsking, whereSaid, finding, leavingEntry, parting}
 
 -- ---- what is lent
 
@@ -53,23 +54,23 @@ zero-filled s last e = e ∙ rw (take-length s, zeros-past (length s) 124)
 
 -- a set that is too short, or long enough
 module _ (n : ℕ) (set : List ℕ) (d : Desk) {size : ℕ} {o : DeskOutcome} (e : size ≡ lentBytes 8 5 n) where
-  pub few-instructions : length set < size → o ≡ refused d (Told TooFewBytes) → o ≡ requestOf n set d
-  unfolding requestOf
+  pub few-instructions : length set < size → o ≡ deskRefused d (Told TooFewBytes) → o ≡ deskRequestOf n set d
+  unfolding deskRequestOf
   few-instructions h f = f ∙ rw (← e, lt-ltb _ _ h)
 
-  pub all-instructions : {five : List ℕ} → size ≤ length set → five ≡ setOf (take size set) → o ≡ request d n five → o ≡ requestOf n set d
-  unfolding requestOf
+  pub all-instructions : {five : List ℕ} → size ≤ length set → five ≡ setOf (take size set) → o ≡ deskRequest d n five → o ≡ deskRequestOf n set d
+  unfolding deskRequestOf
   all-instructions h g f = f ∙ rw (← e, le-ltb _ _ h, g)
 
 -- so of an image's numbers
 module _ (r apart n : ℕ) (run : List ℕ) (d : Desk) {size : ℕ} {o : DeskOutcome} (e : size ≡ lentBytes 31 4 n) where
-  pub few-numbers : length run < size → o ≡ refused d (Told TooFewBytes) → o ≡ imageOf r apart n run d
-  unfolding imageOf
+  pub few-numbers : length run < size → o ≡ deskRefused d (Told TooFewBytes) → o ≡ deskImageOf r apart n run d
+  unfolding deskImageOf
   few-numbers h f = f ∙ rw (← e, lt-ltb _ _ h)
 
   pub all-numbers : {b numbers : List ℕ} → size ≤ length run → b ≡ take size run ++ replicate (124 - length (take size run)) 0
-      → numbers ≡ foursIn 31 b → o ≡ takeImage d (record { bits = r; apart = apart }) n numbers → o ≡ imageOf r apart n run d
-  unfolding imageOf
+      → numbers ≡ foursIn 31 b → o ≡ deskTakeImage d (record { bits = r; apart = apart }) n numbers → o ≡ deskImageOf r apart n run d
+  unfolding deskImageOf
   all-numbers h g k f = f ∙ rw (← e, le-ltb _ _ h, k, g)
 
 -- ---- a desk in bytes
@@ -106,39 +107,39 @@ reply-number a = let h = reply-byte a in omega arith
 
 -- a reply that is told is shown, in the bytes that stand for it
 pub as-shows : (a : Reply) (bytes room : List ℕ) {b : List ℕ} {n r : ℕ} {last : List ℕ} → b ≡ bytes → length b ≤ length room → n ≡ replied a
-    → Leaves (told n b room) r last → Leaves (shows a bytes room) r last
-unfolding told shows
+    → LeavesRoom (telling n b room) r last → LeavesRoom (shows a bytes room) r last
+unfolding telling shows
 as-shows a bytes room {b} d l e w =
     let fits : ltb (length room) (length b) ≡ false = le-ltb _ _ l in
     let zero : eqb (replied a % 256) 0 ≡ eqb (replyNumber a) 0 = ap (λ (k : ℕ). eqb k 0) (reply-number a) in
     let t = rw (e, fits, zero) at w in rw (← d) t
 
 -- a call whose room is too short
-pub short : (call : Desk → DeskOutcome) (room : List ℕ) {r : ℕ} → length room < 228 → r ≡ returned NoRoom → Leaves (entry call room) r room
-unfolding entry
+pub short : (call : Desk → DeskOutcome) (room : List ℕ) {r : ℕ} → length room < 228 → r ≡ returned NoRoom → LeavesRoom (deskEntry call room) r room
+unfolding deskEntry
 short call room h e = rw (lt-ltb _ _ h) (e, refl)
 
 -- any other leaves what its outcome says
 pub entered : (call : Desk → DeskOutcome) (room : List ℕ) {d : Desk} {o : DeskOutcome} {r : ℕ} {last : List ℕ} → 228 ≤ length room
-    → d ≡ deskOf room → o ≡ call d → Leaves (shows (o .reply) (deskBytes (o .desk)) room) r last → Leaves (entry call room) r last
-unfolding entry
+    → d ≡ deskOf room → o ≡ call d → LeavesRoom (shows (o .reply) (deskBytes (o .desk)) room) r last → LeavesRoom (deskEntry call room) r last
+unfolding deskEntry
 entered call room h e f w = rw (le-ltb _ _ h, ← e, ← f) w
 
 -- ---- questions
 
 -- the record is asked for
 module _ (room image : List ℕ) {r : ℕ} where
-  pub ask-short : length room < 228 → r ≡ returned NoRoom → Leaves (asking room image) r image
-  unfolding asking
+  pub ask-short : length room < 228 → r ≡ returned NoRoom → LeavesRoom (deskAsking room image) r image
+  unfolding deskAsking
   ask-short h e = rw (lt-ltb _ _ h) (e, refl)
 
-  pub image-short : 228 ≤ length room → length image < 16 → r ≡ returned NoRoom → Leaves (asking room image) r image
-  unfolding asking
+  pub image-short : 228 ≤ length room → length image < 16 → r ≡ returned NoRoom → LeavesRoom (deskAsking room image) r image
+  unfolding deskAsking
   image-short h l e = rw (le-ltb _ _ h, lt-ltb _ _ l) (e, refl)
 
-  pub asked : {d : Desk} {o : DeskOutcome} {b last : List ℕ} {n : ℕ} → 228 ≤ length room → 16 ≤ length image → d ≡ deskOf room → o ≡ ask d
-      → b ≡ imageBytes (d .station .bits) (d .station .apart) → n ≡ replied (o .reply) → Leaves (told n b image) r last → Leaves (asking room image) r last
-  unfolding asking
+  pub asked : {d : Desk} {o : DeskOutcome} {b last : List ℕ} {n : ℕ} → 228 ≤ length room → 16 ≤ length image → d ≡ deskOf room → o ≡ deskAsk d
+      → b ≡ imageBytes (d .station .bits) (d .station .apart) → n ≡ replied (o .reply) → LeavesRoom (telling n b image) r last → LeavesRoom (deskAsking room image) r last
+  unfolding deskAsking
   asked {d} {o} {b} h l e f g q w =
       let size : length b ≡ 16 = ap length g in
       rw (le-ltb _ _ h, le-ltb _ _ l, ← e, ← f) (as-shows (o .reply) (imageBytes (d .station .bits) (d .station .apart)) image g (omega (arith, size, l)) q w)
@@ -155,19 +156,19 @@ module _ (room : List ℕ) (c : ℕ) {r : ℕ} where
 
 -- which card is leaving
 module _ (room out : List ℕ) {r : ℕ} where
-  pub leaving-short : length room < 228 → r ≡ returned NoRoom → Leaves (parting room out) r out
+  pub leaving-short : length room < 228 → r ≡ returned NoRoom → LeavesRoom (parting room out) r out
   unfolding parting
   leaving-short h e = rw (lt-ltb _ _ h) (e, refl)
 
-  pub out-short : 228 ≤ length room → length out < 4 → r ≡ returned NoRoom → Leaves (parting room out) r out
+  pub out-short : 228 ≤ length room → length out < 4 → r ≡ returned NoRoom → LeavesRoom (parting room out) r out
   unfolding parting
   out-short h l e = rw (le-ltb _ _ h, lt-ltb _ _ l) (e, refl)
 
   module _ (h : 228 ≤ length room) (l : 4 ≤ length out) {d : Desk} (e : d ≡ deskOf room) {x : Leaving} (f : x ≡ leaving d) where
-    pub parted : (y : Leaving) {last : List ℕ} → x ≡ y → Leaves (leavingEntry y out) r last → Leaves (parting room out) r last
+    pub parted : (y : Leaving) {last : List ℕ} → x ≡ y → LeavesRoom (leavingEntry y out) r last → LeavesRoom (parting room out) r last
     unfolding parting
     parted y g w = rw (le-ltb _ _ h, le-ltb _ _ l, ← e, sym f ∙ g) w
 
-    pub unfit-parted : x ≡ Leaving.Unfit → r ≡ returned Unfit → Leaves (parting room out) r out
+    pub unfit-parted : x ≡ Leaving.Unfit → r ≡ returned Unfit → LeavesRoom (parting room out) r out
     unfolding writes
     unfit-parted g k = parted Leaving.Unfit g (k, refl)

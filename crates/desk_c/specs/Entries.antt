@@ -4,11 +4,12 @@ use mathlib.Core.List.{List, _++_}
 use Prim.Native.Nat.{ℕ, _+_, _*_, _-_}
 use lib.Dec.{eqb, ltb}
 use lib.ListN.{length, take, drop, replicate}
+use Rattle.codec.specs.Bytes.{littleEndian}
 use Rattle.answers.specs.declared.Answer.the-variants.{Taken, TooFewBytes, NoRoom, Unfit}
 use Rattle.answers.specs.Answers.{nowhere}
-use Rattle.rules.specs.Codes.{most}
-use Rattle.wire.specs.Kinds.{littleEndian, setOf}
-use Rattle.fours.specs.Fours.{foursIn, foursBytes}
+use Rattle.rules.specs.Codes.{mostInSet}
+use Rattle.wire.specs.Kinds.{setOf}
+use Rattle.codec.specs.Fours.{foursIn, foursBytes}
 use Rattle.rooms.specs.Rooms.{stationSize, stationBytes, stationOf, imageBytes, returned, Entry, writes, noRoom}
 use Rattle.desk.specs.declared.Desk.{Desk}
 use Rattle.desk.specs.declared.DeskOutcome.{DeskOutcome}
@@ -17,7 +18,7 @@ use Rattle.desk.specs.declared.Reply.the-variants.{Told}
 use Rattle.desk.specs.declared.Whereabouts.{Whereabouts}
 use Rattle.desk.specs.declared.Leaving.{Leaving}
 use Rattle.desk.specs.Desk.{replyNumber, replyPlace, replyIssue}
-use Rattle.desk.specs.Calls.{refused, request, takeImage, ask}
+use Rattle.desk.specs.Calls.{deskRefused, deskRequest, deskTakeImage, deskAsk}
 use Rattle.desk.specs.Questions.{whereabouts, leaving}
 
 -- ---- a desk in bytes
@@ -48,8 +49,8 @@ unfoldable pub shows : Reply → List ℕ → List ℕ → Entry
 shows a bytes room = record { says = replied a; leaves = cond (eqb (replyNumber a) 0) (bytes ++ drop (length bytes) room) room }
 
 -- a call on the lent desk: 17, then the call's own answers
-unfoldable pub entry : (Desk → DeskOutcome) → List ℕ → Entry
-entry call room =
+unfoldable pub deskEntry : (Desk → DeskOutcome) → List ℕ → Entry
+deskEntry call room =
     let o = call (deskOf room) in
     cond (ltb (length room) deskSize) (noRoom room) (shows (o .reply) (deskBytes (o .desk)) room)
 
@@ -58,10 +59,10 @@ abbrev pub lentBytes : ℕ → ℕ → ℕ → ℕ
 lentBytes atMost each n = cond (ltb atMost n) 0 (each * n)
 
 -- a request of n instructions whose set is lent as a run of bytes, five each: 1 where it is shorter than that
-unfoldable pub requestOf : ℕ → List ℕ → Desk → DeskOutcome
-requestOf n set d =
-    let size = lentBytes most 5 n in
-    cond (ltb (length set) size) (refused d (Told TooFewBytes)) (request d n (setOf (take size set)))
+unfoldable pub deskRequestOf : ℕ → List ℕ → Desk → DeskOutcome
+deskRequestOf n set d =
+    let size = lentBytes mostInSet 5 n in
+    cond (ltb (length set) size) (deskRefused d (Told TooFewBytes)) (deskRequest d n (setOf (take size set)))
 
 -- the most numbers that an image can come with
 abbrev pub mostNumbers : ℕ
@@ -72,19 +73,19 @@ abbrev pub numbersOf : List ℕ → List ℕ
 numbersOf run = foursIn mostNumbers (run ++ replicate (4 * mostNumbers - length run) 0)
 
 -- an image whose n numbers are lent as a run of bytes, four each: 1 where it is shorter than that
-unfoldable pub imageOf : ℕ → ℕ → ℕ → List ℕ → Desk → DeskOutcome
-imageOf r apart n run d =
+unfoldable pub deskImageOf : ℕ → ℕ → ℕ → List ℕ → Desk → DeskOutcome
+deskImageOf r apart n run d =
     let size = lentBytes mostNumbers 4 n in
-    cond (ltb (length run) size) (refused d (Told TooFewBytes)) (takeImage d (record { bits = r; apart = apart }) n (numbersOf (take size run)))
+    cond (ltb (length run) size) (deskRefused d (Told TooFewBytes)) (deskTakeImage d (record { bits = r; apart = apart }) n (numbersOf (take size run)))
 
 -- ---- questions
 
 -- the record is asked for: it is written to a room of its own, with what is set apart behind it
-unfoldable pub asking : List ℕ → List ℕ → Entry
-asking room image =
+unfoldable pub deskAsking : List ℕ → List ℕ → Entry
+deskAsking room image =
     let d = deskOf room in
     cond (ltb (length room) deskSize || ltb (length image) 16) (noRoom image)
-    (shows (ask d .reply) (imageBytes (d .station .bits) (d .station .apart)) image)
+    (shows (deskAsk d .reply) (imageBytes (d .station .bits) (d .station .apart)) image)
 
 -- where a card's car is, as one number: its place, and 65536 where it is the last known one; 255 where it is not here
 abbrev pub whereSaid : Whereabouts → ℕ

@@ -4,8 +4,8 @@ use mathlib.Core.Logic.{_⊎_}
 use mathlib.Core.List.{List, _++_}
 use Prim.Native.Nat.{ℕ, _/_, _%_, _^_, _≤_, _<_}
 use lib.ListN.{length, getD, take}
+use Rattle.codec.specs.Bytes.{Bytes}
 use Rattle.answers.specs.Answers.{OfTable}
-use Rattle.wire_laws.specs.Statements.{Bytes}
 use Rattle.rooms.specs.Promises as station
 use Rattle.desk.specs.declared.Desk.{Desk}
 use Rattle.desk.specs.declared.DeskOutcome.{DeskOutcome}
@@ -13,21 +13,21 @@ use Rattle.desk.specs.declared.Reply.{Reply}
 use Rattle.desk.specs.declared.Whereabouts.{Whereabouts}
 use Rattle.desk.specs.declared.Whereabouts.the-variants.{At, LastKnown, NotHere}
 use Rattle.desk.specs.Desk.{replyNumber, replyPlace, replyIssue}
-use Rattle.desk_c.specs.Entries.{deskNumbers, deskSize, deskBytes, deskOf, replied, entry, asking, whereSaid, finding, parting}
+use Rattle.desk_c.specs.Entries.{deskNumbers, deskSize, deskBytes, deskOf, replied, deskEntry, deskAsking, whereSaid, finding, parting}
 
 -- a desk as code holds it: its station is, and it has 42 numbers of 32 bits
-pub record Typed (d : Desk) : Type 0 where
-  pub station : station.Typed (d .station)
+pub record DeskTyped (d : Desk) : Type 0 where
+  pub station : station.StationTyped (d .station)
   pub places : length (d .numbers) ≡ deskNumbers
   pub small : (p : ℕ) → getD (d .numbers) p 0 < 2 ^ 32
 
 -- a desk takes 228 bytes
 abbrev pub DeskFits : Type 0
-DeskFits = (d : Desk) → Typed d → length (deskBytes d) ≡ deskSize
+DeskFits = (d : Desk) → DeskTyped d → length (deskBytes d) ≡ deskSize
 
 -- a desk that was written reads back, whatever stands past it
 abbrev pub DeskReadsBack : Type 0
-DeskReadsBack = (d : Desk) (past : List ℕ) → Typed d → deskOf (deskBytes d ++ past) ≡ d
+DeskReadsBack = (d : Desk) (past : List ℕ) → DeskTyped d → deskOf (deskBytes d ++ past) ≡ d
 
 -- the bytes of a room are those of the desk that they hold
 abbrev pub DeskOneForm : Type 0
@@ -52,10 +52,10 @@ abbrev pub WhereReadsBack : Type 0
 WhereReadsBack = (w x : Whereabouts) → Within255 w → Within255 x → whereSaid w ≡ whereSaid x → w ≡ x
 
 -- an entry that refuses leaves the room as it was
-abbrev pub RefusedUntouched : Type 0
-RefusedUntouched =
-    ((call : Desk → DeskOutcome) (room : List ℕ) → (entry call room .says % 256 ≡ 0 → ⊥) → entry call room .leaves ≡ room)
-    × ((room image : List ℕ) → (asking room image .says % 256 ≡ 0 → ⊥) → asking room image .leaves ≡ image)
+abbrev pub DeskEntryUntouched : Type 0
+DeskEntryUntouched =
+    ((call : Desk → DeskOutcome) (room : List ℕ) → (deskEntry call room .says % 256 ≡ 0 → ⊥) → deskEntry call room .leaves ≡ room)
+    × ((room image : List ℕ) → (deskAsking room image .says % 256 ≡ 0 → ⊥) → deskAsking room image .leaves ≡ image)
     × ((room out : List ℕ) → (parting room out .says % 256 ≡ 0 → ⊥) → parting room out .leaves ≡ out)
 
 -- a number of the station's table, or one of the desk's own
@@ -63,9 +63,9 @@ abbrev pub OfDesk : ℕ → Type 0
 OfDesk n = OfTable n ⊎ ((37 ≤ n) × (n ≤ 39))
 
 -- an entry returns a number of the table or 37 to 39, and the two questions 0, 16 or 17
-abbrev pub NumbersReturned : Type 0
-NumbersReturned =
-    ((call : Desk → DeskOutcome) (room : List ℕ) → OfDesk (entry call room .says % 256))
-    × ((room image : List ℕ) → OfDesk (asking room image .says % 256))
+abbrev pub DeskNumbersReturned : Type 0
+DeskNumbersReturned =
+    ((call : Desk → DeskOutcome) (room : List ℕ) → OfDesk (deskEntry call room .says % 256))
+    × ((room image : List ℕ) → OfDesk (deskAsking room image .says % 256))
     × ((room : List ℕ) (c : ℕ) → let n = finding room c % 256 in (n ≡ 0) ⊎ (n ≡ 16) ⊎ (n ≡ 17))
     × ((room out : List ℕ) → let n = parting room out .says % 256 in (n ≡ 0) ⊎ (n ≡ 16) ⊎ (n ≡ 17))

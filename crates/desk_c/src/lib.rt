@@ -5,14 +5,14 @@ ghost use mathlib.Core.Path.{_≡_};
 ghost use mathlib.Core.List.{_++_};
 ghost use Prim.Native.Nat.{_≤_, _*_, _-_};
 ghost use lib.ListN.{length, drop, replicate};
-ghost use Rattle.wire.specs.Kinds.{littleEndian};
-ghost use Rattle.fours.specs.Fours.{foursIn, foursBytes};
+ghost use Rattle.codec.specs.Bytes.{littleEndian};
+ghost use Rattle.codec.specs.Fours.{foursIn, foursBytes};
 ghost use Rattle.answers.specs.declared.Answer.{Answer};
-ghost use Rattle.rooms.specs.Rooms.{Leaves, writes};
+ghost use Rattle.rooms.specs.Rooms.{LeavesRoom, writes};
 ghost use Rattle.desk.specs.declared.Reply.{Reply};
 ghost use Rattle.desk.specs.Desk.{startDesk};
 ghost use Rattle.desk.specs.Calls as calls;
-ghost use Rattle.desk_c.specs.Entries.{deskNumbers, deskSize, deskBytes, deskOf, replied, shows, entry, lentBytes, requestOf, mostNumbers, imageOf, asking, whereSaid, finding, parting};
+ghost use Rattle.desk_c.specs.Entries.{deskNumbers, deskSize, deskBytes, deskOf, replied, shows, deskEntry, lentBytes, deskRequestOf, mostNumbers, deskImageOf, deskAsking, whereSaid, finding, parting};
 use answers::Answer;
 use answers::NOWHERE;
 use desk::Desk;
@@ -20,11 +20,11 @@ use desk::DeskOutcome;
 use desk::Leaving;
 use desk::Reply;
 use desk::Whereabouts;
-use garage::Picture;
-use garage::Report;
-use garage::Station;
 use rooms::say;
 use rooms::tell;
+use station::Picture;
+use station::Report;
+use station::Station;
 
 // The bytes of a lent desk, and of its station.
 const DESK: usize = 228;
@@ -53,7 +53,7 @@ fn numbers_in(run: &[u8]) -> [u32; NUMBERS]
     let mut numbers = [0u32; NUMBERS];
     let mut place: usize = 0;
     while place < NUMBERS {
-        numbers[place] = fours::four_at(run, 4 * place);
+        numbers[place] = codec::four_at(run, 4 * place);
         place += 1;
     }
     numbers
@@ -76,7 +76,7 @@ fn put_numbers(numbers: &[u32; NUMBERS], run: &mut [u8])
 {
     let mut place: usize = 0;
     while place < NUMBERS {
-        let four = fours::four_bytes(numbers[place]);
+        let four = codec::four_bytes(numbers[place]);
         bytes::copy(&four, &mut run[4 * place..4 * place + 4]);
         place += 1;
     }
@@ -105,7 +105,7 @@ fn told(a: Reply) -> u32
 // Answers a call's outcome, and writes its desk to room if that is "taken".
 fn keep(o: DeskOutcome, room: &mut [u8]) -> u32
     requires { ⌜ deskSize ≤ length (now room) ⌝ }
-    ensures { λ r. ⌜ Leaves (shows (o .reply) (deskBytes (o .desk)) (now (room .entry))) r (now (room .exit)) ⌝ }
+    ensures { λ r. ⌜ LeavesRoom (shows (o .reply) (deskBytes (o .desk)) (now (room .entry))) r (now (room .exit)) ⌝ }
 {
     let d = o.desk;
     let b = stored(d);
@@ -118,7 +118,7 @@ fn keep(o: DeskOutcome, room: &mut [u8]) -> u32
 // Writes the start desk.
 #[no_mangle]
 pub extern "C" fn desk_start(room: &mut [u8]) -> u32
-    ensures { λ r. ⌜ Leaves (entry (λ d. calls.refused startDesk (Reply.Told Answer.Taken)) (now (room .entry))) r (now (room .exit)) ⌝ }
+    ensures { λ r. ⌜ LeavesRoom (deskEntry (λ d. calls.deskRefused startDesk (Reply.Told Answer.Taken)) (now (room .entry))) r (now (room .exit)) ⌝ }
 {
     if room.len() < DESK {
         return say(Answer::NoRoom);
@@ -144,7 +144,7 @@ fn lent(most: u8, each: usize, count: u8) -> usize
 
 // The desk as it was: fewer bytes were lent than a count says.
 fn too_few(desk: Desk) -> DeskOutcome
-    ensures { λ o. ⌜ o ≡ calls.refused desk (Reply.Told Answer.TooFewBytes) ⌝ }
+    ensures { λ o. ⌜ o ≡ calls.deskRefused desk (Reply.Told Answer.TooFewBytes) ⌝ }
 {
     DeskOutcome {
         desk,
@@ -154,7 +154,7 @@ fn too_few(desk: Desk) -> DeskOutcome
 
 // A request on a desk, its set as a run of bytes.
 fn requested(d: Desk, count: u8, set: &[u8]) -> DeskOutcome
-    ensures { λ o. ⌜ o ≡ requestOf count (now (set .entry)) d ⌝ }
+    ensures { λ o. ⌜ o ≡ deskRequestOf count (now (set .entry)) d ⌝ }
 {
     let size = lent(Station::MOST, CODE, count);
     if set.len() < size {
@@ -167,7 +167,7 @@ fn requested(d: Desk, count: u8, set: &[u8]) -> DeskOutcome
 // A request of `count` instructions, five bytes each.
 #[no_mangle]
 pub extern "C" fn desk_request(room: &mut [u8], count: u8, set: &[u8]) -> u32
-    ensures { λ r. ⌜ Leaves (entry (requestOf count (now (set .entry))) (now (room .entry))) r (now (room .exit)) ⌝ }
+    ensures { λ r. ⌜ LeavesRoom (deskEntry (deskRequestOf count (now (set .entry))) (now (room .entry))) r (now (room .exit)) ⌝ }
 {
     if room.len() < DESK {
         return say(Answer::NoRoom);
@@ -180,7 +180,7 @@ pub extern "C" fn desk_request(room: &mut [u8], count: u8, set: &[u8]) -> u32
 // A car event, with a card's number where a drive-in begins.
 #[no_mangle]
 pub extern "C" fn desk_event(room: &mut [u8], way: u8, card: u32) -> u32
-    ensures { λ r. ⌜ Leaves (entry (λ d. calls.event d way card) (now (room .entry))) r (now (room .exit)) ⌝ }
+    ensures { λ r. ⌜ LeavesRoom (deskEntry (λ d. calls.deskEvent d way card) (now (room .entry))) r (now (room .exit)) ⌝ }
 {
     if room.len() < DESK {
         return say(Answer::NoRoom);
@@ -193,7 +193,7 @@ pub extern "C" fn desk_event(room: &mut [u8], way: u8, card: u32) -> u32
 // The result of an instruction, by the issue of its set and its number from 0: 0 failed, 1 done, 2 stuck.
 #[no_mangle]
 pub extern "C" fn desk_result(room: &mut [u8], issue: u16, number: u8, ending: u8) -> u32
-    ensures { λ r. ⌜ Leaves (entry (λ d. calls.result d (record { issue = issue; number = number; ending = ending })) (now (room .entry))) r (now (room .exit)) ⌝ }
+    ensures { λ r. ⌜ LeavesRoom (deskEntry (λ d. calls.deskResult d (record { issue = issue; number = number; ending = ending })) (now (room .entry))) r (now (room .exit)) ⌝ }
 {
     if room.len() < DESK {
         return say(Answer::NoRoom);
@@ -224,7 +224,7 @@ fn given(b: [u8; 124]) -> [u32; GIVEN]
     let mut numbers = [0u32; GIVEN];
     let mut place: usize = 0;
     while place < GIVEN {
-        numbers[place] = fours::four_at(&b, 4 * place);
+        numbers[place] = codec::four_at(&b, 4 * place);
         place += 1;
     }
     numbers
@@ -232,7 +232,7 @@ fn given(b: [u8; 124]) -> [u32; GIVEN]
 
 // An image on a desk, its numbers as a run of bytes.
 fn pictured(d: Desk, picture: Picture, count: u8, run: &[u8]) -> DeskOutcome
-    ensures { λ o. ⌜ o ≡ imageOf (picture .bits) (picture .apart) count (now (run .entry)) d ⌝ }
+    ensures { λ o. ⌜ o ≡ deskImageOf (picture .bits) (picture .apart) count (now (run .entry)) d ⌝ }
 {
     let size = lent(31, CARD, count);
     if run.len() < size {
@@ -252,7 +252,7 @@ pub extern "C" fn desk_image(
     count: u8,
     cards: &[u8],
 ) -> u32
-    ensures { λ r. ⌜ Leaves (entry (imageOf image apart count (now (cards .entry))) (now (room .entry))) r (now (room .exit)) ⌝ }
+    ensures { λ r. ⌜ LeavesRoom (deskEntry (deskImageOf image apart count (now (cards .entry))) (now (room .entry))) r (now (room .exit)) ⌝ }
 {
     if room.len() < DESK {
         return say(Answer::NoRoom);
@@ -267,7 +267,7 @@ pub extern "C" fn desk_image(
 // The record's eight bytes and then those of what is set apart, to a room of their own.
 #[no_mangle]
 pub extern "C" fn desk_ask(room: &[u8], image: &mut [u8]) -> u32
-    ensures { λ r. ⌜ Leaves (asking (now (room .entry)) (now (image .entry))) r (now (image .exit)) ⌝ }
+    ensures { λ r. ⌜ LeavesRoom (deskAsking (now (room .entry)) (now (image .entry))) r (now (image .exit)) ⌝ }
 {
     if room.len() < DESK {
         return say(Answer::NoRoom);
@@ -310,16 +310,16 @@ pub extern "C" fn desk_where(room: &[u8], card: u32) -> u32
 // A card's number, written to a room of its own.
 fn put_card(card: u32, out: &mut [u8]) -> u32
     requires { ⌜ 4 ≤ length (now out) ⌝ }
-    ensures { λ r. ⌜ Leaves (writes Answer.Taken (littleEndian 4 card) (now (out .entry))) r (now (out .exit)) ⌝ }
+    ensures { λ r. ⌜ LeavesRoom (writes Answer.Taken (littleEndian 4 card) (now (out .entry))) r (now (out .exit)) ⌝ }
 {
-    let four = fours::four_bytes(card);
+    let four = codec::four_bytes(card);
     tell(say(Answer::Taken), &four, out)
 }
 
 // Which card is leaving: its number's four bytes, those of 0 where none is, to a room of their own.
 #[no_mangle]
 pub extern "C" fn desk_leaving(room: &[u8], card: &mut [u8]) -> u32
-    ensures { λ r. ⌜ Leaves (parting (now (room .entry)) (now (card .entry))) r (now (card .exit)) ⌝ }
+    ensures { λ r. ⌜ LeavesRoom (parting (now (room .entry)) (now (card .entry))) r (now (card .exit)) ⌝ }
 {
     if room.len() < DESK {
         return say(Answer::NoRoom);

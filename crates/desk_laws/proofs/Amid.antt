@@ -10,12 +10,12 @@ use lib.ListN.{length}
 use Rattle.bits.specs.Bits.{bit, image}
 use Rattle.rules.specs.declared.Code.{Code}
 use Rattle.answers.specs.declared.Answer.the-variants.{Taken, Unfit}
-use Rattle.sets.proofs.Jams as machine-jams
-use Rattle.garage.specs.Held.{heldNext}
-use Rattle.garage_laws.specs.Jams.{jamAt, has}
-use Rattle.garage_laws.proofs.Changes.{event-taken}
-use Rattle.garage_laws.proofs.Link.{jamsOf}
-use Rattle.garage_laws.proofs.Jammed.{picks-same}
+use Rattle.any_order.proofs.Jams as machine-jams
+use Rattle.station.specs.Held.{heldNext}
+use Rattle.station_laws.specs.Jams.{jamAt, has}
+use Rattle.station_laws.proofs.Changes.{event-taken}
+use Rattle.station_laws.proofs.Link.{jamsOf}
+use Rattle.station_laws.proofs.Jammed.{picks-same}
 use Rattle.cards.specs.declared.Offered.the-variants.{Fine}
 use Rattle.cards.specs.Held.{numbersIn, codeCards}
 use Rattle.desk.specs.declared.Desk.{Desk}
@@ -23,7 +23,7 @@ use Rattle.desk.specs.declared.Reply.the-variants.{Told}
 use Rattle.desk.specs.Desk.{deskFit}
 use Rattle.desk.specs.Calls as calling
 use Rattle.desk_laws.specs.Runs as desk
-use Rattle.desk_laws.specs.Runs.{DeskCall, said, left, calls, DeskBegins, appliedCards, stuckAt, finishedCards}
+use Rattle.desk_laws.specs.Runs.{DeskCall, deskAnswerNumber, deskAfter, callsDesk, DeskBegins, appliedCards, stuckAt, finishedCards}
 use Rattle.desk_laws.specs.Amid.{DeskAmid, ends, kept, asked, rejected}
 use Rattle.desk_laws.specs.Amid.{DeskAmidExists, DeskAmidUnmoved, DeskAnyOrderAmid, NumbersAnyOrder}
 use Rattle.desk_laws.proofs.Calls.{answered, untouched}
@@ -35,24 +35,24 @@ use Rattle.desk_laws.proofs.AnyOrder.{desk-any-order}
 
 -- ---- asks and rejected calls
 
-ask-leaves : (d : Desk) → left d desk.ask ≡ d
-unfolding calling.ask
+ask-leaves : (d : Desk) → deskAfter d desk.ask ≡ d
+unfolding calling.deskAsk
 ask-leaves d = go (deskFit d)
   where
-    go : (t : Bool) → cond t (calling.refused d (Told Taken)) (calling.refused d (Told Unfit)) .desk ≡ d
+    go : (t : Bool) → cond t (calling.deskRefused d (Told Taken)) (calling.deskRefused d (Told Unfit)) .desk ≡ d
     go true = refl
     go false = refl
 
-end-same : {d : Desk} {l m : List DeskCall} → DeskAmid d l m → calls d m ≡ calls d l
+end-same : {d : Desk} {l m : List DeskCall} → DeskAmid d l m → callsDesk d m ≡ callsDesk d l
 end-same ends = refl
 end-same (kept c a) = end-same a
-end-same (asked {d} {l} a) = end-same a ∙ ap (λ (e : Desk). calls e l) (ask-leaves d)
-end-same (rejected {d} {l} c r a) = end-same a ∙ ap (λ (e : Desk). calls e l) (untouched d c r)
+end-same (asked {d} {l} a) = end-same a ∙ ap (λ (e : Desk). callsDesk e l) (ask-leaves d)
+end-same (rejected {d} {l} c r a) = end-same a ∙ ap (λ (e : Desk). callsDesk e l) (untouched d c r)
 
 pub desk-amid-unmoved : DeskAmidUnmoved
 desk-amid-unmoved d l m a = end-same a
 
-no-such-event : (d : Desk) → said d (desk.event 0 0) ≡ 0 → ⊥
+no-such-event : (d : Desk) → deskAnswerNumber d (desk.event 0 0) ≡ 0 → ⊥
 no-such-event d e = omega (arith, event-taken (d .station) 0 (answered d (desk.event 0 0) Fine .0 e .0 .1) .0)
 
 pub desk-amid-exists : DeskAmidExists

@@ -9,25 +9,25 @@ use native.Mathlib.Omega.{arith}
 use Rattle.bits.specs.Search.{some}
 use Rattle.bits.proofs.Cases.{and-intro}
 use Rattle.rules.specs.declared.Code.{Code}
-use Rattle.sets.proofs.Machine as machine
-use Rattle.sets.proofs.Machine.{Act}
-use Rattle.sets.proofs.Orders as machine-orders
-use Rattle.sets.proofs.AnyOrder as machine-order
-use Rattle.garage.specs.declared.Station.{Station}
-use Rattle.garage.specs.Station.{present, fit, closed, opened}
-use Rattle.garage_laws.specs.Orders.{Fate}
-use Rattle.garage_laws.specs.Demands.{Acceptable}
-use Rattle.garage_laws.proofs.Apart.{awayOf, away-same}
-use Rattle.garage_laws.proofs.Fits.{fit-has}
-use Rattle.garage_laws.proofs.Calls.{request-has, request-is}
-use Rattle.garage_laws.proofs.Link.{kept, request-accepted, request-view}
-use Rattle.garage_laws.proofs.Lists.{choice}
-use Rattle.garage_laws.proofs.AnyOrder.{Tidy, tidy-step}
+use Rattle.any_order.proofs.Machine as machine
+use Rattle.any_order.proofs.Machine.{Act}
+use Rattle.any_order.proofs.Orders as machine-orders
+use Rattle.any_order.proofs.AnyOrder as machine-order
+use Rattle.station.specs.declared.Station.{Station}
+use Rattle.station.specs.Station.{presentIssue, fit, closed, opened}
+use Rattle.station_laws.specs.Orders.{Fate}
+use Rattle.station_laws.specs.Demands.{Acceptable}
+use Rattle.station_laws.proofs.Apart.{awayOf, away-same}
+use Rattle.station_laws.proofs.Fits.{fit-has}
+use Rattle.station_laws.proofs.Calls.{request-has, request-is}
+use Rattle.station_laws.proofs.Link.{kept, request-accepted, request-view}
+use Rattle.station_laws.proofs.Lists.{choice}
+use Rattle.station_laws.proofs.AnyOrder.{Tidy, tidy-step}
 use Rattle.cards.specs.declared.Offered.the-variants.{Fine}
 use Rattle.desk.specs.declared.Desk.{Desk}
 use Rattle.desk.specs.Desk.{deskFit}
 use Rattle.desk_laws.specs.Runs as desk
-use Rattle.desk_laws.specs.Runs.{DeskCall, said, left, calls}
+use Rattle.desk_laws.specs.Runs.{DeskCall, deskAnswerNumber, deskAfter, callsDesk}
 use Rattle.desk_laws.specs.Orders.{DeskOrder, DeskAlike, deskReplies}
 use Rattle.desk_laws.specs.Promises.{DeskAnyOrder}
 use Rattle.desk_laws.proofs.Calls.{fit-parts, answered, left-taken}
@@ -40,14 +40,14 @@ use Rattle.desk_laws.proofs.Ends.{Whole, whole-always, begins-whole, nu
 
 -- ---- what the machine says of two lists, the desk says
 
-module _ (d : Desk) (f : deskFit d ≡ true) (whole : Whole d) (tidy : Tidy (d .station)) (k : ℕ) (now : k ≡ present (d .station)) where
+module _ (d : Desk) (f : deskFit d ≡ true) (whole : Whole d) (tidy : Tidy (d .station)) (k : ℕ) (now : k ≡ presentIssue (d .station)) where
   -- one list, which the machine ends with no set
   module _ (l : List (Act (ℕ × ℕ)))
       (e : let m = machine.run numbered (deskView d) l in m ≡ machine.idle numbered (m .bits) (m .away))
-      (v : deskView (calls d (map (asDesk k) l)) ≡ machine.run numbered (deskView d) l) where
+      (v : deskView (callsDesk d (map (asDesk k) l)) ≡ machine.run numbered (deskView d) l) where
     -- where the calls end
     abbrev end : Desk
-    end = calls d (map (asDesk k) l)
+    end = callsDesk d (map (asDesk k) l)
 
     end-none : end .station .count ≡ 0
     end-none = ap (λ (m : machine.Station Garage Code). m .set .size) (v ∙ e)
@@ -101,7 +101,7 @@ module _ (d : Desk) (f : deskFit d ≡ true) (whole : Whole d) (tidy : Tidy (d .
 -- ---- the promise
 
 -- of a fit desk that takes a request
-module _ (t : Desk) (f : deskFit t ≡ true) (whole : Whole t) (n : ℕ) (set : List ℕ) (z : said t (desk.request n set) ≡ 0) where
+module _ (t : Desk) (f : deskFit t ≡ true) (whole : Whole t) (n : ℕ) (set : List ℕ) (z : deskAnswerNumber t (desk.request n set) ≡ 0) where
   A : Acceptable (t .station) n set
   A = request-has (t .station) n set (answered t (desk.request n set) Fine .0 z .0 .1)
 
@@ -109,7 +109,7 @@ module _ (t : Desk) (f : deskFit t ≡ true) (whole : Whole t) (n : ℕ) (set : 
   abbrev holds : Desk
   holds = record { station = opened (t .station) n set; numbers = t .numbers }
 
-  there : left t (desk.request n set) ≡ holds
+  there : deskAfter t (desk.request n set) ≡ holds
   there =
       left-taken t (desk.request n set) z
       ∙ ap (λ o. record { station = o .station; numbers = t .numbers }) (request-is (t .station) n set A)
@@ -120,10 +120,10 @@ module _ (t : Desk) (f : deskFit t ≡ true) (whole : Whole t) (n : ℕ) (set : 
   holds-fit : deskFit holds ≡ true
   holds-fit = subst (λ (d : Desk). deskFit d ≡ true) there (fit-kept t (desk.request n set) f)
 
-  set-alike : (fate : ℕ → Fate) (drives : List (ℕ × ℕ)) (l m : List DeskCall) → let s = left t (desk.request n set) in
-      DeskOrder (present (s .station)) n fate drives l → DeskOrder (present (s .station)) n fate drives m → DeskAlike s l m
+  set-alike : (fate : ℕ → Fate) (drives : List (ℕ × ℕ)) (l m : List DeskCall) → let s = deskAfter t (desk.request n set) in
+      DeskOrder (presentIssue (s .station)) n fate drives l → DeskOrder (presentIssue (s .station)) n fate drives m → DeskAlike s l m
   set-alike fate drives l m P Q =
-      let k = present (left t (desk.request n set) .station) in
+      let k = presentIssue (deskAfter t (desk.request n set) .station) in
       let (a, p) = acts k fate l (P .order .chosen) in
       let (b, q) = acts k fate m (Q .order .chosen) in
       let O = order-acts k n fate drives a (subst (DeskOrder k n fate drives) p P) in
@@ -134,8 +134,8 @@ module _ (t : Desk) (f : deskFit t ≡ true) (whole : Whole t) (n : ℕ) (set : 
       (request-accepted (t .station) n set A) (choice k fate) drives a b O U in
       let W : machine-orders.Alike numbered (deskView holds) a b = rw holds-view T in
       subst₃ DeskAlike (sym there) (sym p) (sym q)
-      (alike holds holds-fit whole (inl (A .some)) k (ap (λ (d : Desk). present (d .station)) there) n (choice k fate) drives a b O U W)
+      (alike holds holds-fit whole (inl (A .some)) k (ap (λ (d : Desk). presentIssue (d .station)) there) n (choice k fate) drives a b O U W)
 
 pub desk-any-order : DeskAnyOrder
 desk-any-order d b before n set z =
-    set-alike (calls d before) (fit-always before d (begins-fit d b)) (whole-always before d (begins-whole d b)) n set z
+    set-alike (callsDesk d before) (fit-always before d (begins-fit d b)) (whole-always before d (begins-whole d b)) n set z

@@ -15,12 +15,12 @@ use Rattle.answers.specs.declared.Answer.{Answer}
 use Rattle.answers.specs.declared.Answer.the-variants.{Unfit}
 use Rattle.answers.specs.Answers.{numberOf, inTable}
 use Rattle.answers.proofs.Promises.{table-exactly}
-use Rattle.garage.specs.declared.Outcome.{Outcome}
-use Rattle.garage.specs.Held.{codeAt}
-use Rattle.garage.specs.Station.{fit}
-use Rattle.garage.specs.Calls as station
-use Rattle.garage_laws.specs.Runs as run
-use Rattle.garage_laws.proofs.EachCall as each
+use Rattle.station.specs.declared.Outcome.{Outcome}
+use Rattle.station.specs.Held.{codeAt}
+use Rattle.station.specs.Station.{fit}
+use Rattle.station.specs.Calls as station
+use Rattle.station_laws.specs.Runs as run
+use Rattle.station_laws.proofs.EachCall as each
 use Rattle.cards.specs.declared.Offered.{Offered}
 use Rattle.cards.specs.declared.Offered.the-variants.{Fine, WrongCount, ZeroNumber, TwiceGiven}
 use Rattle.cards.specs.Given.{givenAs}
@@ -29,11 +29,11 @@ use Rattle.desk.specs.declared.Desk.{Desk}
 use Rattle.desk.specs.declared.DeskOutcome.{DeskOutcome}
 use Rattle.desk.specs.declared.Reply.the-variants.{Told}
 use Rattle.desk.specs.Desk.{deskFit, isTaken, replyNumber}
-use Rattle.desk.specs.Calls.{refused, onFit, whereTaken, offered, passed}
+use Rattle.desk.specs.Calls.{deskRefused, onFitDesk, whereTaken, offered, passed}
 use Rattle.desk.specs.Calls as calling
 use Rattle.desk_laws.specs.Runs as desk
-use Rattle.desk_laws.specs.Runs.{DeskCall, call, said, left, under, itself}
-use Rattle.desk_laws.specs.Promises.{RefusedUntouched, AsStation, Passes, OtherEvents, Changes, OnlySuccessMoves}
+use Rattle.desk_laws.specs.Runs.{DeskCall, callDesk, deskAnswerNumber, deskAfter, under, itself}
+use Rattle.desk_laws.specs.Promises.{DeskRefusedUntouched, AsStation, Passes, OtherEvents, ChangesNumbers, OnlySuccessMoves}
 
 -- ---- one form
 
@@ -72,8 +72,8 @@ moved d desk.ask = d .numbers
 abbrev pub ruled : Desk → DeskCall → Outcome → DeskOutcome
 ruled d c o = whereTaken d o (offered d o (moved d c) (ruling d c))
 
-call-as : (d : Desk) (c : DeskCall) → call d c ≡ onFit d (ruled d c (past d c))
-unfolding calling.request calling.result calling.event calling.takeImage calling.ask calling.begun
+call-as : (d : Desk) (c : DeskCall) → callDesk d c ≡ onFitDesk d (ruled d c (past d c))
+unfolding calling.deskRequest calling.deskResult calling.deskEvent calling.deskTakeImage calling.deskAsk calling.deskBegun
 call-as d (desk.request n set) = refl
 call-as d (desk.reports r) = refl
 call-as d (desk.event e c) = split (eqb e 1)
@@ -100,20 +100,20 @@ past-is d f (desk.event e c) = rw f
 past-is d f (desk.pictures p n ns) = rw f
 past-is d f desk.ask = rw f
 
-pub call-fit : (d : Desk) (c : DeskCall) → deskFit d ≡ true → call d c ≡ ruled d c (beneath d c)
+pub call-fit : (d : Desk) (c : DeskCall) → deskFit d ≡ true → callDesk d c ≡ ruled d c (beneath d c)
 call-fit d c f = call-as d c ∙ rw f (ap (ruled d c) (past-is d (fit-parts d f .0) c))
 
-pub call-unfit : (d : Desk) (c : DeskCall) → deskFit d ≡ false → call d c ≡ refused d (Told Unfit)
+pub call-unfit : (d : Desk) (c : DeskCall) → deskFit d ≡ false → callDesk d c ≡ deskRefused d (Told Unfit)
 call-unfit d c f = call-as d c ∙ rw f
 
 -- ---- each call
 
 -- what holds of a refusal as unfit, of the station's refusal and of each ruling past it, holds of a call
 pub each-call : (P : DeskOutcome → Type 0) (d : Desk) (c : DeskCall)
-    → (deskFit d ≡ false → P (refused d (Told Unfit)))
-    → (deskFit d ≡ true → (run.said (d .station) (under c) ≡ 0 → ⊥) → P (refused d (Told (beneath d c .answer))))
+    → (deskFit d ≡ false → P (deskRefused d (Told Unfit)))
+    → (deskFit d ≡ true → (run.answerNumber (d .station) (under c) ≡ 0 → ⊥) → P (deskRefused d (Told (beneath d c .answer))))
     → (Passes d c → (v : Offered) → ruling d c ≡ v → P (offered d (beneath d c) (moved d c) v))
-    → P (call d c)
+    → P (callDesk d c)
 each-call P d c unfit refuses rules = split (deskFit d)
     (λ f. rw (call-fit d c f) (split (isTaken (beneath d c .answer))
     (λ t. rw t (rules (f, eqb-true _ 0 t) (ruling d c) refl))
@@ -150,7 +150,7 @@ offered-number d o a ZeroNumber z = refl
 offered-number d o a TwiceGiven z = refl
 
 -- past the station a call is answered by its ruling
-pub said-ruled : (d : Desk) (c : DeskCall) → Passes d c → said d c ≡ rulingNumber (ruling d c)
+pub said-ruled : (d : Desk) (c : DeskCall) → Passes d c → deskAnswerNumber d c ≡ rulingNumber (ruling d c)
 said-ruled d c p =
     ap (λ (o : DeskOutcome). replyNumber (o .reply)) (call-fit d c (p .0))
     ∙ rw (eq-eqb _ 0 (p .1)) (offered-number d (beneath d c) (moved d c) (ruling d c) (p .1))
@@ -180,7 +180,7 @@ not-sixteen ZeroNumber e = omega arith
 not-sixteen TwiceGiven e = omega arith
 
 -- 0, 37, 38 and 39 are answered exactly by the ruling that has the number, past the station
-pub answered : (d : Desk) (c : DeskCall) (v : Offered) → (said d c ≡ rulingNumber v) ↔ (Passes d c × (ruling d c ≡ v))
+pub answered : (d : Desk) (c : DeskCall) (v : Offered) → (deskAnswerNumber d c ≡ rulingNumber v) ↔ (Passes d c × (ruling d c ≡ v))
 answered d c v = (
   each-call (λ o. replyNumber (o .reply) ≡ rulingNumber v → Passes d c × (ruling d c ≡ v)) d c
       (λ f e. absurd (not-sixteen v e))
@@ -190,14 +190,14 @@ answered d c v = (
 )
 
 -- what a call that is taken leaves
-pub left-taken : (d : Desk) (c : DeskCall) → said d c ≡ 0 → left d c ≡ record { station = run.left (d .station) (under c); numbers = moved d c }
+pub left-taken : (d : Desk) (c : DeskCall) → deskAnswerNumber d c ≡ 0 → deskAfter d c ≡ record { station = run.stationAfter (d .station) (under c); numbers = moved d c }
 left-taken d c e =
     let (p, r) = answered d c Fine .0 e in
     ap (λ (o : DeskOutcome). o .desk) (call-fit d c (p .0)) ∙ rw (eq-eqb _ 0 (p .1), r)
 
 -- ---- the promises that go by this form
 
-pub untouched : (d : Desk) (c : DeskCall) → (said d c ≡ 0 → ⊥) → left d c ≡ d
+pub untouched : (d : Desk) (c : DeskCall) → (deskAnswerNumber d c ≡ 0 → ⊥) → deskAfter d c ≡ d
 untouched d c = each-call (λ o. (replyNumber (o .reply) ≡ 0 → ⊥) → o .desk ≡ d) d c (λ f n. refl) (λ f m n. refl) (λ p v r. by p v)
   where
     by : Passes d c → (v : Offered) → (replyNumber (offered d (beneath d c) (moved d c) v .reply) ≡ 0 → ⊥)
@@ -207,16 +207,16 @@ untouched d c = each-call (λ o. (replyNumber (o .reply) ≡ 0 → ⊥) → o .d
     by p ZeroNumber n = refl
     by p TwiceGiven n = refl
 
-pub refused-untouched : RefusedUntouched
+pub refused-untouched : DeskRefusedUntouched
 refused-untouched = untouched
 
 -- an outcome says what the station would and leaves what that leaves, or is a refusal of the desk's own
 abbrev pub AsBeneath : Desk → DeskCall → DeskOutcome → Type 0
 AsBeneath d c o =
-    ((replyNumber (o .reply) ≡ run.said (d .station) (under c)) × (o .desk .station ≡ run.left (d .station) (under c)))
-    ⊎ ((run.said (d .station) (under c) ≡ 0) × (37 ≤ replyNumber (o .reply)) × (replyNumber (o .reply) ≤ 39))
+    ((replyNumber (o .reply) ≡ run.answerNumber (d .station) (under c)) × (o .desk .station ≡ run.stationAfter (d .station) (under c)))
+    ⊎ ((run.answerNumber (d .station) (under c) ≡ 0) × (37 ≤ replyNumber (o .reply)) × (replyNumber (o .reply) ≤ 39))
 
-pub as-beneath : (d : Desk) (c : DeskCall) → deskFit d ≡ true → AsBeneath d c (call d c)
+pub as-beneath : (d : Desk) (c : DeskCall) → deskFit d ≡ true → AsBeneath d c (callDesk d c)
 as-beneath d c f = each-call (AsBeneath d c) d c
     (λ u. clash f u)
     (λ g n. inl (refl, sym (each.untouched (d .station) (under c) n)))
@@ -233,21 +233,21 @@ as-station = as-beneath
 
 -- so a call that the desk doesn't refuse by itself is the station's, and one that it does leaves all
 pub its-own : (d : Desk) (c : DeskCall) → deskFit d ≡ true
-    → ((itself d c ≡ false) × (left d c .station ≡ run.left (d .station) (under c))) ⊎ ((itself d c ≡ true) × (left d c ≡ d))
+    → ((itself d c ≡ false) × (deskAfter d c .station ≡ run.stationAfter (d .station) (under c))) ⊎ ((itself d c ≡ true) × (deskAfter d c ≡ d))
 its-own d c f = ⊎-elim
-    (λ h. inl (off _ (λ t. station's (h .0) (both (leb 37 (said d c)) (leb (said d c) 39) t)), h .1))
-    (λ h. inr (and-intro (le-leb 37 (said d c) (h .1)) (le-leb (said d c) 39 (h .2)), untouched d c (λ z. omega (arith, h .1))))
+    (λ h. inl (off _ (λ t. station's (h .0) (both (leb 37 (deskAnswerNumber d c)) (leb (deskAnswerNumber d c) 39) t)), h .1))
+    (λ h. inr (and-intro (le-leb 37 (deskAnswerNumber d c) (h .1)) (le-leb (deskAnswerNumber d c) 39 (h .2)), untouched d c (λ z. omega (arith, h .1))))
     (as-beneath d c f)
   where
-    station's : said d c ≡ run.said (d .station) (under c) → (leb 37 (said d c) ≡ true) × (leb (said d c) 39 ≡ true) → ⊥
-    station's e t = station-other (beneath d c .answer) (said d c) (own-number (said d c) (leb-true 37 _ (t .0)) (leb-true _ 39 (t .1))) (sym e)
+    station's : deskAnswerNumber d c ≡ run.answerNumber (d .station) (under c) → (leb 37 (deskAnswerNumber d c) ≡ true) × (leb (deskAnswerNumber d c) 39 ≡ true) → ⊥
+    station's e t = station-other (beneath d c .answer) (deskAnswerNumber d c) (own-number (deskAnswerNumber d c) (leb-true 37 _ (t .0)) (leb-true _ 39 (t .1))) (sym e)
 
 pub other-events : OtherEvents
-unfolding calling.event
+unfolding calling.deskEvent
 other-events d e b c n = rw (ne-eqb e 1 n)
 
 -- the numbers stay, but where one of these calls is taken
-moved-by : (d : Desk) (c : DeskCall) → (moved d c ≡ d .numbers) ⊎ Changes c
+moved-by : (d : Desk) (c : DeskCall) → (moved d c ≡ d .numbers) ⊎ ChangesNumbers c
 moved-by d (desk.request n set) = inl refl
 moved-by d (desk.reports r) = split (eqb (r .ending) 1) (λ t. inr (eqb-true (r .ending) 1 t)) (λ t. inl (rw t))
 moved-by d (desk.event e c) = inr tt
@@ -255,7 +255,7 @@ moved-by d (desk.pictures p n ns) = inr tt
 moved-by d desk.ask = inl refl
 
 pub only-success-moves : OnlySuccessMoves
-only-success-moves d c = split (eqb (said d c) 0)
-    (λ t. let e = eqb-true (said d c) 0 t in
+only-success-moves d c = split (eqb (deskAnswerNumber d c) 0)
+    (λ t. let e = eqb-true (deskAnswerNumber d c) 0 t in
     ⊎-elim (λ m. inl (ap (λ (b : Desk). b .numbers) (left-taken d c e) ∙ m)) (λ h. inr (e, h)) (moved-by d c))
-    (λ t. inl (ap (λ (b : Desk). b .numbers) (untouched d c (eqb-false (said d c) 0 t))))
+    (λ t. inl (ap (λ (b : Desk). b .numbers) (untouched d c (eqb-false (deskAnswerNumber d c) 0 t))))

@@ -22,8 +22,8 @@ use Rattle.rules.specs.Codes.{readCode}
 use Rattle.rules.specs.Verdicts.{onCode}
 use Rattle.rules.proofs.CodeLaws.{one-form}
 use Rattle.rules_laws.specs.Laws.{Agree, liftArea}
-use Rattle.garage.specs.Held.{heldArea, heldAllowed}
-use Rattle.garage_laws.proofs.Instance.{onEvent, possibleAs, afterAs}
+use Rattle.station.specs.Held.{heldArea, heldAllowed}
+use Rattle.station_laws.proofs.Instance.{onEvent, possibleAs, afterAs}
 use Rattle.cards.specs.Held.{numbersIn, cardsAfter, codeCards, cardsDriven, cardsFit, isKnown}
 use Rattle.cards_laws.specs.Statements.{SameOn}
 use Rattle.cards_laws.proofs.Tested.{isNew, new-same}

@@ -15,11 +15,11 @@ use Rattle.floor.specs.Floor.{raisedCar, driveIn}
 use Rattle.rules.specs.declared.EventReading.{EventReading}
 use Rattle.rules.specs.declared.EventReading.the-variants.{Good as Told, Bad as Untold}
 use Rattle.rules.specs.Codes.{readEvent}
-use Rattle.sets.proofs.Machine.{Outcome, failed, finished, stuck, moves, Act, result, event}
-use Rattle.garage_laws.specs.Runs as run
-use Rattle.garage_laws.proofs.Instance.{possibleAs, afterAs}
-use Rattle.garage_laws.proofs.Calls.{event-has}
-use Rattle.garage_laws.proofs.Lists.{ending}
+use Rattle.any_order.proofs.Machine.{Outcome, failed, finished, stuck, moves, Act, result, event}
+use Rattle.station_laws.specs.Runs as run
+use Rattle.station_laws.proofs.Instance.{possibleAs, afterAs}
+use Rattle.station_laws.proofs.Calls.{event-has}
+use Rattle.station_laws.proofs.Lists.{ending}
 use Rattle.cards.specs.declared.Offered.the-variants.{Fine}
 use Rattle.cards.proofs.Listing.{none-in}
 use Rattle.cards.specs.Held.{numbersIn, cardsDriven, cardsGiven}
@@ -27,7 +27,7 @@ use Rattle.cards_laws.proofs.Elements.{held-length, same-array}
 use Rattle.desk.specs.declared.Desk.{Desk}
 use Rattle.desk.specs.Calls.{passed}
 use Rattle.desk_laws.specs.Runs as desk
-use Rattle.desk_laws.specs.Runs.{DeskCall, said, left, calls, DeskBegins, atStart, byImage}
+use Rattle.desk_laws.specs.Runs.{DeskCall, deskAnswerNumber, deskAfter, callsDesk, DeskBegins, atStart, byImage}
 use Rattle.desk_laws.specs.Orders.{DeskFair, deskReplies}
 use Rattle.desk_laws.proofs.Calls.{moved, answered, left-taken, refused-untouched}
 use Rattle.desk_laws.proofs.Fits.{still, success-bits, event-bits}
@@ -52,14 +52,14 @@ moved-long d (desk.event e c) h = split (eqb e 1) (λ t. rw t (held-length _)) (
 moved-long d (desk.pictures p n ns) h = held-length _
 moved-long d desk.ask h = h
 
-pub whole-left : (d : Desk) (c : DeskCall) → Whole d → Whole (left d c)
-whole-left d c h = split (eqb (said d c) 0)
+pub whole-left : (d : Desk) (c : DeskCall) → Whole d → Whole (deskAfter d c)
+whole-left d c h = split (eqb (deskAnswerNumber d c) 0)
     (λ t. rw (left-taken d c (eqb-true _ 0 t)) (moved-long d c h))
     (λ t. rw (refused-untouched d c (eqb-false _ 0 t)) h)
 
-pub whole-always : (l : List DeskCall) (d : Desk) → Whole d → Whole (calls d l)
+pub whole-always : (l : List DeskCall) (d : Desk) → Whole d → Whole (callsDesk d l)
 whole-always [] d h = h
-whole-always (c ∷ l) d h = whole-always l (left d c) (whole-left d c h)
+whole-always (c ∷ l) d h = whole-always l (deskAfter d c) (whole-left d c h)
 
 pub begins-whole : (d : Desk) → DeskBegins d → Whole d
 unfolding cardsGiven
@@ -91,23 +91,23 @@ none-above : (r : ℕ) → r < 2 ^ 64 → above r ≡ 0
 none-above r h = omega arith
 
 -- a result that is taken leaves nothing there if it is a success, else what was
-result-above : (d : Desk) (k i : ℕ) (o : Outcome) → said d (asDesk k (result i o)) ≡ 0
-    → above (left d (asDesk k (result i o)) .station .bits) ≡ cond (moves o) 0 (above (d .station .bits))
+result-above : (d : Desk) (k i : ℕ) (o : Outcome) → deskAnswerNumber d (asDesk k (result i o)) ≡ 0
+    → above (deskAfter d (asDesk k (result i o)) .station .bits) ≡ cond (moves o) 0 (above (d .station .bits))
 result-above d k i o z =
     ap (λ (b : Desk). above (b .station .bits)) (left-taken d (asDesk k (result i o)) z)
     ∙ by o (answered d (asDesk k (result i o)) Fine .0 z .0 .1)
   where
-    by : (o : Outcome) → run.said (d .station) (run.result k i (ending o)) ≡ 0
-        → above (run.left (d .station) (run.result k i (ending o)) .bits) ≡ cond (moves o) 0 (above (d .station .bits))
-    by failed y = ap above (still (d .station) (run.result k i 0) (λ e. omega arith))
+    by : (o : Outcome) → run.answerNumber (d .station) (run.resultCall k i (ending o)) ≡ 0
+        → above (run.stationAfter (d .station) (run.resultCall k i (ending o)) .bits) ≡ cond (moves o) 0 (above (d .station .bits))
+    by failed y = ap above (still (d .station) (run.resultCall k i 0) (λ e. omega arith))
     by finished y =
         ap above (success-bits (d .station) (record { issue = k; number = i; ending = 1 }) refl y .1) ∙ none-above _ (packed-lt 64 0 _)
-    by stuck y = ap above (still (d .station) (run.result k i 2) (λ e. omega arith))
+    by stuck y = ap above (still (d .station) (run.resultCall k i 2) (λ e. omega arith))
 
 -- an event leaves nothing there if it is taken
 event-above : (d : Desk) (e c : ℕ)
-    → above (left d (desk.event e c) .station .bits) ≡ cond (eqb (said d (desk.event e c)) 0) 0 (above (d .station .bits))
-event-above d e c = split (eqb (said d (desk.event e c)) 0)
+    → above (deskAfter d (desk.event e c) .station .bits) ≡ cond (eqb (deskAnswerNumber d (desk.event e c)) 0) 0 (above (d .station .bits))
+event-above d e c = split (eqb (deskAnswerNumber d (desk.event e c)) 0)
     (λ t. rw t (
     let z = eqb-true _ 0 t in
     let y = answered d (desk.event e c) Fine .0 z .0 .1 in
@@ -138,14 +138,14 @@ last-counts false false y h = refl
 
 -- so a list leaves nothing there if it has a success or an event that is taken, else what was
 pub above-end : (k : ℕ) (l : List (Act (ℕ × ℕ))) (d : Desk) → DeskFair d (map (asDesk k) l)
-    → above (calls d (map (asDesk k) l) .station .bits)
+    → above (callsDesk d (map (asDesk k) l) .station .bits)
     ≡ cond (succeeds l || anyTaken (deskReplies d (map (asDesk k) l))) 0 (above (d .station .bits))
 above-end k [] d F = refl
 above-end k (result i o ∷ l) d F =
-    let t = left d (asDesk k (result i o)) in
+    let t = deskAfter d (asDesk k (result i o)) in
     above-end k l t (F .2) ∙ ap (cond (succeeds l || anyTaken (deskReplies t (map (asDesk k) l))) 0) (result-above d k i o (F .0))
     ∙ first-counts (moves o) (succeeds l) _ _
 above-end k (event e ∷ l) d F =
-    let t = left d (asDesk k (event e)) in
+    let t = deskAfter d (asDesk k (event e)) in
     above-end k l t F ∙ ap (cond (succeeds l || anyTaken (deskReplies t (map (asDesk k) l))) 0) (event-above d (e .0) (e .1))
-    ∙ last-counts (eqb (said d (desk.event (e .0) (e .1))) 0) (succeeds l) _ _
+    ∙ last-counts (eqb (deskAnswerNumber d (desk.event (e .0) (e .1))) 0) (succeeds l) _ _

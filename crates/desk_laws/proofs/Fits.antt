@@ -21,22 +21,22 @@ use Rattle.rules.specs.declared.Event.{Event}
 use Rattle.rules.specs.declared.Event.the-variants.{BeginIn, BeginOut, EndDone, EndNotDone}
 use Rattle.rules.specs.declared.EventReading.{EventReading}
 use Rattle.rules.specs.declared.EventReading.the-variants.{Good as Told, Bad as Untold}
-use Rattle.rules.specs.Rules.{allowed, next}
+use Rattle.rules.specs.Rules.{allowed, nextRecord}
 use Rattle.rules.specs.Codes.{readCode, readEvent, eventCode}
 use Rattle.rules.specs.Verdicts.{onCode}
 use Rattle.rules.proofs.CodeLaws.{event-one-form}
-use Rattle.garage.specs.declared.Station.{Station}
-use Rattle.garage.specs.declared.Report.{Report}
-use Rattle.garage.specs.Held.{codeAt, heldAllowed, heldNext}
-use Rattle.garage_laws.specs.Runs as run
-use Rattle.garage_laws.specs.Runs.{Call}
-use Rattle.garage_laws.specs.Demands.{Waiting, Changes}
-use Rattle.garage_laws.proofs.Instance.{possibleAs, afterAs}
-use Rattle.garage_laws.proofs.Fits.{fit-has, fit-start, waits-allowed}
-use Rattle.garage_laws.proofs.Calls.{following, success-has, success-is, answering-bits, event-has, event-is, image-has, image-is}
-use Rattle.garage_laws.proofs.EachCall.{fit-says}
-use Rattle.garage_laws.proofs.Changes.{only-success-changes}
-use Rattle.garage_laws.proofs.Always as always
+use Rattle.station.specs.declared.Station.{Station}
+use Rattle.station.specs.declared.Report.{Report}
+use Rattle.station.specs.Held.{codeAt, heldAllowed, heldNext}
+use Rattle.station_laws.specs.Runs as run
+use Rattle.station_laws.specs.Runs.{Call}
+use Rattle.station_laws.specs.Demands.{Waiting, ChangesRecord}
+use Rattle.station_laws.proofs.Instance.{possibleAs, afterAs}
+use Rattle.station_laws.proofs.Fits.{fit-has, fit-start, waits-allowed}
+use Rattle.station_laws.proofs.Calls.{following, success-has, success-is, answering-bits, event-has, event-is, image-has, image-is}
+use Rattle.station_laws.proofs.EachCall.{fit-says}
+use Rattle.station_laws.proofs.Changes.{only-success-changes}
+use Rattle.station_laws.proofs.Always as always
 use Rattle.cards.specs.declared.Offered.the-variants.{Fine, WrongCount, ZeroNumber}
 use Rattle.cards.specs.Given.{wanted, zeroAt, givenAs}
 use Rattle.cards.specs.Held.{cardsAfter, codeCards, cardsDriven, cardsFit, isKnown}
@@ -46,32 +46,32 @@ use Rattle.desk.specs.declared.Desk.{Desk}
 use Rattle.desk.specs.Desk.{deskFit, startDesk}
 use Rattle.desk.specs.Calls.{passed}
 use Rattle.desk_laws.specs.Runs as desk
-use Rattle.desk_laws.specs.Runs.{DeskCall, said, left, calls, DeskBegins, atStart, byImage, under, below}
-use Rattle.desk_laws.specs.Promises.{FitStays, NeverUnfit, StationBelow, Passes}
+use Rattle.desk_laws.specs.Runs.{DeskCall, deskAnswerNumber, deskAfter, callsDesk, DeskBegins, atStart, byImage, under, below}
+use Rattle.desk_laws.specs.Promises.{DeskFitStays, DeskNeverUnfit, StationBelow, Passes}
 use Rattle.desk_laws.proofs.Calls.{begun, begun-fine, ruling, moved, rulingNumber, fit-parts, fit-of, answered, left-taken, untouched, as-beneath, its-own, call-unfit}
 
 -- ---- the record that the station's call leaves
 
 -- all but a success, an event and an image leave it
-pub still : (s : Station) (c : Call) → (Changes c → ⊥) → run.left s c .bits ≡ s .bits
+pub still : (s : Station) (c : Call) → (ChangesRecord c → ⊥) → run.stationAfter s c .bits ≡ s .bits
 still s c n = ⊎-elim (λ e. e) (λ h. absurd (n (h .1))) (only-success-changes s c)
 
 -- a success leaves what its rule makes of it
-pub success-bits : (s : Station) (r : Report) → r .ending ≡ 1 → run.said s (run.reports r) ≡ 0
-    → Waiting s (r .number) × (run.left s (run.reports r) .bits ≡ following s (r .number))
+pub success-bits : (s : Station) (r : Report) → r .ending ≡ 1 → run.answerNumber s (run.reports r) ≡ 0
+    → Waiting s (r .number) × (run.stationAfter s (run.reports r) .bits ≡ following s (r .number))
 success-bits s r e = subst Of (sym e) one
   where
     Of : ℕ → Type 0
     Of m =
-        run.said s (run.result (r .issue) (r .number) m) ≡ 0
-        → Waiting s (r .number) × (run.left s (run.result (r .issue) (r .number) m) .bits ≡ following s (r .number))
+        run.answerNumber s (run.resultCall (r .issue) (r .number) m) ≡ 0
+        → Waiting s (r .number) × (run.stationAfter s (run.resultCall (r .issue) (r .number) m) .bits ≡ following s (r .number))
 
     one : Of 1
     one z =
         let (p, w) = success-has s (r .issue) (r .number) z in
         (w, ap (λ o. o .station .bits) (success-is s (r .issue) (r .number) p w) ∙ answering-bits s (r .number) (following s (r .number)) (s .apart))
 
-pub event-bits : (s : Station) (e : ℕ) → run.said s (run.event e) ≡ 0 → run.left s (run.event e) .bits ≡ afterAs (readEvent e) (s .bits)
+pub event-bits : (s : Station) (e : ℕ) → run.answerNumber s (run.event e) ≡ 0 → run.stationAfter s (run.event e) .bits ≡ afterAs (readEvent e) (s .bits)
 event-bits s e z = ap (λ o. o .station .bits) (event-is s e (event-has s e z))
 
 -- ---- the numbers fit it
@@ -83,7 +83,7 @@ unfolding heldAllowed heldNext codeCards
 code-fits x r a s = read (readCode x)
   where
     read : (v : Reading) → onCode (λ i. allowed i (bit r)) false v ≡ true → cardsFit r a ≡ true
-        → cardsFit (image (onCode (λ i. next i (bit r)) (bit r) v)) (onCode (λ i. cardsAfter i r a) a v) ≡ true
+        → cardsFit (image (onCode (λ i. nextRecord i (bit r)) (bit r) v)) (onCode (λ i. cardsAfter i r a) a v) ≡ true
     read (Good i) t f = after-fit r a s f i t
     read Bad t f = clash t refl
 
@@ -121,7 +121,7 @@ fine-length r n ns e = split (ltb (length ns) n)
     never true e = omega (arith, ap rulingNumber e)
     never false e = omega (arith, ap rulingNumber e)
 
-cards-kept : (d : Desk) (c : DeskCall) → Passes d c → ruling d c ≡ Fine → cardsFit (run.left (d .station) (under c) .bits) (moved d c) ≡ true
+cards-kept : (d : Desk) (c : DeskCall) → Passes d c → ruling d c ≡ Fine → cardsFit (run.stationAfter (d .station) (under c) .bits) (moved d c) ≡ true
 cards-kept d (desk.request n set) p v = rw (still (d .station) (run.request n set) (λ x. x)) (fit-parts d (p .0) .1)
 cards-kept d (desk.reports r) p v = split (eqb (r .ending) 1)
     (λ t. let s = d .station in
@@ -141,21 +141,21 @@ cards-kept d desk.ask p v = rw (still (d .station) run.ask (λ x. x)) (fit-parts
 
 -- ---- the promises
 
-pub fit-kept : (d : Desk) (c : DeskCall) → deskFit d ≡ true → deskFit (left d c) ≡ true
-fit-kept d c f = split (eqb (said d c) 0)
-    (λ t. let e = eqb-true (said d c) 0 t in
+pub fit-kept : (d : Desk) (c : DeskCall) → deskFit d ≡ true → deskFit (deskAfter d c) ≡ true
+fit-kept d c f = split (eqb (deskAnswerNumber d c) 0)
+    (λ t. let e = eqb-true (deskAnswerNumber d c) 0 t in
     let (p, v) = answered d c Fine .0 e in
     rw (left-taken d c e) (fit-of _ (always.fit-kept (d .station) (under c) (fit-parts d f .0)) (cards-kept d c p v)))
-    (λ t. rw (untouched d c (eqb-false (said d c) 0 t)) f)
+    (λ t. rw (untouched d c (eqb-false (deskAnswerNumber d c) 0 t)) f)
 
-pub fit-stays : FitStays
+pub fit-stays : DeskFitStays
 fit-stays d c = split (deskFit d)
     (λ t. fit-kept d c t ∙ sym t)
     (λ t. ap (λ o. deskFit (o .desk)) (call-unfit d c t))
 
-pub fit-always : (l : List DeskCall) (d : Desk) → deskFit d ≡ true → deskFit (calls d l) ≡ true
+pub fit-always : (l : List DeskCall) (d : Desk) → deskFit d ≡ true → deskFit (callsDesk d l) ≡ true
 fit-always [] d f = f
-fit-always (c ∷ l) d f = fit-always l (left d c) (fit-kept d c f)
+fit-always (c ∷ l) d f = fit-always l (deskAfter d c) (fit-kept d c f)
 
 -- where it begins it is fit
 start-cards : cardsFit (startDesk .station .bits) (startDesk .numbers) ≡ true
@@ -166,27 +166,27 @@ pub begins-fit : (d : Desk) → DeskBegins d → deskFit d ≡ true
 begins-fit d atStart = fit-of startDesk fit-start start-cards
 begins-fit d (byImage before p n ns h e) = fit-kept before (desk.pictures p n ns) (answered before (desk.pictures p n ns) Fine .0 e .0 .0)
 
-fit-says-other : (d : Desk) (c : DeskCall) → deskFit d ≡ true → said d c ≡ 16 → ⊥
+fit-says-other : (d : Desk) (c : DeskCall) → deskFit d ≡ true → deskAnswerNumber d c ≡ 16 → ⊥
 fit-says-other d c f e = ⊎-elim
     (λ h. fit-says (d .station) (fit-parts d f .0) (under c) (sym (h .0) ∙ e))
     (λ h. omega (arith, h .1))
     (as-beneath d c f)
 
-pub never-unfit : NeverUnfit
-never-unfit d b l c = fit-says-other (calls d l) c (fit-always l d (begins-fit d b))
+pub never-unfit : DeskNeverUnfit
+never-unfit d b l c = fit-says-other (callsDesk d l) c (fit-always l d (begins-fit d b))
 
-below-fit : (l : List DeskCall) (d : Desk) → deskFit d ≡ true → calls d l .station ≡ run.calls (d .station) (below d l)
+below-fit : (l : List DeskCall) (d : Desk) → deskFit d ≡ true → callsDesk d l .station ≡ run.calls (d .station) (below d l)
 below-fit [] d f = refl
 below-fit (c ∷ l) d f =
-    let rest = below-fit l (left d c) (fit-kept d c f) in
+    let rest = below-fit l (deskAfter d c) (fit-kept d c f) in
     ⊎-elim
-    (λ h. rest ∙ ap (λ (s : Station). run.calls s (below (left d c) l)) (h .1) ∙ sym (ap (through d c l) (h .0)))
-    (λ h. rest ∙ ap (λ (b : Desk). run.calls (b .station) (below (left d c) l)) (h .1) ∙ sym (ap (through d c l) (h .0)))
+    (λ h. rest ∙ ap (λ (s : Station). run.calls s (below (deskAfter d c) l)) (h .1) ∙ sym (ap (through d c l) (h .0)))
+    (λ h. rest ∙ ap (λ (b : Desk). run.calls (b .station) (below (deskAfter d c) l)) (h .1) ∙ sym (ap (through d c l) (h .0)))
     (its-own d c f)
   where
     -- the station after them, where the desk refuses the first by itself or not
     through : Desk → DeskCall → List DeskCall → Bool → Station
-    through d c l b = let rest = below (left d c) l in run.calls (d .station) (cond b rest (under c ∷ rest))
+    through d c l b = let rest = below (deskAfter d c) l in run.calls (d .station) (cond b rest (under c ∷ rest))
 
 pub station-below : StationBelow
 station-below d b l = below-fit l d (begins-fit d b)

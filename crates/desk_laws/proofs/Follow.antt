@@ -14,27 +14,27 @@ use Rattle.rules.specs.declared.Code.{Code}
 use Rattle.rules.specs.declared.EventReading.{EventReading}
 use Rattle.rules.specs.declared.EventReading.the-variants.{Good as Told, Bad as Untold}
 use Rattle.rules.specs.Codes.{readEvent}
-use Rattle.sets.proofs.Machine as machine
-use Rattle.sets.proofs.Machine.{Outcome, failed, finished, stuck, moves, Act, result, event, outstanding, released, noted}
-use Rattle.sets.proofs.Orders as machine-orders
-use Rattle.garage.specs.declared.Station.{Station}
-use Rattle.garage.specs.Station.{present, fit}
-use Rattle.garage_laws.specs.Runs as run
-use Rattle.garage_laws.specs.Runs.{Call}
-use Rattle.garage_laws.proofs.Instance.{rules, heldAs}
-use Rattle.garage_laws.proofs.Calls.{event-has, event-is}
-use Rattle.garage_laws.proofs.Steps.{Step, steps}
-use Rattle.garage_laws.proofs.Link.{view, drivable}
-use Rattle.garage_laws.proofs.Lists.{ending, asCall}
-use Rattle.garage_laws.proofs.Follow as station
-use Rattle.garage_laws.proofs.Follow.{next-kept}
+use Rattle.any_order.proofs.Machine as machine
+use Rattle.any_order.proofs.Machine.{Outcome, failed, finished, stuck, moves, Act, result, event, outstanding, released, noted}
+use Rattle.any_order.proofs.Orders as machine-orders
+use Rattle.station.specs.declared.Station.{Station}
+use Rattle.station.specs.Station.{presentIssue, fit}
+use Rattle.station_laws.specs.Runs as run
+use Rattle.station_laws.specs.Runs.{Call}
+use Rattle.station_laws.proofs.Instance.{rules, heldAs}
+use Rattle.station_laws.proofs.Calls.{event-has, event-is}
+use Rattle.station_laws.proofs.Steps.{Step, steps}
+use Rattle.station_laws.proofs.Link.{view, drivable}
+use Rattle.station_laws.proofs.Lists.{ending, asCall}
+use Rattle.station_laws.proofs.Follow as station
+use Rattle.station_laws.proofs.Follow.{next-kept}
 use Rattle.cards.specs.declared.Offered.the-variants.{Fine}
 use Rattle.cards.specs.Held.{isKnown}
 use Rattle.desk.specs.declared.Desk.{Desk}
 use Rattle.desk.specs.Desk.{deskFit}
 use Rattle.desk.specs.Calls.{passed}
 use Rattle.desk_laws.specs.Runs as desk
-use Rattle.desk_laws.specs.Runs.{DeskCall, said, left, calls, under}
+use Rattle.desk_laws.specs.Runs.{DeskCall, deskAnswerNumber, deskAfter, callsDesk, under}
 use Rattle.desk_laws.specs.Orders.{DeskFair, deskReplies}
 use Rattle.desk_laws.proofs.Calls as call
 use Rattle.desk_laws.proofs.Calls.{ruling, moved, rulingNumber, fit-parts, said-ruled, left-taken, refused-untouched, as-station}
@@ -59,32 +59,32 @@ under-is k (event e) = refl
 -- ---- what a station's steps keep, the desk's calls keep
 
 pub kept-by : (Q : Station → Type 0) → ((s t : Station) (c : Call) → Step s c t → Q s → Q t)
-    → (k : ℕ) (a : Act (ℕ × ℕ)) (d : Desk) → Q (d .station) → Q (left d (asDesk k a) .station)
-kept-by Q keep k a d q = split (eqb (said d (asDesk k a)) 0)
+    → (k : ℕ) (a : Act (ℕ × ℕ)) (d : Desk) → Q (d .station) → Q (deskAfter d (asDesk k a) .station)
+kept-by Q keep k a d q = split (eqb (deskAnswerNumber d (asDesk k a)) 0)
     (λ t. rw (left-taken d (asDesk k a) (eqb-true _ 0 t)) (keep (d .station) _ _ (step a) q))
     (λ t. rw (refused-untouched d (asDesk k a) (eqb-false _ 0 t)) q)
   where
-    step : (a : Act (ℕ × ℕ)) → Step (d .station) (under (asDesk k a)) (run.left (d .station) (under (asDesk k a)))
+    step : (a : Act (ℕ × ℕ)) → Step (d .station) (under (asDesk k a)) (run.stationAfter (d .station) (under (asDesk k a)))
     step (result j o) = steps (d .station) _ tt
     step (event e) = steps (d .station) _ tt
 
 pub kept-along : (Q : Station → Type 0) → ((s t : Station) (c : Call) → Step s c t → Q s → Q t)
-    → (k : ℕ) (l : List (Act (ℕ × ℕ))) (d : Desk) → Q (d .station) → Q (calls d (map (asDesk k) l) .station)
+    → (k : ℕ) (l : List (Act (ℕ × ℕ))) (d : Desk) → Q (d .station) → Q (callsDesk d (map (asDesk k) l) .station)
 kept-along Q keep k [] d q = q
-kept-along Q keep k (a ∷ l) d q = kept-along Q keep k l (left d (asDesk k a)) (kept-by Q keep k a d q)
+kept-along Q keep k (a ∷ l) d q = kept-along Q keep k l (deskAfter d (asDesk k a)) (kept-by Q keep k a d q)
 
 -- results and events keep the issue of the next set
-next-one : (k : ℕ) (a : Act (ℕ × ℕ)) (d : Desk) → left d (asDesk k a) .station .next ≡ d .station .next
-next-one k a d = split (eqb (said d (asDesk k a)) 0)
+next-one : (k : ℕ) (a : Act (ℕ × ℕ)) (d : Desk) → deskAfter d (asDesk k a) .station .next ≡ d .station .next
+next-one k a d = split (eqb (deskAnswerNumber d (asDesk k a)) 0)
     (λ t. ap (λ (b : Desk). b .station .next) (left-taken d (asDesk k a) (eqb-true _ 0 t))
-    ∙ ap (λ (c : Call). run.left (d .station) c .next) (under-is k a) ∙ next-kept k (forget a ∷ []) (d .station))
+    ∙ ap (λ (c : Call). run.stationAfter (d .station) c .next) (under-is k a) ∙ next-kept k (forget a ∷ []) (d .station))
     (λ t. ap (λ (b : Desk). b .station .next) (refused-untouched d (asDesk k a) (eqb-false _ 0 t)))
 
-pub next-along : (k : ℕ) (l : List (Act (ℕ × ℕ))) (d : Desk) → calls d (map (asDesk k) l) .station .next ≡ d .station .next
+pub next-along : (k : ℕ) (l : List (Act (ℕ × ℕ))) (d : Desk) → callsDesk d (map (asDesk k) l) .station .next ≡ d .station .next
 next-along k [] d = refl
-next-along k (a ∷ l) d = next-along k l (left d (asDesk k a)) ∙ next-one k a d
+next-along k (a ∷ l) d = next-along k l (deskAfter d (asDesk k a)) ∙ next-one k a d
 
-present-one : (k : ℕ) (a : Act (ℕ × ℕ)) (d : Desk) → k ≡ present (d .station) → k ≡ present (left d (asDesk k a) .station)
+present-one : (k : ℕ) (a : Act (ℕ × ℕ)) (d : Desk) → k ≡ presentIssue (d .station) → k ≡ presentIssue (deskAfter d (asDesk k a) .station)
 present-one k a d e = e ∙ ap (λ (n : ℕ). (n + 65535) % 65536) (sym (next-one k a d))
 
 -- ---- a result
@@ -93,14 +93,14 @@ present-one k a d e = e ∙ ap (λ (n : ℕ). (n + 65535) % 65536) (sym (next-on
 released-top : (m : machine.Station ℕ Code) (a : List ℕ) → onTop (released rules m) a ≡ released numbered (onTop m a)
 released-top m a = split (outstanding m) (λ t. rw t) (λ t. rw t)
 
-module _ (d : Desk) (f : deskFit d ≡ true) (k : ℕ) (p : k ≡ present (d .station)) (i : ℕ) (o : Outcome)
+module _ (d : Desk) (f : deskFit d ≡ true) (k : ℕ) (p : k ≡ presentIssue (d .station)) (i : ℕ) (o : Outcome)
     (t : machine.taken rules (view (d .station)) (result i o) ≡ true)
     (ok : moves o ≡ true → rules .allowed (view (d .station) .set .at i) (d .station .bits) ≡ true) where
   -- the station follows
   beneath : station.Followed k (result i o ∷ []) (d .station) (view (d .station))
   beneath = station.follows k (result i o ∷ []) (d .station) (fit-parts d f .0) p (t, ok, tt)
 
-  result-said : said d (asDesk k (result i o)) ≡ 0
+  result-said : deskAnswerNumber d (asDesk k (result i o)) ≡ 0
   result-said = call.answered d (asDesk k (result i o)) Fine .1 ((f, beneath .fair .0), refl)
 
   noted-top : (o : Outcome) → onTop (noted rules (view (d .station)) i o) (moved d (asDesk k (result i o))) ≡ noted numbered (deskView d) i o
@@ -114,7 +114,7 @@ module _ (d : Desk) (f : deskFit d ≡ true) (k : ℕ) (p : k ≡ present (d .st
   step-here : machine.step numbered (deskView d) (result i o) ≡ released numbered (noted numbered (deskView d) i o)
   step-here = rw t
 
-  result-view : deskView (left d (asDesk k (result i o))) ≡ machine.step numbered (deskView d) (result i o)
+  result-view : deskView (deskAfter d (asDesk k (result i o))) ≡ machine.step numbered (deskView d) (result i o)
   result-view =
       let a = moved d (asDesk k (result i o)) in
       ap deskView (left-taken d (asDesk k (result i o)) result-said)
@@ -161,8 +161,8 @@ module _ (d : Desk) (f : deskFit d ≡ true) (e c : ℕ) where
   fits = fit-parts d f .0
 
   -- the station follows
-  under-it : station.Followed (present s) (event e ∷ []) s (view s)
-  under-it = station.follows (present s) (event e ∷ []) s fits refl tt
+  under-it : station.Followed (presentIssue s) (event e ∷ []) s (view s)
+  under-it = station.follows (presentIssue s) (event e ∷ []) s fits refl tt
 
   -- a held event is refused by any desk
   held-other : (v : EventReading) → answered e c (d .numbers) (heldAs v) ≡ heldAs v
@@ -172,12 +172,12 @@ module _ (d : Desk) (f : deskFit d ≡ true) (e c : ℕ) where
   says-is : machine.says numbered (deskView d) (e, c) ≡ answered e c (d .numbers) (machine.says rules (view s) e)
   says-is = split (machine.blocked rules (view s)) (λ t. rw t (sym (held-other (readEvent e)))) (λ t. rw t)
 
-  said-is : said d (desk.event e c) ≡ answered e c (d .numbers) (run.said s (run.event e))
-  said-is = split (eqb (run.said s (run.event e)) 0)
-      (λ t. let z = eqb-true (run.said s (run.event e)) 0 t in rw z (said-ruled d (desk.event e c) (f, z) ∙ ruling-number d e c))
+  said-is : deskAnswerNumber d (desk.event e c) ≡ answered e c (d .numbers) (run.answerNumber s (run.event e))
+  said-is = split (eqb (run.answerNumber s (run.event e)) 0)
+      (λ t. let z = eqb-true (run.answerNumber s (run.event e)) 0 t in rw z (said-ruled d (desk.event e c) (f, z) ∙ ruling-number d e c))
       (λ t. ⊎-elim (λ h. h .0) (λ h. absurd (eqb-false _ 0 t (h .0))) (as-station d (desk.event e c) f) ∙ sym (rw t))
 
-  event-answer : said d (desk.event e c) ≡ machine.says numbered (deskView d) (e, c)
+  event-answer : deskAnswerNumber d (desk.event e c) ≡ machine.says numbered (deskView d) (e, c)
   event-answer = said-is ∙ ap (answered e c (d .numbers)) (ap first (under-it .replied)) ∙ sym says-is
     where
       first : List ℕ → ℕ
@@ -193,7 +193,7 @@ module _ (d : Desk) (f : deskFit d ≡ true) (e c : ℕ) where
       grouped true false z w = refl
       grouped false y z w = refl
 
-  station-takes : (machine.taken rules (view s) (event e) ≡ true) ↔ (run.said s (run.event e) ≡ 0)
+  station-takes : (machine.taken rules (view s) (event e) ≡ true) ↔ (run.answerNumber s (run.event e) ≡ 0)
   station-takes = (
     λ t.
         let (b, p) = both _ _ (sym (drivable s fits e) ∙ t) in
@@ -203,10 +203,10 @@ module _ (d : Desk) (f : deskFit d ≡ true) (e c : ℕ) where
     λ z. let w = event-has s e z in drivable s fits e ∙ rw (w .1, w .2, w .3, w .4),
   )
 
-  event-view : deskView (left d (desk.event e c)) ≡ machine.step numbered (deskView d) (event (e, c))
-  event-view = split (eqb (said d (desk.event e c)) 0)
+  event-view : deskView (deskAfter d (desk.event e c)) ≡ machine.step numbered (deskView d) (event (e, c))
+  event-view = split (eqb (deskAnswerNumber d (desk.event e c)) 0)
       (λ t.
-      let z = eqb-true (said d (desk.event e c)) 0 t in
+      let z = eqb-true (deskAnswerNumber d (desk.event e c)) 0 t in
       let (p, r) = call.answered d (desk.event e c) Fine .0 z in
       let u = station-takes .1 (p .1) in
       let there : machine.step rules (view s) (event e) ≡ machine.done rules (view s) (event e) = rw u in
@@ -215,7 +215,7 @@ module _ (d : Desk) (f : deskFit d ≡ true) (e c : ℕ) where
       ap deskView (left-taken d (desk.event e c) z)
       ∙ ap₂ onTop (under-it .shows ∙ there) (moved-is d e c) ∙ sym here)
       (λ t.
-      let n = eqb-false (said d (desk.event e c)) 0 t in
+      let n = eqb-false (deskAnswerNumber d (desk.event e c)) 0 t in
       let here : machine.taken numbered (deskView d) (event (e, c)) ≡ false = off _ (λ u.
       let (v, w) = both (machine.taken rules (view s) (event e)) (brings e c (d .numbers)) (sym taken-is ∙ u) in
       n (call.answered d (desk.event e c) Fine .1 ((f, station-takes .0 v), brings-fine d e c .0 w))) in
@@ -227,20 +227,20 @@ module _ (d : Desk) (f : deskFit d ≡ true) (e c : ℕ) where
 pub record Followed (k : ℕ) (l : List (Act (ℕ × ℕ))) (d : Desk) (m : machine.Station Garage Code) : Type 0 where
   pub fair : DeskFair d (map (asDesk k) l)
   pub replied : deskReplies d (map (asDesk k) l) ≡ machine-orders.replies numbered m l
-  pub shows : deskView (calls d (map (asDesk k) l)) ≡ machine.run numbered m l
+  pub shows : deskView (callsDesk d (map (asDesk k) l)) ≡ machine.run numbered m l
 
 -- the machine's list is fair on another station that is the same
 fair-at : (l : List (Act (ℕ × ℕ))) {m n : machine.Station Garage Code} → m ≡ n → machine-orders.Fair numbered n l → machine-orders.Fair numbered m l
 fair-at l e F = subst (λ (m : machine.Station Garage Code). machine-orders.Fair numbered m l) (sym e) F
 
-pub follows : (k : ℕ) (l : List (Act (ℕ × ℕ))) (d : Desk) → deskFit d ≡ true → k ≡ present (d .station)
+pub follows : (k : ℕ) (l : List (Act (ℕ × ℕ))) (d : Desk) → deskFit d ≡ true → k ≡ presentIssue (d .station)
     → machine-orders.Fair numbered (deskView d) l → Followed k l d (deskView d)
 follows k [] d f p F = record { fair = tt; replied = refl; shows = refl }
 follows k (result i o ∷ l) d f p F =
     let c = asDesk k (result i o) in
     let v = result-view d f k p i o (F .0) (F .1) in
-    let N = follows k l (left d c) (fit-kept d c f) (present-one k (result i o) d p) (fair-at l v (F .2)) in
-    let M : Followed k l (left d c) (machine.step numbered (deskView d) (result i o)) = subst (Followed k l (left d c)) v N in
+    let N = follows k l (deskAfter d c) (fit-kept d c f) (present-one k (result i o) d p) (fair-at l v (F .2)) in
+    let M : Followed k l (deskAfter d c) (machine.step numbered (deskView d) (result i o)) = subst (Followed k l (deskAfter d c)) v N in
     record {
       fair = (result-said d f k p i o (F .0) (F .1), beneath d f k p i o (F .0) (F .1) .fair .1, M .fair);
       replied = M .replied;
@@ -249,6 +249,6 @@ follows k (result i o ∷ l) d f p F =
 follows k (event e ∷ l) d f p F =
     let c = asDesk k (event e) in
     let v = event-view d f (e .0) (e .1) in
-    let N = follows k l (left d c) (fit-kept d c f) (present-one k (event e) d p) (fair-at l v F) in
-    let M : Followed k l (left d c) (machine.step numbered (deskView d) (event e)) = subst (Followed k l (left d c)) v N in
+    let N = follows k l (deskAfter d c) (fit-kept d c f) (present-one k (event e) d p) (fair-at l v F) in
+    let M : Followed k l (deskAfter d c) (machine.step numbered (deskView d) (event e)) = subst (Followed k l (deskAfter d c)) v N in
     record { fair = M .fair; replied = ap₂ _∷_ (event-answer d f (e .0) (e .1)) (M .replied); shows = M .shows }

@@ -24,22 +24,22 @@ use Rattle.rules.specs.declared.Event.{Event}
 use Rattle.rules.specs.declared.Event.the-variants.{BeginIn, BeginOut, EndDone, EndNotDone}
 use Rattle.rules.specs.declared.EventReading.{EventReading}
 use Rattle.rules.specs.declared.EventReading.the-variants.{Good as Told, Bad as Untold}
-use Rattle.rules.specs.Rules.{wellFormed, area, allowed, next}
+use Rattle.rules.specs.Rules.{wellFormed, area, allowed, nextRecord}
 use Rattle.rules.specs.Codes.{readCode, readEvent}
 use Rattle.rules.specs.Verdicts.{onCode}
 use Rattle.rules.specs.Events.{possible}
 use Rattle.rules.proofs.CodeLaws.{event-one-form}
-use Rattle.garage.specs.declared.Station.{Station}
-use Rattle.garage.specs.declared.Report.{Report}
-use Rattle.garage.specs.Held.{codeAt, heldAllowed, heldNext}
-use Rattle.garage_laws.specs.Runs as run
-use Rattle.garage_laws.proofs.Instance.{possibleAs}
-use Rattle.garage_laws.proofs.Fits.{fit-has, waits-allowed}
-use Rattle.garage_laws.proofs.Calls.{event-has, image-has}
+use Rattle.station.specs.declared.Station.{Station}
+use Rattle.station.specs.declared.Report.{Report}
+use Rattle.station.specs.Held.{codeAt, heldAllowed, heldNext}
+use Rattle.station_laws.specs.Runs as run
+use Rattle.station_laws.proofs.Instance.{possibleAs}
+use Rattle.station_laws.proofs.Fits.{fit-has, waits-allowed}
+use Rattle.station_laws.proofs.Calls.{event-has, image-has}
 use Rattle.cards.specs.declared.Offered.the-variants.{Fine}
 use Rattle.cards.specs.Cards.{Numbers, anchor, Among, Cards}
 use Rattle.cards.specs.Given.{bears}
-use Rattle.cards.specs.Following.{taken, numbersAfter, numbersDriven}
+use Rattle.cards.specs.Following.{numbersTaken, numbersAfter, numbersDriven}
 use Rattle.cards.specs.Following as goes
 use Rattle.cards.specs.Held.{numbersIn, cardsAfter, codeCards, cardsDriven, cardsGiven, cardsFit}
 use Rattle.cards_laws.proofs.Anchors.{free-none, stands, car-bears, bears-car, cards-marked, marked-cards}
@@ -51,9 +51,9 @@ use Rattle.cards_laws.proofs.Arrays.{fit-cards, after-numbers, after-fit, after
 use Rattle.desk.specs.declared.Desk.{Desk}
 use Rattle.desk.specs.Calls.{passed}
 use Rattle.desk_laws.specs.Runs as desk
-use Rattle.desk_laws.specs.Runs.{DeskCall, said, left, under}
+use Rattle.desk_laws.specs.Runs.{DeskCall, deskAnswerNumber, deskAfter, under}
 use Rattle.desk_laws.specs.Promises.{Passes}
-use Rattle.desk_laws.specs.Following.{Takes, Follow, Driven, DrivenAs, Undone, Accepted, CardsFollow, FollowOnly}
+use Rattle.desk_laws.specs.Following.{Takes, Follow, NumbersAfterEvent, DrivenAs, Undone, Accepted, CardsFollow, FollowOnly}
 use Rattle.desk_laws.proofs.Calls.{ruling, moved, fit-parts, answered, left-taken, untouched}
 use Rattle.desk_laws.proofs.Fits.{success-bits, begun-new, other-event, fine-length}
 use Rattle.desk_laws.proofs.Rides.{takes}
@@ -66,15 +66,15 @@ small k p = ⊎-elim (λ (h : k < 40). omega arith) (λ (e : k ≡ raisedCar). o
 
 module _ (r : ℕ) (a : List ℕ) (s : sound r ≡ true) (t : cardsFit r a ≡ true) (i : Instruction) (ok : allowed i (bit r) ≡ true) where
   abbrev now : Bits
-  now = bit (image (next i (bit r)))
+  now = bit (image (nextRecord i (bit r)))
 
   is-sound : Sound (bit r)
   is-sound = sound-exactly r .0 s
 
-  same-place : (k : ℕ) → Place k → now k ≡ next i (bit r) k
-  same-place k p = bit-image (next i (bit r)) k (small k p)
+  same-place : (k : ℕ) → Place k → now k ≡ nextRecord i (bit r) k
+  same-place k p = bit-image (nextRecord i (bit r)) k (small k p)
 
-  laid-out : (u : List Car) → Layout now u → Layout (next i (bit r)) u
+  laid-out : (u : List Car) → Layout now u → Layout (nextRecord i (bit r)) u
   laid-out u L = record { stand = L .stand; cover = λ k p. L .cover k p ∙ ap digit (same-place k p) }
 
   follow : Follow i (bit r) now (numbersIn a) (numbersIn (cardsAfter i r a))
@@ -82,17 +82,17 @@ module _ (r : ℕ) (a : List ℕ) (s : sound r ≡ true) (t : cardsFit r a ≡ t
     after = same-place;
     rides = λ l u L U x m.
         let (there, number) = followed i (bit r) (numbersIn a) is-sound ok l u L (laid-out u U) x m in (
-          goes.moved i x,
+          goes.carMoved i x,
           there,
           takes i (bit r) is-sound ok l L x m,
-          ap (λ (n : Numbers). n (anchor (goes.moved i x))) (after-numbers r a s t i ok) ∙ number,
+          ap (λ (n : Numbers). n (anchor (goes.carMoved i x))) (after-numbers r a s t i ok) ∙ number,
         );
     brought = λ l u L U y m.
         let (x, among, e) = brought i (bit r) is-sound ok l u L (laid-out u U) y m in
         (x, among, subst (Takes i (bit r) x) e (takes i (bit r) is-sound ok l L x among));
     outside = after-outside i (fine i (bit r) is-sound ok .0) r a;
     cards = marked-cards now (numbersIn (cardsAfter i r a))
-        (fit-marked (image (next i (bit r))) (cardsAfter i r a) (after-fit r a s t i ok));
+        (fit-marked (image (nextRecord i (bit r))) (cardsAfter i r a) (after-fit r a s t i ok));
   }
 
 code-follow : (x : Code) (r : ℕ) (a : List ℕ) → sound r ≡ true → cardsFit r a ≡ true → heldAllowed x (bit r) ≡ true
@@ -103,7 +103,7 @@ code-follow x r a s t = read (readCode x) refl
   where
     read : (v : Reading) → readCode x ≡ v → onCode (λ i. allowed i (bit r)) false v ≡ true
         → (i : Instruction) × (readCode x ≡ Good i)
-        × Follow i (bit r) (bit (image (onCode (λ i. next i (bit r)) (bit r) v))) (numbersIn a)
+        × Follow i (bit r) (bit (image (onCode (λ i. nextRecord i (bit r)) (bit r) v))) (numbersIn a)
         (numbersIn (onCode (λ i. cardsAfter i r a) a v))
     read (Good i) e ok = (i, e, follow r a s t i ok)
     read Bad e ok = clash ok refl
@@ -120,8 +120,8 @@ one-drive f s o = go (f driveIn) (f driveOut) o (T→true _ (nth-holds f soundRu
     go false b o p = refl
 
 driven-is : (e : Event) (f : Bits) (c : ℕ) (n : Numbers) → (f driveIn ≡ false → n driveIn ≡ 0) → (f driveOut ≡ true → f driveIn ≡ false)
-    → Driven e f c n (numbersDriven e c n)
-unfolding numbersDriven taken
+    → NumbersAfterEvent e f c n (numbersDriven e c n)
+unfolding numbersDriven numbersTaken
 driven-is BeginIn f c n none one = (refl, λ k o. rw (neither (eqb driveIn k) false o .0))
 driven-is BeginOut f c n none one = λ k o. refl
 driven-is EndDone f c n none one = (
@@ -150,10 +150,10 @@ driven-is EndNotDone f c n none one = (
 
 module _ (r : ℕ) (a : List ℕ) (s : sound r ≡ true) (t : cardsFit r a ≡ true) where
   driven-at : (e : Event) (c : ℕ) → possible e (bit r) ≡ true → (e ≡ BeginIn → isNew c a ≡ true)
-      → Driven e (bit r) c (numbersIn a) (numbersIn (cardsDriven e c a))
+      → NumbersAfterEvent e (bit r) c (numbersIn a) (numbersIn (cardsDriven e c a))
   driven-at e c ok new =
       let S = sound-exactly r .0 s in
-      subst (Driven e (bit r) c (numbersIn a)) (sym (driven-numbers r a s t e c ok new))
+      subst (NumbersAfterEvent e (bit r) c (numbersIn a)) (sym (driven-numbers r a s t e c ok new))
       (driven-is e (bit r) c (numbersIn a) (λ i. fit-cards r a s t (S .layout .0) (S .layout .1) .coming .1 i) (one-drive (bit r) S))
 
 event-driven : (d : Desk) (b c : ℕ) (v : EventReading) → readEvent b ≡ v → sound (d .station .bits) ≡ true
@@ -181,7 +181,7 @@ undone-stays : (d : Desk) (r : Report) (s : Station) → Undone d r (record { st
 undone-stays d r s n = rw (ne-eqb (r .ending) 1 n)
 
 accepted-by : (d : Desk) (c : DeskCall) → Passes d c → ruling d c ≡ Fine
-    → Accepted d c (record { station = run.left (d .station) (under c); numbers = moved d c })
+    → Accepted d c (record { station = run.stationAfter (d .station) (under c); numbers = moved d c })
 accepted-by d (desk.request n set) p v = refl
 accepted-by d (desk.reports r) p v = (
   λ e.
@@ -190,7 +190,7 @@ accepted-by d (desk.reports r) p v = (
       rw (eq-eqb (r .ending) 1 e, b)
       (code-follow (codeAt (s .set) (r .number)) (s .bits) (d .numbers)
       (fit-has s (w .0) .sound) (fit-parts d (p .0) .1) (waits-allowed s (r .number) w)),
-  undone-stays d r (run.left (d .station) (run.reports r)),
+  undone-stays d r (run.stationAfter (d .station) (run.reports r)),
 )
 accepted-by d (desk.event b c) p v =
     let (f, g) = fit-parts d (p .0) in
@@ -240,18 +240,18 @@ covers-anchor (single c) e = omega (arith, ap digit (eq-eqb c c refl), e)
 covers-anchor raised e = omega (arith, e)
 
 -- the instruction takes a car to one place alone
-module _ (i : Instruction) (f g : Bits) (now : (k : ℕ) → Place k → g k ≡ next i f k) (u : List Car) (U : Layout g u) (x : Car) where
+module _ (i : Instruction) (f g : Bits) (now : (k : ℕ) → Place k → g k ≡ nextRecord i f k) (u : List Car) (U : Layout g u) (x : Car) where
   one-way : (y z : Car) → Among y u → Among z u → Takes i f x y → Takes i f x z → y ≡ z
   one-way y z a b p q =
       let k = anchor y in
       let here = anchor-place y (stands u y (U .stand) a) in
       let there : g k ≡ true = split (g k) (λ t. t) (λ t. clash (car-bears g u U y a) (free-none g k t)) in
-      let gone : next i f k ≡ true = sym (now k here) ∙ there in
+      let gone : nextRecord i f k ≡ true = sym (now k here) ∙ there in
       let m : eqb (covers y k) 0 ≡ false = ne-eqb _ 0 (covers-anchor y) in
-      let same : cond (eqb (covers z k) 0) (next i f k) false ≡ false =
-      sym (q k) ∙ p k ∙ ap (λ (v : Bool). cond v (next i f k) false) m in
+      let same : cond (eqb (covers z k) 0) (nextRecord i f k) false ≡ false =
+      sym (q k) ∙ p k ∙ ap (λ (v : Bool). cond v (nextRecord i f k) false) m in
       one-cover u k (omega (arith, U .cover k here, digit-lt (g k))) y z a b (covers-anchor y)
-      (λ o. clash gone (sym (ap (λ (v : Bool). cond v (next i f k) false) (eq-eqb (covers z k) 0 o)) ∙ same))
+      (λ o. clash gone (sym (ap (λ (v : Bool). cond v (nextRecord i f k) false) (eq-eqb (covers z k) 0 o)) ∙ same))
 
 pub follow-only : FollowOnly
 follow-only i f g n m o w old new M O k =

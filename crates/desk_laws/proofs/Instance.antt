@@ -18,11 +18,11 @@ use Rattle.rules.specs.declared.Event.the-variants.{BeginIn}
 use Rattle.rules.specs.Codes.{readEvent}
 use Rattle.rules.proofs.CodeLaws.{event-one-form}
 use Rattle.rules_laws.specs.Laws.{liftArea}
-use Rattle.sets.proofs.Rules.{Rules, Agree, Within, Framed}
-use Rattle.garage.specs.Held.{heldArea}
-use Rattle.garage.proofs.Areas.{held-small}
-use Rattle.garage_laws.proofs.Reach.{in-area, outside-area}
-use Rattle.garage_laws.proofs.Instance.{rules, seenOf, carsIn, framed, can, blank, allowed-has}
+use Rattle.any_order.proofs.Rules.{Rules, Agree, Within, Framed}
+use Rattle.station.specs.Held.{heldArea}
+use Rattle.station.proofs.Areas.{held-small}
+use Rattle.station_laws.proofs.Reach.{in-area, outside-area}
+use Rattle.station_laws.proofs.Instance.{rules, seenOf, carsIn, framed, can, blank, allowed-has}
 use Rattle.cards.specs.Held.{numbersIn, codeCards, cardsFit, isKnown}
 use Rattle.cards_laws.proofs.Tested.{isNew, new-same}
 use Rattle.desk_laws.proofs.Fits.{code-fits}

@@ -14,22 +14,22 @@ use Rattle.bits.proofs.Cases.{split, clash, off, neither, and-intro, alike}
 use Rattle.bits.proofs.Digits.{digit-one}
 use Rattle.floor.proofs.Promises.{sound-exactly}
 use Rattle.rules.specs.declared.Code.{Code}
-use Rattle.sets.proofs.Machine as machine
-use Rattle.sets.proofs.GoodOrder.{Good}
-use Rattle.sets.proofs.Jams as machine-jams
-use Rattle.sets.proofs.Jams.{Whichever}
-use Rattle.sets.proofs.Stuck.{good-whichever}
-use Rattle.garage.specs.declared.Station.{Station}
-use Rattle.garage.specs.Held.{heldArea, heldNext}
-use Rattle.garage_laws.specs.Jams.{jamAt, Picks, applied}
-use Rattle.garage_laws.proofs.Reach.{in-area}
-use Rattle.garage_laws.proofs.Instance.{allowed-has}
-use Rattle.garage_laws.proofs.Apart.{awayOf}
-use Rattle.garage_laws.proofs.Reasons.{least-fault}
-use Rattle.garage_laws.proofs.Link.{view, jamsOf, Sane, fit-sane}
-use Rattle.garage_laws.proofs.Jammed.{sane-calls, picks-same}
-use Rattle.cards.specs.Following.{nowhere}
-use Rattle.cards.specs.Held.{placeOf, numbersIn, codeCards, cardsFit, isKnown, elementOf, whereIs}
+use Rattle.any_order.proofs.Machine as machine
+use Rattle.any_order.proofs.GoodOrder.{Good}
+use Rattle.any_order.proofs.Jams as machine-jams
+use Rattle.any_order.proofs.Jams.{Whichever}
+use Rattle.any_order.proofs.Stuck.{good-whichever}
+use Rattle.station.specs.declared.Station.{Station}
+use Rattle.station.specs.Held.{heldArea, heldNext}
+use Rattle.station_laws.specs.Jams.{jamAt, Picks, applied}
+use Rattle.station_laws.proofs.Reach.{in-area}
+use Rattle.station_laws.proofs.Instance.{allowed-has}
+use Rattle.station_laws.proofs.Apart.{awayOf}
+use Rattle.station_laws.proofs.Reasons.{least-fault}
+use Rattle.station_laws.proofs.Link.{view, jamsOf, Sane, fit-sane}
+use Rattle.station_laws.proofs.Jammed.{sane-calls, picks-same}
+use Rattle.cards.specs.Following.{noSource}
+use Rattle.cards.specs.Held.{placeOfElement, numbersIn, codeCards, cardsFit, isKnown, elementOf, whereIs}
 use Rattle.cards_laws.proofs.Elements.{element-number}
 use Rattle.cards_laws.proofs.Tested.{known-exactly}
 use Rattle.cards_laws.proofs.Arrays.{fit-cards}
@@ -37,8 +37,8 @@ use Rattle.desk.specs.declared.Desk.{Desk}
 use Rattle.desk.specs.declared.Whereabouts.{Whereabouts}
 use Rattle.desk.specs.declared.Whereabouts.the-variants.{At, LastKnown, NotHere}
 use Rattle.desk.specs.Desk.{deskFit}
-use Rattle.desk.specs.Questions.{unsure, placed}
-use Rattle.desk_laws.specs.Runs.{DeskCall, calls, DeskBegins, below, appliedCards, stuckAt, finishedRecord, finishedCards}
+use Rattle.desk.specs.Questions.{unsure, placeKnown}
+use Rattle.desk_laws.specs.Runs.{DeskCall, callsDesk, DeskBegins, below, appliedCards, stuckAt, finishedRecord, finishedCards}
 use Rattle.desk_laws.specs.Promises.{DeskAlways, WhicheverSame, WhereSure}
 use Rattle.desk_laws.proofs.Calls.{fit-parts}
 use Rattle.desk_laws.proofs.Fits.{fit-always, begins-fit, station-below}
@@ -77,28 +77,28 @@ digit-same : (a b : Bool) → digit a ≡ digit b → a ≡ b
 digit-same a b e = alike a b (λ t. digit-one b (rw (← e, t) (omega arith))) (λ t. digit-one a (rw (e, t) (omega arith)))
 
 module _ (d : Desk) (b : DeskBegins d) (l : List DeskCall) where
-  pub fits-now : deskFit (calls d l) ≡ true
+  pub fits-now : deskFit (callsDesk d l) ≡ true
   fits-now = fit-always l d (begins-fit d b)
 
   -- what is stuck, the station below knows
-  pub sane-now : Sane (stuckAt d l) (calls d l .station)
+  pub sane-now : Sane (stuckAt d l) (callsDesk d l .station)
   sane-now = subst (Sane (stuckAt d l)) (sym (station-below d b l))
       (sane-calls (below d l) [] (d .station) (fit-sane (d .station) (fit-parts d (begins-fit d b) .0)))
 
   module _ (p : List ℕ) (h : Picks (length (stuckAt d l)) p) where
-    pub whichever : Whichever numbered (jamsOf (stuckAt d l)) (deskView (calls d l)) p
+    pub whichever : Whichever numbered (jamsOf (stuckAt d l)) (deskView (callsDesk d l)) p
     whichever = good-whichever numbered _ _ frame _ _
-        (good-desk (stuckAt d l) (calls d l .station) (calls d l .numbers) sane-now (fit-parts (calls d l) fits-now .1)) p (picks-same _ p h)
+        (good-desk (stuckAt d l) (callsDesk d l .station) (callsDesk d l .numbers) sane-now (fit-parts (callsDesk d l) fits-now .1)) p (picks-same _ p h)
 
-    pub finished-is : machine-jams.applied numbered (jamsOf (stuckAt d l)) p (calls d l .station .bits, calls d l .numbers)
+    pub finished-is : machine-jams.applied numbered (jamsOf (stuckAt d l)) p (callsDesk d l .station .bits, callsDesk d l .numbers)
         ≡ (finishedRecord d l p, finishedCards d l p)
-    finished-is = applied-is (stuckAt d l) p (calls d l .station .bits) (calls d l .numbers)
+    finished-is = applied-is (stuckAt d l) p (callsDesk d l .station .bits) (callsDesk d l .numbers)
 
     finished-fits : numbered .sound (finishedRecord d l p, finishedCards d l p) ≡ true
     finished-fits = ap (numbered .sound) (sym finished-is) ∙ whichever .sound
 
     -- a number is known with those applied exactly if it is without
-    finished-known : (c : ℕ) → (c ≡ 0 → ⊥) → isKnown (finishedCards d l p) c ≡ isKnown (calls d l .numbers) c
+    finished-known : (c : ℕ) → (c ≡ 0 → ⊥) → isKnown (finishedCards d l p) c ≡ isKnown (callsDesk d l .numbers) c
     finished-known c o = digit-same _ _
         (ap (λ (w : Garage). digit (isKnown (w .1) c)) (sym finished-is)
         ∙ whichever .cars (λ w. digit (isKnown (w .1) c)) (λ x w z t.
@@ -113,7 +113,7 @@ pub whichever-same : WhicheverSame
 whichever-same d b l p h c o =
     let e = finished-known d b l p h c o in
     let x = finishedCards d l p in
-    let y = calls d l .numbers in
+    let y = callsDesk d l .numbers in
     (λ k. known-exactly y c o .0 (sym e ∙ known-exactly x c o .1 k), λ k. known-exactly x c o .0 (e ∙ known-exactly y c o .1 k))
 
 -- ---- a place that is told for sure
@@ -128,24 +128,24 @@ kind Whereabouts.Unfit = 3
 abbrev placeIn : Whereabouts → ℕ
 placeIn (At k) = k
 placeIn (LastKnown k) = k
-placeIn NotHere = nowhere
-placeIn Whereabouts.Unfit = nowhere
+placeIn NotHere = noSource
+placeIn Whereabouts.Unfit = noSource
 
 -- it is a place, and of the car there nothing is set apart
-placed-sure : (apart j k : ℕ) → placed apart j ≡ At k → (j ≡ k) × (j ≡ nowhere → ⊥) × (bit apart j ≡ false)
-placed-sure apart j k e = split (eqb j nowhere)
+placed-sure : (apart j k : ℕ) → placeKnown apart j ≡ At k → (j ≡ k) × (j ≡ noSource → ⊥) × (bit apart j ≡ false)
+placed-sure apart j k e = split (eqb j noSource)
     (λ t. let z = ap kind (rw t at e) in absurd (omega arith))
     (λ t. split (unsure apart j)
     (λ u. let z = ap kind (rw (t, u) at e) in absurd (omega arith))
-    (λ u. (ap placeIn (rw (t, u) at e), eqb-false j nowhere t, neither (bit apart j) (ltb j 20 && bit apart (suc j)) u .0)))
+    (λ u. (ap placeIn (rw (t, u) at e), eqb-false j noSource t, neither (bit apart j) (ltb j 20 && bit apart (suc j)) u .0)))
 
 -- the number stands at the place that is told
-car-place : (j : ℕ) → j < 41 → placeOf j < 53
+car-place : (j : ℕ) → j < 41 → placeOfElement j < 53
 car-place j h = split (ltb j 40)
     (λ t. rw t (omega arith))
     (λ t. let l = ltb-false j 40 t in let q : j ≡ 40 = omega arith in rw q (omega arith))
 
-stands-there : (a : List ℕ) (c : ℕ) → (whereIs a c ≡ nowhere → ⊥) → (whereIs a c < 53) × (numbersIn a (whereIs a c) ≡ c)
+stands-there : (a : List ℕ) (c : ℕ) → (whereIs a c ≡ noSource → ⊥) → (whereIs a c < 53) × (numbersIn a (whereIs a c) ≡ c)
 unfolding whereIs
 stands-there a c o = split (eqb c 0)
     (λ t. absurd (o (rw t)))
@@ -178,7 +178,7 @@ outside-jams js s G k h o i m = off _ (λ t. clash (G .inside i m k (omega arith
 
 pub where-sure : WhereSure
 where-sure d b l c k e p h =
-    let s = calls d l in
+    let s = callsDesk d l in
     let (j, there, o) = placed-sure (s .station .apart) (whereIs (s .numbers) c) k (sym (whereabouts-fit s c (fits-now d b l)) ∙ e) in
     let (m, stands) = stands-there (s .numbers) c there in
     let out = outside-jams (stuckAt d l) (s .station) (sane-now d b l) (whereIs (s .numbers) c) m o in

@@ -11,11 +11,11 @@ use borrow.Author.Tests.{eqb-true, eq-eqb, ltb-true, ltb-false}
 use Rattle.bits.specs.Search.{some}
 use Rattle.bits.proofs.Cases.{split, clash, alike, one-of}
 use Rattle.bits.proofs.Search.{some-at, some-is}
-use Rattle.sets.proofs.Machine.{Outcome, moves, Act, result, event}
-use Rattle.sets.proofs.Orders.{resultsOf, eventsOf, AsChosen, Order}
-use Rattle.garage_laws.specs.Orders as station
-use Rattle.garage_laws.specs.Orders.{Fate}
-use Rattle.garage_laws.proofs.Lists.{told-outcome, asCall, choice, order-heard}
+use Rattle.any_order.proofs.Machine.{Outcome, moves, Act, result, event}
+use Rattle.any_order.proofs.Orders.{resultsOf, eventsOf, AsChosen, Order}
+use Rattle.station_laws.specs.Orders as station
+use Rattle.station_laws.specs.Orders.{Fate}
+use Rattle.station_laws.proofs.Lists.{told-outcome, asCall, choice, order-heard}
 use Rattle.desk_laws.specs.Runs as desk
 use Rattle.desk_laws.specs.Runs.{DeskCall, under}
 use Rattle.desk_laws.specs.Orders.{drivesOf, DeskOrder}

@@ -16,7 +16,7 @@ use Rattle.floor.specs.Floor.{driveIn}
 use Rattle.floor.specs.Cars.{cars}
 use Rattle.floor.specs.Sound.{sound, total}
 use Rattle.floor.proofs.Promises.{sound-exactly}
-use Rattle.garage_laws.proofs.Calls.{image-has}
+use Rattle.station_laws.proofs.Calls.{image-has}
 use Rattle.cards.specs.declared.Offered.{Offered}
 use Rattle.cards.specs.declared.Offered.the-variants.{Fine, WrongCount, ZeroNumber, TwiceGiven}
 use Rattle.cards.specs.Cards.{Has}

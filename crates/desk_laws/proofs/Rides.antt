@@ -21,10 +21,10 @@ use Rattle.floor.specs.Cars.{Car, pair, single, raised, Stands, covers, Layout}
 use Rattle.floor.specs.Sound.{Sound}
 use Rattle.rules.specs.declared.Instruction.{Instruction}
 use Rattle.rules.specs.declared.Instruction.the-variants.{Belts, Shuttles, Tilt, Lift, Rotate}
-use Rattle.rules.specs.Rules.{wellFormed, areaOf, area, changes, allowed, next}
+use Rattle.rules.specs.Rules.{wellFormed, areaOf, area, changes, allowed, nextRecord}
 use Rattle.rules.proofs.Every.{everywhere, each}
 use Rattle.cards.specs.Cards.{anchor, Among}
-use Rattle.cards.specs.Following.{takings, taken, numbersAfter, moved}
+use Rattle.cards.specs.Following.{takings, numbersTaken, numbersAfter, carMoved}
 use Rattle.cards_laws.proofs.Anchors.{stands}
 use Rattle.cards_laws.proofs.Sources.{or-else}
 use Rattle.cards_laws.proofs.Others.{gapless, is-gapless}
@@ -165,7 +165,7 @@ whole i raised = true
 
 -- the number at y comes from x
 abbrev comes : Instruction → Bool → Car → Car → Bool
-comes i low x y = eqb (taken (takings i low) (λ k. suc k) (anchor y)) (suc (anchor x))
+comes i low x y = eqb (numbersTaken (takings i low) (λ k. suc k) (anchor y)) (suc (anchor x))
 
 -- where no change tells, both cars are or none is
 abbrev agreesAt : List Change → Car → Car → ℕ → Bool
@@ -175,7 +175,7 @@ abbrev ridesTo : Instruction → Bool → Car → Car → Bool
 ridesTo i low x y = allKeep x y (plain i low) && allPass (agreesAt (plain i low) x y) (cellsOf x ++ cellsOf y)
 
 abbrev ridesRight : Instruction → Bool → Car → Bool
-ridesRight i low x = let y = moved i x in cond (comes i low x y && (whole i x && whole i y)) (ridesTo i low x y) true
+ridesRight i low x = let y = carMoved i x in cond (comes i low x y && (whole i x && whole i y)) (ridesTo i low x y) true
 
 abbrev carsRight : Instruction → Bool → Bool
 carsRight i low =
@@ -186,7 +186,7 @@ abbrev allRight : Instruction → Bool
 allRight i = cond (gapless i) (carsRight i true && carsRight i false) true
 
 all-right : T (everywhere allRight)
-unfolding everywhere every taken
+unfolding everywhere every numbersTaken
 all-right = tt
 
 module _ (i : Instruction) (w : T (wellFormed i)) (p : T (gapless i)) (low : Bool) where
@@ -221,7 +221,7 @@ same-beq false true e = clash e refl
 same-beq false false e = refl
 
 module _ (i : Instruction) (f : Bits) (s : Sound f) (ok : allowed i f ≡ true) where
-  whole-car : (l : List Car) → Layout f l ⊎ Layout (next i f) l → (x : Car) → Among x l → whole i x ≡ true
+  whole-car : (l : List Car) → Layout f l ⊎ Layout (nextRecord i f) l → (x : Car) → Among x l → whole i x ≡ true
   unfolding area
   whole-car l y (pair c) a = same-beq (elem c (areaOf i)) (elem (suc c) (areaOf i)) (none-torn i f s ok l y c a)
   whole-car l y (single c) a = refl
@@ -229,7 +229,7 @@ module _ (i : Instruction) (f : Bits) (s : Sound f) (ok : allowed i f ≡ true) 
 
   module _ (l : List Car) (y : Layout f l) (x : Car) (a : Among x l) where
     abbrev to : Car
-    to = moved i x
+    to = carMoved i x
 
     abbrev low : Bool
     low = holds atBasement f
@@ -238,7 +238,7 @@ module _ (i : Instruction) (f : Bits) (s : Sound f) (ok : allowed i f ≡ true) 
     unfolding numbersAfter
     comes-true =
         let (m, z) = next-layout i f s ok in
-        eq-eqb (taken (takings i low) (λ k. suc k) (anchor to)) (suc (anchor x)) (followed i f (λ k. suc k) s ok l m y z x a .1)
+        eq-eqb (numbersTaken (takings i low) (λ k. suc k) (anchor to)) (suc (anchor x)) (followed i f (λ k. suc k) s ok l m y z x a .1)
 
     whole-after : whole i to ≡ true
     whole-after =
@@ -259,8 +259,8 @@ module _ (i : Instruction) (f : Bits) (s : Sound f) (ok : allowed i f ≡ true) 
         let (p, q) = neither (elem k (cellsOf x)) (elem k (cellsOf to)) (sym (elem-append k (cellsOf x) (cellsOf to)) ∙ t) in
         other-missed x k p ∙ sym (other-missed to k q))
 
-    pub takes : Takes i f x (moved i x)
-    unfolding next
+    pub takes : Takes i f x (carMoved i x)
+    unfolding nextRecord
     takes k =
         plain-same i (without x f) k
         ∙ ap (λ (b : Bool). changed (plain i b) (without x f) k) (same-height x (stands l x (y .stand) a) f)

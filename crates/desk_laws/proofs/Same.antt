@@ -27,20 +27,20 @@ use Rattle.rules.specs.declared.Event.{Event}
 use Rattle.rules.specs.declared.Event.the-variants.{BeginIn, BeginOut, EndDone, EndNotDone}
 use Rattle.rules.specs.declared.EventReading.{EventReading}
 use Rattle.rules.specs.declared.EventReading.the-variants.{Good as Told, Bad as Untold}
-use Rattle.rules.specs.Rules.{wellFormed, allowed, next}
+use Rattle.rules.specs.Rules.{wellFormed, allowed, nextRecord}
 use Rattle.rules.specs.Events.{possible}
 use Rattle.rules.specs.Codes.{readCode, readEvent}
 use Rattle.rules.specs.Verdicts.{onCode}
 use Rattle.rules.proofs.CodeLaws.{one-form, event-one-form}
-use Rattle.garage.specs.Held.{codeAt, heldAllowed}
-use Rattle.garage_laws.proofs.Instance.{possibleAs}
-use Rattle.garage_laws.proofs.Fits.{fit-has, waits-allowed}
-use Rattle.garage_laws.proofs.Calls.{event-has}
+use Rattle.station.specs.Held.{codeAt, heldAllowed}
+use Rattle.station_laws.proofs.Instance.{possibleAs}
+use Rattle.station_laws.proofs.Fits.{fit-has, waits-allowed}
+use Rattle.station_laws.proofs.Calls.{event-has}
 use Rattle.cards.specs.declared.Offered.the-variants.{Fine}
 use Rattle.cards.specs.Cards.{Numbers, Has}
 use Rattle.cards.specs.Given.{bears}
-use Rattle.cards.specs.Following.{taken, numbersDriven}
-use Rattle.cards.specs.Held.{placeOf, held, numbersIn, cardsAfter, codeCards, cardsDriven, cardsFit}
+use Rattle.cards.specs.Following.{numbersTaken, numbersDriven}
+use Rattle.cards.specs.Held.{placeOfElement, heldNumbers, numbersIn, cardsAfter, codeCards, cardsDriven, cardsFit}
 use Rattle.cards.proofs.Listing.{in-held, none-in, cell-place, by-place}
 use Rattle.cards_laws.proofs.Anchors.{isPlace}
 use Rattle.cards_laws.proofs.Sources.{waits-on}
@@ -51,19 +51,19 @@ use Rattle.cards_laws.proofs.Arrays.{fit-cards, after-numbers, after-fit}
 use Rattle.desk.specs.declared.Desk.{Desk}
 use Rattle.desk.specs.Calls.{passed}
 use Rattle.desk_laws.specs.Runs as desk
-use Rattle.desk_laws.specs.Runs.{DeskCall, said, left, calls, NoImages, carded, came, went, drivenIn, drivenOut}
-use Rattle.desk_laws.specs.Promises.{SameNumbers}
+use Rattle.desk_laws.specs.Runs.{DeskCall, deskAnswerNumber, deskAfter, callsDesk, NoDeskImages, carded, came, went, drivenIn, drivenOut}
+use Rattle.desk_laws.specs.Promises.{RunKeepsNumbers}
 use Rattle.desk_laws.proofs.Calls.{moved, fit-parts, answered, left-taken, untouched}
 use Rattle.desk_laws.proofs.Fits.{success-bits}
 
 -- ---- elements and places
 
-place-held : (j : ℕ) → j < 42 → isPlace (placeOf j) ≡ true
-place-held = by-place (λ j. isPlace (placeOf j) ≡ true) (λ j h. rw (lt-ltb j 40 h, lt-ltb j 40 h)) refl refl
+place-held : (j : ℕ) → j < 42 → isPlace (placeOfElement j) ≡ true
+place-held = by-place (λ j. isPlace (placeOfElement j) ≡ true) (λ j h. rw (lt-ltb j 40 h, lt-ltb j 40 h)) refl refl
 
 -- an element of what is held is the number at its place
-element-held : (n : Numbers) (j : ℕ) → j < 42 → getD (held n) j 0 ≡ n (placeOf j)
-element-held n j h = sym (element-number (held n) j h) ∙ in-held n (placeOf j) ∙ rw (place-held j h)
+element-held : (n : Numbers) (j : ℕ) → j < 42 → getD (heldNumbers n) j 0 ≡ n (placeOfElement j)
+element-held n j h = sym (element-number (heldNumbers n) j h) ∙ in-held n (placeOfElement j) ∙ rw (place-held j h)
 
 -- ---- which numbers cars have
 
@@ -71,19 +71,19 @@ element-held n j h = sym (element-number (held n) j h) ∙ in-held n (placeOf j)
 abbrev cardedBy : List ℕ → ℕ → Bool
 cardedBy a x = some 41 (λ j. eqb (getD a j 0) x)
 
-place-other : (j : ℕ) → j < 41 → placeOf j ≡ driveIn → ⊥
+place-other : (j : ℕ) → j < 41 → placeOfElement j ≡ driveIn → ⊥
 place-other j h e = split (ltb j 40)
     (λ t. let l = ltb-true j 40 t in omega (arith, sym (cell-place j l) ∙ e))
-    (λ t. let i : j ≡ 40 = omega (arith, ltb-false j 40 t) in let z : raisedCar ≡ driveIn = ap placeOf (sym i) ∙ e in omega arith)
+    (λ t. let i : j ≡ 40 = omega (arith, ltb-false j 40 t) in let z : raisedCar ≡ driveIn = ap placeOfElement (sym i) ∙ e in omega arith)
 
 -- exactly if it stands at a place where none waits
 carded-is : (a : List ℕ) (x : ℕ) → (x ≡ 0 → ⊥) → (cardedBy a x ≡ true) ↔ ((k : ℕ) × (k ≡ driveIn → ⊥) × (numbersIn a k ≡ x))
 carded-is a x n = (
-  λ t. let (j, h, e) = some-is 41 (λ j. eqb (getD a j 0) x) t in (placeOf j, place-other j h, element-number a j (omega arith) ∙ eqb-true _ x e),
+  λ t. let (j, h, e) = some-is 41 (λ j. eqb (getD a j 0) x) t in (placeOfElement j, place-other j h, element-number a j (omega arith) ∙ eqb-true _ x e),
   λ w. at (w .0) (w .1) (w .2),
 )
   where
-    here : (j k : ℕ) → j < 41 → placeOf j ≡ k → numbersIn a k ≡ x → cardedBy a x ≡ true
+    here : (j k : ℕ) → j < 41 → placeOfElement j ≡ k → numbersIn a k ≡ x → cardedBy a x ≡ true
     here j k h p e = some-at 41 (λ j. eqb (getD a j 0) x) j h (eq-eqb _ x (sym (element-number a j (omega arith)) ∙ ap (numbersIn a) p ∙ e))
 
     at : (k : ℕ) → (k ≡ driveIn → ⊥) → numbersIn a k ≡ x → cardedBy a x ≡ true
@@ -117,7 +117,7 @@ instruction-same i r a x w s t f n =
     (laws.same-numbers i (bit r) (numbersIn a) (sound-exactly r .0 s) t (fit-cards r a s f) x n) in
     let waits : numbersIn b driveIn ≡ numbersIn a driveIn = ap (λ (m : Numbers). m driveIn) e ∙ waits-on i (bit r) (numbersIn a) w in
     alike (cardedBy b x) (cardedBy a x)
-    (same-carded (image (next i (bit r))) b a x n (after-fit r a s f i t) (numbers .0) (sym waits))
+    (same-carded (image (nextRecord i (bit r))) b a x n (after-fit r a s f i t) (numbers .0) (sym waits))
     (same-carded r a b x n f (numbers .1) waits)
 
 code-same : (y : Code) (r : ℕ) (a : List ℕ) (x : ℕ) → sound r ≡ true → heldAllowed y (bit r) ≡ true → cardsFit r a ≡ true → (x ≡ 0 → ⊥)
@@ -137,7 +137,7 @@ same-elements : (a b : List ℕ) (x : ℕ) → ((j : ℕ) → j < 41 → getD b 
 same-elements a b x e = some-same 41 _ _ (λ j h. ap (λ (c : ℕ). eqb c x) (e j h))
 
 -- a begin and an end that isn't done change none but the one that waits
-unmoved : (e : Event) (c : ℕ) (a : List ℕ) (j : ℕ) → j < 42 → numbersDriven e c (numbersIn a) (placeOf j) ≡ numbersIn a (placeOf j)
+unmoved : (e : Event) (c : ℕ) (a : List ℕ) (j : ℕ) → j < 42 → numbersDriven e c (numbersIn a) (placeOfElement j) ≡ numbersIn a (placeOfElement j)
     → getD (cardsDriven e c a) j 0 ≡ getD a j 0
 unfolding cardsDriven
 unmoved e c a j h q = element-held (numbersDriven e c (numbersIn a)) j h ∙ q ∙ element-number a j h
@@ -145,16 +145,16 @@ unmoved e c a j h q = element-held (numbersDriven e c (numbersIn a)) j h ∙ q �
 begin-in-same : (c : ℕ) (a : List ℕ) (x : ℕ) → cardedBy (cardsDriven BeginIn c a) x ≡ cardedBy a x
 unfolding numbersDriven
 begin-in-same c a x = same-elements a (cardsDriven BeginIn c a) x
-    (λ j h. unmoved BeginIn c a j (omega arith) (rw (ne-eqb driveIn (placeOf j) (λ q. place-other j h (sym q)))))
+    (λ j h. unmoved BeginIn c a j (omega arith) (rw (ne-eqb driveIn (placeOfElement j) (λ q. place-other j h (sym q)))))
 
 begin-out-same : (c : ℕ) (a : List ℕ) (x : ℕ) → cardedBy (cardsDriven BeginOut c a) x ≡ cardedBy a x
 unfolding numbersDriven
 begin-out-same c a x = same-elements a (cardsDriven BeginOut c a) x (λ j h. unmoved BeginOut c a j (omega arith) refl)
 
 not-done-same : (c : ℕ) (a : List ℕ) (x : ℕ) → cardedBy (cardsDriven EndNotDone c a) x ≡ cardedBy a x
-unfolding numbersDriven taken
+unfolding numbersDriven numbersTaken
 not-done-same c a x = same-elements a (cardsDriven EndNotDone c a) x
-    (λ j h. unmoved EndNotDone c a j (omega arith) (rw (ne-eqb driveIn (placeOf j) (λ q. place-other j h (sym q)))))
+    (λ j h. unmoved EndNotDone c a j (omega arith) (rw (ne-eqb driveIn (placeOfElement j) (λ q. place-other j h (sym q)))))
 
 -- an end that is done brings the one that waits to the raised lift, and leaves the cells
 module _ (a : List ℕ) (c x : ℕ) where
@@ -169,15 +169,15 @@ module _ (a : List ℕ) (c x : ℕ) where
   waits = eqb (getD a 41 0) x
 
   done-cell : (j : ℕ) → j < 40 → getD (cardsDriven EndDone c a) j 0 ≡ getD a j 0
-  unfolding numbersDriven taken
+  unfolding numbersDriven numbersTaken
   done-cell j h = unmoved EndDone c a j (omega arith)
-      (rw (ne-eqb raisedCar (placeOf j) (other raisedCar (omega arith)), ne-eqb driveIn (placeOf j) (other driveIn (omega arith))))
+      (rw (ne-eqb raisedCar (placeOfElement j) (other raisedCar (omega arith)), ne-eqb driveIn (placeOfElement j) (other driveIn (omega arith))))
     where
-      other : (k : ℕ) → 40 ≤ k → k ≡ placeOf j → ⊥
+      other : (k : ℕ) → 40 ≤ k → k ≡ placeOfElement j → ⊥
       other k l q = omega (arith, q ∙ cell-place j h)
 
   done-lift : getD (cardsDriven EndDone c a) 40 0 ≡ getD a 41 0
-  unfolding cardsDriven numbersDriven taken
+  unfolding cardsDriven numbersDriven numbersTaken
   done-lift = element-held (numbersDriven EndDone c (numbersIn a)) 40 (omega arith) ∙ element-number a 41 (omega arith)
 
   done-carded : cardedBy (cardsDriven EndDone c a) x ≡ waits || inCell
@@ -225,15 +225,15 @@ module _ (r : ℕ) (a : List ℕ) (x : ℕ) (s : sound r ≡ true) (f : cardsFit
   in-empty t = is-empty (bit r raisedCar) (or-else (driveIn ∷ []) (free (raisedCar ∷ [])) (bit r) (rule 14) driveIn tt t)
 
   -- a place that bears none has none
-  none-there : (j : ℕ) → j < 42 → bears (bit r) (placeOf j) ≡ false → eqb (getD a j 0) x ≡ false
-  none-there j h b = ne-eqb _ x (λ e. n (sym e ∙ sym (element-number a j h) ∙ fit-marked r a f .none (placeOf j) b))
+  none-there : (j : ℕ) → j < 42 → bears (bit r) (placeOfElement j) ≡ false → eqb (getD a j 0) x ≡ false
+  none-there j h b = ne-eqb _ x (λ e. n (sym e ∙ sym (element-number a j h) ∙ fit-marked r a f .none (placeOfElement j) b))
 
   -- what stands at one element stands at none before it
   none-before : (j m : ℕ) → j < 42 → m < suc j → eqb (getD a j 0) x ≡ true → some m (λ i. eqb (getD a i 0) x) ≡ false
   none-before j m h l t = none-is m _ (λ i k. ne-eqb _ x (λ e.
       let p = element-number a i (omega arith) ∙ e in
       let q = element-number a j h ∙ eqb-true (getD a j 0) x t in
-      let same : i ≡ j = one-place i j (omega arith) h (once r a f (placeOf i) (placeOf j) (p ∙ sym q) (λ z. n (sym p ∙ z))) in
+      let same : i ≡ j = one-place i j (omega arith) h (once r a f (placeOfElement i) (placeOfElement j) (p ∙ sym q) (λ z. n (sym p ∙ z))) in
       omega arith))
 
   done-same : (c : ℕ) → possible EndDone (bit r) ≡ true
@@ -260,37 +260,37 @@ event-same e c r a x Untold q s f n p = clash p refl
 -- ---- any calls
 
 -- a call that is refused drives no car
-came-none : (x : ℕ) (d : Desk) (c : DeskCall) → (said d c ≡ 0 → ⊥) → came x d c ≡ 0
+came-none : (x : ℕ) (d : Desk) (c : DeskCall) → (deskAnswerNumber d c ≡ 0 → ⊥) → came x d c ≡ 0
 came-none x d (desk.request n set) o = refl
 came-none x d (desk.reports r) o = refl
 came-none x d (desk.event e c) o =
     ap (λ (b : Bool). digit (eqb e 3 && (b && (bit (d .station .bits) driveIn && eqb (numbersIn (d .numbers) driveIn) x))))
-    (ne-eqb (said d (desk.event e c)) 0 o)
+    (ne-eqb (deskAnswerNumber d (desk.event e c)) 0 o)
     ∙ ap digit (and-false (eqb e 3))
 came-none x d (desk.pictures p n ns) o = refl
 came-none x d desk.ask o = refl
 
-went-none : (x : ℕ) (d : Desk) (c : DeskCall) → (said d c ≡ 0 → ⊥) → went x d c ≡ 0
+went-none : (x : ℕ) (d : Desk) (c : DeskCall) → (deskAnswerNumber d c ≡ 0 → ⊥) → went x d c ≡ 0
 went-none x d (desk.request n set) o = refl
 went-none x d (desk.reports r) o = refl
 went-none x d (desk.event e c) o =
     ap (λ (b : Bool). digit (eqb e 3 && (b && (bit (d .station .bits) driveOut && eqb (numbersIn (d .numbers) raisedCar) x))))
-    (ne-eqb (said d (desk.event e c)) 0 o)
+    (ne-eqb (deskAnswerNumber d (desk.event e c)) 0 o)
     ∙ ap digit (and-false (eqb e 3))
 went-none x d (desk.pictures p n ns) o = refl
 went-none x d desk.ask o = refl
 
 -- an event that is taken drives one, where it says that the drive under way is done
-came-one : (x : ℕ) (d : Desk) (e c : ℕ) → said d (desk.event e c) ≡ 0
+came-one : (x : ℕ) (d : Desk) (e c : ℕ) → deskAnswerNumber d (desk.event e c) ≡ 0
     → came x d (desk.event e c) ≡ digit (eqb e 3 && (bit (d .station .bits) driveIn && eqb (numbersIn (d .numbers) driveIn) x))
 came-one x d e c z = rw z
 
-went-one : (x : ℕ) (d : Desk) (e c : ℕ) → said d (desk.event e c) ≡ 0
+went-one : (x : ℕ) (d : Desk) (e c : ℕ) → deskAnswerNumber d (desk.event e c) ≡ 0
     → went x d (desk.event e c) ≡ digit (eqb e 3 && (bit (d .station .bits) driveOut && eqb (numbersIn (d .numbers) raisedCar) x))
 went-one x d e c z = rw z
 
 -- a list without images is a call that is none, and such a list
-parts : (c : DeskCall) (l : List DeskCall) → NoImages (c ∷ l) → NoImages (c ∷ []) × NoImages l
+parts : (c : DeskCall) (l : List DeskCall) → NoDeskImages (c ∷ l) → NoDeskImages (c ∷ []) × NoDeskImages l
 parts (desk.request n set) l p = (tt, p)
 parts (desk.reports r) l p = (tt, p)
 parts (desk.event e c) l p = (tt, p)
@@ -298,7 +298,7 @@ parts (desk.pictures x n ns) l p = absurd p
 parts desk.ask l p = (tt, p)
 
 module _ (x : ℕ) (n : x ≡ 0 → ⊥) where
-  moved-same : (d : Desk) (c : DeskCall) → NoImages (c ∷ []) → said d c ≡ 0 → digit (cardedBy (moved d c) x) + went x d c ≡ carded x d + came x d c
+  moved-same : (d : Desk) (c : DeskCall) → NoDeskImages (c ∷ []) → deskAnswerNumber d c ≡ 0 → digit (cardedBy (moved d c) x) + went x d c ≡ carded x d + came x d c
   moved-same d (desk.request m set) i z = refl
   moved-same d (desk.reports r) i z =
       let (p, v) = answered d (desk.reports r) Fine .0 z in
@@ -317,16 +317,16 @@ module _ (x : ℕ) (n : x ≡ 0 → ⊥) where
   moved-same d (desk.pictures y m ns) i z = absurd i
   moved-same d desk.ask i z = refl
 
-  step-same : (d : Desk) (c : DeskCall) → NoImages (c ∷ []) → carded x (left d c) + went x d c ≡ carded x d + came x d c
-  step-same d c i = split (eqb (said d c) 0)
-      (λ t. let z = eqb-true (said d c) 0 t in ap (λ (b : Desk). carded x b + went x d c) (left-taken d c z) ∙ moved-same d c i z)
-      (λ t. let o = eqb-false (said d c) 0 t in rw (untouched d c o, went-none x d c o, came-none x d c o))
+  step-same : (d : Desk) (c : DeskCall) → NoDeskImages (c ∷ []) → carded x (deskAfter d c) + went x d c ≡ carded x d + came x d c
+  step-same d c i = split (eqb (deskAnswerNumber d c) 0)
+      (λ t. let z = eqb-true (deskAnswerNumber d c) 0 t in ap (λ (b : Desk). carded x b + went x d c) (left-taken d c z) ∙ moved-same d c i z)
+      (λ t. let o = eqb-false (deskAnswerNumber d c) 0 t in rw (untouched d c o, went-none x d c o, came-none x d c o))
 
-  calls-same : (l : List DeskCall) → NoImages l → (d : Desk) → carded x (calls d l) + drivenOut x d l ≡ carded x d + drivenIn x d l
+  calls-same : (l : List DeskCall) → NoDeskImages l → (d : Desk) → carded x (callsDesk d l) + drivenOut x d l ≡ carded x d + drivenIn x d l
   calls-same [] i d = refl
   calls-same (c ∷ l) i d =
       let (p, q) = parts c l i in
-      omega (arith, step-same d c p, calls-same l q (left d c))
+      omega (arith, step-same d c p, calls-same l q (deskAfter d c))
 
-pub same-numbers : SameNumbers
+pub same-numbers : RunKeepsNumbers
 same-numbers d l i x n = calls-same x n l i d

@@ -14,9 +14,9 @@ use Rattle.floor.specs.Sound.{sound, soundRules}
 use Rattle.floor.proofs.Promises.{sound-exactly}
 use Rattle.floor.proofs.Reading.{nth-holds}
 use Rattle.floor.proofs.Standing.{or-else}
-use Rattle.garage_laws.proofs.Fits.{fit-has}
+use Rattle.station_laws.proofs.Fits.{fit-has}
 use Rattle.cards.specs.Cards.{anchor}
-use Rattle.cards.specs.Following.{nowhere}
+use Rattle.cards.specs.Following.{noSource}
 use Rattle.cards.specs.Held.{numbersIn, cardsFit, whereIs}
 use Rattle.cards_laws.proofs.Anchors.{stands}
 use Rattle.cards_laws.proofs.Tested.{fit-marked}
@@ -27,7 +27,7 @@ use Rattle.desk.specs.declared.Whereabouts.the-variants.{At, LastKnown}
 use Rattle.desk.specs.declared.Leaving.{Leaving}
 use Rattle.desk.specs.declared.Leaving.the-variants.{Card, Nobody, Unfit}
 use Rattle.desk.specs.Desk.{deskFit}
-use Rattle.desk.specs.Questions.{unsure, placed, whereabouts, leaving}
+use Rattle.desk.specs.Questions.{unsure, placeKnown, whereabouts, leaving}
 use Rattle.desk_laws.specs.Promises.{onApart, WhereTold, LeavingTold}
 use Rattle.desk_laws.proofs.Calls.{fit-parts}
 
@@ -40,15 +40,15 @@ unsure-is apart (single c) h = rw (le-ltb c 20 (h .0)) (or-false (bit apart c))
 unsure-is apart raised h = or-false (bit apart raisedCar)
 
 -- no car stands nowhere
-somewhere : (x : Car) → Stands x → anchor x ≡ nowhere → ⊥
+somewhere : (x : Car) → Stands x → anchor x ≡ noSource → ⊥
 somewhere (pair c) h e = omega arith
 somewhere (single c) h e = omega (arith, h .1)
 somewhere raised h e = omega arith
 
-placed-at : (apart : ℕ) (x : Car) → Stands x → placed apart (anchor x) ≡ cond (onApart apart x) (LastKnown (anchor x)) (At (anchor x))
-placed-at apart x h = rw (ne-eqb (anchor x) nowhere (somewhere x h), unsure-is apart x h)
+placed-at : (apart : ℕ) (x : Car) → Stands x → placeKnown apart (anchor x) ≡ cond (onApart apart x) (LastKnown (anchor x)) (At (anchor x))
+placed-at apart x h = rw (ne-eqb (anchor x) noSource (somewhere x h), unsure-is apart x h)
 
-pub whereabouts-fit : (d : Desk) (c : ℕ) → deskFit d ≡ true → whereabouts d c ≡ placed (d .station .apart) (whereIs (d .numbers) c)
+pub whereabouts-fit : (d : Desk) (c : ℕ) → deskFit d ≡ true → whereabouts d c ≡ placeKnown (d .station .apart) (whereIs (d .numbers) c)
 unfolding whereabouts
 whereabouts-fit d c f = rw f
 
@@ -57,8 +57,8 @@ where-told d l f L c n =
     let (s, g) = fit-parts d f in
     let r = d .station .bits in
     let (here, gone) = where-right (bit r) (d .numbers) l L (fit-cards r (d .numbers) (fit-has (d .station) s .sound) g) c n in (
-      λ x a e. whereabouts-fit d c f ∙ ap (placed (d .station .apart)) (here x a e) ∙ placed-at (d .station .apart) x (stands l x (L .stand) a),
-      λ none. whereabouts-fit d c f ∙ ap (placed (d .station .apart)) (gone none),
+      λ x a e. whereabouts-fit d c f ∙ ap (placeKnown (d .station .apart)) (here x a e) ∙ placed-at (d .station .apart) x (stands l x (L .stand) a),
+      λ none. whereabouts-fit d c f ∙ ap (placeKnown (d .station .apart)) (gone none),
     )
 
 -- ---- which card is leaving

@@ -16,16 +16,16 @@ use Rattle.rules.specs.declared.Event.{Event}
 use Rattle.rules.specs.declared.Event.the-variants.{BeginIn, BeginOut, EndDone, EndNotDone}
 use Rattle.rules.specs.declared.EventReading.{EventReading}
 use Rattle.rules.specs.declared.EventReading.the-variants.{Good as Told, Bad as Untold}
-use Rattle.rules.specs.Rules.{wellFormed, area, next}
+use Rattle.rules.specs.Rules.{wellFormed, area, nextRecord}
 use Rattle.rules.specs.Codes.{readCode, readEvent}
-use Rattle.garage.specs.declared.Report.{Report}
-use Rattle.garage.specs.Held.{codeAt}
+use Rattle.station.specs.declared.Report.{Report}
+use Rattle.station.specs.Held.{codeAt}
 use Rattle.cards.specs.Cards.{Numbers, anchor, Among, Cards}
 use Rattle.cards.specs.Held.{numbersIn}
 use Rattle.desk.specs.declared.Desk.{Desk}
 use Rattle.desk.specs.Desk.{startDesk}
 use Rattle.desk_laws.specs.Runs as desk
-use Rattle.desk_laws.specs.Runs.{DeskCall, said, left, calls}
+use Rattle.desk_laws.specs.Runs.{DeskCall, deskAnswerNumber, deskAfter, callsDesk}
 
 -- ---- where an instruction takes a car
 
@@ -36,12 +36,12 @@ without x f k = cond (eqb (covers x k) 0) (f k) false
 -- the instruction i takes the car x of the record f to y: if x were not there before, y would not be there after, and all else would be
 -- the same
 abbrev pub Takes : Instruction → Bits → Car → Car → Type 0
-Takes i f x y = (k : ℕ) → next i (without x f) k ≡ without y (next i f) k
+Takes i f x y = (k : ℕ) → nextRecord i (without x f) k ≡ without y (nextRecord i f) k
 
 -- the numbers n of the record f have followed the instruction i: now they are m, and the record is g
 pub record Follow (i : Instruction) (f g : Bits) (n m : Numbers) : Type 0 where
   -- the record now is the one that the rules make of it
-  pub after : (k : ℕ) → Place k → g k ≡ next i f k
+  pub after : (k : ℕ) → Place k → g k ≡ nextRecord i f k
   -- each car is a car of the record now, where the instruction takes it, and there is its number
   pub rides : (l u : List Car) → Layout f l → Layout g u → (x : Car) → Among x l
       → (y : Car) × Among y u × Takes i f x y × (m (anchor y) ≡ n (anchor x))
@@ -59,21 +59,21 @@ abbrev pub StayBut : List ℕ → Numbers → Numbers → Type 0
 StayBut ks n m = (k : ℕ) → elem k ks ≡ false → m k ≡ n k
 
 -- the numbers n of the record f after a car event that brings c: now they are m
-abbrev pub Driven : Event → Bits → ℕ → Numbers → Numbers → Type 0
+abbrev pub NumbersAfterEvent : Event → Bits → ℕ → Numbers → Numbers → Type 0
 -- the number that comes with a drive-in waits
-Driven BeginIn f c n m = (m driveIn ≡ c) × StayBut (driveIn ∷ []) n m
-Driven BeginOut f c n m = StayBut [] n m
+NumbersAfterEvent BeginIn f c n m = (m driveIn ≡ c) × StayBut (driveIn ∷ []) n m
+NumbersAfterEvent BeginOut f c n m = StayBut [] n m
 -- a drive-in that is done puts the number that came with it at the raised lift; a drive-out removes the one there
-Driven EndDone f c n m =
+NumbersAfterEvent EndDone f c n m =
     (f driveIn ≡ true → (m raisedCar ≡ n driveIn) × (m driveIn ≡ 0) × StayBut (raisedCar ∷ driveIn ∷ []) n m)
     × (f driveOut ≡ true → (m raisedCar ≡ 0) × StayBut (raisedCar ∷ []) n m)
 -- a drive-in that is not done drops the number that came with it; a drive-out keeps all
-Driven EndNotDone f c n m =
+NumbersAfterEvent EndNotDone f c n m =
     (f driveIn ≡ true → (m driveIn ≡ 0) × StayBut (driveIn ∷ []) n m)
     × (f driveOut ≡ true → StayBut [] n m)
 
 abbrev pub DrivenAs : EventReading → Bits → ℕ → Numbers → Numbers → Type 0
-DrivenAs (Told e) f c n m = Driven e f c n m
+DrivenAs (Told e) f c n m = NumbersAfterEvent e f c n m
 DrivenAs Untold f c n m = ⊥
 
 -- a result that says done: the report names an instruction, and the numbers have followed it
@@ -100,7 +100,7 @@ Accepted d desk.ask e = e .numbers ≡ d .numbers
 abbrev pub CardsFollow : Type 0
 CardsFollow =
     (d : Desk) (c : DeskCall)
-    → (said d c ≡ 0 → Accepted d c (left d c)) × ((said d c ≡ 0 → ⊥) → left d c .numbers ≡ d .numbers)
+    → (deskAnswerNumber d c ≡ 0 → Accepted d c (deskAfter d c)) × ((deskAnswerNumber d c ≡ 0 → ⊥) → deskAfter d c .numbers ≡ d .numbers)
 
 -- such calls happen: a car is driven in with the number 7, and the lift is asked to take it to the basement; when the result says done, the
 -- number has gone from the raised lift to the lift's cells
@@ -113,8 +113,8 @@ isDown = desk.reports (record { issue = 0; number = 0; ending = 1 })
 -- when the lift has taken a car down, its number has gone from the raised lift to the lift's cells
 abbrev pub FollowHappens : Type 0
 FollowHappens =
-    let d = calls startDesk downWithSeven in
-    (said d isDown ≡ 0) × (numbersIn (d .numbers) raisedCar ≡ 7) × (numbersIn (left d isDown .numbers) 11 ≡ 7)
+    let d = callsDesk startDesk downWithSeven in
+    (deskAnswerNumber d isDown ≡ 0) × (numbersIn (d .numbers) raisedCar ≡ 7) × (numbersIn (deskAfter d isDown .numbers) 11 ≡ 7)
 
 -- after a success no other numbers would do: what the rules say of each car leaves no two to exchange
 abbrev pub FollowOnly : Type 0

@@ -10,11 +10,11 @@ use Rattle.bits.specs.Bits.{bit}
 use Rattle.floor.specs.Floor.{raisedCar, driveOut}
 use Rattle.floor.specs.Cars.{Car, pair, single, raised, Layout}
 use Rattle.floor.specs.Sound.{Sound}
-use Rattle.garage.specs.declared.Picture.{Picture}
-use Rattle.garage.specs.Station.{present}
-use Rattle.garage_laws.specs.Runs as run
-use Rattle.garage_laws.specs.Jams.{Picks}
-use Rattle.garage_laws.specs.Orders.{Fate}
+use Rattle.station.specs.declared.Picture.{Picture}
+use Rattle.station.specs.Station.{presentIssue}
+use Rattle.station_laws.specs.Runs as run
+use Rattle.station_laws.specs.Jams.{Picks}
+use Rattle.station_laws.specs.Orders.{Fate}
 use Rattle.cards.specs.Cards.{anchor, Among, Cards, Has}
 use Rattle.cards.specs.Given.{AllNew}
 use Rattle.cards.specs.Held.{numbersIn}
@@ -25,22 +25,22 @@ use Rattle.desk.specs.declared.Leaving.the-variants.{Card}
 use Rattle.desk.specs.Desk.{deskFit}
 use Rattle.desk.specs.Questions.{whereabouts, leaving}
 use Rattle.desk_laws.specs.Runs as desk
-use Rattle.desk_laws.specs.Runs.{DeskCall, said, left, calls, DeskBegins, NoImages, under, below, stuckAt, finishedRecord, finishedCards, carded, drivenIn, drivenOut}
+use Rattle.desk_laws.specs.Runs.{DeskCall, deskAnswerNumber, deskAfter, callsDesk, DeskBegins, NoDeskImages, under, below, stuckAt, finishedRecord, finishedCards, carded, drivenIn, drivenOut}
 use Rattle.desk_laws.specs.Orders.{DeskOrder, DeskAlike}
 
 -- ---- it always answers
 
 -- a refused call leaves the desk as it was, its station and its numbers
-abbrev pub RefusedUntouched : Type 0
-RefusedUntouched = (d : Desk) (c : DeskCall) → (said d c ≡ 0 → ⊥) → left d c ≡ d
+abbrev pub DeskRefusedUntouched : Type 0
+DeskRefusedUntouched = (d : Desk) (c : DeskCall) → (deskAnswerNumber d c ≡ 0 → ⊥) → deskAfter d c ≡ d
 
 -- a call leaves a fit desk fit, and one that isn't unfit
-abbrev pub FitStays : Type 0
-FitStays = (d : Desk) (c : DeskCall) → deskFit (left d c) ≡ deskFit d
+abbrev pub DeskFitStays : Type 0
+DeskFitStays = (d : Desk) (c : DeskCall) → deskFit (deskAfter d c) ≡ deskFit d
 
 -- whatever calls came before, images too, the desk never answers 16
-abbrev pub NeverUnfit : Type 0
-NeverUnfit = (d : Desk) → DeskBegins d → (l : List DeskCall) (c : DeskCall) → said (calls d l) c ≡ 16 → ⊥
+abbrev pub DeskNeverUnfit : Type 0
+DeskNeverUnfit = (d : Desk) → DeskBegins d → (l : List DeskCall) (c : DeskCall) → deskAnswerNumber (callsDesk d l) c ≡ 16 → ⊥
 
 -- ---- the station below
 
@@ -49,31 +49,31 @@ NeverUnfit = (d : Desk) → DeskBegins d → (l : List DeskCall) (c : DeskCall) 
 abbrev pub AsStation : Type 0
 AsStation =
     (d : Desk) (c : DeskCall) → deskFit d ≡ true
-    → ((said d c ≡ run.said (d .station) (under c)) × (left d c .station ≡ run.left (d .station) (under c)))
-    ⊎ ((run.said (d .station) (under c) ≡ 0) × (37 ≤ said d c) × (said d c ≤ 39))
+    → ((deskAnswerNumber d c ≡ run.answerNumber (d .station) (under c)) × (deskAfter d c .station ≡ run.stationAfter (d .station) (under c)))
+    ⊎ ((run.answerNumber (d .station) (under c) ≡ 0) × (37 ≤ deskAnswerNumber d c) × (deskAnswerNumber d c ≤ 39))
 
 -- after any calls a desk's station is the one that its own calls below make
 abbrev pub StationBelow : Type 0
-StationBelow = (d : Desk) → DeskBegins d → (l : List DeskCall) → calls d l .station ≡ run.calls (d .station) (below d l)
+StationBelow = (d : Desk) → DeskBegins d → (l : List DeskCall) → callsDesk d l .station ≡ run.calls (d .station) (below d l)
 
 -- ---- its own refusals
 
 -- the station would take the call
 abbrev pub Passes : Desk → DeskCall → Type 0
-Passes d c = (deskFit d ≡ true) × (run.said (d .station) (under c) ≡ 0)
+Passes d c = (deskFit d ≡ true) × (run.answerNumber (d .station) (under c) ≡ 0)
 
 -- a begin of a drive-in that the station would take is answered 37 exactly with the number zero, 38 exactly with one that is in the garage
 -- or waits, and taken exactly with any other
 abbrev pub BeginNumbers : Type 0
 BeginNumbers =
     (d : Desk) (c : ℕ)
-    → ((said d (desk.event 1 c) ≡ 37) ↔ (Passes d (desk.event 1 c) × (c ≡ 0)))
-    × ((said d (desk.event 1 c) ≡ 38) ↔ (Passes d (desk.event 1 c) × (c ≡ 0 → ⊥) × Has (numbersIn (d .numbers)) c))
-    × ((said d (desk.event 1 c) ≡ 0) ↔ (Passes d (desk.event 1 c) × (c ≡ 0 → ⊥) × (Has (numbersIn (d .numbers)) c → ⊥)))
+    → ((deskAnswerNumber d (desk.event 1 c) ≡ 37) ↔ (Passes d (desk.event 1 c) × (c ≡ 0)))
+    × ((deskAnswerNumber d (desk.event 1 c) ≡ 38) ↔ (Passes d (desk.event 1 c) × (c ≡ 0 → ⊥) × Has (numbersIn (d .numbers)) c))
+    × ((deskAnswerNumber d (desk.event 1 c) ≡ 0) ↔ (Passes d (desk.event 1 c) × (c ≡ 0 → ⊥) × (Has (numbersIn (d .numbers)) c → ⊥)))
 
 -- with any event but the begin of a drive-in the number is not looked at
 abbrev pub OtherEvents : Type 0
-OtherEvents = (d : Desk) (e b c : ℕ) → (e ≡ 1 → ⊥) → desk.call d (desk.event e b) ≡ desk.call d (desk.event e c)
+OtherEvents = (d : Desk) (e b c : ℕ) → (e ≡ 1 → ⊥) → desk.callDesk d (desk.event e b) ≡ desk.callDesk d (desk.event e c)
 
 -- one of n numbers is zero
 abbrev pub AnyZero : ℕ → List ℕ → Type 0
@@ -86,24 +86,24 @@ ImageNumbers =
     (d : Desk) (p : Picture) (n : ℕ) (ns : List ℕ) → n ≤ length ns
     → let c = desk.pictures p n ns in
     let many = ThatMany (bit (p .bits)) (take n ns) in
-    ((said d c ≡ 39) ↔ (Passes d c × (many → ⊥)))
-    × ((said d c ≡ 37) ↔ (Passes d c × many × AnyZero n ns))
-    × ((said d c ≡ 38) ↔ (Passes d c × many × (AnyZero n ns → ⊥) × (AllNew (take n ns) → ⊥)))
-    × ((said d c ≡ 0) ↔ (Passes d c × many × AllNew (take n ns)))
+    ((deskAnswerNumber d c ≡ 39) ↔ (Passes d c × (many → ⊥)))
+    × ((deskAnswerNumber d c ≡ 37) ↔ (Passes d c × many × AnyZero n ns))
+    × ((deskAnswerNumber d c ≡ 38) ↔ (Passes d c × many × (AnyZero n ns → ⊥) × (AllNew (take n ns) → ⊥)))
+    × ((deskAnswerNumber d c ≡ 0) ↔ (Passes d c × many × AllNew (take n ns)))
 
 -- ---- numbers follow cars
 
 -- the calls that may change numbers: a success, an event, an image
-abbrev pub Changes : DeskCall → Type 0
-Changes (desk.request n set) = ⊥
-Changes (desk.reports r) = r .ending ≡ 1
-Changes (desk.event e c) = Unit {0}
-Changes (desk.pictures p n ns) = Unit {0}
-Changes desk.ask = ⊥
+abbrev pub ChangesNumbers : DeskCall → Type 0
+ChangesNumbers (desk.request n set) = ⊥
+ChangesNumbers (desk.reports r) = r .ending ≡ 1
+ChangesNumbers (desk.event e c) = Unit {0}
+ChangesNumbers (desk.pictures p n ns) = Unit {0}
+ChangesNumbers desk.ask = ⊥
 
 -- whatever the call, the numbers stay, or the call is a success, a car event or an image, and was taken
 abbrev pub OnlySuccessMoves : Type 0
-OnlySuccessMoves = (d : Desk) (c : DeskCall) → (left d c .numbers ≡ d .numbers) ⊎ ((said d c ≡ 0) × Changes c)
+OnlySuccessMoves = (d : Desk) (c : DeskCall) → (deskAfter d c .numbers ≡ d .numbers) ⊎ ((deskAnswerNumber d c ≡ 0) × ChangesNumbers c)
 
 -- whatever calls follow, images too, for every choice of which stuck instructions did in fact finish: the record with those applied is
 -- sound, and the numbers with those applied are exactly those of its cars, each once
@@ -116,22 +116,22 @@ DeskAlways =
 abbrev pub WhicheverSame : Type 0
 WhicheverSame =
     (d : Desk) → DeskBegins d → (l : List DeskCall) (p : List ℕ) → Picks (length (stuckAt d l)) p
-    → (c : ℕ) → (c ≡ 0 → ⊥) → Has (numbersIn (finishedCards d l p)) c ↔ Has (numbersIn (calls d l .numbers)) c
+    → (c : ℕ) → (c ≡ 0 → ⊥) → Has (numbersIn (finishedCards d l p)) c ↔ Has (numbersIn (callsDesk d l .numbers)) c
 
 -- none is lost and none is made: from any desk, over any calls but an image, a car has a number if one had it before, plus those driven in with it, less
 -- those driven out
-abbrev pub SameNumbers : Type 0
-SameNumbers =
-    (d : Desk) (l : List DeskCall) → NoImages l → (c : ℕ) → (c ≡ 0 → ⊥) → carded c (calls d l) + drivenOut c d l ≡ carded c d + drivenIn c d l
+abbrev pub RunKeepsNumbers : Type 0
+RunKeepsNumbers =
+    (d : Desk) (l : List DeskCall) → NoDeskImages l → (c : ℕ) → (c ≡ 0 → ⊥) → carded c (callsDesk d l) + drivenOut c d l ≡ carded c d + drivenIn c d l
 
 -- of an accepted set: whichever instructions fail, succeed or stick, two orders of their results with the same car events and numbers come
 -- to the same desk
 abbrev pub DeskAnyOrder : Type 0
 DeskAnyOrder =
-    (d : Desk) → DeskBegins d → (before : List DeskCall) (n : ℕ) (set : List ℕ) → said (calls d before) (desk.request n set) ≡ 0
+    (d : Desk) → DeskBegins d → (before : List DeskCall) (n : ℕ) (set : List ℕ) → deskAnswerNumber (callsDesk d before) (desk.request n set) ≡ 0
     → (fate : ℕ → Fate) (drives : List (ℕ × ℕ)) (l m : List DeskCall)
-    → let s = left (calls d before) (desk.request n set) in
-    DeskOrder (present (s .station)) n fate drives l → DeskOrder (present (s .station)) n fate drives m → DeskAlike s l m
+    → let s = deskAfter (callsDesk d before) (desk.request n set) in
+    DeskOrder (presentIssue (s .station)) n fate drives l → DeskOrder (presentIssue (s .station)) n fate drives m → DeskAlike s l m
 
 -- ---- where a card's car is, and which is leaving
 
@@ -154,7 +154,7 @@ WhereTold =
 -- a place that is told for sure is right, whichever stuck instructions did in fact finish
 abbrev pub WhereSure : Type 0
 WhereSure =
-    (d : Desk) → DeskBegins d → (l : List DeskCall) (c k : ℕ) → whereabouts (calls d l) c ≡ At k
+    (d : Desk) → DeskBegins d → (l : List DeskCall) (c k : ℕ) → whereabouts (callsDesk d l) c ≡ At k
     → (p : List ℕ) → Picks (length (stuckAt d l)) p → numbersIn (finishedCards d l p) k ≡ c
 
 -- a card is leaving exactly while a drive-out is under way, and it is that of the car on the raised lift

@@ -9,12 +9,12 @@ use Rattle.bits.specs.Bits.{bit, digit, image}
 use Rattle.bits.specs.Search.{some}
 use Rattle.floor.specs.Floor.{driveIn, driveOut, raisedCar}
 use Rattle.rules.specs.declared.Code.{Code}
-use Rattle.garage.specs.declared.Report.{Report}
-use Rattle.garage.specs.declared.Picture.{Picture}
-use Rattle.garage.specs.Held.{heldNext}
-use Rattle.garage_laws.specs.Runs as run
-use Rattle.garage_laws.specs.Runs.{Call}
-use Rattle.garage_laws.specs.Jams.{stuck, jamAt, applied}
+use Rattle.station.specs.declared.Report.{Report}
+use Rattle.station.specs.declared.Picture.{Picture}
+use Rattle.station.specs.Held.{heldNext}
+use Rattle.station_laws.specs.Runs as run
+use Rattle.station_laws.specs.Runs.{Call}
+use Rattle.station_laws.specs.Jams.{stuck, jamAt, applied}
 use Rattle.cards.specs.Held.{numbersIn, codeCards}
 use Rattle.desk.specs.declared.Desk.{Desk}
 use Rattle.desk.specs.declared.DeskOutcome.{DeskOutcome}
@@ -30,42 +30,42 @@ pub data DeskCall : Type 0 where
   ask : DeskCall
 
 -- what a call hands back: the functions that the contracts of the code cite
-abbrev pub call : Desk → DeskCall → DeskOutcome
-call d (request n set) = desk.request d n set
-call d (reports r) = desk.result d r
-call d (event e c) = desk.event d e c
-call d (pictures p n ns) = desk.takeImage d p n ns
-call d ask = desk.ask d
+abbrev pub callDesk : Desk → DeskCall → DeskOutcome
+callDesk d (request n set) = desk.deskRequest d n set
+callDesk d (reports r) = desk.deskResult d r
+callDesk d (event e c) = desk.deskEvent d e c
+callDesk d (pictures p n ns) = desk.deskTakeImage d p n ns
+callDesk d ask = desk.deskAsk d
 
 -- the number and the place that it is answered with, and the desk that it leaves
-abbrev pub said : Desk → DeskCall → ℕ
-said d c = replyNumber (call d c .reply)
+abbrev pub deskAnswerNumber : Desk → DeskCall → ℕ
+deskAnswerNumber d c = replyNumber (callDesk d c .reply)
 
-abbrev pub place : Desk → DeskCall → ℕ
-place d c = replyPlace (call d c .reply)
+abbrev pub deskFaultIndex : Desk → DeskCall → ℕ
+deskFaultIndex d c = replyPlace (callDesk d c .reply)
 
-abbrev pub left : Desk → DeskCall → Desk
-left d c = call d c .desk
+abbrev pub deskAfter : Desk → DeskCall → Desk
+deskAfter d c = callDesk d c .desk
 
 -- the desk after several calls
-abbrev pub calls : Desk → List DeskCall → Desk
-calls d [] = d
-calls d (c ∷ l) = calls (left d c) l
+abbrev pub callsDesk : Desk → List DeskCall → Desk
+callsDesk d [] = d
+callsDesk d (c ∷ l) = callsDesk (deskAfter d c) l
 
 -- where it begins: the start, or an image of 64 bits that was taken with its numbers
 pub data DeskBegins : Desk → Type 0 where
   atStart : DeskBegins startDesk
-  byImage : (before : Desk) (p : Picture) (n : ℕ) (ns : List ℕ) → p .bits < 2 ^ 64 → said before (pictures p n ns) ≡ 0
-      → DeskBegins (left before (pictures p n ns))
+  byImage : (before : Desk) (p : Picture) (n : ℕ) (ns : List ℕ) → p .bits < 2 ^ 64 → deskAnswerNumber before (pictures p n ns) ≡ 0
+      → DeskBegins (deskAfter before (pictures p n ns))
 
 -- calls but an image
-abbrev pub NoImages : List DeskCall → Type 0
-NoImages [] = Unit {0}
-NoImages (request n set ∷ l) = NoImages l
-NoImages (reports r ∷ l) = NoImages l
-NoImages (event e c ∷ l) = NoImages l
-NoImages (pictures p n ns ∷ l) = ⊥
-NoImages (ask ∷ l) = NoImages l
+abbrev pub NoDeskImages : List DeskCall → Type 0
+NoDeskImages [] = Unit {0}
+NoDeskImages (request n set ∷ l) = NoDeskImages l
+NoDeskImages (reports r ∷ l) = NoDeskImages l
+NoDeskImages (event e c ∷ l) = NoDeskImages l
+NoDeskImages (pictures p n ns ∷ l) = ⊥
+NoDeskImages (ask ∷ l) = NoDeskImages l
 
 -- ---- the station below
 
@@ -79,12 +79,12 @@ under ask = run.ask
 
 -- the desk refuses by itself: 37, 38 or 39
 abbrev pub itself : Desk → DeskCall → Bool
-itself d c = leb 37 (said d c) && leb (said d c) 39
+itself d c = leb 37 (deskAnswerNumber d c) && leb (deskAnswerNumber d c) 39
 
 -- the calls that reach the station: all but those
 abbrev pub below : Desk → List DeskCall → List Call
 below d [] = []
-below d (c ∷ l) = let rest = below (left d c) l in cond (itself d c) rest (under c ∷ rest)
+below d (c ∷ l) = let rest = below (deskAfter d c) l in cond (itself d c) rest (under c ∷ rest)
 
 -- ---- jams
 
@@ -99,10 +99,10 @@ stuckAt d l = stuck (d .station) (below d l)
 
 -- the record and the numbers after some calls, where of the stuck instructions these did in fact finish
 abbrev pub finishedRecord : Desk → List DeskCall → List ℕ → ℕ
-finishedRecord d l p = applied (stuckAt d l) p (calls d l .station .bits)
+finishedRecord d l p = applied (stuckAt d l) p (callsDesk d l .station .bits)
 
 abbrev pub finishedCards : Desk → List DeskCall → List ℕ → List ℕ
-finishedCards d l p = appliedCards (stuckAt d l) p (calls d l .station .bits) (calls d l .numbers)
+finishedCards d l p = appliedCards (stuckAt d l) p (callsDesk d l .station .bits) (callsDesk d l .numbers)
 
 -- ---- which numbers are there
 
@@ -114,22 +114,22 @@ carded c d = digit (some 41 (λ j. eqb (getD (d .numbers) j 0) c))
 abbrev pub came : ℕ → Desk → DeskCall → ℕ
 came c d (request n set) = 0
 came c d (reports r) = 0
-came c d (event e x) = digit (eqb e 3 && (eqb (said d (event e x)) 0 && (bit (d .station .bits) driveIn && eqb (numbersIn (d .numbers) driveIn) c)))
+came c d (event e x) = digit (eqb e 3 && (eqb (deskAnswerNumber d (event e x)) 0 && (bit (d .station .bits) driveIn && eqb (numbersIn (d .numbers) driveIn) c)))
 came c d (pictures p n ns) = 0
 came c d ask = 0
 
 abbrev pub went : ℕ → Desk → DeskCall → ℕ
 went c d (request n set) = 0
 went c d (reports r) = 0
-went c d (event e x) = digit (eqb e 3 && (eqb (said d (event e x)) 0 && (bit (d .station .bits) driveOut && eqb (numbersIn (d .numbers) raisedCar) c)))
+went c d (event e x) = digit (eqb e 3 && (eqb (deskAnswerNumber d (event e x)) 0 && (bit (d .station .bits) driveOut && eqb (numbersIn (d .numbers) raisedCar) c)))
 went c d (pictures p n ns) = 0
 went c d ask = 0
 
 -- how often a car with the number c was driven in, and out
 abbrev pub drivenIn : ℕ → Desk → List DeskCall → ℕ
 drivenIn c d [] = 0
-drivenIn c d (x ∷ l) = came c d x + drivenIn c (left d x) l
+drivenIn c d (x ∷ l) = came c d x + drivenIn c (deskAfter d x) l
 
 abbrev pub drivenOut : ℕ → Desk → List DeskCall → ℕ
 drivenOut c d [] = 0
-drivenOut c d (x ∷ l) = went c d x + drivenOut c (left d x) l
+drivenOut c d (x ∷ l) = went c d x + drivenOut c (deskAfter d x) l

@@ -11,7 +11,7 @@ use lib.ListN.{length, getD, take, drop, length-drop, length-take, take-append-d
 use lib.Seq.{take-suc, take-length, take-at, drop-at, getD-take, getD-drop}
 use borrow.Author.Tests.{eqb-true, eq-eqb}
 use Rattle.bits.proofs.Cases.{both, off}
-use Rattle.drawing.specs.Reading.{same, begins, after}
+use Rattle.drawing.specs.Reading.{same, begins, textAfter}
 
 -- ---- two texts are the same
 
@@ -32,13 +32,13 @@ eq-same s t e = ap (λ (x : List ℕ). same x t) e ∙ same-self t
 
 -- ---- a text begins with a word
 
-pub begins-eq : (word s : List ℕ) → begins word s ≡ true → s ≡ word ++ after word s
-begins-eq word s e = sym (take-append-drop (length word) s) ∙ ap (λ (x : List ℕ). x ++ after word s) (same-eq (take (length word) s) word e)
+pub begins-eq : (word s : List ℕ) → begins word s ≡ true → s ≡ word ++ textAfter word s
+begins-eq word s e = sym (take-append-drop (length word) s) ∙ ap (λ (x : List ℕ). x ++ textAfter word s) (same-eq (take (length word) s) word e)
 
 pub begins-is : (word s t : List ℕ) → s ≡ word ++ t → begins word s ≡ true
 begins-is word s t e = eq-same (take (length word) s) word (ap (take (length word)) e ∙ take-at word t (length word) refl)
 
-pub after-is : (word s t : List ℕ) → s ≡ word ++ t → after word s ≡ t
+pub after-is : (word s t : List ℕ) → s ≡ word ++ t → textAfter word s ≡ t
 after-is word s t e = ap (drop (length word)) e ∙ drop-at word t (length word) refl
 
 -- ---- the loop, over the text from a place on

@@ -10,7 +10,7 @@ use borrow.Author.Tests.{ltb-true, ltb-false, lt-ltb, le-ltb}
 use Rattle.bits.specs.Bits.{Bits}
 use Rattle.bits.proofs.Cases.{split}
 use Rattle.drawing.specs.declared.Lift.{Lift}
-use Rattle.drawing.specs.Private.{cellAt, grid, rowOf, placeOf, occupied, upperAt, wordsOf, drawnAt, slotAt, liftBit, bitsAt}
+use Rattle.drawing.specs.Private.{cellAt, grid, rowOfCell, placeInRow, occupied, upperAt, wordsOf, drawnAt, slotRead, liftBit, bitsAt}
 use Rattle.drawing.proofs.Tables.{getD-table}
 
 -- the place of cell k is a place of the grid, and the cell there is k
@@ -19,8 +19,8 @@ pub record Placed (k i j : ℕ) : Type 0 where
   pub place : j < 20
   pub back : k < 40 → cellAt i j ≡ k
 
-pub placed : (k : ℕ) → Placed k (rowOf k) (placeOf k)
-unfolding rowOf placeOf cellAt
+pub placed : (k : ℕ) → Placed k (rowOfCell k) (placeInRow k)
+unfolding rowOfCell placeInRow cellAt
 placed k = split (ltb k 20)
     (λ p. rw p (record { row = omega arith; place = ltb-true k 20 p; back = λ h. refl }))
     (λ p. let x = ltb-false k 20 p in split (ltb k 30)
@@ -33,23 +33,23 @@ placed k = split (ltb k 20)
     rw (p, q, r) (record { row = omega arith; place = omega arith; back = λ h. absurd (omega arith) }))))
 
 -- what the grid holds there
-pub grid-at : (f : ℕ → ℕ) (k : ℕ) → k < 40 → getD (getD (grid f) (rowOf k) []) (placeOf k) 0 ≡ f k
+pub grid-at : (f : ℕ → ℕ) (k : ℕ) → k < 40 → getD (getD (grid f) (rowOfCell k) []) (placeInRow k) 0 ≡ f k
 unfolding grid
 grid-at f k h =
     let p = placed k in
-    ap (λ (l : List ℕ). getD l (placeOf k) 0) (getD-table _ 3 (rowOf k) [] (p .row))
-    ∙ getD-table _ 20 (placeOf k) 0 (p .place)
+    ap (λ (l : List ℕ). getD l (placeInRow k) 0) (getD-table _ 3 (rowOfCell k) [] (p .row))
+    ∙ getD-table _ 20 (placeInRow k) 0 (p .place)
     ∙ ap f (p .back h)
 
 -- ---- the bits of a text, place by place
 
 module _ (s : List ℕ) (n : ℕ) {b : ℕ} (p : b ≡ getD s (43 + 4 * (n / 3 % 2) + n % 3) 0) where
-  pub slot-lowered : n < 6 → eqb b 66 || eqb b 76 ≡ slotAt s n
-  unfolding slotAt
+  pub slot-lowered : n < 6 → eqb b 66 || eqb b 76 ≡ slotRead s n
+  unfolding slotRead
   slot-lowered l = rw (lt-ltb n 6 l) (ap (λ (x : ℕ). eqb x 66 || eqb x 76) p)
 
-  pub slot-tilted : 6 ≤ n → eqb b 66 || eqb b 84 ≡ slotAt s n
-  unfolding slotAt
+  pub slot-tilted : 6 ≤ n → eqb b 66 || eqb b 84 ≡ slotRead s n
+  unfolding slotRead
   slot-tilted l = rw (le-ltb n 6 l) (ap (λ (x : ℕ). eqb x 66 || eqb x 84) p)
 
 module _ (g : List (List ℕ)) (s : List ℕ) (lift : Lift) (k : ℕ) where
@@ -57,7 +57,7 @@ module _ (g : List (List ℕ)) (s : List ℕ) (lift : Lift) (k : ℕ) where
   unfolding bitsAt
   cell-bit l = rw (lt-ltb k 40 l)
 
-  pub slot-bit : 40 ≤ k → k < 52 → slotAt s (k - 40) ≡ bitsAt g s lift k
+  pub slot-bit : 40 ≤ k → k < 52 → slotRead s (k - 40) ≡ bitsAt g s lift k
   unfolding bitsAt
   slot-bit l h = rw (le-ltb k 40 l, lt-ltb k 52 h)
 

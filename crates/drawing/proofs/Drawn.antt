@@ -14,9 +14,9 @@ use Rattle.floor.specs.Sound.{sound}
 use Rattle.drawing.specs.declared.Lift.{Lift}
 use Rattle.drawing.specs.declared.Written.{Written}
 use Rattle.drawing.specs.declared.Found.{Found}
-use Rattle.drawing.specs.Drawing.{floorLine, shuttleLine, liftLine, drawn, Leaves, writing}
+use Rattle.drawing.specs.Drawing.{floorLine, shuttleLine, liftLine, drawn, LeavesDrawing, writingDrawing}
 use Rattle.drawing.specs.Reading.{firstBad, bitsIn, unread, reading}
-use Rattle.drawing.specs.Private.{table, cellAt, grid, markOf, markIn, upperAt, liftOf, wordsOf, drawnAt, liftTold, badAt, bitsAt}
+use Rattle.drawing.specs.Private.{table, cellAt, grid, cellMark, markIn, upperAt, liftOf, wordsOf, drawnAt, liftTold, badAt, bitsAt}
 use Rattle.drawing.proofs.Tables.{length-table, table-same, list-table}
 use Rattle.drawing.proofs.Cells.{upper-at, lift-at}
 use Rattle.drawing.proofs.Finding.{sought, image-there}
@@ -35,8 +35,8 @@ table-parts {A} f m (suc n) =
 abbrev upper : Bits → List ℕ
 upper f = floorLine 1 f ++ (floorLine 2 f ++ (floorLine 3 f ++ (shuttleLine left f ++ shuttleLine right f)))
 
-upper-is : (f : Bits) → table 51 (upperAt (grid (markOf f)) f) ≡ upper f
-unfolding table grid cellAt markOf upperAt floorLine shuttleLine
+upper-is : (f : Bits) → table 51 (upperAt (grid (cellMark f)) f) ≡ upper f
+unfolding table grid cellAt cellMark upperAt floorLine shuttleLine
 upper-is f = refl
 
 drawn-parts : (f : Bits) → drawn f ≡ upper f ++ liftLine f
@@ -47,9 +47,9 @@ lift-is : (f : Bits) → wordsOf (liftOf f) ≡ liftLine f
 unfolding liftOf liftLine
 lift-is f = refl
 
-pub drawn-is : (f : Bits) → table (51 + length (wordsOf (liftOf f))) (drawnAt (grid (markOf f)) f (liftOf f)) ≡ drawn f
+pub drawn-is : (f : Bits) → table (51 + length (wordsOf (liftOf f))) (drawnAt (grid (cellMark f)) f (liftOf f)) ≡ drawn f
 drawn-is f =
-    let g = grid (markOf f) in
+    let g = grid (cellMark f) in
     let l = liftOf f in
     let n = length (wordsOf l) in
     table-parts (drawnAt g f l) 51 n
@@ -61,33 +61,33 @@ drawn-is f =
     ∙ sym (drawn-parts f)
 
 pub drawn-length : (f : Bits) → length (drawn f) ≡ 51 + length (wordsOf (liftOf f))
-drawn-length f = ap length (sym (drawn-is f)) ∙ length-table (drawnAt (grid (markOf f)) f (liftOf f)) (51 + length (wordsOf (liftOf f)))
+drawn-length f = ap length (sym (drawn-is f)) ∙ length-table (drawnAt (grid (cellMark f)) f (liftOf f)) (51 + length (wordsOf (liftOf f)))
 
 -- ---- what writing says and leaves
 
 module _ (r : ℕ) (room : List ℕ) {b : Bool} (p : b ≡ sound r) where
-  pub not-sound : {w : Written} → not b ≡ true → w ≡ record { number = 15; size = 0 } → Leaves (writing r room) w room
-  unfolding writing
+  pub not-sound : {w : Written} → not b ≡ true → w ≡ record { number = 15; size = 0 } → LeavesDrawing (writingDrawing r room) w room
+  unfolding writingDrawing
   not-sound e q = rw (failed p e) (q, refl)
 
   module _ (e : not b ≡ false) {lift : Lift} (q : lift ≡ liftOf (bit r)) {n : ℕ} (m : n ≡ length (wordsOf lift)) where
     size-is : 51 + n ≡ length (drawn (bit r))
     size-is = ap (λ (x : ℕ). 51 + x) (m ∙ ap (λ (l : Lift). length (wordsOf l)) q) ∙ sym (drawn-length (bit r))
 
-    pub no-room : {w : Written} → length room < 51 + n → w ≡ record { number = 17; size = 0 } → Leaves (writing r room) w room
-    unfolding writing
+    pub no-room : {w : Written} → length room < 51 + n → w ≡ record { number = 17; size = 0 } → LeavesDrawing (writingDrawing r room) w room
+    unfolding writingDrawing
     no-room l x = rw (passed p e, lt-ltb (length room) (length (drawn (bit r))) (omega (arith, size-is))) (x, refl)
 
-    pub written : {t : List ℕ} → 51 + n ≤ length room → t ≡ table (51 + n) (drawnAt (grid (markOf (bit r))) (bit r) lift) ++ drop (51 + n) room
-        → Leaves (writing r room) (record { number = 0; size = 51 + n }) t
-    unfolding writing
+    pub written : {t : List ℕ} → 51 + n ≤ length room → t ≡ table (51 + n) (drawnAt (grid (cellMark (bit r))) (bit r) lift) ++ drop (51 + n) room
+        → LeavesDrawing (writingDrawing r room) (record { number = 0; size = 51 + n }) t
+    unfolding writingDrawing
     written {t} l x =
         rw (passed p e, le-ltb (length room) (length (drawn (bit r))) (omega (arith, size-is)))
         (ap (λ (k : ℕ). record { number = 0; size = k }) size-is, x ∙ ap₂ (λ (y z : List ℕ). y ++ z) bytes (ap (λ (k : ℕ). drop k room) size-is))
       where
-        bytes : table (51 + n) (drawnAt (grid (markOf (bit r))) (bit r) lift) ≡ drawn (bit r)
+        bytes : table (51 + n) (drawnAt (grid (cellMark (bit r))) (bit r) lift) ≡ drawn (bit r)
         bytes =
-            ap₂ (λ (k : ℕ) (l : Lift). table k (drawnAt (grid (markOf (bit r))) (bit r) l)) (ap (λ (x : ℕ). 51 + x) (m ∙ ap (λ (l : Lift). length (wordsOf l)) q)) q
+            ap₂ (λ (k : ℕ) (l : Lift). table k (drawnAt (grid (cellMark (bit r))) (bit r) l)) (ap (λ (x : ℕ). 51 + x) (m ∙ ap (λ (l : Lift). length (wordsOf l)) q)) q
             ∙ drawn-is (bit r)
 
 -- ---- what reading says

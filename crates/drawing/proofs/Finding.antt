@@ -13,8 +13,8 @@ use Rattle.bits.specs.Bits.{image}
 use Rattle.bits.proofs.Cases.{split}
 use Rattle.bits.proofs.Digits.{image-ext}
 use Rattle.bits.proofs.Least.{Passed, start, turn, here, past}
-use Rattle.drawing.specs.Reading.{firstLine, fromLine, lineAt, each, isMark, isLetter, isLine, badLine, firstBad, cellIn, letterIn, slotIn, liftIn, bitsIn}
-use Rattle.drawing.specs.Private.{grid, markIn, stands, liftTold, wordsOf, badAtEnd, badAt, slotAt, liftBit, bitsAt}
+use Rattle.drawing.specs.Reading.{firstLine, fromLine, lineAt, each, isMark, isLetter, isLine, badLine, firstBad, cellIn, letterIn, slotIn, liftDrawn, bitsIn}
+use Rattle.drawing.specs.Private.{grid, markIn, stands, liftTold, wordsOf, badAtEnd, badAt, slotRead, liftBit, bitsAt}
 use Rattle.drawing.proofs.Cells.{grid-at}
 use Rattle.drawing.proofs.FirstLines.{line-byte, stands-length, each-stands}
 use Rattle.drawing.proofs.LiftLines.{last-line, last-words, last-bits}
@@ -195,13 +195,13 @@ module _ (s : List ℕ) where
         (λ e. let nz = eqb-false (n / 3 % 2) 0 e in let z : n / 3 % 2 ≡ 1 = omega arith in
         rw z (sym (byte-there s 3 isLetter refl 4 47 is₄ (w .right) (n % 3) (omega arith))))
 
-    slot-there : (n : ℕ) → slotAt s n ≡ slotIn s n
-    unfolding slotAt slotIn
+    slot-there : (n : ℕ) → slotRead s n ≡ slotIn s n
+    unfolding slotRead slotIn
     slot-there n = ap (λ (b : ℕ). eqb b 66 || eqb b (cond (ltb n 6) 76 84)) (letter-there n)
 
-    lift-there : (k : ℕ) → liftBit (liftTold (drop 51 s)) k ≡ liftIn (lineAt 5 s) k
+    lift-there : (k : ℕ) → liftBit (liftTold (drop 51 s)) k ≡ liftDrawn (lineAt 5 s) k
     lift-there k =
-        sym (ap (λ (r : List ℕ). liftIn (firstLine r) k) (is₅ .begins) ∙ last-bits (drop 51 s) (last-line (drop 51 s) ∙ w .lift) k)
+        sym (ap (λ (r : List ℕ). liftDrawn (firstLine r) k) (is₅ .begins) ∙ last-bits (drop 51 s) (last-line (drop 51 s) ∙ w .lift) k)
 
     bit-there : (k : ℕ) → bitsAt (grid (markIn s)) s (liftTold (drop 51 s)) k ≡ bitsIn s k
     unfolding bitsAt bitsIn

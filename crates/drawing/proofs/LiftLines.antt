@@ -8,10 +8,10 @@ use native.Mathlib.Omega.{arith}
 use lib.Dec.{T, eqb, ltb}
 use borrow.Author.Tests.{ltb-true}
 use Rattle.bits.proofs.Cases.{split, both}
-use Rattle.lines.specs.Bytes.{ascii}
+use Rattle.codec.specs.Text.{ascii}
 use Rattle.drawing.specs.declared.Lift.{Lift}
-use Rattle.drawing.specs.Drawing.{ended, heightName, carWord, driveWord, liftWords}
-use Rattle.drawing.specs.Reading.{firstLine, same, begins, after, heightTold, carTold, driveTold, isLine, liftIn}
+use Rattle.drawing.specs.Drawing.{endedLine, heightName, carWord, driveWord, liftWords}
+use Rattle.drawing.specs.Reading.{firstLine, same, begins, textAfter, heightTold, carTold, driveTold, isLine, liftDrawn}
 use Rattle.drawing.specs.Private.{driveBegun, liftTold, wordsOf, liftBit}
 use Rattle.drawing.proofs.Words.{words-parts, lift-alike}
 use Rattle.drawing.proofs.Begun.{same-eq, begins-eq}
@@ -57,12 +57,12 @@ car-begins : (x : List ℕ) → begins (carWord (begins (carWord true) x)) x ≡
 unfolding same
 car-begins x = split (begins (carWord true) x) (λ e. rw e e) (λ e. rw e refl)
 
-drive-ends : (l : List ℕ) → driveTold l < 3 → after (carWord (carTold l)) (after (heightName (heightTold l)) l) ≡ ended (driveWord (driveTold l))
+drive-ends : (l : List ℕ) → driveTold l < 3 → textAfter (carWord (carTold l)) (textAfter (heightName (heightTold l)) l) ≡ endedLine (driveWord (driveTold l))
 unfolding driveTold
 drive-ends l =
-    let y = after (carWord (carTold l)) (after (heightName (heightTold l)) l) in
-    of-three (λ d. y ≡ ended (driveWord d)) (same y (ended (driveWord 0))) (same y (ended (driveWord 1))) (same y (ended (driveWord 2)))
-    (same-eq y (ended (driveWord 0))) (same-eq y (ended (driveWord 1))) (same-eq y (ended (driveWord 2)))
+    let y = textAfter (carWord (carTold l)) (textAfter (heightName (heightTold l)) l) in
+    of-three (λ d. y ≡ endedLine (driveWord d)) (same y (endedLine (driveWord 0))) (same y (endedLine (driveWord 1))) (same y (endedLine (driveWord 2)))
+    (same-eq y (endedLine (driveWord 0))) (same-eq y (endedLine (driveWord 1))) (same-eq y (endedLine (driveWord 2)))
 
 pub told-both : (l : List ℕ) → isLine 5 l ≡ true → (heightTold l < 3) × (driveTold l < 3)
 unfolding isLine
@@ -75,7 +75,7 @@ unfolding carTold
 words-told l e =
     let (p, q) = told-both l e in
     let name = heightName (heightTold l) in
-    let x = after name l in
+    let x = textAfter name l in
     begins-eq name l (height-begins l p)
     ∙ ap (λ (y : List ℕ). name ++ y) (begins-eq (carWord (carTold l)) x (car-begins x) ∙ ap (λ (y : List ℕ). carWord (carTold l) ++ y) (drive-ends l q))
     ∙ sym (words-parts (heightTold l) (carTold l) (driveTold l))
@@ -89,26 +89,26 @@ module _ (r : List ℕ) where
       three-alike (begins-line (heightName 0) (name-word 0) r) (begins-line (heightName 1) (name-word 1) r) (begins-line (heightName 2) (name-word 2) r)
 
   module _ (h : heightTold r < 3) where
-    after-name : after (heightName (heightTold (firstLine r))) (firstLine r) ≡ firstLine (after (heightName (heightTold r)) r)
+    after-name : textAfter (heightName (heightTold (firstLine r))) (firstLine r) ≡ firstLine (textAfter (heightName (heightTold r)) r)
     after-name =
-        ap (λ (n : ℕ). after (heightName n) (firstLine r)) height-line
+        ap (λ (n : ℕ). textAfter (heightName n) (firstLine r)) height-line
         ∙ after-line (heightName (heightTold r)) (name-word (heightTold r)) r (height-begins r h)
 
     car-line : carTold (firstLine r) ≡ carTold r
     unfolding carTold
-    car-line = ap (begins (carWord true)) after-name ∙ begins-line (carWord true) (car-word true) (after (heightName (heightTold r)) r)
+    car-line = ap (begins (carWord true)) after-name ∙ begins-line (carWord true) (car-word true) (textAfter (heightName (heightTold r)) r)
 
     drive-line : driveTold (firstLine r) ≡ liftTold r .drive
     unfolding driveTold liftTold driveBegun carTold
     drive-line =
-        let x = after (heightName (heightTold r)) r in
-        let y = after (carWord (carTold r)) x in
-        let rest : after (carWord (carTold (firstLine r))) (after (heightName (heightTold (firstLine r))) (firstLine r)) ≡ firstLine y =
-        ap₂ (λ (c : Bool) (z : List ℕ). after (carWord c) z) car-line after-name ∙ after-line (carWord (carTold r)) (car-word (carTold r)) x (car-begins x) in
+        let x = textAfter (heightName (heightTold r)) r in
+        let y = textAfter (carWord (carTold r)) x in
+        let rest : textAfter (carWord (carTold (firstLine r))) (textAfter (heightName (heightTold (firstLine r))) (firstLine r)) ≡ firstLine y =
+        ap₂ (λ (c : Bool) (z : List ℕ). textAfter (carWord c) z) car-line after-name ∙ after-line (carWord (carTold r)) (car-word (carTold r)) x (car-begins x) in
         three-alike
-        (ap (λ (z : List ℕ). same z (ended (driveWord 0))) rest ∙ same-line (driveWord 0) (drive-word 0) y)
-        (ap (λ (z : List ℕ). same z (ended (driveWord 1))) rest ∙ same-line (driveWord 1) (drive-word 1) y)
-        (ap (λ (z : List ℕ). same z (ended (driveWord 2))) rest ∙ same-line (driveWord 2) (drive-word 2) y)
+        (ap (λ (z : List ℕ). same z (endedLine (driveWord 0))) rest ∙ same-line (driveWord 0) (drive-word 0) y)
+        (ap (λ (z : List ℕ). same z (endedLine (driveWord 1))) rest ∙ same-line (driveWord 1) (drive-word 1) y)
+        (ap (λ (z : List ℕ). same z (endedLine (driveWord 2))) rest ∙ same-line (driveWord 2) (drive-word 2) y)
 
     told-line : liftTold r ≡ record { height = heightTold (firstLine r); car = carTold (firstLine r); drive = driveTold (firstLine r) }
     unfolding liftTold
@@ -128,6 +128,6 @@ module _ (r : List ℕ) where
     pub last-words : firstLine r ≡ wordsOf (liftTold r)
     last-words = words-told (firstLine r) e ∙ ap wordsOf (sym (told-line height-told))
 
-    pub last-bits : (k : ℕ) → liftIn (firstLine r) k ≡ liftBit (liftTold r) k
-    unfolding liftIn liftBit
+    pub last-bits : (k : ℕ) → liftDrawn (firstLine r) k ≡ liftBit (liftTold r) k
+    unfolding liftDrawn liftBit
     last-bits k = ap (λ (x : Lift). liftBit x k) (sym (told-line height-told))

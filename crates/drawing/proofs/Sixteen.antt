@@ -14,7 +14,7 @@ use Rattle.bits.proofs.Search.{every-at, every-is}
 use Rattle.bits.proofs.Least.{Passed, every-not}
 use Rattle.drawing.specs.declared.Gathered.{Gathered}
 use Rattle.drawing.specs.declared.Hex.the-variants.{Image, NotHex}
-use Rattle.drawing.specs.Hex.{digitOf, isBlank, unblanked, numberIn, hexIn, hexLine}
+use Rattle.drawing.specs.Hex.{digitOf, isBlank, unblanked, hexNumber, hexIn, hexLine}
 use Rattle.drawing.specs.Private.{table, hexAt, Gathers, areDigits}
 
 -- ---- the value of a digit, by its range
@@ -134,8 +134,8 @@ digit-small d e j h = ltb-true (digitOf (getD d j 0)) 16 (every-at 16 (λ j. ltb
 -- ---- their number
 
 -- n bytes from k on, each below 256
-number-lt : (d : List ℕ) → areDigits d ≡ true → (n k : ℕ) → n + k ≤ 8 → numberIn n k d < 256 ^ n
-unfolding numberIn
+number-lt : (d : List ℕ) → areDigits d ≡ true → (n k : ℕ) → n + k ≤ 8 → hexNumber n k d < 256 ^ n
+unfolding hexNumber
 number-lt d e zero k h = omega arith
 number-lt d e (suc n) k h =
     omega (arith, pow-suc 256 n, number-lt d e n (suc k) (omega arith), digit-small d e (2 * k) (omega arith), digit-small d e (2 * k + 1) (omega arith))
@@ -144,29 +144,29 @@ number-lt d e (suc n) k h =
 pub record Numbering (d : List ℕ) (k number : ℕ) : Type 0 where
   pub low : k ≤ 8
   pub fits : number < 2 ^ 64
-  pub held : number ≡ numberIn (8 - k) k d
+  pub held : number ≡ hexNumber (8 - k) k d
 
 module _ (d : List ℕ) where
   pub numbering-starts : Numbering d 8 0
-  unfolding numberIn
+  unfolding hexNumber
   numbering-starts = record { low = omega arith; fits = omega arith; held = refl }
 
   pub numbers : {k number high low : ℕ} → areDigits d ≡ true → Numbering d k number → 0 < k → high ≡ digitOf (getD d (2 * (k - 1)) 0)
       → low ≡ digitOf (getD d (2 * (k - 1) + 1) 0) → Numbering d (k - 1) (number * 256 + 16 * high + low)
-  unfolding numberIn
+  unfolding hexNumber
   numbers {k} {number} {high} {low} e v p q r =
       let l = v .low in
       let n : 8 - (k - 1) ≡ suc (8 - k) = omega arith in
       let m : suc (k - 1) ≡ k = omega arith in
-      let step : numberIn (8 - (k - 1)) (k - 1) d ≡ digitOf (getD d (2 * (k - 1)) 0) * 16 + digitOf (getD d (2 * (k - 1) + 1) 0) + 256 * numberIn (8 - k) k d =
-      ap (λ (x : ℕ). numberIn x (k - 1) d) n
-      ∙ ap (λ (x : ℕ). digitOf (getD d (2 * (k - 1)) 0) * 16 + digitOf (getD d (2 * (k - 1) + 1) 0) + 256 * numberIn (8 - k) x d) m in
-      let is : number * 256 + 16 * high + low ≡ numberIn (8 - (k - 1)) (k - 1) d = omega (arith, v .held) in
+      let step : hexNumber (8 - (k - 1)) (k - 1) d ≡ digitOf (getD d (2 * (k - 1)) 0) * 16 + digitOf (getD d (2 * (k - 1) + 1) 0) + 256 * hexNumber (8 - k) k d =
+      ap (λ (x : ℕ). hexNumber x (k - 1) d) n
+      ∙ ap (λ (x : ℕ). digitOf (getD d (2 * (k - 1)) 0) * 16 + digitOf (getD d (2 * (k - 1) + 1) 0) + 256 * hexNumber (8 - k) x d) m in
+      let is : number * 256 + 16 * high + low ≡ hexNumber (8 - (k - 1)) (k - 1) d = omega (arith, v .held) in
       let bound : 256 ^ (8 - (k - 1)) ≤ 256 ^ 8 = pow-le-pow-right {n = 256} (omega arith) {i = 8 - (k - 1)} {j = 8} (omega arith) in
       record { low = omega arith; fits = omega (arith, number-lt d e (8 - (k - 1)) (k - 1) (omega arith)); held = is }
 
-  pub numbering-ends : {k number : ℕ} → Numbering d k number → k ≤ 0 → number ≡ numberIn 8 0 d
-  numbering-ends {k} v h = let z : k ≡ 0 = omega arith in v .held ∙ ap (λ (x : ℕ). numberIn (8 - x) x d) z
+  pub numbering-ends : {k number : ℕ} → Numbering d k number → k ≤ 0 → number ≡ hexNumber 8 0 d
+  numbering-ends {k} v h = let z : k ≡ 0 = omega arith in v .held ∙ ap (λ (x : ℕ). hexNumber (8 - x) x d) z
 
 -- ---- what a text in hex says
 
@@ -186,9 +186,9 @@ module _ (s : List ℕ) {r : Gathered} (g : Gathers s r) where
     unfolding hexIn
     not-digits y = rw (eq-eqb (length (unblanked s)) 16 sixteen, sym asked ∙ y)
 
-    pub all-said : {x : ℕ} → t ≡ true → x ≡ numberIn 8 0 (r .bytes) → Image x ≡ hexIn s
+    pub all-said : {x : ℕ} → t ≡ true → x ≡ hexNumber 8 0 (r .bytes) → Image x ≡ hexIn s
     unfolding hexIn
-    all-said {x} y q = rw (eq-eqb (length (unblanked s)) 16 sixteen, sym asked ∙ y) (ap Image (q ∙ ap (numberIn 8 0) (g .held e)))
+    all-said {x} y q = rw (eq-eqb (length (unblanked s)) 16 sixteen, sym asked ∙ y) (ap Image (q ∙ ap (hexNumber 8 0) (g .held e)))
 
 -- ---- an image's line
 

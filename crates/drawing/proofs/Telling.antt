@@ -6,8 +6,8 @@ use Prim.Native.Nat.{ℕ, _+_}
 use lib.ListN.{length, drop}
 use lib.Seq.{drop-drop}
 use Rattle.drawing.specs.declared.Lift.{Lift}
-use Rattle.drawing.specs.Drawing.{ended, heightName, carWord, driveWord}
-use Rattle.drawing.specs.Reading.{begins, after, heightTold, carTold}
+use Rattle.drawing.specs.Drawing.{endedLine, heightName, carWord, driveWord}
+use Rattle.drawing.specs.Reading.{begins, textAfter, heightTold, carTold}
 use Rattle.drawing.specs.Private.{driveBegun, liftTold}
 use Rattle.drawing.proofs.Words.{lift-alike}
 
@@ -51,17 +51,17 @@ module _ (s : List ℕ) {a : Bool} (p : a ≡ begins (heightName 0) s) where
       is-no-height = none _ _ _ p x q y r
 
 -- the drive
-module _ (s : List ℕ) {a : Bool} (p : a ≡ begins (ended (driveWord 0)) s) where
+module _ (s : List ℕ) {a : Bool} (p : a ≡ begins (endedLine (driveWord 0)) s) where
   pub is-ended : a ≡ true → 0 ≡ driveBegun s
   unfolding driveBegun
-  is-ended = first _ (begins (ended (driveWord 1)) s) (begins (ended (driveWord 2)) s) p
+  is-ended = first _ (begins (endedLine (driveWord 1)) s) (begins (endedLine (driveWord 2)) s) p
 
-  module _ (x : a ≡ false) {b : Bool} (q : b ≡ begins (ended (driveWord 1)) s) where
+  module _ (x : a ≡ false) {b : Bool} (q : b ≡ begins (endedLine (driveWord 1)) s) where
     pub is-in : b ≡ true → 1 ≡ driveBegun s
     unfolding driveBegun
-    is-in = second _ _ (begins (ended (driveWord 2)) s) p x q
+    is-in = second _ _ (begins (endedLine (driveWord 2)) s) p x q
 
-    module _ (y : b ≡ false) {d : Bool} (r : d ≡ begins (ended (driveWord 2)) s) where
+    module _ (y : b ≡ false) {d : Bool} (r : d ≡ begins (endedLine (driveWord 2)) s) where
       pub is-out : d ≡ true → 2 ≡ driveBegun s
       unfolding driveBegun
       is-out = third _ _ _ p x q y r
@@ -71,7 +71,7 @@ module _ (s : List ℕ) {a : Bool} (p : a ≡ begins (ended (driveWord 0)) s) wh
       is-no-drive = none _ _ _ p x q y r
 
 -- the text from the place after a word on
-pub after-word : (s : List ℕ) (at n : ℕ) (word : List ℕ) → n ≡ length word → drop (at + n) s ≡ after word (drop at s)
+pub after-word : (s : List ℕ) (at n : ℕ) (word : List ℕ) → n ≡ length word → drop (at + n) s ≡ textAfter word (drop at s)
 after-word s at n word e = ap (λ (m : ℕ). drop (at + m) s) e ∙ sym (drop-drop (length word) at s)
 
 -- all of it, from the parts that the code finds one after the other
@@ -85,4 +85,4 @@ lift-told s at {h} {n} {d} {m} {car} p q r t u =
     let w : car ≡ carTold l = r ∙ ap (begins (carWord true)) (after-word s at n (heightName (heightTold l)) name) in
     let told : m ≡ length (carWord (carTold l)) = t ∙ ap (λ (b : Bool). length (carWord b)) w in
     lift-alike p w (u ∙ ap driveBegun
-    (after-word s (at + n) m (carWord (carTold l)) told ∙ ap (after (carWord (carTold l))) (after-word s at n (heightName (heightTold l)) name)))
+    (after-word s (at + n) m (carWord (carTold l)) told ∙ ap (textAfter (carWord (carTold l))) (after-word s at n (heightName (heightTold l)) name)))

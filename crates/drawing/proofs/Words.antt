@@ -9,9 +9,9 @@ use lib.ListN.{length, getD, length-append, List·getD-append}
 use lib.Seq.{getD-append-add}
 use borrow.Author.Tests.{ne-eqb}
 use Rattle.bits.proofs.Cases.{split}
-use Rattle.lines.specs.Bytes.{ascii}
+use Rattle.codec.specs.Text.{ascii}
 use Rattle.drawing.specs.declared.Lift.{Lift}
-use Rattle.drawing.specs.Drawing.{ended, heightName, carWord, driveWord, liftWords}
+use Rattle.drawing.specs.Drawing.{endedLine, heightName, carWord, driveWord, liftWords}
 
 -- ---- lengths
 
@@ -32,48 +32,48 @@ unfolding ascii
 car-short true = omega arith
 car-short false = omega arith
 
-pub end-none : (d : ℕ) → (d ≡ 1 → ⊥) → (d ≡ 2 → ⊥) → ended (driveWord d) ≡ 10 ∷ []
+pub end-none : (d : ℕ) → (d ≡ 1 → ⊥) → (d ≡ 2 → ⊥) → endedLine (driveWord d) ≡ 10 ∷ []
 end-none d n m = rw (ne-eqb d 1 n, ne-eqb d 2 m) refl
 
-pub end-short : (d : ℕ) → length (ended (driveWord d)) ≤ 5
+pub end-short : (d : ℕ) → length (endedLine (driveWord d)) ≤ 5
 unfolding ascii
 end-short d = split (eqb d 1) (λ e. rw e (omega arith)) (λ e. rw e (split (eqb d 2) (λ f. rw f (omega arith)) (λ f. rw f (omega arith))))
 
 module _ (h : ℕ) (car : Bool) (d : ℕ) where
   -- the line's parts
-  pub words-parts : liftWords h car d ≡ heightName h ++ (carWord car ++ ended (driveWord d))
+  pub words-parts : liftWords h car d ≡ heightName h ++ (carWord car ++ endedLine (driveWord d))
   words-parts = append-assoc (heightName h) (carWord car ++ driveWord d) (10 ∷ []) ∙ ap (λ (l : List ℕ). heightName h ++ l) (append-assoc (carWord car) (driveWord d) (10 ∷ []))
 
-  pub words-size : length (liftWords h car d) ≡ length (heightName h) + length (carWord car) + length (ended (driveWord d))
+  pub words-size : length (liftWords h car d) ≡ length (heightName h) + length (carWord car) + length (endedLine (driveWord d))
   words-size =
-      ap length words-parts ∙ length-append (heightName h) (carWord car ++ ended (driveWord d))
-      ∙ omega (arith, length-append (carWord car) (ended (driveWord d)))
+      ap length words-parts ∙ length-append (heightName h) (carWord car ++ endedLine (driveWord d))
+      ∙ omega (arith, length-append (carWord car) (endedLine (driveWord d)))
 
   pub words-short : length (liftWords h car d) ≤ 17
   words-short = omega (arith, words-size, name-short h, car-short car, end-short d)
 
   module _ (n : ℕ) (e : n ≡ length (heightName h)) (i : ℕ) where
     pub in-name : i < n → getD (heightName h) i 0 ≡ getD (liftWords h car d) i 0
-    in-name l = sym (ap (λ (s : List ℕ). getD s i 0) words-parts ∙ List·getD-append (heightName h) (carWord car ++ ended (driveWord d)) 0 i (omega arith))
+    in-name l = sym (ap (λ (s : List ℕ). getD s i 0) words-parts ∙ List·getD-append (heightName h) (carWord car ++ endedLine (driveWord d)) 0 i (omega arith))
 
-    past-name : n ≤ i → getD (carWord car ++ ended (driveWord d)) (i - n) 0 ≡ getD (liftWords h car d) i 0
+    past-name : n ≤ i → getD (carWord car ++ endedLine (driveWord d)) (i - n) 0 ≡ getD (liftWords h car d) i 0
     past-name l =
         let k : i ≡ length (heightName h) + (i - n) = omega arith in
-        sym (ap (λ (s : List ℕ). getD s i 0) words-parts ∙ ap (λ (j : ℕ). getD (heightName h ++ (carWord car ++ ended (driveWord d))) j 0) k
-        ∙ getD-append-add (heightName h) (carWord car ++ ended (driveWord d)) (i - n) 0)
+        sym (ap (λ (s : List ℕ). getD s i 0) words-parts ∙ ap (λ (j : ℕ). getD (heightName h ++ (carWord car ++ endedLine (driveWord d))) j 0) k
+        ∙ getD-append-add (heightName h) (carWord car ++ endedLine (driveWord d)) (i - n) 0)
 
     module _ (m : ℕ) (q : m ≡ length (carWord car)) where
       pub in-car : n ≤ i → i < n + m → getD (ascii " car") (i - n) 0 ≡ getD (liftWords h car d) i 0
-      in-car l k = go car q refl ∙ sym (List·getD-append (carWord car) (ended (driveWord d)) 0 (i - n) (omega arith)) ∙ past-name l
+      in-car l k = go car q refl ∙ sym (List·getD-append (carWord car) (endedLine (driveWord d)) 0 (i - n) (omega arith)) ∙ past-name l
         where
           go : (b : Bool) → m ≡ length (carWord b) → car ≡ b → getD (ascii " car") (i - n) 0 ≡ getD (carWord car) (i - n) 0
           go true r s = rw s refl
           go false r s = absurd (omega arith)
 
-      pub in-end : n + m ≤ i → getD (ended (driveWord d)) (i - (n + m)) 0 ≡ getD (liftWords h car d) i 0
+      pub in-end : n + m ≤ i → getD (endedLine (driveWord d)) (i - (n + m)) 0 ≡ getD (liftWords h car d) i 0
       in-end l =
           let k : i - n ≡ length (carWord car) + (i - (n + m)) = omega arith in
-          sym (ap (λ (j : ℕ). getD (carWord car ++ ended (driveWord d)) j 0) k ∙ getD-append-add (carWord car) (ended (driveWord d)) (i - (n + m)) 0)
+          sym (ap (λ (j : ℕ). getD (carWord car ++ endedLine (driveWord d)) j 0) k ∙ getD-append-add (carWord car) (endedLine (driveWord d)) (i - (n + m)) 0)
           ∙ past-name (omega arith)
 
 -- what is told of the lift, part by part

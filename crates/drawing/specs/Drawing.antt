@@ -9,7 +9,7 @@ use Rattle.bits.specs.Bits.{Bits, bit, digit}
 use Rattle.bits.specs.Places.{from, join}
 use Rattle.floor.specs.Floor.{rowCells, left, right, lowered, tilted, slot, raisedCar, heightLow, heightHigh, street, rotation, driveIn, driveOut}
 use Rattle.floor.specs.Sound.{sound}
-use Rattle.lines.specs.Bytes.{ascii}
+use Rattle.codec.specs.Text.{ascii}
 use Rattle.drawing.specs.declared.Written.{Written}
 
 -- ---- the lines
@@ -30,16 +30,16 @@ letter false false = 45
 abbrev pub lineFeed : ℕ
 lineFeed = 10
 
-abbrev pub ended : List ℕ → List ℕ
-ended s = s ++ (lineFeed ∷ [])
+abbrev pub endedLine : List ℕ → List ℕ
+endedLine s = s ++ (lineFeed ∷ [])
 
 -- a row's line: the marks of its cells
 unfoldable pub floorLine : ℕ → Bits → List ℕ
-floorLine row f = ended (map (λ k. mark (f k)) (rowCells row))
+floorLine row f = endedLine (map (λ k. mark (f k)) (rowCells row))
 
 -- a side's line: the letter of each row
 unfoldable pub shuttleLine : ℕ → Bits → List ℕ
-shuttleLine side f = ended (map (λ row. letter (f (slot side lowered row)) (f (slot side tilted row))) (from 1 3))
+shuttleLine side f = endedLine (map (λ row. letter (f (slot side lowered row)) (f (slot side tilted row))) (from 1 3))
 
 -- the name of a height
 abbrev pub heightName : ℕ → List ℕ
@@ -53,47 +53,47 @@ abbrev pub driveWord : ℕ → List ℕ
 driveWord drive = cond (eqb drive 1) (ascii " in") (cond (eqb drive 2) (ascii " out") [])
 
 -- the lift's height on a record, and the drive that is under way
-abbrev pub heightOf : Bits → ℕ
-heightOf f = digit (f heightLow) + 2 * digit (f heightHigh)
+abbrev pub drawnHeight : Bits → ℕ
+drawnHeight f = digit (f heightLow) + 2 * digit (f heightHigh)
 
 abbrev pub driveOf : Bits → ℕ
 driveOf f = cond (f driveIn) 1 (cond (f driveOut) 2 0)
 
 -- the lift's line: its height, then whether there is a car, then the drive
 abbrev pub liftWords : ℕ → Bool → ℕ → List ℕ
-liftWords h car drive = ended (heightName h ++ (carWord car ++ driveWord drive))
+liftWords h car drive = endedLine (heightName h ++ (carWord car ++ driveWord drive))
 
 unfoldable pub liftLine : Bits → List ℕ
-liftLine f = liftWords (heightOf f) (f raisedCar) (driveOf f)
+liftLine f = liftWords (drawnHeight f) (f raisedCar) (driveOf f)
 
 -- ---- the drawing
 
 -- its six lines: three of the floor, the shuttles of the left and of the right, the lift
-abbrev pub linesOf : Bits → List (List ℕ)
-linesOf f = floorLine 1 f ∷ floorLine 2 f ∷ floorLine 3 f ∷ shuttleLine left f ∷ shuttleLine right f ∷ liftLine f ∷ []
+abbrev pub drawingLines : Bits → List (List ℕ)
+drawingLines f = floorLine 1 f ∷ floorLine 2 f ∷ floorLine 3 f ∷ shuttleLine left f ∷ shuttleLine right f ∷ liftLine f ∷ []
 
 -- one after the other
 unfoldable pub drawn : Bits → List ℕ
-drawn f = join (linesOf f)
+drawn f = join (drawingLines f)
 
 -- ---- a record written as its drawing
 
 -- what a call that writes says, and what it leaves in the room
-pub record Writing : Type 0 where
+pub record DrawingWriting : Type 0 where
   pub says : Written
   pub leaves : List ℕ
 
 -- what it says is said, and what it leaves is left
-abbrev pub Leaves : Writing → Written → List ℕ → Type 0
-Leaves w r room = (r ≡ w .says) × (room ≡ w .leaves)
+abbrev pub LeavesDrawing : DrawingWriting → Written → List ℕ → Type 0
+LeavesDrawing w r room = (r ≡ w .says) × (room ≡ w .leaves)
 
 -- refused, and nothing written
-abbrev pub unwritten : ℕ → List ℕ → Writing
+abbrev pub unwritten : ℕ → List ℕ → DrawingWriting
 unwritten number room = record { says = record { number = number; size = 0 }; leaves = room }
 
 -- 15 for a record that isn't sound; then 17 exactly if the room is shorter than the text; bytes past the text keep their values
-unfoldable pub writing : ℕ → List ℕ → Writing
-writing r room =
+unfoldable pub writingDrawing : ℕ → List ℕ → DrawingWriting
+writingDrawing r room =
     let text = drawn (bit r) in
     cond (sound r)
     (cond (ltb (length room) (length text)) (unwritten 17 room)

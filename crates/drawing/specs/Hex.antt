@@ -26,15 +26,15 @@ unblanked [] = []
 unblanked (b ∷ s) = let r = unblanked s in cond (isBlank b) r (b ∷ r)
 
 -- digits 2k and 2k + 1 are byte k, and the bytes from k on, n of them, a number, the lowest first
-unfoldable pub numberIn : ℕ → ℕ → List ℕ → ℕ
-numberIn zero k s = 0
-numberIn (suc n) k s = digitOf (getD s (2 * k) 0) * 16 + digitOf (getD s (2 * k + 1) 0) + 256 * numberIn n (suc k) s
+unfoldable pub hexNumber : ℕ → ℕ → List ℕ → ℕ
+hexNumber zero k s = 0
+hexNumber (suc n) k s = digitOf (getD s (2 * k) 0) * 16 + digitOf (getD s (2 * k + 1) 0) + 256 * hexNumber n (suc k) s
 
 -- the image that a text says: sixteen digits, with blanks anywhere
 unfoldable pub hexIn : List ℕ → Hex
 hexIn s =
     let d = unblanked s in
-    cond (eqb (length d) 16 && every 16 (λ j. ltb (digitOf (getD d j 0)) 16)) (Image (numberIn 8 0 d)) NotHex
+    cond (eqb (length d) 16 && every 16 (λ j. ltb (digitOf (getD d j 0)) 16)) (Image (hexNumber 8 0 d)) NotHex
 
 -- the digit of a value, in large letters
 abbrev pub hexDigit : ℕ → ℕ

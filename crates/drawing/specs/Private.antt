@@ -11,8 +11,8 @@ use Rattle.bits.specs.Search.{every}
 use Rattle.floor.specs.Floor.{raisedCar, heightLow, heightHigh, driveIn, driveOut}
 use Rattle.drawing.specs.declared.Lift.{Lift}
 use Rattle.drawing.specs.declared.Gathered.{Gathered}
-use Rattle.drawing.specs.Drawing.{mark, letter, lineFeed, ended, heightName, carWord, driveWord, heightOf, driveOf, liftWords}
-use Rattle.drawing.specs.Reading.{begins, after, heightTold, carTold, isMark, isLetter}
+use Rattle.drawing.specs.Drawing.{mark, letter, lineFeed, endedLine, heightName, carWord, driveWord, drawnHeight, driveOf, liftWords}
+use Rattle.drawing.specs.Reading.{begins, textAfter, heightTold, carTold, isMark, isLetter}
 use Rattle.drawing.specs.Hex.{digitOf, unblanked, hexDigit}
 
 -- the list f 0, f 1, .. of n elements
@@ -31,22 +31,22 @@ unfoldable pub grid : (ℕ → ℕ) → List (List ℕ)
 grid f = table 3 (λ i. table 20 (λ j. f (cellAt i j)))
 
 -- the mark of cell k on a record, and in a text; 0 where there is no cell
-unfoldable pub markOf : Bits → ℕ → ℕ
-markOf f k = cond (ltb k 40) (mark (f k)) 0
+unfoldable pub cellMark : Bits → ℕ → ℕ
+cellMark f k = cond (ltb k 40) (mark (f k)) 0
 
 unfoldable pub markIn : List ℕ → ℕ → ℕ
 markIn s k = cond (ltb k 20) (getD s k 0) (cond (ltb k 30) (getD s (k + 1) 0) (cond (ltb k 40) (getD s (k + 2) 0) 0))
 
 -- the row of cell k, and its place there
-unfoldable pub rowOf : ℕ → ℕ
-rowOf k = cond (ltb k 20) 0 (cond (ltb k 30) 1 2)
+unfoldable pub rowOfCell : ℕ → ℕ
+rowOfCell k = cond (ltb k 20) 0 (cond (ltb k 30) 1 2)
 
-unfoldable pub placeOf : ℕ → ℕ
-placeOf k = cond (ltb k 20) k (cond (ltb k 30) (k - 20) (cond (ltb k 40) (k - 30) 0))
+unfoldable pub placeInRow : ℕ → ℕ
+placeInRow k = cond (ltb k 20) k (cond (ltb k 30) (k - 20) (cond (ltb k 40) (k - 30) 0))
 
 -- cell k of a grid is marked as occupied
 abbrev pub occupied : List (List ℕ) → Bits
-occupied g k = eqb (getD (getD g (rowOf k) []) (placeOf k) 0) (mark true)
+occupied g k = eqb (getD (getD g (rowOfCell k) []) (placeInRow k) 0) (mark true)
 
 -- ---- a drawing byte by byte
 
@@ -66,7 +66,7 @@ upperAt g f t =
 
 -- what a record shows of the lift, and its line
 unfoldable pub liftOf : Bits → Lift
-liftOf f = record { height = heightOf f; car = f raisedCar; drive = driveOf f }
+liftOf f = record { height = drawnHeight f; car = f raisedCar; drive = driveOf f }
 
 abbrev pub wordsOf : Lift → List ℕ
 wordsOf lift = liftWords (lift .height) (lift .car) (lift .drive)
@@ -83,7 +83,7 @@ stands n good s = every n (λ j. good (getD s j 0)) && eqb (getD s n 0) lineFeed
 
 -- the drive with which a text goes on and ends its line, 3 where there is none
 unfoldable pub driveBegun : List ℕ → ℕ
-driveBegun s = cond (begins (ended (driveWord 0)) s) 0 (cond (begins (ended (driveWord 1)) s) 1 (cond (begins (ended (driveWord 2)) s) 2 3))
+driveBegun s = cond (begins (endedLine (driveWord 0)) s) 0 (cond (begins (endedLine (driveWord 1)) s) 1 (cond (begins (endedLine (driveWord 2)) s) 2 3))
 
 -- what a text that begins with a lift line tells of the lift
 unfoldable pub liftTold : List ℕ → Lift
@@ -91,7 +91,7 @@ liftTold s =
     record {
       height = heightTold s;
       car = carTold s;
-      drive = driveBegun (after (carWord (carTold s)) (after (heightName (heightTold s)) s));
+      drive = driveBegun (textAfter (carWord (carTold s)) (textAfter (heightName (heightTold s)) s));
     }
 
 -- the first bad line, where the last tells this of the lift: of the last two, and of all
@@ -109,8 +109,8 @@ badAt s lift =
     4) 3) 2) 1) 0
 
 -- slot n of twelve
-unfoldable pub slotAt : List ℕ → Bits
-slotAt s n =
+unfoldable pub slotRead : List ℕ → Bits
+slotRead s n =
     let b = getD s (43 + 4 * (n / 3 % 2) + n % 3) 0 in
     eqb b (letter true true) || eqb b (cond (ltb n 6) (letter true false) (letter false true))
 
@@ -126,7 +126,7 @@ liftBit lift k =
 
 -- the bits of a grid, a text and its lift
 unfoldable pub bitsAt : List (List ℕ) → List ℕ → Lift → Bits
-bitsAt g s lift k = cond (ltb k 40) (occupied g k) (cond (ltb k 52) (slotAt s (k - 40)) (liftBit lift k))
+bitsAt g s lift k = cond (ltb k 40) (occupied g k) (cond (ltb k 52) (slotRead s (k - 40)) (liftBit lift k))
 
 -- ---- images in hex
 

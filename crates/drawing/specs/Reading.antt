@@ -10,7 +10,7 @@ use Rattle.floor.specs.Floor as floor
 use Rattle.floor.specs.Floor.{raisedCar, heightLow, heightHigh}
 use Rattle.floor.specs.Sound.{sound}
 use Rattle.drawing.specs.declared.Found.{Found}
-use Rattle.drawing.specs.Drawing.{mark, letter, lineFeed, ended, heightName, carWord, driveWord}
+use Rattle.drawing.specs.Drawing.{mark, letter, lineFeed, endedLine, heightName, carWord, driveWord}
 
 -- ---- lines
 
@@ -55,8 +55,8 @@ abbrev pub begins : List ℕ → List ℕ → Bool
 begins word s = same (take (length word) s) word
 
 -- what stands after a word that a text begins with
-abbrev pub after : List ℕ → List ℕ → List ℕ
-after word s = drop (length word) s
+abbrev pub textAfter : List ℕ → List ℕ → List ℕ
+textAfter word s = drop (length word) s
 
 -- the height that a lift line begins with, 3 where it is none; whether a car is told after it; the drive that ends the line, 3 where it
 -- ends otherwise
@@ -64,12 +64,12 @@ unfoldable pub heightTold : List ℕ → ℕ
 heightTold l = cond (begins (heightName 0) l) 0 (cond (begins (heightName 1) l) 1 (cond (begins (heightName 2) l) 2 3))
 
 unfoldable pub carTold : List ℕ → Bool
-carTold l = begins (carWord true) (after (heightName (heightTold l)) l)
+carTold l = begins (carWord true) (textAfter (heightName (heightTold l)) l)
 
 unfoldable pub driveTold : List ℕ → ℕ
 driveTold l =
-    let rest = after (carWord (carTold l)) (after (heightName (heightTold l)) l) in
-    cond (same rest (ended (driveWord 0))) 0 (cond (same rest (ended (driveWord 1))) 1 (cond (same rest (ended (driveWord 2))) 2 3))
+    let rest = textAfter (carWord (carTold l)) (textAfter (heightName (heightTold l)) l) in
+    cond (same rest (endedLine (driveWord 0))) 0 (cond (same rest (endedLine (driveWord 1))) 1 (cond (same rest (endedLine (driveWord 2))) 2 3))
 
 -- twenty marks, ten, ten; three letters, and three; a height, then a car or none, then a drive or none
 unfoldable pub isLine : ℕ → List ℕ → Bool
@@ -107,8 +107,8 @@ slotIn s n =
     || eqb (letterIn s n) (cond (ltb n 6) (letter true false) (letter false true))
 
 -- the lift's bits, from the last line
-unfoldable pub liftIn : List ℕ → Bits
-liftIn l k =
+unfoldable pub liftDrawn : List ℕ → Bits
+liftDrawn l k =
     cond (eqb k raisedCar) (carTold l)
     (cond (eqb k heightLow) (bit (heightTold l) 0)
     (cond (eqb k heightHigh) (bit (heightTold l) 1)
@@ -118,7 +118,7 @@ liftIn l k =
 
 -- the bits that a text draws
 unfoldable pub bitsIn : List ℕ → Bits
-bitsIn s k = cond (ltb k 40) (cellIn s k) (cond (ltb k 52) (slotIn s (k - 40)) (liftIn (lineAt 5 s) k))
+bitsIn s k = cond (ltb k 40) (cellIn s k) (cond (ltb k 52) (slotIn s (k - 40)) (liftDrawn (lineAt 5 s) k))
 
 -- ---- a drawing read
 

@@ -7,7 +7,7 @@ ghost use Prim.Native.Nat.{_<_};
 ghost use lib.Dec.{ltb};
 ghost use lib.ListN.{getD};
 ghost use Rattle.bits.specs.Search.{every};
-ghost use Rattle.drawing.specs.Hex.{digitOf, isBlank, numberIn, hexDigit};
+ghost use Rattle.drawing.specs.Hex.{digitOf, isBlank, hexNumber, hexDigit};
 ghost use Rattle.drawing.specs.Private.{hexAt, Gathers, areDigits};
 
 // The digit of a value.
@@ -96,7 +96,7 @@ pub fn all_digits(sixteen: [u8; 16]) -> bool
 // The number that sixteen digits say: two a byte, the lowest byte first.
 pub fn number_in(sixteen: [u8; 16]) -> u64
     requires { ⌜ areDigits sixteen ≡ true ⌝ }
-    ensures { λ r. ⌜ r ≡ numberIn 8 0 sixteen ⌝ }
+    ensures { λ r. ⌜ r ≡ hexNumber 8 0 sixteen ⌝ }
 {
     let mut number: u64 = 0;
     let mut k: usize = 8;

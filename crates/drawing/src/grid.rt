@@ -5,7 +5,7 @@ ghost use mathlib.Core.Path.{_≡_};
 ghost use Prim.Native.Nat.{_<_};
 ghost use lib.Dec.{eqb};
 ghost use Rattle.bits.specs.Bits.{bit};
-ghost use Rattle.drawing.specs.Private.{cellAt, grid, markOf, markIn, rowOf, placeOf, occupied};
+ghost use Rattle.drawing.specs.Private.{cellAt, grid, cellMark, markIn, rowOfCell, placeInRow, occupied};
 
 // The marks of a cell.
 pub const OCCUPIED: u8 = b'#';
@@ -28,7 +28,7 @@ fn cell(i: usize, j: usize) -> usize
 
 // The mark of a record's cell.
 fn mark(image: u64, k: usize) -> u8
-    ensures { λ r. ⌜ r ≡ markOf (bit image) k ⌝ }
+    ensures { λ r. ⌜ r ≡ cellMark (bit image) k ⌝ }
 {
     if k < 40 {
         if bits::bit(image, k as u64) {
@@ -53,7 +53,7 @@ fn mark_in(text: &[u8], k: usize) -> u8
 
 // The grid of a record.
 pub fn grid_of(image: u64) -> [[u8; 20]; 3]
-    ensures { λ g. ⌜ g ≡ grid (markOf (bit image)) ⌝ }
+    ensures { λ g. ⌜ g ≡ grid (cellMark (bit image)) ⌝ }
 {
     let mut g = [[0u8; 20]; 3];
     let mut i: usize = 0;
@@ -87,7 +87,7 @@ pub fn grid_in(text: &[u8]) -> [[u8; 20]; 3]
 
 // The row of a cell, and its place there.
 fn row_of(k: usize) -> usize
-    ensures { λ r. ⌜ r ≡ rowOf k ⌝ }
+    ensures { λ r. ⌜ r ≡ rowOfCell k ⌝ }
 {
     match k {
         0..=19 => 0,
@@ -97,7 +97,7 @@ fn row_of(k: usize) -> usize
 }
 
 fn place_of(k: usize) -> usize
-    ensures { λ r. ⌜ r ≡ placeOf k ⌝ }
+    ensures { λ r. ⌜ r ≡ placeInRow k ⌝ }
 {
     match k {
         0..=19 => k,

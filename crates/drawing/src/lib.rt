@@ -4,10 +4,10 @@ ghost use mathlib.Core.List.{_++_};
 ghost use Prim.Native.Nat.{_+_, _≤_, _<_};
 ghost use lib.ListN.{length, getD, drop};
 ghost use Rattle.bits.specs.Bits.{bit, image};
-ghost use Rattle.drawing.specs.Drawing.{letter, Leaves, writing};
+ghost use Rattle.drawing.specs.Drawing.{letter, LeavesDrawing, writingDrawing};
 ghost use Rattle.drawing.specs.Reading.{isMark, isLetter, unread, reading};
 ghost use Rattle.drawing.specs.Hex.{hexIn, hexLine};
-ghost use Rattle.drawing.specs.Private.{table, grid, markOf, upperAt, drawnAt, stands, badAtEnd, badAt, slotAt, bitsAt};
+ghost use Rattle.drawing.specs.Private.{table, grid, cellMark, upperAt, drawnAt, stands, badAtEnd, badAt, slotRead, bitsAt};
 use floor::masks::FIRST_SLOT;
 use floor::masks::RAISED;
 
@@ -128,7 +128,7 @@ fn drawn_byte(g: [[u8; 20]; 3], image: u64, lift: Lift, t: usize) -> u8
 // Writes the first so many bytes of the drawing to the start of the room.
 fn put(image: u64, lift: Lift, size: usize, room: &mut [u8])
     requires { ⌜ size ≤ length (now room) ⌝ }
-    ensures { λ _. ⌜ now (room .exit) ≡ table size (drawnAt (grid (markOf (bit image))) (bit image) lift) ++ drop size (now (room .entry)) ⌝ }
+    ensures { λ _. ⌜ now (room .exit) ≡ table size (drawnAt (grid (cellMark (bit image))) (bit image) lift) ++ drop size (now (room .entry)) ⌝ }
 {
     let g = grid::grid_of(image);
     let mut t: usize = 0;
@@ -147,7 +147,7 @@ fn unwritten(number: u8) -> Written
 
 // Writes the drawing of a record to the start of the room: 15 for one that isn't sound, then 17 where it doesn't fit.
 pub fn write(image: u64, room: &mut [u8]) -> Written
-    ensures { λ w. ⌜ Leaves (writing image (now (room .entry))) w (now (room .exit)) ⌝ }
+    ensures { λ w. ⌜ LeavesDrawing (writingDrawing image (now (room .entry))) w (now (room .exit)) ⌝ }
 {
     if !floor::sound(image) {
         return unwritten(UNSOUND);
@@ -242,7 +242,7 @@ fn first_bad(text: &[u8], lift: Lift) -> u8
 // A shuttle is drawn in slot n of twelve: the first six are lowered, the others tilted; of each six three are the left side's.
 fn slot_in(text: &[u8], n: usize) -> bool
     requires { ⌜ n < 12 ⌝ }
-    ensures { λ b. ⌜ b ≡ slotAt (now (text .entry)) n ⌝ }
+    ensures { λ b. ⌜ b ≡ slotRead (now (text .entry)) n ⌝ }
 {
     let b = byte(text, 43 + 4 * (n / 3 % 2) + n % 3);
     if n < 6 {

@@ -6,7 +6,7 @@ ghost use mathlib.Core.Path.{_≡_};
 ghost use Prim.Native.Nat.{_≤_};
 ghost use lib.ListN.{length, getD, drop};
 ghost use Rattle.bits.specs.Bits.{bit};
-ghost use Rattle.drawing.specs.Drawing.{ended, heightName, carWord, driveWord, driveOf};
+ghost use Rattle.drawing.specs.Drawing.{endedLine, heightName, carWord, driveWord, driveOf};
 ghost use Rattle.drawing.specs.Reading.{begins, heightTold};
 ghost use Rattle.drawing.specs.Private.{liftOf, wordsOf, driveBegun, liftTold, liftBit};
 
@@ -72,7 +72,7 @@ fn car_size(car: bool) -> usize
 }
 
 fn end_size(drive: u8) -> usize
-    ensures { λ n. ⌜ n ≡ length (ended (driveWord drive)) ⌝ }
+    ensures { λ n. ⌜ n ≡ length (endedLine (driveWord drive)) ⌝ }
 {
     match drive {
         1 => 4,
@@ -100,7 +100,7 @@ fn name_byte(height: u8, i: usize) -> u8
 }
 
 fn end_byte(drive: u8, i: usize) -> u8
-    ensures { λ b. ⌜ b ≡ getD (ended (driveWord drive)) i 0 ⌝ }
+    ensures { λ b. ⌜ b ≡ getD (endedLine (driveWord drive)) i 0 ⌝ }
 {
     match drive {
         1 => byte(b" in\n", i),

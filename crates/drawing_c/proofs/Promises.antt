@@ -11,20 +11,20 @@ use Rattle.bits.specs.Bits.{bit, image}
 use Rattle.bits.proofs.Cases.{split}
 use Rattle.floor.specs.Sound.{sound}
 use Rattle.drawing.specs.declared.Found.{Found}
-use Rattle.drawing.specs.Drawing.{drawn, writing}
+use Rattle.drawing.specs.Drawing.{drawn, writingDrawing}
 use Rattle.drawing.specs.Reading.{firstBad, bitsIn, reading}
-use Rattle.drawing_c.specs.Entries.{drawnInto, foundSaid, kept, readInto}
-use Rattle.drawing_c.specs.Promises.{RefusedUntouched, WrittenReadsBack, FoundReadsBack, NumbersReturned}
+use Rattle.drawing_c.specs.Entries.{drawnInto, foundSaid, recordKept, readInto}
+use Rattle.drawing_c.specs.Promises.{DrawingEntryUntouched, WrittenReadsBack, FoundReadsBack, DrawingNumbersReturned}
 
 -- ---- what writing and reading say, by cases
 
 -- a number that refuses, with nothing written; or 0
 record Wrote (r : ℕ) (room : List ℕ) (number : ℕ) : Type 0 where
-  is : writing r room .says .number ≡ number
-  untouched : (number ≡ 0 → ⊥) → writing r room .leaves ≡ room
+  is : writingDrawing r room .says .number ≡ number
+  untouched : (number ≡ 0 → ⊥) → writingDrawing r room .leaves ≡ room
 
 wrote : (r : ℕ) (room : List ℕ) → Wrote r room 0 ⊎ Wrote r room 15 ⊎ Wrote r room 17
-unfolding writing
+unfolding writingDrawing
 wrote r room = split (sound r)
     (λ s. split (ltb (length room) (length (drawn (bit r))))
     (λ t. inr (inr (record { is = rw (s, t); untouched = λ n. rw (s, t) })))
@@ -44,10 +44,10 @@ found text = split (ltb (firstBad text) 7)
     (λ s. rw (t, s) (record { says = inr (inr refl, refl) })))
 
 -- each number is a byte
-wrote-byte : (r : ℕ) (room : List ℕ) → writing r room .says .number < 256
+wrote-byte : (r : ℕ) (room : List ℕ) → writingDrawing r room .says .number < 256
 wrote-byte r room = go (wrote r room)
   where
-    go : Wrote r room 0 ⊎ Wrote r room 15 ⊎ Wrote r room 17 → writing r room .says .number < 256
+    go : Wrote r room 0 ⊎ Wrote r room 15 ⊎ Wrote r room 17 → writingDrawing r room .says .number < 256
     go (inl w) = omega (arith, w .is)
     go (inr (inl w)) = omega (arith, w .is)
     go (inr (inr w)) = omega (arith, w .is)
@@ -67,7 +67,7 @@ unfolding drawnInto
 written-reads-back r room = let h = wrote-byte r room in (omega arith, omega arith, omega arith)
 
 pub found-reads-back : FoundReadsBack
-unfolding readInto kept
+unfolding readInto recordKept
 found-reads-back text room l =
     let h = found-byte (reading text) (found text) in
     rw (le-ltb (length room) 8 l) (omega arith, omega arith)
@@ -78,28 +78,28 @@ refused-write : (r : ℕ) (room : List ℕ) → (drawnInto r room .says % 256 �
 unfolding drawnInto
 refused-write r room n = go (wrote r room)
   where
-    zero-said : writing r room .says .number ≡ 0 → ⊥
+    zero-said : writingDrawing r room .says .number ≡ 0 → ⊥
     zero-said z = n (omega (arith, z))
 
-    go : Wrote r room 0 ⊎ Wrote r room 15 ⊎ Wrote r room 17 → writing r room .leaves ≡ room
+    go : Wrote r room 0 ⊎ Wrote r room 15 ⊎ Wrote r room 17 → writingDrawing r room .leaves ≡ room
     go (inl w) = absurd (zero-said (w .is))
     go (inr (inl w)) = w .untouched (λ z. omega arith)
     go (inr (inr w)) = w .untouched (λ z. omega arith)
 
-refused-kept : (f : Found) (room : List ℕ) → (foundSaid f % 256 ≡ 0 → ⊥) → Says f → kept f room .leaves ≡ room
-unfolding kept
+refused-kept : (f : Found) (room : List ℕ) → (foundSaid f % 256 ≡ 0 → ⊥) → Says f → recordKept f room .leaves ≡ room
+unfolding recordKept
 refused-kept f room n v = rw (ne-eqb (f .number) 0 (λ z. n (said z (v .says))))
   where
     said : f .number ≡ 0 → ((f .number ≡ 41) × (f .place < 7)) ⊎ (((f .number ≡ 0) ⊎ (f .number ≡ 15)) × (f .place ≡ 255)) → foundSaid f % 256 ≡ 0
     said z w = omega arith
 
 refused-read : (text room : List ℕ) → (readInto text room .says % 256 ≡ 0 → ⊥) → readInto text room .leaves ≡ room
-unfolding readInto kept
+unfolding readInto recordKept
 refused-read text room n = split (ltb (length room) 8)
     (λ t. rw t)
     (λ t. rw t (refused-kept (reading text) room (λ z. n (rw t z)) (found text)))
 
-pub refused-untouched : RefusedUntouched
+pub refused-untouched : DrawingEntryUntouched
 refused-untouched = (refused-write, refused-read)
 
 -- ---- the numbers and places that are returned
@@ -126,10 +126,10 @@ found-numbers f v = go (v .says)
     go (inr (inr p, q)) = inr (inr (inl (omega arith)), omega arith)
 
 read-numbers : (text room : List ℕ) → Returned (readInto text room .says)
-unfolding readInto kept
+unfolding readInto recordKept
 read-numbers text room = split (ltb (length room) 8)
     (λ t. rw t (inr (inr (inr refl), refl)))
     (λ t. rw t (found-numbers (reading text) (found text)))
 
-pub numbers-returned : NumbersReturned
+pub numbers-returned : DrawingNumbersReturned
 numbers-returned = (write-numbers, read-numbers)

@@ -7,26 +7,26 @@ use lib.Dec.{eqb, ltb}
 use lib.ListN.{length, drop}
 use native.Mathlib.Omega.{arith}
 use borrow.Author.Tests.{lt-ltb, le-ltb}
+use Rattle.codec.specs.Bytes.{littleEndian}
 use Rattle.answers.specs.declared.Answer.the-variants.{NoRoom}
-use Rattle.wire.specs.Kinds.{littleEndian}
-use Rattle.rooms.specs.Rooms.{returned, Leaves, told}
+use Rattle.rooms.specs.Rooms.{returned, LeavesRoom, telling}
 use Rattle.drawing.specs.declared.Written.{Written}
 use Rattle.drawing.specs.declared.Found.{Found}
 use Rattle.drawing.specs.Drawing as drawing
-use Rattle.drawing.specs.Drawing.{writing}
+use Rattle.drawing.specs.Drawing.{writingDrawing}
 use Rattle.drawing.specs.Reading.{reading}
-use Rattle.drawing_c.specs.Entries.{writtenSaid, drawnInto, foundSaid, kept, readInto}
+use Rattle.drawing_c.specs.Entries.{writtenSaid, drawnInto, foundSaid, recordKept, readInto}
 
 -- a record that is drawn
-pub written : (r : ℕ) (room : List ℕ) (w : Written) {last : List ℕ} {n : ℕ} → drawing.Leaves (writing r room) w last → n ≡ writtenSaid w
-    → Leaves (drawnInto r room) n last
+pub written : (r : ℕ) (room : List ℕ) (w : Written) {last : List ℕ} {n : ℕ} → drawing.LeavesDrawing (writingDrawing r room) w last → n ≡ writtenSaid w
+    → LeavesRoom (drawnInto r room) n last
 unfolding drawnInto
 written r room w l e = (e ∙ ap writtenSaid (l .0), l .1)
 
 -- what reading found, as it is told
 pub is-kept : (f : Found) (room : List ℕ) {b : List ℕ} {n r : ℕ} {last : List ℕ} → f .number < 256 → n ≡ foundSaid f → b ≡ littleEndian 8 (f .bits)
-    → length b ≤ length room → Leaves (told n b room) r last → Leaves (kept f room) r last
-unfolding kept told
+    → length b ≤ length room → LeavesRoom (telling n b room) r last → LeavesRoom (recordKept f room) r last
+unfolding recordKept telling
 is-kept f room {b} h e d l w =
     let fits : ltb (length room) (length b) ≡ false = le-ltb _ _ l in
     let low : foundSaid f % 256 ≡ f .number = omega arith in
@@ -37,10 +37,10 @@ is-kept f room {b} h e d l w =
 
 -- a drawing that is read
 module _ (text room : List ℕ) {n : ℕ} where
-  pub no-room : length room < 8 → n ≡ returned NoRoom → Leaves (readInto text room) n room
+  pub no-room : length room < 8 → n ≡ returned NoRoom → LeavesRoom (readInto text room) n room
   unfolding readInto
   no-room h e = rw (lt-ltb (length room) 8 h) (e, refl)
 
-  pub is-read : {f : Found} {last : List ℕ} → 8 ≤ length room → f ≡ reading text → Leaves (kept f room) n last → Leaves (readInto text room) n last
+  pub is-read : {f : Found} {last : List ℕ} → 8 ≤ length room → f ≡ reading text → LeavesRoom (recordKept f room) n last → LeavesRoom (readInto text room) n last
   unfolding readInto
   is-read h e l = rw (le-ltb (length room) 8 h, ← e) l

@@ -4,12 +4,12 @@ use mathlib.Core.List.{List, _++_}
 use Prim.Native.Nat.{ℕ, _+_, _*_}
 use lib.Dec.{eqb, ltb}
 use lib.ListN.{length, drop}
+use Rattle.codec.specs.Bytes.{littleEndian}
 use Rattle.answers.specs.Answers.{nowhere}
-use Rattle.wire.specs.Kinds.{littleEndian}
 use Rattle.rooms.specs.Rooms.{Entry, noRoom}
 use Rattle.drawing.specs.declared.Written.{Written}
 use Rattle.drawing.specs.declared.Found.{Found}
-use Rattle.drawing.specs.Drawing.{writing}
+use Rattle.drawing.specs.Drawing.{writingDrawing}
 use Rattle.drawing.specs.Reading.{reading}
 
 -- what writing says as one number: its number, no place, and 65536 times the bytes that are written
@@ -18,16 +18,16 @@ writtenSaid w = w .number + 256 * nowhere + 65536 * w .size
 
 -- a record is drawn: 15, then 17; the room is left as writing leaves it
 unfoldable pub drawnInto : ℕ → List ℕ → Entry
-drawnInto r room = let w = writing r room in record { says = writtenSaid (w .says); leaves = w .leaves }
+drawnInto r room = let w = writingDrawing r room in record { says = writtenSaid (w .says); leaves = w .leaves }
 
 -- what reading says as one number: its number, and 256 times its place
 abbrev pub foundSaid : Found → ℕ
 foundSaid f = f .number + 256 * f .place
 
 -- what reading found is kept: the record's eight bytes, the lowest first, at the start of the room; refused, nothing is written
-unfoldable pub kept : Found → List ℕ → Entry
-kept f room = record { says = foundSaid f; leaves = cond (eqb (f .number) 0) (littleEndian 8 (f .bits) ++ drop 8 room) room }
+unfoldable pub recordKept : Found → List ℕ → Entry
+recordKept f room = record { says = foundSaid f; leaves = cond (eqb (f .number) 0) (littleEndian 8 (f .bits) ++ drop 8 room) room }
 
 -- a drawing is read: 17 where the room has fewer bytes than a record; then 41 with the first bad line, then 15
 unfoldable pub readInto : List ℕ → List ℕ → Entry
-readInto text room = cond (ltb (length room) 8) (noRoom room) (kept (reading text) room)
+readInto text room = cond (ltb (length room) 8) (noRoom room) (recordKept (reading text) room)

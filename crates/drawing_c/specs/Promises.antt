@@ -4,13 +4,13 @@ use mathlib.Core.Logic.{_⊎_}
 use mathlib.Core.List.{List}
 use Prim.Native.Nat.{ℕ, _/_, _%_, _≤_, _<_}
 use lib.ListN.{length}
-use Rattle.drawing.specs.Drawing.{writing}
+use Rattle.drawing.specs.Drawing.{writingDrawing}
 use Rattle.drawing.specs.Reading.{reading}
 use Rattle.drawing_c.specs.Entries.{drawnInto, readInto}
 
 -- an entry that refuses leaves the room as it was
-abbrev pub RefusedUntouched : Type 0
-RefusedUntouched =
+abbrev pub DrawingEntryUntouched : Type 0
+DrawingEntryUntouched =
     ((r : ℕ) (room : List ℕ) → (drawnInto r room .says % 256 ≡ 0 → ⊥) → drawnInto r room .leaves ≡ room)
     × ((text room : List ℕ) → (readInto text room .says % 256 ≡ 0 → ⊥) → readInto text room .leaves ≡ room)
 
@@ -19,7 +19,7 @@ abbrev pub WrittenReadsBack : Type 0
 WrittenReadsBack =
     (r : ℕ) (room : List ℕ)
     → let n = drawnInto r room .says in
-    let w = writing r room .says in
+    let w = writingDrawing r room .says in
     (n % 256 ≡ w .number) × (n / 256 % 256 ≡ 255) × (n / 65536 ≡ w .size)
 
 -- what reading a drawing says, in room for a record, reads back: its number, and its place
@@ -30,8 +30,8 @@ FoundReadsBack =
     (n % 256 ≡ reading text .number) × (n / 256 ≡ reading text .place)
 
 -- the numbers that each returns, and the places: a line, or 6 past the last, with 41, and none with any other
-abbrev pub NumbersReturned : Type 0
-NumbersReturned =
+abbrev pub DrawingNumbersReturned : Type 0
+DrawingNumbersReturned =
     ((r : ℕ) (room : List ℕ) → let n = drawnInto r room .says % 256 in (n ≡ 0) ⊎ (n ≡ 15) ⊎ (n ≡ 17))
     × ((text room : List ℕ)
     → let n = readInto text room .says in

@@ -1,7 +1,7 @@
 // The entries for a host in C that draws records and reads drawings: numbers and runs of bytes alone. An answer is its number plus 256 times
 // a place, and a refused call writes nothing. What each answers and leaves stands in specs/Entries.antt.
 ghost use mathlib.Core.Path.{_≡_};
-ghost use Rattle.rooms.specs.Rooms.{Leaves};
+ghost use Rattle.rooms.specs.Rooms.{LeavesRoom};
 ghost use Rattle.drawing_c.specs.Entries.{writtenSaid, drawnInto, readInto};
 use answers::Answer;
 use answers::NOWHERE;
@@ -22,7 +22,7 @@ fn said(w: Written) -> u32
 // Writes the drawing of a record: 15 for one that isn't sound, then 17 where it doesn't fit; how many bytes are written is told too.
 #[no_mangle]
 pub extern "C" fn drawing_write(image: u64, text: &mut [u8]) -> u32
-    ensures { λ r. ⌜ Leaves (drawnInto image (now (text .entry))) r (now (text .exit)) ⌝ }
+    ensures { λ r. ⌜ LeavesRoom (drawnInto image (now (text .entry))) r (now (text .exit)) ⌝ }
 {
     said(drawing::write(image, text))
 }
@@ -30,7 +30,7 @@ pub extern "C" fn drawing_write(image: u64, text: &mut [u8]) -> u32
 // Reads a drawing into a record's eight bytes: 17 where there is no room for them, then 41 with the first bad line, then 15.
 #[no_mangle]
 pub extern "C" fn drawing_read(text: &[u8], room: &mut [u8]) -> u32
-    ensures { λ r. ⌜ Leaves (readInto (now (text .entry)) (now (room .entry))) r (now (room .exit)) ⌝ }
+    ensures { λ r. ⌜ LeavesRoom (readInto (now (text .entry)) (now (room .entry))) r (now (room .exit)) ⌝ }
 {
     if room.len() < RECORD {
         return say(Answer::NoRoom);

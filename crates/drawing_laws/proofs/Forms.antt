@@ -13,8 +13,8 @@ use Rattle.bits.specs.Bits.{Bits, bit, digit}
 use Rattle.bits.specs.Places.{from}
 use Rattle.bits.proofs.Cases.{split, clash, and-intro}
 use Rattle.floor.specs.Floor.{lowered, tilted, slot, raisedCar, heightLow, heightHigh, driveIn, driveOut}
-use Rattle.drawing.specs.Drawing.{mark, letter, floorLine, shuttleLine, heightName, carWord, driveWord, heightOf, driveOf, liftWords, liftLine, linesOf}
-use Rattle.drawing.specs.Reading.{byteAt, lineAt, isMark, isLetter, heightTold, driveTold, isLine, cellIn, slotIn, liftIn, bitsIn}
+use Rattle.drawing.specs.Drawing.{mark, letter, floorLine, shuttleLine, heightName, carWord, driveWord, drawnHeight, driveOf, liftWords, liftLine, drawingLines}
+use Rattle.drawing.specs.Reading.{byteAt, lineAt, isMark, isLetter, heightTold, driveTold, isLine, cellIn, slotIn, liftDrawn, bitsIn}
 use Rattle.drawing.proofs.FirstLines.{isWord}
 use Rattle.drawing.proofs.LiftLines.{name-word, car-word, drive-word, told-both, words-told}
 use Rattle.drawing_laws.specs.Promises.{Drawable}
@@ -31,7 +31,7 @@ letters side f row = letter (f (slot side lowered row)) (f (slot side tilted row
 
 -- line j of a record
 abbrev pub lineOf : ℕ → Bits → List ℕ
-lineOf j f = getD (linesOf f) j []
+lineOf j f = getD (drawingLines f) j []
 
 -- ---- a word and its line feed
 
@@ -60,8 +60,8 @@ line-ended f (suc (suc (suc (suc zero)))) h = record { word = map (letters 1 f) 
 line-ended f (suc (suc (suc (suc (suc zero))))) h =
     let words = carWord (f raisedCar) ++ driveWord (driveOf f) in
     record {
-      word = heightName (heightOf f) ++ words;
-      plain = word-append (heightName (heightOf f)) words (name-word (heightOf f)) (word-append (carWord (f raisedCar)) (driveWord (driveOf f)) (car-word (f raisedCar)) (drive-word (driveOf f)));
+      word = heightName (drawnHeight f) ++ words;
+      plain = word-append (heightName (drawnHeight f)) words (name-word (drawnHeight f)) (word-append (carWord (f raisedCar)) (driveWord (driveOf f)) (car-word (f raisedCar)) (drive-word (driveOf f)));
       whole = refl;
     }
 line-ended f (suc (suc (suc (suc (suc (suc j)))))) h = absurd (omega arith)
@@ -81,8 +81,8 @@ drive-is false true = omega arith
 drive-is false false = omega arith
 
 module _ (f : Bits) (d : Drawable f) where
-  pub lift-tells : Told (heightOf f) (f raisedCar) (driveOf f)
-  lift-tells = words-tell (heightOf f) (driveOf f) (f raisedCar) (height-is (f heightLow) (f heightHigh) (d .height)) (drive-is (f driveIn) (f driveOut))
+  pub lift-tells : Told (drawnHeight f) (f raisedCar) (driveOf f)
+  lift-tells = words-tell (drawnHeight f) (driveOf f) (f raisedCar) (height-is (f heightLow) (f heightHigh) (d .height)) (drive-is (f driveIn) (f driveOut))
 
   pub line-good : (j : ℕ) → j < 6 → isLine j (lineOf j f) ≡ true
   unfolding isLine floorLine shuttleLine liftLine
@@ -92,7 +92,7 @@ module _ (f : Bits) (d : Drawable f) where
   line-good (suc (suc (suc zero))) h = lined-each (letters 0 f) isLetter 1 3 (λ row. letter-good (f (slot 0 lowered row)) (f (slot 0 tilted row)))
   line-good (suc (suc (suc (suc zero)))) h = lined-each (letters 1 f) isLetter 1 3 (λ row. letter-good (f (slot 1 lowered row)) (f (slot 1 tilted row)))
   line-good (suc (suc (suc (suc (suc zero))))) h =
-      let w = liftWords (heightOf f) (f raisedCar) (driveOf f) in
+      let w = liftWords (drawnHeight f) (f raisedCar) (driveOf f) in
       let p : heightTold w < 3 = omega (arith, lift-tells .height, height-is (f heightLow) (f heightHigh) (d .height)) in
       let q : driveTold w < 3 = omega (arith, lift-tells .drive, drive-is (f driveIn) (f driveOut)) in
       and-intro (lt-ltb (heightTold w) 3 p) (lt-ltb (driveTold w) 3 q)
@@ -171,13 +171,13 @@ drive-back (suc (suc (suc d))) p = absurd (omega arith)
 
 module _ (s : List ℕ) (f : Bits) (has : (k : ℕ) → 52 ≤ k → k < 57 → f k ≡ bitsIn s k) where
   pub last-line : isLine 5 (lineAt 5 s) ≡ true → lineAt 5 s ≡ lineOf 5 f
-  unfolding bitsIn liftIn liftLine
+  unfolding bitsIn liftDrawn liftLine
   last-line e =
       let l = lineAt 5 s in
       let (p, q) = told-both l e in
-      let h : heightOf f ≡ heightTold l =
+      let h : drawnHeight f ≡ heightTold l =
       ap₂ (λ (x y : Bool). digit x + 2 * digit y) (has 53 (omega arith) (omega arith)) (has 54 (omega arith) (omega arith)) ∙ height-back (heightTold l) p in
       let d : driveOf f ≡ driveTold l =
       ap₂ (λ (x y : Bool). cond x 1 (cond y 2 0)) (has 55 (omega arith) (omega arith)) (has 56 (omega arith) (omega arith)) ∙ drive-back (driveTold l) q in
       words-told l e ∙ ap₂ (λ (n : ℕ) (b : Bool). liftWords n b (driveTold l)) (sym h) (sym (has 52 (omega arith) (omega arith)))
-      ∙ ap (λ (n : ℕ). liftWords (heightOf f) (f raisedCar) n) (sym d)
+      ∙ ap (λ (n : ℕ). liftWords (drawnHeight f) (f raisedCar) n) (sym d)

@@ -13,7 +13,7 @@ use Rattle.bits.specs.Search.{every}
 use Rattle.bits.proofs.Cases.{split, and-l, and-r, T→true}
 use Rattle.bits.proofs.Search as tests
 use Rattle.bits.proofs.Search.{every-is}
-use Rattle.drawing.specs.Hex.{digitOf, isBlank, unblanked, numberIn, hexIn, hexDigit, hexByte, hexLine}
+use Rattle.drawing.specs.Hex.{digitOf, isBlank, unblanked, hexNumber, hexIn, hexDigit, hexByte, hexLine}
 use Rattle.drawing_laws.specs.Promises.{HexReadsBack}
 
 -- ---- digits
@@ -66,8 +66,8 @@ digit-small (suc n) r (suc (suc j)) h = digit-small n (r / 256) j (omega arith)
 -- ---- the number that they say
 
 -- from the third digit on
-numberIn-on : (n k a b : ℕ) (s : List ℕ) → numberIn n (suc k) (a ∷ b ∷ s) ≡ numberIn n k s
-unfolding numberIn
+numberIn-on : (n k a b : ℕ) (s : List ℕ) → hexNumber n (suc k) (a ∷ b ∷ s) ≡ hexNumber n k s
+unfolding hexNumber
 numberIn-on zero k a b s = refl
 numberIn-on (suc n) k a b s =
     let e : 2 * suc k ≡ suc (suc (2 * k)) = omega arith in
@@ -76,8 +76,8 @@ numberIn-on (suc n) k a b s =
     (ap₂ (λ (i j : ℕ). digitOf (getD (a ∷ b ∷ s) i 0) * 16 + digitOf (getD (a ∷ b ∷ s) j 0)) e d)
     (numberIn-on n (suc k) a b s)
 
-number-back : (n r : ℕ) → numberIn n 0 (digits n r) ≡ r % 256 ^ n
-unfolding numberIn digits
+number-back : (n r : ℕ) → hexNumber n 0 (digits n r) ≡ r % 256 ^ n
+unfolding hexNumber digits
 number-back zero r = omega arith
 number-back (suc n) r =
     ap₂ (λ (x y : ℕ). x + 256 * y)
@@ -95,5 +95,5 @@ unfolding hexIn
 hex-reads-back r h =
     let d = digits 8 r in
     let few : every 16 (λ j. ltb (digitOf (getD d j 0)) 16) ≡ true = every-is 16 (λ j. ltb (digitOf (getD d j 0)) 16) (λ j l. lt-ltb (digitOf (getD d j 0)) 16 (digit-small 8 r j (omega arith))) in
-    let n : numberIn 8 0 d ≡ r = number-back 8 r ∙ omega arith in
+    let n : hexNumber 8 0 d ≡ r = number-back 8 r ∙ omega arith in
     rw (unblanked-line 8 r, eq-eqb (length d) 16 (digits-length 8 r), few, n) refl

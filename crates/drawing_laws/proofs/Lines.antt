@@ -14,8 +14,8 @@ use Rattle.bits.specs.Search.{every}
 use Rattle.bits.proofs.Cases.{split, both, and-intro, and-l, and-r, T→true, beq→eq}
 use Rattle.bits.proofs.Search as tests
 use Rattle.bits.proofs.Search.{every-at, every-is}
-use Rattle.lines.specs.Bytes.{ascii}
-use Rattle.drawing.specs.Drawing.{mark, letter, ended, liftWords}
+use Rattle.codec.specs.Text.{ascii}
+use Rattle.drawing.specs.Drawing.{mark, letter, endedLine, liftWords}
 use Rattle.drawing.specs.Reading.{byteAt, each, isMark, isLetter, same, heightTold, carTold, driveTold}
 use Rattle.drawing.proofs.FirstLines.{isWord}
 
@@ -24,7 +24,7 @@ use Rattle.drawing.proofs.FirstLines.{isWord}
 module _ (g : ℕ → ℕ) where
   -- the line
   abbrev pub lined : ℕ → ℕ → List ℕ
-  lined a n = ended (map g (from a n))
+  lined a n = endedLine (map g (from a n))
 
   pub lined-length : (a n : ℕ) → length (lined a n) ≡ suc n
   lined-length a zero = refl

@@ -17,7 +17,7 @@ use Rattle.bits.proofs.Digits.{bit-image, image-bit, image-ext, packed-lt}
 use Rattle.bits.proofs.Least.{least-is, least-below, found-least}
 use Rattle.floor.specs.Sound.{sound}
 use Rattle.drawing.specs.declared.Found.{Found}
-use Rattle.drawing.specs.Drawing.{linesOf, drawn}
+use Rattle.drawing.specs.Drawing.{drawingLines, drawn}
 use Rattle.drawing.specs.Reading.{firstLine, fromLine, lineAt, isLine, badLine, firstBad, bitsIn, unread, reading}
 use Rattle.drawing.proofs.FirstLines.{line-rest}
 use Rattle.drawing_laws.specs.Promises.{read, DrawnReadsBack, OneDrawing, DrawingsDiffer, Drawable, UnsoundExactly, Formed, FirstBad, FirstBadLine, ReadNumbers}
@@ -97,7 +97,7 @@ module _ (s : List ℕ) (t : ltb (firstBad s) 7 ≡ false) where
   text-drawn : (f : Bits) → ((k : ℕ) → k < 57 → f k ≡ bitsIn s k) → s ≡ drawn f
   unfolding drawn
   text-drawn f has =
-      stands s 6 ∙ ap₂ (λ (ls : List (List ℕ)) (x : List ℕ). join ls ++ x) lines (rest-empty s (good 6 (omega arith))) ∙ append-nil (join (linesOf f))
+      stands s 6 ∙ ap₂ (λ (ls : List (List ℕ)) (x : List ℕ). join ls ++ x) lines (rest-empty s (good 6 (omega arith))) ∙ append-nil (join (drawingLines f))
     where
       line : (i : ℕ) → i < 6 → lineAt i s ≡ lineOf i f
       line i h = split (ltb i 5)
@@ -106,8 +106,8 @@ module _ (s : List ℕ) (t : ltb (firstBad s) 7 ≡ false) where
           let z : i ≡ 5 = omega (arith, ltb-false i 5 e) in
           subst (λ (n : ℕ). lineAt n s ≡ lineOf n f) (sym z) (last-line s f (λ k p q. has k q) (line-is s 5 (omega arith) (good 5 (omega arith)))))
 
-      lines : firsts 6 s ≡ linesOf f
-      lines = ext-getD [] (firsts 6 s) (linesOf f) (firsts-length s 6)
+      lines : firsts 6 s ≡ drawingLines f
+      lines = ext-getD [] (firsts 6 s) (drawingLines f) (firsts-length s 6)
           (λ i h. let l : i < 6 = omega (arith, firsts-length s 6) in firsts-at s 6 i l ∙ line i l)
 
   told : Drawable (bitsIn s)

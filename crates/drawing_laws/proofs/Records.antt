@@ -18,9 +18,9 @@ use Rattle.floor.specs.Tests.{fact, holds}
 use Rattle.floor.specs.Sound.{soundRules, sound}
 use Rattle.floor.proofs.Promises.{sound-exactly}
 use Rattle.floor.proofs.Reading.{nth-holds}
-use Rattle.lines.specs.Bytes.{ascii}
+use Rattle.codec.specs.Text.{ascii}
 use Rattle.drawing.specs.Drawing.{liftWords, drawn}
-use Rattle.drawing.specs.Reading.{lineAt, heightTold, driveTold, isLine, liftIn, bitsIn}
+use Rattle.drawing.specs.Reading.{lineAt, heightTold, driveTold, isLine, liftDrawn, bitsIn}
 use Rattle.drawing.specs.Private.{liftOf, wordsOf}
 use Rattle.drawing.proofs.LiftLines.{told-both}
 use Rattle.drawing.proofs.Drawn as drawing
@@ -58,14 +58,14 @@ one-drive (suc (suc zero)) p = refl
 one-drive (suc (suc (suc d))) p = absurd (omega arith)
 
 -- nothing is told past the drives
-nothing-past : (l : List ℕ) (k : ℕ) → 57 ≤ k → liftIn l k ≡ false
-unfolding liftIn
+nothing-past : (l : List ℕ) (k : ℕ) → 57 ≤ k → liftDrawn l k ≡ false
+unfolding liftDrawn
 nothing-past l k h =
     rw (ne-eqb k 52 (λ z. omega arith), ne-eqb k 53 (λ z. omega arith), ne-eqb k 54 (λ z. omega arith), ne-eqb k 55 (λ z. omega arith), ne-eqb k 56 (λ z. omega arith)) refl
 
 module _ (s : List ℕ) where
   pub told-drawable : isLine 5 (lineAt 5 s) ≡ true → Drawable (bitsIn s)
-  unfolding bitsIn liftIn
+  unfolding bitsIn liftDrawn
   told-drawable e = record {
     height = one-height (heightTold (lineAt 5 s)) (told-both (lineAt 5 s) e .0);
     drive = one-drive (driveTold (lineAt 5 s)) (told-both (lineAt 5 s) e .1);

@@ -15,8 +15,8 @@ use Rattle.bits.specs.Places.{join}
 use Rattle.bits.proofs.Cases.{split, clash}
 use Rattle.bits.proofs.Least.{least-none}
 use Rattle.floor.specs.Floor.{lowered, tilted, slot, raisedCar, heightLow, heightHigh, driveIn, driveOut}
-use Rattle.drawing.specs.Drawing.{floorLine, shuttleLine, liftLine, linesOf, drawn}
-use Rattle.drawing.specs.Reading.{firstLine, fromLine, byteAt, lineAt, isLine, badLine, firstBad, liftIn, bitsIn}
+use Rattle.drawing.specs.Drawing.{floorLine, shuttleLine, liftLine, drawingLines, drawn}
+use Rattle.drawing.specs.Reading.{firstLine, fromLine, byteAt, lineAt, isLine, badLine, firstBad, liftDrawn, bitsIn}
 use Rattle.drawing.proofs.FirstLines as first
 use Rattle.drawing.proofs.FirstLines.{line-rest}
 use Rattle.drawing_laws.specs.Promises.{Drawable}
@@ -87,15 +87,15 @@ module _ (s : List ℕ) where
 -- ---- a drawing
 
 module _ (f : Bits) where
-  drawn-parts : drawn f ≡ join (linesOf f) ++ []
+  drawn-parts : drawn f ≡ join (drawingLines f) ++ []
   unfolding drawn
-  drawn-parts = sym (append-nil (join (linesOf f)))
+  drawn-parts = sym (append-nil (join (drawingLines f)))
 
   pub drawn-line : (j : ℕ) → j < 6 → lineAt j (drawn f) ≡ lineOf j f
-  drawn-line j h = ap (lineAt j) drawn-parts ∙ line-join (linesOf f) [] (line-ended f) j h
+  drawn-line j h = ap (lineAt j) drawn-parts ∙ line-join (drawingLines f) [] (line-ended f) j h
 
   drawn-rest : fromLine 6 (drawn f) ≡ []
-  drawn-rest = ap (fromLine 6) drawn-parts ∙ from-join (linesOf f) [] (line-ended f) 6 (omega arith)
+  drawn-rest = ap (fromLine 6) drawn-parts ∙ from-join (drawingLines f) [] (line-ended f) 6 (omega arith)
 
   -- none of its lines is bad
   module _ (d : Drawable f) where
@@ -111,7 +111,7 @@ module _ (f : Bits) where
 -- ---- its lines tell its record
 
 -- past the slots, the last line tells
-pub last-of : (s : List ℕ) (k : ℕ) → ltb k 40 ≡ false → ltb k 52 ≡ false → bitsIn s k ≡ liftIn (lineAt 5 s) k
+pub last-of : (s : List ℕ) (k : ℕ) → ltb k 40 ≡ false → ltb k 52 ≡ false → bitsIn s k ≡ liftDrawn (lineAt 5 s) k
 unfolding bitsIn
 last-of s k e u = rw (e, u) refl
 
@@ -207,8 +207,8 @@ module _ (f : Bits) where
 
   -- the lift
   module _ (d : Drawable f) where
-    lift-back : (k : ℕ) → 52 ≤ k → liftIn (lineOf 5 f) k ≡ f k
-    unfolding liftIn liftLine
+    lift-back : (k : ℕ) → 52 ≤ k → liftDrawn (lineOf 5 f) k ≡ f k
+    unfolding liftDrawn liftLine
     lift-back k h =
         let t = lift-tells f d in
         split (eqb k raisedCar) (λ e. rw e (t .car-there ∙ ap f (sym (eqb-true k raisedCar e))))
@@ -232,4 +232,4 @@ module _ (f : Bits) where
         (λ u.
         let z : 40 + (k - 40) ≡ k = omega (arith, ltb-false k 40 e) in
         ap (bitsIn (drawn f)) (sym z) ∙ slot-back (k - 40) (omega (arith, ltb-true k 52 u, ltb-false k 40 e)) ∙ ap f z)
-        (λ u. last-of (drawn f) k e u ∙ ap (λ (l : List ℕ). liftIn l k) (drawn-line f 5 (omega arith)) ∙ lift-back k (ltb-false k 52 u)))
+        (λ u. last-of (drawn f) k e u ∙ ap (λ (l : List ℕ). liftDrawn l k) (drawn-line f 5 (omega arith)) ∙ lift-back k (ltb-false k 52 u)))

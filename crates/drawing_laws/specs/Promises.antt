@@ -12,7 +12,7 @@ use Rattle.floor.specs.Floor.{drives}
 use Rattle.floor.specs.Tests.{set, no, holds, heightIs}
 use Rattle.floor.specs.Sound.{sound}
 use Rattle.drawing.specs.declared.Found.{Found}
-use Rattle.drawing.specs.Drawing.{linesOf, drawn}
+use Rattle.drawing.specs.Drawing.{drawingLines, drawn}
 use Rattle.drawing.specs.Reading.{unread, reading}
 use Rattle.drawing.specs.declared.Hex.the-variants.{Image}
 use Rattle.drawing.specs.Hex.{hexIn, hexLine}
@@ -48,7 +48,7 @@ UnsoundExactly = (s : List ℕ) → (reading s ≡ unread 15 255) ↔ ((f : Bits
 
 -- a line is of the form of line j: some record that can be shown has it there
 abbrev pub Formed : ℕ → List ℕ → Type 0
-Formed j l = (f : Bits) × Drawable f × (l ≡ getD (linesOf f) j [])
+Formed j l = (f : Bits) × Drawable f × (l ≡ getD (drawingLines f) j [])
 
 -- line p is the first bad one: p lines stand before it, each of its form, and what follows them doesn't begin with a line of its form; or
 -- all six lines do, and text follows them

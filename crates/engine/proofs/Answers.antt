@@ -17,9 +17,9 @@ use Rattle.rules.specs.declared.Reading.the-variants.{Good, Bad}
 use Rattle.rules.specs.declared.Moved.{Moved}
 use Rattle.rules.specs.declared.Driven.{Driven}
 use Rattle.rules.specs.declared.Verdict.{Verdict}
-use Rattle.rules.specs.Rules.{wellFormed, area, clauses, conditions, allowed, next}
+use Rattle.rules.specs.Rules.{wellFormed, area, clauses, conditions, allowed, nextRecord}
 use Rattle.rules.specs.Codes.{readCode}
-use Rattle.rules.specs.Events.{inTurn, possible, placesOpen, after}
+use Rattle.rules.specs.Events.{inTurn, possible, placesOpen, afterEvent}
 use Rattle.rules.specs.Verdicts.{judged, verdictOf, movedBy, movedOf, maskOf, drivenOf, onCode, codeVerdict, codeMoved}
 use Rattle.rules.proofs.CodeLaws.{one-form}
 use Rattle.rules.proofs.Answering.{is-verdict, not-moved, has-moved, is-allowed}
@@ -32,7 +32,7 @@ use Rattle.engine.proofs.Ruling.{whole-right, allowed-unbroken}
 
 -- of a well-formed instruction its conditions say it
 module _ (i : Instruction) (r : ℕ) (w : wellFormed i ≡ true) (v : Verdict) (p : v ≡ judged (clauses i) (bit r)) where
-  pub taken : (x : ℕ) → v ≡ Verdict.Allowed → x ≡ image (next i (bit r)) → Moved.Record x ≡ movedOf i r
+  pub taken : (x : ℕ) → v ≡ Verdict.Allowed → x ≡ image (nextRecord i (bit r)) → Moved.Record x ≡ movedOf i r
   taken x q e = has-moved i r w (sym q ∙ p) e
 
   pub refused : (why : Reason) → v ≡ Verdict.NotAllowed why → Moved.NotAllowed why ≡ movedOf i r
@@ -40,7 +40,7 @@ module _ (i : Instruction) (r : ℕ) (w : wellFormed i ≡ true) (v : Verdict) (
 
   pub unread : v ≡ Verdict.IllFormed → Moved.IllFormed ≡ movedOf i r
   unfolding movedOf
-  unread q = ap (λ (u : Verdict). movedBy u (image (next i (bit r)))) (is-verdict i r w (sym q ∙ p))
+  unread q = ap (λ (u : Verdict). movedBy u (image (nextRecord i (bit r)))) (is-verdict i r w (sym q ∙ p))
 
   -- and where they all hold, nothing is missing between its belts or rows
   pub no-gap : v ≡ Verdict.Allowed → whole i ≡ true
@@ -105,13 +105,13 @@ module _ (x : Code) (l : Located) (e : l ≡ locate x) where
     code-judged v p = ap₂ {A = ℕ} {B = Verdict} {C = Judged} (λ a v. record { area = a; verdict = v }) placed
         (is-verdict i r well p ∙ ap (onCode (λ i. verdictOf i r) Verdict.IllFormed) (sym said))
 
-    known : (b : Bool) → whole i ≡ b → cond b (image (next i (bit r))) r ≡ codeNext x r
+    known : (b : Bool) → whole i ≡ b → cond b (image (nextRecord i (bit r))) r ≡ codeNext x r
     unfolding codeNext
     known b h =
-        ap (λ (b : Bool). cond b (image (next i (bit r))) r) (sym h ∙ whole-right i well)
-        ∙ ap (onCode (λ i. cond (unbroken i) (image (next i (bit r))) r) r) (sym said)
+        ap (λ (b : Bool). cond b (image (nextRecord i (bit r))) r) (sym h ∙ whole-right i well)
+        ∙ ap (onCode (λ i. cond (unbroken i) (image (nextRecord i (bit r))) r) r) (sym said)
 
-    pub code-next : whole i ≡ true → (n : ℕ) → n ≡ image (next i (bit r)) → n ≡ codeNext x r
+    pub code-next : whole i ≡ true → (n : ℕ) → n ≡ image (nextRecord i (bit r)) → n ≡ codeNext x r
     code-next h n p = p ∙ known true h
 
     pub gap-next : whole i ≡ false → r ≡ codeNext x r
@@ -131,16 +131,16 @@ module _ (x : Code) (l : Located) (e : l ≡ locate x) where
 
     pub bad-next : r ≡ codeNext x r
     unfolding codeNext
-    bad-next = ap (onCode (λ i. cond (unbroken i) (image (next i (bit r))) r) r) (sym nothing)
+    bad-next = ap (onCode (λ i. cond (unbroken i) (image (nextRecord i (bit r))) r) r) (sym nothing)
 
 pub verdict-in : (x : Code) (r : ℕ) (j : Judged) → j ≡ judge x r → j .verdict ≡ codeVerdict x r
 unfolding judge
 verdict-in x r j e = ap (λ (j : Judged). j .verdict) e
 
 -- rotating keeps the record
-pub rotated : (i : Instruction) → i ≡ Rotate → (r : ℕ) → r < 2 ^ 64 → r ≡ image (next i (bit r))
-unfolding next
-rotated i e r h = sym (image-bit r h) ∙ ap (λ i. image (next i (bit r))) (sym e)
+pub rotated : (i : Instruction) → i ≡ Rotate → (r : ℕ) → r < 2 ^ 64 → r ≡ image (nextRecord i (bit r))
+unfolding nextRecord
+rotated i e r h = sym (image-bit r h) ∙ ap (λ i. image (nextRecord i (bit r))) (sym e)
 
 -- ---- events
 
@@ -158,6 +158,6 @@ module _ (e : Event) (r : ℕ) where
   event-kept-open t p o = rw (t, p, o)
 
   pub event-taken : inTurn e (bit r) ≡ true → possible e (bit r) ≡ true → placesOpen e (bit r) ≡ true
-      → (x : ℕ) → x ≡ image (after e (bit r)) → Driven.Record x ≡ drivenOf e r
+      → (x : ℕ) → x ≡ image (afterEvent e (bit r)) → Driven.Record x ≡ drivenOf e r
   unfolding drivenOf
   event-taken t p o x h = rw (t, p, o) (ap Driven.Record h)

@@ -16,9 +16,9 @@ use Rattle.rules.specs.declared.Instruction.the-variants.{Lift}
 use Rattle.rules.specs.declared.Event.{Event}
 use Rattle.rules.specs.declared.Event.the-variants.{BeginIn, BeginOut, EndDone, EndNotDone}
 use Rattle.rules.specs.declared.Verdict.the-variants.{Allowed, NotAllowed}
-use Rattle.rules.specs.Rules.{wellFormed, clauses, next}
+use Rattle.rules.specs.Rules.{wellFormed, clauses, nextRecord}
 use Rattle.rules.specs.Verdicts.{judged}
-use Rattle.rules.specs.Events.{inTurn, possible, after}
+use Rattle.rules.specs.Events.{inTurn, possible, afterEvent}
 use Rattle.engine.specs.Private.{liftBits}
 use Rattle.bits.proofs.Lists.{same, same-eq, bit-list}
 use Rattle.engine.proofs.Settings.{laid-right}
@@ -95,35 +95,35 @@ bits-law height car m h e = ap places (sym e) ∙ go car
 -- masks that name what the lift touches and makes 1 make its next record
 pub lift-laid : (r height t n : ℕ) (car : Bool) → T (wellFormed (Lift height)) → t < 2 ^ 64 → n < 2 ^ 64
     → places n ≡ liftBits height car → places t ≡ liftTouched height (bit r) → car ≡ liftCar height (bit r)
-    → image (laid r t n) ≡ image (next (Lift height) (bit r))
+    → image (laid r t n) ≡ image (nextRecord (Lift height) (bit r))
 lift-laid r height t n car w ht hn q p e =
-    laid-right r t n (liftTouched height (bit r)) (liftBits height (liftCar height (bit r))) (next (Lift height) (bit r))
+    laid-right r t n (liftTouched height (bit r)) (liftBits height (liftCar height (bit r))) (nextRecord (Lift height) (bit r))
     (bit-list t (liftTouched height (bit r)) ht p) (bit-list n (liftBits height (liftCar height (bit r))) hn (q ∙ ap (liftBits height) e)) (lift-right height w (bit r))
 
 -- the same for the events
 module _ (r : ℕ) where
-  event-laid : (e : Event) (t n : ℕ) → t < 2 ^ 64 → n < 2 ^ 64 → places t ≡ eventTouched e → places n ≡ eventNew e (bit r) → image (laid r t n) ≡ image (after e (bit r))
+  event-laid : (e : Event) (t n : ℕ) → t < 2 ^ 64 → n < 2 ^ 64 → places t ≡ eventTouched e → places n ≡ eventNew e (bit r) → image (laid r t n) ≡ image (afterEvent e (bit r))
   event-laid e t n ht hn p q =
-      laid-right r t n (eventTouched e) (eventNew e (bit r)) (after e (bit r))
+      laid-right r t n (eventTouched e) (eventNew e (bit r)) (afterEvent e (bit r))
       (bit-list t (eventTouched e) ht p) (bit-list n (eventNew e (bit r)) hn q) (event-right e (bit r))
 
-  pub in-laid : image (laid r 0x80000000000000 0x80000000000000) ≡ image (after BeginIn (bit r))
+  pub in-laid : image (laid r 0x80000000000000 0x80000000000000) ≡ image (afterEvent BeginIn (bit r))
   unfolding places
   in-laid = event-laid BeginIn 0x80000000000000 0x80000000000000 (omega arith) (omega arith) refl refl
 
-  pub out-laid : image (laid r 0x100000000000000 0x100000000000000) ≡ image (after BeginOut (bit r))
+  pub out-laid : image (laid r 0x100000000000000 0x100000000000000) ≡ image (afterEvent BeginOut (bit r))
   unfolding places
   out-laid = event-laid BeginOut 0x100000000000000 0x100000000000000 (omega arith) (omega arith) refl refl
 
   -- done: the car that was driven in is there, or none is
-  pub there-laid : allSet (places 0x80000000000000) (bit r) ≡ true → image (laid r 0x190000000000000 0x10000000000000) ≡ image (after EndDone (bit r))
+  pub there-laid : allSet (places 0x80000000000000) (bit r) ≡ true → image (laid r 0x190000000000000 0x10000000000000) ≡ image (afterEvent EndDone (bit r))
   unfolding places
   there-laid s = event-laid EndDone 0x190000000000000 0x10000000000000 (omega arith) (omega arith) refl (rw (sym (and-true (bit r driveIn)) ∙ s))
 
-  pub gone-laid : allSet (places 0x80000000000000) (bit r) ≡ false → image (laid r 0x190000000000000 0) ≡ image (after EndDone (bit r))
+  pub gone-laid : allSet (places 0x80000000000000) (bit r) ≡ false → image (laid r 0x190000000000000 0) ≡ image (afterEvent EndDone (bit r))
   unfolding places
   gone-laid s = event-laid EndDone 0x190000000000000 0 (omega arith) (omega arith) refl (rw (sym (and-true (bit r driveIn)) ∙ s))
 
-  pub stopped-laid : image (laid r 0x180000000000000 0) ≡ image (after EndNotDone (bit r))
+  pub stopped-laid : image (laid r 0x180000000000000 0) ≡ image (afterEvent EndNotDone (bit r))
   unfolding places
   stopped-laid = event-laid EndNotDone 0x180000000000000 0 (omega arith) (omega arith) refl refl

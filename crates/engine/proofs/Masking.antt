@@ -6,7 +6,7 @@ use native.Mathlib.Omega.{arith}
 use lib.Bits.{bitAnd, bitOr, and-zero-r, or-zero-r, and-le-l, and-le-r}
 use lib.Dec.{eqb}
 use Rattle.rules.specs.Named.{step}
-use Rattle.rows.specs.Private.{shifted, within, carried, others, cellsIn, tiltedIn, moveRow, beltsMove, tiltMove}
+use Rattle.rows.specs.Private.{shifted, spanWithin, carriedBits, others, cellsOfArea, tiltedIn, moveRow, beltsMove, tiltMove}
 
 -- a direction times a step
 pub shift-small : (d n : ℕ) → d < 2 → n < 3 → d * n < 64
@@ -25,7 +25,7 @@ pub gap-small : (mask : ℕ) → mask < 32 → mask + bitAnd mask (32 - mask) < 
 gap-small mask h = omega (arith, and-le-l mask (32 - mask))
 
 -- no car is carried from nowhere
-nowhere : (r : ℕ) → carried r 0 0 ≡ 0
+nowhere : (r : ℕ) → carriedBits r 0 0 ≡ 0
 nowhere r = go (eqb (bitAnd r 0) 0 && not (eqb 0 0))
   where
     go : (b : Bool) → _≡_ {A = ℕ} (cond b 0 0) 0
@@ -33,12 +33,12 @@ nowhere r = go (eqb (bitAnd r 0) 0 && not (eqb 0 0))
     go false = refl
 
 -- cells shift, and nothing else changes
-pub belts-moved : (r a row toward size n w m : ℕ) → n ≡ step row size → w ≡ within (cellsIn a) toward n
-    → m ≡ shifted (bitAnd r w) (toward * n) ((1 - toward) * n) → bitOr (bitAnd r (others (cellsIn a))) m ≡ moveRow (beltsMove a row toward size) r
+pub belts-moved : (r a row toward size n w m : ℕ) → n ≡ step row size → w ≡ spanWithin (cellsOfArea a) toward n
+    → m ≡ shifted (bitAnd r w) (toward * n) ((1 - toward) * n) → bitOr (bitAnd r (others (cellsOfArea a))) m ≡ moveRow (beltsMove a row toward size) r
 belts-moved r a row toward size n w m p q e =
-    let by : ℕ → ℕ = λ n. shifted (bitAnd r (within (cellsIn a) toward n)) (toward * n) ((1 - toward) * n) in
+    let by : ℕ → ℕ = λ n. shifted (bitAnd r (spanWithin (cellsOfArea a) toward n)) (toward * n) ((1 - toward) * n) in
     let same : m ≡ by (step row size) = e ∙ ap (λ w. shifted (bitAnd r w) (toward * n) ((1 - toward) * n)) q ∙ ap by p in
-    ap (bitOr (bitAnd r (others (cellsIn a)))) (same ∙ sym (or-zero-r _) ∙ ap (bitOr (by (step row size))) (sym (ap₂ bitOr (nowhere r) (nowhere r))))
+    ap (bitOr (bitAnd r (others (cellsOfArea a)))) (same ∙ sym (or-zero-r _) ∙ ap (bitOr (by (step row size))) (sym (ap₂ bitOr (nowhere r) (nowhere r))))
 
 -- a slot becomes 1, and the other of the two 0
 pub tilt-moved : (r a orientation new : ℕ) → cond (eqb orientation 0) (tiltedIn a) (tiltedIn a / 64) ≡ new

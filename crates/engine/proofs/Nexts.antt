@@ -17,8 +17,8 @@ use Rattle.floor.proofs.Reading.{holds-agree}
 use Rattle.rules.specs.declared.Instruction.the-variants.{Lift}
 use Rattle.rules.specs.declared.Event.{Event}
 use Rattle.rules.specs.declared.Event.the-variants.{BeginIn, BeginOut, EndDone, EndNotDone}
-use Rattle.rules.specs.Events.{eventChanges, after}
-use Rattle.rules.specs.Rules.{wellFormed, changes, next}
+use Rattle.rules.specs.Events.{eventChanges, afterEvent}
+use Rattle.rules.specs.Rules.{wellFormed, changes, nextRecord}
 use Rattle.engine.specs.Private.{liftBits}
 use Rattle.bits.proofs.Lists.{in-left}
 use Rattle.engine.proofs.Settings.{right, renewed, renewed-right}
@@ -66,8 +66,8 @@ unfolding every rightOf
 all-right = tt
 
 pub lift-right : (height : ℕ) → T (wellFormed (Lift height)) → (f : Bits)
-    → (k : ℕ) → renewed (liftTouched height f) (liftBits height (liftCar height f)) f k ≡ next (Lift height) f k
-unfolding next rightOf
+    → (k : ℕ) → renewed (liftTouched height f) (liftBits height (liftCar height f)) f k ≡ nextRecord (Lift height) f k
+unfolding nextRecord rightOf
 lift-right height w f =
     renewed-right liftAll [] (changes (Lift height)) (liftTouched height) (λ f. liftBits height (liftCar height f))
     (λ f g e.
@@ -79,8 +79,8 @@ lift-right height w f =
     (each 3 rightOf all-right height (omega (arith, leb→le height 2 w))) f refl
 
 -- an event makes these bits anew
-pub event-right : (e : Event) (f : Bits) (k : ℕ) → renewed (eventTouched e) (eventNew e f) f k ≡ after e f k
-unfolding after
+pub event-right : (e : Event) (f : Bits) (k : ℕ) → renewed (eventTouched e) (eventNew e f) f k ≡ afterEvent e f k
+unfolding afterEvent
 event-right e f = renewed-right eventBits [] (eventChanges e) (λ f. eventTouched e) (eventNew e) (λ f g a. (refl, new-same e f g a)) (tried e) f refl
   where
     new-same : (e : Event) (f g : Bits) → ((k : ℕ) → T (elem k eventBits) → f k ≡ g k) → eventNew e f ≡ eventNew e g

@@ -14,12 +14,12 @@ use Rattle.floor.specs.Tests.{allHold}
 use Rattle.rules.specs.declared.Instruction.{Instruction}
 use Rattle.rules.specs.declared.Instruction.the-variants.{Belts, Shuttles, Tilt, Lift, Rotate}
 use Rattle.rules.specs.Named.{cells, rowsOf}
-use Rattle.rules.specs.Rules.{wellFormed, beltsNamed, area, clauses, conditions, next}
+use Rattle.rules.specs.Rules.{wellFormed, beltsNamed, area, clauses, conditions, nextRecord}
 use Rattle.rules.specs.Verdicts.{judged}
 use Rattle.rules.proofs.Every.{everywhere, each, named-bounds}
 use Rattle.areas.specs.Private.{areaMask}
 use Rattle.areas.proofs.Areas.{area-right}
-use Rattle.rows.specs.Private.{Part, judgedRow, rowOf, beltsRow, shuttlesRow, tiltRow, rotateRow, Move, moveRow, moveOf, beltsMove, shuttlesMove, tiltMove, whole}
+use Rattle.rows.specs.Private.{Part, judgedRow, maskRow, beltsRow, shuttlesRow, tiltRow, rotateRow, Move, moveRow, moveOf, beltsMove, shuttlesMove, tiltMove, whole}
 use Rattle.rows.proofs.Judging.{isLift, row-judges}
 use Rattle.rows.proofs.Changing.{row-moves}
 use Rattle.engine.specs.Judged.{unbroken}
@@ -80,40 +80,40 @@ module _ (i : Instruction) (r a : ℕ) (w : wellFormed i ≡ true) (q : a ≡ im
     mask : a ≡ areaMask j
     mask = q ∙ ap (λ i. image (area i)) e ∙ sym (area-right j well)
 
-    judges : (row : ℕ → List Part) → row (areaMask j) ≡ rowOf j → judgedRow (row a) r ≡ judged (clauses i) (bit r)
+    judges : (row : ℕ → List Part) → row (areaMask j) ≡ maskRow j → judgedRow (row a) r ≡ judged (clauses i) (bit r)
     judges row p =
         ap (λ x. judgedRow (row x) r) mask ∙ ap (λ ps. judgedRow ps r) p ∙ row-judges j r well l ∙ ap (λ i. judged (clauses i) (bit r)) (sym e)
 
-    moves : (move : ℕ → Move) → move (areaMask j) ≡ moveOf j → whole i ≡ true → (x : ℕ) → x < 2 ^ 64 → x ≡ moveRow (move a) r → x ≡ image (next i (bit r))
+    moves : (move : ℕ → Move) → move (areaMask j) ≡ moveOf j → whole i ≡ true → (x : ℕ) → x < 2 ^ 64 → x ≡ moveRow (move a) r → x ≡ image (nextRecord i (bit r))
     moves move p h x small c =
         let same : x ≡ moveRow (moveOf j) r = c ∙ ap (λ y. moveRow (move y) r) mask ∙ ap (λ m. moveRow m r) p in
-        same ∙ row-moves j r well l (ap whole (sym e) ∙ h) (omega (arith, small, same)) ∙ ap (λ i. image (next i (bit r))) (sym e)
+        same ∙ row-moves j r well l (ap whole (sym e) ∙ h) (omega (arith, small, same)) ∙ ap (λ i. image (nextRecord i (bit r))) (sym e)
 
   pub belts-judge : {row mask toward size : ℕ} → i ≡ Belts row mask toward size → judgedRow (beltsRow a row mask toward size) r ≡ judged (clauses i) (bit r)
-  unfolding rowOf
+  unfolding maskRow
   belts-judge {row} {mask} {toward} {size} e = judges (Belts row mask toward size) e refl (λ a. beltsRow a row mask toward size) refl
 
   pub shuttles-judge : {side mask orientation toward : ℕ} → i ≡ Shuttles side mask orientation toward → judgedRow (shuttlesRow a side mask orientation) r ≡ judged (clauses i) (bit r)
-  unfolding rowOf
+  unfolding maskRow
   shuttles-judge {side} {mask} {orientation} {toward} e = judges (Shuttles side mask orientation toward) e refl (λ a. shuttlesRow a side mask orientation) refl
 
   pub tilt-judge : {side row orientation : ℕ} → i ≡ Tilt side row orientation → judgedRow (tiltRow a orientation) r ≡ judged (clauses i) (bit r)
-  unfolding rowOf
+  unfolding maskRow
   tilt-judge {side} {row} {orientation} e = judges (Tilt side row orientation) e refl (λ a. tiltRow a orientation) refl
 
   pub rotate-judge : i ≡ Rotate → judgedRow rotateRow r ≡ judged (clauses i) (bit r)
-  unfolding rowOf
+  unfolding maskRow
   rotate-judge e = judges Rotate e refl (λ a. rotateRow) refl
 
   module _ (h : whole i ≡ true) (x : ℕ) (small : x < 2 ^ 64) where
-    pub belts-move : {row mask toward size : ℕ} → i ≡ Belts row mask toward size → x ≡ moveRow (beltsMove a row toward size) r → x ≡ image (next i (bit r))
+    pub belts-move : {row mask toward size : ℕ} → i ≡ Belts row mask toward size → x ≡ moveRow (beltsMove a row toward size) r → x ≡ image (nextRecord i (bit r))
     unfolding moveOf
     belts-move {row} {mask} {toward} {size} e = moves (Belts row mask toward size) e refl (λ a. beltsMove a row toward size) refl h x small
 
-    pub shuttles-move : {side mask orientation toward : ℕ} → i ≡ Shuttles side mask orientation toward → x ≡ moveRow (shuttlesMove a toward) r → x ≡ image (next i (bit r))
+    pub shuttles-move : {side mask orientation toward : ℕ} → i ≡ Shuttles side mask orientation toward → x ≡ moveRow (shuttlesMove a toward) r → x ≡ image (nextRecord i (bit r))
     unfolding moveOf
     shuttles-move {side} {mask} {orientation} {toward} e = moves (Shuttles side mask orientation toward) e refl (λ a. shuttlesMove a toward) refl h x small
 
-    pub tilt-move : {side row orientation : ℕ} → i ≡ Tilt side row orientation → x ≡ moveRow (tiltMove a orientation) r → x ≡ image (next i (bit r))
+    pub tilt-move : {side row orientation : ℕ} → i ≡ Tilt side row orientation → x ≡ moveRow (tiltMove a orientation) r → x ≡ image (nextRecord i (bit r))
     unfolding moveOf
     tilt-move {side} {row} {orientation} e = moves (Tilt side row orientation) e refl (λ a. tiltMove a orientation) refl h x small

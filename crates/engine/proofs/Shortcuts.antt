@@ -24,9 +24,9 @@ use Rattle.rules.specs.Verdicts.{judged}
 use Rattle.areas.specs.Private.{areaMask, beltsMask}
 use Rattle.areas.specs.Located.{locate}
 use Rattle.areas.proofs.Areas.{area-right}
-use Rattle.rows.specs.Private.{judgedRow, asked, beltsRow, beltsMove, moveRow, gaps, within, others, cellsIn, firstIn}
+use Rattle.rows.specs.Private.{judgedRow, looksAsked, beltsRow, beltsMove, moveRow, gaps, spanWithin, others, cellsOfArea, firstIn}
 use Rattle.engine.specs.Judged.{judge, codeNext}
-use Rattle.engine.specs.Private.{runs, named, accepting}
+use Rattle.engine.specs.Private.{runs, codeRuns, accepting}
 use Rattle.engine.proofs.Answers.{area-is, code-judged, code-next}
 use Rattle.engine.proofs.Ruling.{belts-judge, belts-move}
 use Rattle.engine.proofs.Lifting.{lift-law}
@@ -45,7 +45,7 @@ module _ (x : Code) (i : Instruction) (w : wellFormed i ≡ true) (s : readCode 
 -- ---- belts
 
 -- a row passes if what looks at the record accepts
-accepted : (care need m room r : ℕ) (why late : Reason) → accepting care need m room r ≡ true → judgedRow (asked care need why false m room late) r ≡ Verdict.Allowed
+accepted : (care need m room r : ℕ) (why late : Reason) → accepting care need m room r ≡ true → judgedRow (looksAsked care need why false m room late) r ≡ Verdict.Allowed
 accepted care need m room r why late e =
     let a = eqb (bitAnd r care) need in
     let b = not (eqb room 0) in
@@ -56,7 +56,7 @@ accepted care need m room r why late e =
     let (h, k) = both a b q in
     rw (h, k, g, f)
 
-module _ (x : Code) (a : ℕ) (e : named x a ≡ true) where
+module _ (x : Code) (a : ℕ) (e : codeRuns x a ≡ true) where
   parts : (eqb (x .op) 1 ≡ true) × (leb (x .c) 1 ≡ true) × (leb (x .d) 1 ≡ true) × (beltsNamed (x .a) (x .b) ≡ true) × (not (eqb (x .b) 0) ≡ true)
       × (not (gaps (x .b)) ≡ true) × (a ≡ beltsMask (x .a) (x .b))
   parts =
@@ -82,14 +82,14 @@ module _ (x : Code) (a : ℕ) (e : named x a ≡ true) where
   pub toward-small : x .c < 2
   toward-small = omega (arith, leb-true (x .c) 1 (parts .1))
 
-  pub belts-allowed : (r : ℕ) {n w : ℕ} {ok : Bool} → n ≡ step (x .a) (x .d) → w ≡ within (cellsIn a) (x .c) n
-      → ok ≡ accepting (bitAnd a 0x6FFF0000000000) (bitAnd a 0x4FFF0000000000) (firstIn a) (bitAnd (cellsIn a) (others w)) r
+  pub belts-allowed : (r : ℕ) {n w : ℕ} {ok : Bool} → n ≡ step (x .a) (x .d) → w ≡ spanWithin (cellsOfArea a) (x .c) n
+      → ok ≡ accepting (bitAnd a 0x6FFF0000000000) (bitAnd a 0x4FFF0000000000) (firstIn a) (bitAnd (cellsOfArea a) (others w)) r
       → (eqb (x .a) 1 || eqb (x .d) 1) && ok ≡ true
       → judged (clauses (Belts (x .a) (x .b) (x .c) (x .d))) (bit r) ≡ Verdict.Allowed
   belts-allowed r {n} {w} {ok} f g h b =
       let (half, o) = both (eqb (x .a) 1 || eqb (x .d) 1) ok b in
       let c = accepted (bitAnd a 0x6FFF0000000000) (bitAnd a 0x4FFF0000000000) (firstIn a)
-      (bitAnd (cellsIn a) (others (within (cellsIn a) (x .c) (step (x .a) (x .d))))) r NotAvailable NotFree (rw (g, f) at (sym h ∙ o)) in
+      (bitAnd (cellsOfArea a) (others (spanWithin (cellsOfArea a) (x .c) (step (x .a) (x .d))))) r NotAvailable NotFree (rw (g, f) at (sym h ∙ o)) in
       sym (belts-judge (Belts (x .a) (x .b) (x .c) (x .d)) r a well placed refl) ∙ rw (half, parts .4, parts .5) c
 
   pub belts-told : (r : ℕ) → judged (clauses (Belts (x .a) (x .b) (x .c) (x .d))) (bit r) ≡ Verdict.Allowed → record { area = a; verdict = Verdict.Allowed } ≡ judge x r

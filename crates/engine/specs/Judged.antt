@@ -8,7 +8,7 @@ use Rattle.rules.specs.declared.Instruction.{Instruction}
 use Rattle.rules.specs.declared.Instruction.the-variants.{Belts, Shuttles, Tilt, Lift, Rotate}
 use Rattle.rules.specs.declared.Code.{Code}
 use Rattle.rules.specs.Named.{cells, rowsOf}
-use Rattle.rules.specs.Rules.{area, next}
+use Rattle.rules.specs.Rules.{area, nextRecord}
 use Rattle.rules.specs.Codes.{readCode}
 use Rattle.rules.specs.Verdicts.{onCode, codeVerdict}
 use Rattle.engine.specs.declared.Judged.{Judged}
@@ -27,4 +27,4 @@ unbroken Rotate = true
 
 -- the image after an instruction without a gap, whether the record allows it or not; with a gap, and of bad bytes, the image as it was
 unfoldable pub codeNext : Code → ℕ → ℕ
-codeNext x r = onCode (λ i. cond (unbroken i) (image (next i (bit r))) r) r (readCode x)
+codeNext x r = onCode (λ i. cond (unbroken i) (image (nextRecord i (bit r))) r) r (readCode x)

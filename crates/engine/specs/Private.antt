@@ -25,8 +25,8 @@ abbrev pub runs : ℕ → ℕ → ℕ → Bool
 runs row mask a = beltsNamed row mask && not (eqb mask 0) && not (gaps mask) && eqb a (beltsMask row mask)
 
 -- the same of five bytes
-abbrev pub named : Code → ℕ → Bool
-named x a = eqb (x .op) 1 && leb (x .c) 1 && leb (x .d) 1 && runs (x .a) (x .b) a
+abbrev pub codeRuns : Code → ℕ → Bool
+codeRuns x a = eqb (x .op) 1 && leb (x .c) 1 && leb (x .d) 1 && runs (x .a) (x .b) a
 
 -- a record has the bits that are needed, room that is there and free, and pairs
 abbrev pub accepting : ℕ → ℕ → ℕ → ℕ → ℕ → Bool

@@ -5,7 +5,7 @@ ghost use lib.Dec.{T};
 ghost use Rattle.rules.specs.declared.Instruction.{Instruction};
 ghost use Rattle.rules.specs.Named.{step};
 ghost use Rattle.rules.specs.Rules.{wellFormed};
-ghost use Rattle.rows.specs.Private.{judgedRow, asked, shifted, within, gaps, beltsRow, shuttlesRow, tiltRow, rotateRow};
+ghost use Rattle.rows.specs.Private.{judgedRow, looksAsked, shifted, spanWithin, gaps, beltsRow, shuttlesRow, tiltRow, rotateRow};
 use super::masks::CELLS;
 use super::masks::LOWERED;
 use super::masks::NEEDED;
@@ -32,7 +32,7 @@ fn judged(
     room: u64,
     late: Reason,
 ) -> Verdict
-    ensures { λ v. ⌜ v ≡ judgedRow (asked care need why early pairs room late) r ⌝ }
+    ensures { λ v. ⌜ v ≡ judgedRow (looksAsked care need why early pairs room late) r ⌝ }
 {
     let even = bits::even(r, pairs);
     if r & care != need {
@@ -71,7 +71,7 @@ pub fn shifted(m: u64, up: u8, down: u8) -> u64
 // The places of a span that are still in it when they are shifted by n.
 pub fn within(span: u64, toward: u8, n: u8) -> u64
     requires { ⌜ (toward < 2) × (n < 3) ⌝ }
-    ensures { λ x. ⌜ x ≡ within span toward n ⌝ }
+    ensures { λ x. ⌜ x ≡ spanWithin span toward n ⌝ }
 {
     span & shifted(span, (1 - toward) * n, toward * n)
 }

@@ -3,8 +3,8 @@ ghost use mathlib.Core.Path.{_≡_};
 ghost use mathlib.Core.Bool.{true};
 ghost use Rattle.bits.specs.Bits.{bit, image};
 ghost use Rattle.rules.specs.declared.Event.the-variants.{EndDone};
-ghost use Rattle.rules.specs.Rules.{wellFormed, area, clauses, next};
-ghost use Rattle.rules.specs.Events.{inTurn, possible, placesOpen, after};
+ghost use Rattle.rules.specs.Rules.{wellFormed, area, clauses, nextRecord};
+ghost use Rattle.rules.specs.Events.{inTurn, possible, placesOpen, afterEvent};
 ghost use Rattle.rules.specs.Verdicts.{judged, verdictOf, movedOf, drivenOf, codeVerdict, codeMoved};
 ghost use Rattle.rows.specs.Private.{whole};
 ghost use Rattle.engine.specs.Judged.{judge, codeNext};
@@ -73,7 +73,7 @@ fn told(i: Instruction, a: u64, r: u64) -> Verdict
 // The record after a well-formed instruction whose belts or rows leave no gap, given its area. Nothing is asked of the record.
 fn next(i: Instruction, a: u64, r: u64) -> u64
     requires { ⌜ (wellFormed i ≡ true) × (whole i ≡ true) × (a ≡ image (area i)) ⌝ }
-    ensures { λ x. ⌜ x ≡ image (next i (bit r)) ⌝ }
+    ensures { λ x. ⌜ x ≡ image (nextRecord i (bit r)) ⌝ }
 {
     match i {
         Instruction::Belts {
@@ -284,7 +284,7 @@ fn places_open(e: Event, r: u64) -> bool
 
 // A drive that is done: the car that was driven in is on the raised lift, one that was driven out is not.
 fn arrived(r: u64) -> u64
-    ensures { λ x. ⌜ x ≡ image (after EndDone (bit r)) ⌝ }
+    ensures { λ x. ⌜ x ≡ image (afterEvent EndDone (bit r)) ⌝ }
 {
     if bits::all(r, DRIVE_IN) {
         return bits::laid(r, RAISED_CAR_AND_DRIVES, RAISED_CAR);
@@ -294,7 +294,7 @@ fn arrived(r: u64) -> u64
 
 // The drive is under way, or at its end no more; where it is done, the raised lift has the car that was driven in, or none.
 fn after(e: Event, r: u64) -> u64
-    ensures { λ x. ⌜ x ≡ image (after e (bit r)) ⌝ }
+    ensures { λ x. ⌜ x ≡ image (afterEvent e (bit r)) ⌝ }
 {
     match e {
         Event::BeginIn => bits::laid(r, DRIVE_IN, DRIVE_IN),

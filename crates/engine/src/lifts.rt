@@ -5,7 +5,7 @@ ghost use lib.Dec.{T};
 ghost use Rattle.bits.specs.Bits.{bit, image};
 ghost use Rattle.bits.specs.Places.{places};
 ghost use Rattle.rules.specs.declared.Instruction.{Instruction};
-ghost use Rattle.rules.specs.Rules.{wellFormed, clauses, next};
+ghost use Rattle.rules.specs.Rules.{wellFormed, clauses, nextRecord};
 ghost use Rattle.rules.specs.Verdicts.{judged};
 ghost use Rattle.engine.specs.Private.{liftBits};
 use super::masks::height_is;
@@ -58,7 +58,7 @@ fn lift_bits(height: u8, car: bool) -> u64
 // Arriving in the basement, and leaving it, the car is taken along; between street and rotation only the height changes.
 pub fn lift_next(r: u64, height: u8) -> u64
     requires { ⌜ T (wellFormed (Instruction.Lift height)) ⌝ }
-    ensures { λ x. ⌜ x ≡ image (next (Instruction.Lift height) (bit r)) ⌝ }
+    ensures { λ x. ⌜ x ≡ image (nextRecord (Instruction.Lift height) (bit r)) ⌝ }
 {
     if height == 2 {
         return bits::laid(r, LIFT_AND_CELLS, lift_bits(height, bits::bit(r, RAISED)));

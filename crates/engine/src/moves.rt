@@ -1,7 +1,7 @@
 // What the success of an instruction changes, by a row of masks made from its area.
 ghost use mathlib.Core.Path.{_≡_};
 ghost use Prim.Native.Nat.{_<_};
-ghost use Rattle.rows.specs.Private.{carried, moveRow, beltsMove, shuttlesMove, tiltMove};
+ghost use Rattle.rows.specs.Private.{carriedBits, moveRow, beltsMove, shuttlesMove, tiltMove};
 use super::masks::CELLS;
 use super::masks::ROW_2;
 use super::masks::ROW_3;
@@ -14,7 +14,7 @@ use floor::masks::ROW_1;
 
 // What a car becomes: where all of these bits, if there are any, are 1, those become 1.
 fn carried(r: u64, from: u64, to: u64) -> u64
-    ensures { λ x. ⌜ x ≡ carried r from to ⌝ }
+    ensures { λ x. ⌜ x ≡ carriedBits r from to ⌝ }
 {
     if (r & from == from) & (from != 0) {
         return to;

@@ -8,7 +8,7 @@ ghost use Rattle.rules.specs.declared.Verdict.{Verdict};
 ghost use Rattle.rules.specs.Rules.{clauses};
 ghost use Rattle.rules.specs.Verdicts.{judged};
 ghost use Rattle.engine.specs.Judged.{judge};
-ghost use Rattle.engine.specs.Private.{runs, named, accepting};
+ghost use Rattle.engine.specs.Private.{runs, codeRuns, accepting};
 use super::judging::step;
 use super::judging::within;
 use super::masks::CELLS;
@@ -84,7 +84,7 @@ fn run(row: u8, mask: u8) -> u64
 
 // The area of well-formed belts without a gap.
 pub fn named(x: Code) -> u64
-    ensures { λ a. ⌜ ((a ≡ 0 → ⊥) → named x a ≡ true) ⌝ }
+    ensures { λ a. ⌜ ((a ≡ 0 → ⊥) → codeRuns x a ≡ true) ⌝ }
 {
     if x.op != 1 {
         return 0;
@@ -107,7 +107,7 @@ fn accepts(r: u64, care: u64, need: u64, pairs: u64, room: u64) -> bool
 
 // A record allows such belts.
 fn moves(x: Code, a: u64, r: u64) -> bool
-    requires { ⌜ named x a ≡ true ⌝ }
+    requires { ⌜ codeRuns x a ≡ true ⌝ }
     ensures { λ b. ⌜ (b ≡ true → judged (clauses (Instruction.Belts (x .a) (x .b) (x .c) (x .d))) (bit r) ≡ Verdict.Allowed) ⌝ }
 {
     let span = a & CELLS;

@@ -12,19 +12,19 @@ use Rattle.bits.proofs.Digits.{bit-none}
 use Rattle.floor.specs.Cars.{cars}
 use Rattle.floor.specs.Sound.{paired, sound, total}
 use Rattle.rules.specs.declared.Code.{Code}
-use Rattle.rules.specs.Rules.{allowed, next}
-use Rattle.rules.specs.Events.{inTurn, possible, placesOpen, after}
+use Rattle.rules.specs.Rules.{allowed, nextRecord}
+use Rattle.rules.specs.Events.{inTurn, possible, placesOpen, afterEvent}
 use Rattle.rules.specs.Codes.{codeOf, readCode}
 use Rattle.rules.specs.Verdicts.{verdictOf, codeVerdict}
-use Rattle.garage.specs.declared.Station.{Station}
-use Rattle.garage.specs.Held.{codeAt, isGood, heldArea, heldAllowed, heldNext, heldAfter, heldParts, partsIn}
-use Rattle.garage.specs.Held.{touches, overlapsEarlier, liftIn, crossesDrive}
-use Rattle.garage.specs.Station.{startOf, marked, fit, answering}
-use Rattle.garage.specs.Calls.{accepted, spared, cleared, requested, request, occurred, driven, evented, event}
-use Rattle.garage.specs.Calls.{ended, numbered, timely, resulted, result}
-use Rattle.garage_laws.specs.Runs.{calls, atStart}
-use Rattle.garage_laws.specs.Jams.{stuck, has}
-use Rattle.garage_laws.specs.Motion.{Moving, movedOn, inFact, AllWaiting, asItHappened}
+use Rattle.station.specs.declared.Station.{Station}
+use Rattle.station.specs.Held.{codeAt, isGood, heldArea, heldAllowed, heldNext, heldAfter, heldParts, partsIn}
+use Rattle.station.specs.Held.{touches, overlapsEarlier, liftIn, crossesDrive}
+use Rattle.station.specs.Station.{startOf, marked, fit, answering}
+use Rattle.station.specs.Calls.{accepted, spared, cleared, requested, request, occurred, driven, evented, event}
+use Rattle.station.specs.Calls.{ended, numbered, timely, resulted, result}
+use Rattle.station_laws.specs.Runs.{calls, atStart}
+use Rattle.station_laws.specs.Jams.{stuck, has}
+use Rattle.station_laws.specs.Motion.{Moving, movedOn, inFact, AllWaiting, asItHappened}
 use Rattle.examples.specs.Motion.{goingOn, allThree, onlyTwo, WorkedExample}
 
 -- the station after the calls
@@ -49,8 +49,8 @@ computed :
     × (movedOn (there .set) jam allThree (there .bits) ≡ 0x00403F0000001800)
     × (movedOn (there .set) jam onlyTwo (there .bits) ≡ 0x00103F0000000000)
     × (calls there (asItHappened 1 allThree (1 ∷ 0 ∷ [])) .bits ≡ 0x00413B0000001800)
-unfolding cars paired sound total packed some every least codeOf readCode allowed next verdictOf codeVerdict
-    inTurn possible placesOpen after
+unfolding cars paired sound total packed some every least codeOf readCode allowed nextRecord verdictOf codeVerdict
+    inTurn possible placesOpen afterEvent
     codeAt isGood heldArea heldAllowed heldNext heldAfter heldParts partsIn touches overlapsEarlier liftIn crossesDrive fit answering
     accepted spared cleared requested request occurred driven evented event ended numbered timely resulted result
 computed = (refl, refl, refl, refl, refl)

@@ -4,15 +4,15 @@ use mathlib.Core.Path.{_≡_}
 use mathlib.Core.List.{List, [], _∷_}
 use Rattle.floor.specs.Floor.{left, right, basement}
 use Rattle.rules.specs.declared.Instruction.the-variants.{Lift}
-use Rattle.garage.specs.Station.{startOf}
-use Rattle.garage_laws.specs.Runs.{Call, calls, Begins}
-use Rattle.garage_laws.specs.Motion.{Moving, ofSet, ofStuck, Unheard, inFact, AllWaiting, asItHappened}
-use Rattle.examples.specs.Table.{beginIn, endDone, asking, stuck, lowers}
+use Rattle.station.specs.Station.{startOf}
+use Rattle.station_laws.specs.Runs.{Call, calls, Begins}
+use Rattle.station_laws.specs.Motion.{Moving, ofSet, ofStuck, Unheard, inFact, AllWaiting, asItHappened}
+use Rattle.examples.specs.Table.{beginIn, endDone, setRequest, stuckResult, lowers}
 
 -- from the start a car is driven in; the left shuttle of row 3 sticks as it is lowered; then the lift is to go to the basement, and the
 -- right shuttle of row 3 to be lowered, and nothing is heard of either
 abbrev pub goingOn : List Call
-goingOn = beginIn ∷ endDone ∷ asking (lowers left ∷ []) ∷ stuck 0 0 ∷ asking (Lift basement ∷ lowers right ∷ []) ∷ []
+goingOn = beginIn ∷ endDone ∷ setRequest (lowers left ∷ []) ∷ stuckResult 0 0 ∷ setRequest (Lift basement ∷ lowers right ∷ []) ∷ []
 
 -- all three have finished, the lift last; or the lift has not
 abbrev pub allThree : List Moving

@@ -19,7 +19,7 @@ use Rattle.floor.specs.Floor.{beltOf, left, right, lowered, slot, place,
 use Rattle.floor.specs.Tests.{Test, fact, set, free, either, no, holds, allHold, atBasement}
 use Rattle.floor.specs.Cars.{Car, pair, single, raised, covered, AllStand, Layout}
 use Rattle.floor.specs.Sound.{soundRules}
-use Rattle.floor.specs.Belts.{present, liftRaised}
+use Rattle.floor.specs.Belts.{beltThere, liftRaised}
 use Rattle.floor.specs.Promises.{OnBelts}
 use Rattle.floor.proofs.Reading.{nth-holds}
 use Rattle.floor.proofs.Layouts.{at-other}
@@ -57,7 +57,7 @@ module _ (f : Bits) (r : T (allHold soundRules f)) where
   on-shuttle ks s h k m o = and-intro (or-else ks (set (s ∷ [])) f h k m o) refl
 
   -- cell by cell, in the ranges of `beltOf`
-  on-belt : (k : ℕ) → k < 40 → f k ≡ true → holds (present (beltOf k)) f ≡ true
+  on-belt : (k : ℕ) → k < 40 → f k ≡ true → holds (beltThere (beltOf k)) f ≡ true
   unfolding beltOf
   on-belt k h o =
       split (ltb k 2) (λ a. rw a (on-shuttle (place left 1) (slot left lowered 1) (rule 0) k (elem-from k 0 2 (omega arith) (ltb-true k 2 a)) o))

@@ -11,8 +11,8 @@ use Rattle.floor.specs.declared.Total.{Total}
 use Rattle.floor.specs.declared.Total.the-variants.{Cars, Unsound}
 
 -- a shuttle's cell is occupied only if a lowered shuttle is there
-abbrev pub carried : ℕ → ℕ → Test
-carried side row = either (free (place side row)) (set (slot side lowered row ∷ []))
+abbrev pub carriedByShuttle : ℕ → ℕ → Test
+carriedByShuttle side row = either (free (place side row)) (set (slot side lowered row ∷ []))
 
 -- cells 11 and 12 are occupied only at basement height; the raised lift is only at the others
 abbrev pub onLift : Test
@@ -44,7 +44,7 @@ drivesOutOfFull = either (free (driveOut ∷ [])) (set (raisedCar ∷ []))
 -- what a sound record keeps besides its layout; of drives, at most one is under way
 abbrev pub soundRules : List Test
 soundRules =
-    carried left 1 ∷ carried left 2 ∷ carried left 3 ∷ carried right 1 ∷ carried right 2 ∷ carried right 3
+    carriedByShuttle left 1 ∷ carriedByShuttle left 2 ∷ carriedByShuttle left 3 ∷ carriedByShuttle right 1 ∷ carriedByShuttle right 2 ∷ carriedByShuttle right 3
     ∷ onLift ∷ onRaisedLift
     ∷ threeShuttles left ∷ threeShuttles right
     ∷ no (heightIs 3)
@@ -72,3 +72,8 @@ sound r = paired 20 0 false (bit r) && allHold soundRules (bit r)
 -- how many cars it has: told of sound records only
 unfoldable pub total : ℕ → Total
 total r = cond (sound r) (Cars (cars (bit r))) Unsound
+
+-- how many cars a total says, none where the record isn't sound
+abbrev pub carsIn : Total → ℕ
+carsIn (Cars n) = n
+carsIn Unsound = 0

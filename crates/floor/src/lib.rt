@@ -7,7 +7,7 @@ ghost use Rattle.bits.specs.Places.{places};
 ghost use Rattle.floor.specs.Floor.{beltOf, left, right, drives};
 ghost use Rattle.floor.specs.Tests.{set, exactly, free, no, both, either, holds, allHold, underWay};
 ghost use Rattle.floor.specs.Cars.{cars};
-ghost use Rattle.floor.specs.Sound.{carried, onLift, onRaisedLift, drivesAtStreet, drivesIntoEmpty, drivesOutOfFull, soundRules, paired, sound, total};
+ghost use Rattle.floor.specs.Sound.{carriedByShuttle, onLift, onRaisedLift, drivesAtStreet, drivesIntoEmpty, drivesOutOfFull, soundRules, paired, sound, total};
 
 pub mod masks;
 
@@ -93,7 +93,7 @@ fn carries(r: u64, cells: u64, slot: u64) -> bool
 
 // The same of all six lowered slots: left rows 1 to 3, right rows 1 to 3.
 fn all_carry(r: u64) -> bool
-    ensures { λ b. ⌜ b ≡ allHold (carried left 1 ∷ carried left 2 ∷ carried left 3 ∷ carried right 1 ∷ carried right 2 ∷ carried right 3 ∷ []) (bit r) ⌝ }
+    ensures { λ b. ⌜ b ≡ allHold (carriedByShuttle left 1 ∷ carriedByShuttle left 2 ∷ carriedByShuttle left 3 ∷ carriedByShuttle right 1 ∷ carriedByShuttle right 2 ∷ carriedByShuttle right 3 ∷ []) (bit r) ⌝ }
 {
     carries(r, LEFT_CELLS_1, LEFT_SLOT_1)
         & carries(r, LEFT_CELLS_2, LEFT_SLOT_2)

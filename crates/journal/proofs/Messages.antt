@@ -7,34 +7,34 @@ use native.Mathlib.Omega.{arith}
 use lib.ListN.{length, take, drop, length-append, take-append-drop}
 use lib.Seq.{drop-at}
 use Rattle.bits.specs.Places.{join}
-use Rattle.garage.specs.declared.Station.{Station}
+use Rattle.station.specs.declared.Station.{Station}
 use Rattle.wire.specs.declared.Frame.{Frame}
 use Rattle.wire.specs.declared.Frame.the-variants.{Cut, Wrong, Whole}
 use Rattle.wire.specs.Reads.{frameOf}
 use Rattle.service.specs.Service.{respond, answerBytes}
-use Rattle.service.specs.Runs.{run, further}
+use Rattle.service.specs.Runs.{run, runFurther}
 use Rattle.service.proofs.Running.{none-cut, shorter, turn-whole, further-none, further-more}
 use Rattle.service.proofs.Pieces.{whole-more, reply-more}
-use Rattle.journal.specs.Journal.{Messages, stationAfter, repliesTo}
+use Rattle.journal.specs.Journal.{Messages, stationAfterMessages, repliesTo}
 use Rattle.journal.specs.Statements.{Behind}
 use Rattle.journal.proofs.Frames.{whole-alone}
 
 run-message : (s : Station) (m rest : List ℕ) → frameOf m ≡ Whole (length m)
-    → run s (m ++ rest) ≡ further (length m) (answerBytes (respond s m .answer)) (run (respond s m .station) rest)
+    → run s (m ++ rest) ≡ runFurther (length m) (answerBytes (respond s m .answer)) (run (respond s m .station) rest)
 run-message s m rest e =
     turn-whole s (m ++ rest) (length m) (whole-more m rest (length m) e)
     ∙ rw (reply-more s m rest (length m) e, drop-at m rest (length m) refl)
 
 -- the messages are answered, and then the rest
 pub run-messages : (s : Station) (ms : List (List ℕ)) (rest : List ℕ) → Messages ms
-    → run s (join ms ++ rest) ≡ further (length (join ms)) (repliesTo s ms) (run (stationAfter s ms) rest)
+    → run s (join ms ++ rest) ≡ runFurther (length (join ms)) (repliesTo s ms) (run (stationAfterMessages s ms) rest)
 run-messages s [] rest w = further-none (run s rest)
 run-messages s (m ∷ ms) rest (e, w) =
     let x = respond s m in
     ap (run s) (append-assoc m (join ms) rest)
     ∙ run-message s m (join ms ++ rest) e
-    ∙ ap (further (length m) (answerBytes (x .answer))) (run-messages (x .station) ms rest w)
-    ∙ further-more (length m) (length (join ms)) (answerBytes (x .answer)) (repliesTo (x .station) ms) (run (stationAfter (x .station) ms) rest)
+    ∙ ap (runFurther (length m) (answerBytes (x .answer))) (run-messages (x .station) ms rest w)
+    ∙ further-more (length m) (length (join ms)) (answerBytes (x .answer)) (repliesTo (x .station) ms) (run (stationAfterMessages (x .station) ms) rest)
     ∙ rw (length-append m (join ms))
 
 -- one message more at the front

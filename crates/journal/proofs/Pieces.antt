@@ -10,18 +10,18 @@ use borrow.Author.Tests.{le-leb}
 use lib.ListN.{length, take, drop, length-append, length-take, length-drop}
 use lib.Seq.{take-at, drop-at}
 use Rattle.bits.specs.Places.{join}
-use Rattle.garage.specs.declared.Station.{Station}
-use Rattle.garage.specs.Station.{startOf}
+use Rattle.station.specs.declared.Station.{Station}
+use Rattle.station.specs.Station.{startOf}
 use Rattle.wire.specs.declared.Frame.the-variants.{Cut, Wrong}
 use Rattle.wire.specs.Reads.{frameOf}
 use Rattle.service.specs.Runs.{Ran, run, serving, enough}
 use Rattle.service.proofs.Running.{turn-cut}
 use Rattle.service.proofs.Pieces.{left-cut, wrong-more, unless-stopped}
-use Rattle.turns.specs.declared.Turned.{Turned}
-use Rattle.turns.specs.Turns.{holding, Turns, turning}
+use Rattle.service.specs.declared.buffer.Turned.{Turned}
+use Rattle.service.specs.Turns.{holdingFront, Turns, turning}
 use Rattle.journal.specs.declared.Replay.{Replay}
-use Rattle.journal.specs.Journal.{Messages, stationAfter, Replayed, replayOn, counted}
-use Rattle.journal.specs.Pieces.{further, replayFed, Replays, replaying}
+use Rattle.journal.specs.Journal.{Messages, stationAfterMessages, Replayed, replayOn, counted}
+use Rattle.journal.specs.Pieces.{replayFurther, replayFed, Replays, replaying}
 use Rattle.journal.specs.Statements.{Behind, ReplayCutAnywhere, ReplayFeeds}
 use Rattle.journal.proofs.Messages.{run-messages, parsed}
 use Rattle.journal.proofs.Restart.{messages-cut}
@@ -31,7 +31,7 @@ use Rattle.journal.proofs.Which.{messages-wrong, used-within}
 
 -- what is held after a turn is no more than there was
 pub held-within : (s : Station) (buf : List ℕ) (end : ℕ) (room : List ℕ) (t : Turned) → t ≡ turning s buf end room .says → t .have ≤ end
-unfolding turning holding
+unfolding turning holdingFront
 held-within s buf end room t e =
     let w = serving s (take end buf) room .says in
     let l = length-drop (w .used) (take end buf) in
@@ -53,12 +53,12 @@ told r = record { station = r .station; whole = r .used; damaged = r .stop }
 
 -- the whole messages first, and then what stands behind them
 replay-behind : (s : Station) (ms : List (List ℕ)) (rest : List ℕ) → Messages ms
-    → replayOn s (join ms ++ rest) ≡ further (length (join ms)) (replayOn (stationAfter s ms) rest)
+    → replayOn s (join ms ++ rest) ≡ replayFurther (length (join ms)) (replayOn (stationAfterMessages s ms) rest)
 replay-behind s ms rest w = ap told (run-messages s ms rest w)
 
 -- the replay of a piece, and then of what it left with more behind it
 abbrev onwards : Replayed → List ℕ → List ℕ → Replayed
-onwards r a t = cond (r .damaged) r (further (r .whole) (replayOn (r .station) (drop (r .whole) a ++ t)))
+onwards r a t = cond (r .damaged) r (replayFurther (r .whole) (replayOn (r .station) (drop (r .whole) a ++ t)))
 
 replay-more : (s : Station) (a t : List ℕ) → replayOn s (a ++ t) ≡ onwards (replayOn s a) a t
 replay-more s a t = by (parsed a)
@@ -66,17 +66,17 @@ replay-more s a t = by (parsed a)
     by : Behind Cut a ⊎ Behind Wrong a → replayOn s (a ++ t) ≡ onwards (replayOn s a) a t
     by (inl b) =
         let ms = b .messages in
-        let whole : replayOn s a ≡ record { station = stationAfter s ms; whole = length (join ms); damaged = false } =
+        let whole : replayOn s a ≡ record { station = stationAfterMessages s ms; whole = length (join ms); damaged = false } =
         ap (replayOn s) (b .bytes-are) ∙ ap told (messages-cut s ms (b .rest) (b .each) (b .first)) in
         let left : drop (length (join ms)) a ≡ b .rest = ap (drop (length (join ms))) (b .bytes-are) ∙ drop-at (join ms) (b .rest) (length (join ms)) refl in
         ap (λ (l : List ℕ). replayOn s (l ++ t)) (b .bytes-are)
         ∙ ap (replayOn s) (append-assoc (join ms) (b .rest) t)
         ∙ replay-behind s ms (b .rest ++ t) (b .each)
-        ∙ ap (λ (l : List ℕ). further (length (join ms)) (replayOn (stationAfter s ms) (l ++ t))) (sym left)
+        ∙ ap (λ (l : List ℕ). replayFurther (length (join ms)) (replayOn (stationAfterMessages s ms) (l ++ t))) (sym left)
         ∙ ap (λ (r : Replayed). onwards r a t) (sym whole)
     by (inr b) =
         let ms = b .messages in
-        let damage : (rest : List ℕ) → frameOf rest ≡ Wrong → replayOn s (join ms ++ rest) ≡ record { station = stationAfter s ms; whole = length (join ms); damaged = true } =
+        let damage : (rest : List ℕ) → frameOf rest ≡ Wrong → replayOn s (join ms ++ rest) ≡ record { station = stationAfterMessages s ms; whole = length (join ms); damaged = true } =
         λ rest e. ap told (messages-wrong s ms rest (b .each) e) in
         ap (λ (l : List ℕ). replayOn s (l ++ t)) (b .bytes-are)
         ∙ ap (replayOn s) (append-assoc (join ms) (b .rest) t)
@@ -90,7 +90,7 @@ all-pieces s held (p ∷ ps) e =
     let a = held ++ p in
     let r = replayOn s a in
     unless-stopped (r .damaged) r
-    (λ q. ap (further (r .whole)) (all-pieces (r .station) (drop (r .whole) a) ps (left-cut (length a) s a (omega arith) q)))
+    (λ q. ap (replayFurther (r .whole)) (all-pieces (r .station) (drop (r .whole) a) ps (left-cut (length a) s a (omega arith) q)))
     ∙ sym (ap (replayOn s) (sym (append-assoc held p (join ps))) ∙ replay-more s a (join ps))
 
 pub replay-cut-anywhere : ReplayCutAnywhere
@@ -108,7 +108,7 @@ record Turned-as (s : Station) (input : List ℕ) (t : Turned) (held : List ℕ)
 turned-as : (s : Station) (held piece past room : List ℕ) → enough (length (held ++ piece)) ≤ length room
     → let t = turning s (held ++ (piece ++ past)) (length held + length piece) room in
     Turned-as s (held ++ piece) (t .says) (take (t .says .have) (t .buffer))
-unfolding turning holding serving
+unfolding turning holdingFront serving
 turned-as s held piece past room h =
     let input = held ++ piece in
     let buf = held ++ (piece ++ past) in
@@ -139,6 +139,6 @@ replay-feeds s n held piece past room pieces h small =
     small-count m g = omega arith
 
     fed : (m : ℕ) (b : Bool) (r x : Replayed) → r .damaged ≡ b
-        → further m (cond b r (further (r .whole) x)) ≡ cond b (record { station = r .station; whole = m + r .whole; damaged = true }) (further (m + r .whole) x)
+        → replayFurther m (cond b r (replayFurther (r .whole) x)) ≡ cond b (record { station = r .station; whole = m + r .whole; damaged = true }) (replayFurther (m + r .whole) x)
     fed m true r x e = rw e
     fed m false r x e = rw add-assoc

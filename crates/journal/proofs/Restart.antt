@@ -11,15 +11,15 @@ use lib.ListN.{length, take, drop}
 use lib.Seq.{take-at, take-append-le, take-append-add, take-nil, drop-length}
 use Rattle.bits.specs.Places.{join}
 use Rattle.bits.proofs.Cases.{split}
-use Rattle.garage.specs.declared.Station.{Station}
-use Rattle.garage.specs.Station.{startOf}
+use Rattle.station.specs.declared.Station.{Station}
+use Rattle.station.specs.Station.{startOf}
 use Rattle.wire.specs.declared.Frame.the-variants.{Cut}
 use Rattle.wire.specs.Reads.{frameOf}
 use Rattle.service.specs.Service.{answersOn}
-use Rattle.service.specs.Runs.{Ran, run, further, feed}
+use Rattle.service.specs.Runs.{Ran, run, runFurther, feed}
 use Rattle.service.proofs.Running.{turn-cut}
 use Rattle.service.proofs.Pieces.{no-input, cut-anywhere}
-use Rattle.journal.specs.Journal.{Messages, stationAfter, repliesTo, within, Replayed, replayOn, replay}
+use Rattle.journal.specs.Journal.{Messages, stationAfterMessages, repliesTo, wholeWithin, Replayed, replayOn, replay}
 use Rattle.journal.specs.Statements.{GoesOn, TornTail, GoesOnTorn}
 use Rattle.journal.proofs.Frames.{front-cut}
 use Rattle.journal.proofs.Messages.{run-messages}
@@ -28,22 +28,22 @@ use Rattle.journal.proofs.Messages.{run-messages}
 
 -- behind them less than a message
 pub messages-cut : (s : Station) (ms : List (List ℕ)) (rest : List ℕ) → Messages ms → frameOf rest ≡ Cut
-    → run s (join ms ++ rest) ≡ record { station = stationAfter s ms; used = length (join ms); bytes = repliesTo s ms; stop = false }
+    → run s (join ms ++ rest) ≡ record { station = stationAfterMessages s ms; used = length (join ms); bytes = repliesTo s ms; stop = false }
 messages-cut s ms rest w e =
-    run-messages s ms rest w ∙ ap (further (length (join ms)) (repliesTo s ms)) (turn-cut (stationAfter s ms) rest e) ∙ rw (append-nil, add-zero)
+    run-messages s ms rest w ∙ ap (runFurther (length (join ms)) (repliesTo s ms)) (turn-cut (stationAfterMessages s ms) rest e) ∙ rw (append-nil, add-zero)
 
 -- and nothing
 pub messages-alone : (s : Station) (ms : List (List ℕ)) → Messages ms
-    → run s (join ms) ≡ record { station = stationAfter s ms; used = length (join ms); bytes = repliesTo s ms; stop = false }
+    → run s (join ms) ≡ record { station = stationAfterMessages s ms; used = length (join ms); bytes = repliesTo s ms; stop = false }
 messages-alone s ms w = ap (run s) (sym (append-nil (join ms))) ∙ messages-cut s ms [] w refl
 
 -- what is answered to messages and what follows them
 pub goes-on-from : (s : Station) (ms : List (List ℕ)) (input : List ℕ) → Messages ms
-    → answersOn s (join ms ++ input) ≡ repliesTo s ms ++ answersOn (stationAfter s ms) input
+    → answersOn s (join ms ++ input) ≡ repliesTo s ms ++ answersOn (stationAfterMessages s ms) input
 unfolding feed
 goes-on-from s ms input w =
     let a = join ms in
-    let x = stationAfter s ms in
+    let x = stationAfterMessages s ms in
     ap (λ (l : List ℕ). answersOn s (a ++ l)) (sym (append-nil input))
     ∙ sym (cut-anywhere s (a ∷ input ∷ []))
     ∙ ap (λ (r : Ran). r .bytes ++ cond (r .stop) [] (feed (r .station) (drop (r .used) a) (input ∷ []))) (messages-alone s ms w)
@@ -55,11 +55,11 @@ answers-alone : (s : Station) (ms : List (List ℕ)) → Messages ms → answers
 answers-alone s ms w =
     ap (answersOn s) (sym (append-nil (join ms)))
     ∙ goes-on-from s ms [] w
-    ∙ ap (_++_ (repliesTo s ms)) (no-input (stationAfter s ms))
+    ∙ ap (_++_ (repliesTo s ms)) (no-input (stationAfterMessages s ms))
     ∙ append-nil (repliesTo s ms)
 
 pub replay-messages : (s : Station) (ms : List (List ℕ)) → Messages ms
-    → replayOn s (join ms) ≡ record { station = stationAfter s ms; whole = length (join ms); damaged = false }
+    → replayOn s (join ms) ≡ record { station = stationAfterMessages s ms; whole = length (join ms); damaged = false }
 replay-messages s ms w = ap (λ (r : Ran). record { station = r .station; whole = r .used; damaged = r .stop }) (messages-alone s ms w)
 
 pub goes-on : GoesOn
@@ -77,7 +77,7 @@ record Torn (bytes : List ℕ) (ks : List (List ℕ)) : Type 0 where
   bytes-are : bytes ≡ join ks ++ rest
   first : frameOf rest ≡ Cut
 
-torn : (n : ℕ) (ms : List (List ℕ)) → Messages ms → Torn (take n (join ms)) (within n ms)
+torn : (n : ℕ) (ms : List (List ℕ)) → Messages ms → Torn (take n (join ms)) (wholeWithin n ms)
 torn n [] w = record { rest = []; each = tt; bytes-are = take-nil n; first = refl }
 torn n (m ∷ ms) (e, w) =
     split (leb (length m) n)
@@ -88,7 +88,7 @@ torn n (m ∷ ms) (e, w) =
     (record {
       rest = t .rest;
       each = (e, t .each);
-      bytes-are = ap (λ (j : ℕ). take j (m ++ join ms)) k ∙ take-append-add m (join ms) (n - length m) ∙ ap (_++_ m) (t .bytes-are) ∙ sym (append-assoc m (join (within (n - length m) ms)) (t .rest));
+      bytes-are = ap (λ (j : ℕ). take j (m ++ join ms)) k ∙ take-append-add m (join ms) (n - length m) ∙ ap (_++_ m) (t .bytes-are) ∙ sym (append-assoc m (join (wholeWithin (n - length m) ms)) (t .rest));
       first = t .first;
     }))
     (λ h.
@@ -96,18 +96,18 @@ torn n (m ∷ ms) (e, w) =
     rw h (record { rest = take n m; each = tt; bytes-are = take-append-le n m (join ms) (omega arith); first = front-cut m n e (omega arith) }))
 
 replay-cut : (s : Station) (ms : List (List ℕ)) (rest : List ℕ) → Messages ms → frameOf rest ≡ Cut
-    → replayOn s (join ms ++ rest) ≡ record { station = stationAfter s ms; whole = length (join ms); damaged = false }
+    → replayOn s (join ms ++ rest) ≡ record { station = stationAfterMessages s ms; whole = length (join ms); damaged = false }
 replay-cut s ms rest w e = ap (λ (r : Ran). record { station = r .station; whole = r .used; damaged = r .stop }) (messages-cut s ms rest w e)
 
 pub torn-tail : TornTail
 torn-tail ms n w =
     let t = torn n ms w in
-    ap replay (t .bytes-are) ∙ replay-cut startOf (within n ms) (t .rest) (t .each) (t .first)
+    ap replay (t .bytes-are) ∙ replay-cut startOf (wholeWithin n ms) (t .rest) (t .each) (t .first)
 
 pub goes-on-torn : GoesOnTorn
 goes-on-torn ms n input w =
     let t = torn n ms w in
-    let ks = within n ms in
+    let ks = wholeWithin n ms in
     let told = torn-tail ms n w in
     let kept : take (replay (take n (join ms)) .whole) (take n (join ms)) ≡ join ks =
     ap (λ (r : Replayed). take (r .whole) (take n (join ms))) told

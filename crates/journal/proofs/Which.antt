@@ -11,35 +11,35 @@ use lib.Seq.{take-at, length-take-le}
 use Rattle.bits.specs.Places.{join}
 use Rattle.bits.proofs.Cases.{clash}
 use Rattle.answers.specs.declared.Answer.the-variants.{BadLength}
-use Rattle.garage.specs.declared.Station.{Station}
-use Rattle.garage.specs.Station.{startOf}
+use Rattle.station.specs.declared.Station.{Station}
+use Rattle.station.specs.Station.{startOf}
 use Rattle.wire.specs.declared.Frame.{Frame}
 use Rattle.wire.specs.declared.Frame.the-variants.{Cut, Wrong}
 use Rattle.wire.specs.Reads.{frameOf}
 use Rattle.service.specs.Service.{answerMessage, answerBytes}
-use Rattle.service.specs.Runs.{Ran, run, further}
+use Rattle.service.specs.Runs.{Ran, run, runFurther}
 use Rattle.service.proofs.Running.{turn-wrong}
-use Rattle.journal.specs.Journal.{Messages, stationAfter, repliesTo, Replayed, replay, counted, Follows}
-use Rattle.journal.specs.Statements.{Behind, DamagedExactly, SoundExactly, Recorded, OnlyMessages, KeepsUp, StaysJournaled}
+use Rattle.journal.specs.Journal.{Messages, stationAfterMessages, repliesTo, Replayed, replay, counted, Follows}
+use Rattle.journal.specs.Statements.{Behind, DamagedExactly, UndamagedExactly, Recorded, OnlyMessages, KeepsUp, StaysJournaled}
 use Rattle.journal.proofs.Messages.{run-messages, parsed}
 use Rattle.journal.proofs.Restart.{messages-cut, replay-messages}
 
 -- behind the messages a length out of range
 pub messages-wrong : (s : Station) (ms : List (List ℕ)) (rest : List ℕ) → Messages ms → frameOf rest ≡ Wrong
     → run s (join ms ++ rest)
-    ≡ record { station = stationAfter s ms; used = length (join ms); bytes = repliesTo s ms ++ answerBytes (answerMessage BadLength); stop = true }
+    ≡ record { station = stationAfterMessages s ms; used = length (join ms); bytes = repliesTo s ms ++ answerBytes (answerMessage BadLength); stop = true }
 messages-wrong s ms rest w e =
-    run-messages s ms rest w ∙ ap (further (length (join ms)) (repliesTo s ms)) (turn-wrong (stationAfter s ms) rest e) ∙ rw add-zero
+    run-messages s ms rest w ∙ ap (runFurther (length (join ms)) (repliesTo s ms)) (turn-wrong (stationAfterMessages s ms) rest e) ∙ rw add-zero
 
 -- a run by what stands behind the messages
 run-sound : (s : Station) (bytes : List ℕ) (b : Behind Cut bytes)
     → run s bytes
-    ≡ record { station = stationAfter s (b .messages); used = length (join (b .messages)); bytes = repliesTo s (b .messages); stop = false }
+    ≡ record { station = stationAfterMessages s (b .messages); used = length (join (b .messages)); bytes = repliesTo s (b .messages); stop = false }
 run-sound s bytes b = ap (run s) (b .bytes-are) ∙ messages-cut s (b .messages) (b .rest) (b .each) (b .first)
 
 run-damaged : (s : Station) (bytes : List ℕ) (b : Behind Wrong bytes)
     → run s bytes
-    ≡ record { station = stationAfter s (b .messages); used = length (join (b .messages)); bytes = repliesTo s (b .messages) ++ answerBytes (answerMessage BadLength); stop = true }
+    ≡ record { station = stationAfterMessages s (b .messages); used = length (join (b .messages)); bytes = repliesTo s (b .messages) ++ answerBytes (answerMessage BadLength); stop = true }
 run-damaged s bytes b = ap (run s) (b .bytes-are) ∙ messages-wrong s (b .messages) (b .rest) (b .each) (b .first)
 
 pub damaged-exactly : DamagedExactly
@@ -49,7 +49,7 @@ damaged-exactly bytes = (there (parsed bytes), λ b. ap (λ (r : Ran). r .stop) 
     there (inl b) d = clash d (ap (λ (r : Ran). r .stop) (run-sound startOf bytes b))
     there (inr b) d = b
 
-pub sound-exactly : SoundExactly
+pub sound-exactly : UndamagedExactly
 sound-exactly bytes = (there (parsed bytes), λ b. ap (λ (r : Ran). r .stop) (run-sound startOf bytes b))
   where
     there : Behind Cut bytes ⊎ Behind Wrong bytes → replay bytes .damaged ≡ false → Behind Cut bytes
@@ -77,7 +77,7 @@ used-within s input = by (parsed input)
 
 -- the messages that a run found
 abbrev before : (s : Station) (input : List ℕ) {f : Frame} (b : Behind f input) → run s input .used ≡ length (join (b .messages))
-    → run s input .station ≡ stationAfter s (b .messages) → Follows s (take (run s input .used) input) (run s input .station)
+    → run s input .station ≡ stationAfterMessages s (b .messages) → Follows s (take (run s input .used) input) (run s input .station)
 before s input b used station =
     record { messages = b .messages; each = b .each; bytes-are = front s input (b .rest) (b .messages) (b .bytes-are) used; station = station }
 
@@ -114,7 +114,7 @@ pub join-both : (ms ks : List (List ℕ)) → join (ms ++ ks) ≡ join ms ++ joi
 join-both [] ks = refl
 join-both (m ∷ ms) ks = ap (_++_ m) (join-both ms ks) ∙ sym (append-assoc m (join ms) (join ks))
 
-pub after-both : (s : Station) (ms ks : List (List ℕ)) → stationAfter s (ms ++ ks) ≡ stationAfter (stationAfter s ms) ks
+pub after-both : (s : Station) (ms ks : List (List ℕ)) → stationAfterMessages s (ms ++ ks) ≡ stationAfterMessages (stationAfterMessages s ms) ks
 after-both s [] ks = refl
 after-both s (m ∷ ms) ks = after-both _ ms ks
 
@@ -147,7 +147,7 @@ stays-journaled s next n bytes j f =
             messages = ms ++ ks;
             each = both-messages ms ks (g .each) (f .each);
             bytes-are = ap₂ _++_ (g .bytes-are) (f .bytes-are) ∙ sym (join-both ms ks);
-            station = f .station ∙ ap (λ (x : Station). stationAfter x ks) (g .station) ∙ sym (after-both startOf ms ks);
+            station = f .station ∙ ap (λ (x : Station). stationAfterMessages x ks) (g .station) ∙ sym (after-both startOf ms ks);
           };
       long = rw (j .long, length-append (j .bytes) bytes) (wrapped (length (j .bytes)) (length bytes));
     }

@@ -7,8 +7,8 @@ use Prim.Native.Nat.{ℕ, _-_, _%_, _^_}
 use lib.Dec.{leb}
 use lib.ListN.{length}
 use Rattle.bits.specs.Places.{join}
-use Rattle.garage.specs.declared.Station.{Station}
-use Rattle.garage.specs.Station.{startOf}
+use Rattle.station.specs.declared.Station.{Station}
+use Rattle.station.specs.Station.{startOf}
 use Rattle.wire.specs.declared.Frame.the-variants.{Whole}
 use Rattle.wire.specs.Reads.{frameOf}
 use Rattle.service.specs.Service.{respond, answerBytes}
@@ -20,9 +20,9 @@ Messages [] = Unit {0}
 Messages (m ∷ ms) = (frameOf m ≡ Whole (length m)) × Messages ms
 
 -- the station after some messages, one after the other
-abbrev pub stationAfter : Station → List (List ℕ) → Station
-stationAfter s [] = s
-stationAfter s (m ∷ ms) = stationAfter (respond s m .station) ms
+abbrev pub stationAfterMessages : Station → List (List ℕ) → Station
+stationAfterMessages s [] = s
+stationAfterMessages s (m ∷ ms) = stationAfterMessages (respond s m .station) ms
 
 -- what they are answered with
 abbrev pub repliesTo : Station → List (List ℕ) → List ℕ
@@ -30,9 +30,9 @@ repliesTo s [] = []
 repliesTo s (m ∷ ms) = answerBytes (respond s m .answer) ++ repliesTo (respond s m .station) ms
 
 -- those that lie whole within the first n bytes
-abbrev pub within : ℕ → List (List ℕ) → List (List ℕ)
-within n [] = []
-within n (m ∷ ms) = cond (leb (length m) n) (m ∷ within (n - length m) ms) []
+abbrev pub wholeWithin : ℕ → List (List ℕ) → List (List ℕ)
+wholeWithin n [] = []
+wholeWithin n (m ∷ ms) = cond (leb (length m) n) (m ∷ wholeWithin (n - length m) ms) []
 
 -- what the replay of some bytes tells: the station after the whole messages at their front, how many bytes these are, and whether the
 -- bytes are damaged behind them
@@ -58,7 +58,7 @@ pub record Follows (s : Station) (bytes : List ℕ) (next : Station) : Type 0 wh
   pub messages : List (List ℕ)
   pub each : Messages messages
   pub bytes-are : bytes ≡ join messages
-  pub station : next ≡ stationAfter s messages
+  pub station : next ≡ stationAfterMessages s messages
 
 -- the station is the one that a journal of so many bytes makes
 pub record Journaled (s : Station) (n : ℕ) : Type 0 where

@@ -4,17 +4,17 @@ use mathlib.Core.Bool.{false, cond}
 use mathlib.Core.List.{List, [], _∷_, _++_}
 use Prim.Native.Nat.{ℕ, _+_, _-_}
 use lib.ListN.{drop}
-use Rattle.garage.specs.declared.Station.{Station}
-use Rattle.garage.specs.Station.{startOf}
-use Rattle.turns.specs.Turns.{turning}
+use Rattle.station.specs.declared.Station.{Station}
+use Rattle.station.specs.Station.{startOf}
+use Rattle.service.specs.Turns.{turning}
 use Rattle.journal.specs.declared.Replay.{Replay}
 use Rattle.journal.specs.Journal.{Replayed, replayOn, counted}
 
 -- ---- what a replay gives that comes in pieces
 
 -- n bytes of whole messages before it
-abbrev pub further : ℕ → Replayed → Replayed
-further n r = record { station = r .station; whole = n + r .whole; damaged = r .damaged }
+abbrev pub replayFurther : ℕ → Replayed → Replayed
+replayFurther n r = record { station = r .station; whole = n + r .whole; damaged = r .damaged }
 
 -- each piece is put behind the bytes that are held from before, its whole messages are replayed, and the rest is held; where it is damaged
 -- nothing more is read
@@ -22,13 +22,13 @@ unfoldable pub replayFed : Station → List ℕ → List (List ℕ) → Replayed
 replayFed s held [] = record { station = s; whole = 0; damaged = false }
 replayFed s held (p ∷ ps) =
     let r = replayOn s (held ++ p) in
-    cond (r .damaged) r (further (r .whole) (replayFed (r .station) (drop (r .whole) (held ++ p)) ps))
+    cond (r .damaged) r (replayFurther (r .whole) (replayFed (r .station) (drop (r .whole) (held ++ p)) ps))
 
 -- ---- a piece in a buffer
 
 -- before the first piece
-abbrev pub begun : Replay
-begun = record { station = startOf; whole = 0; have = 0; damaged = false }
+abbrev pub replayBegun : Replay
+replayBegun = record { station = startOf; whole = 0; have = 0; damaged = false }
 
 -- what the replay of a piece says, and what it leaves in the buffer and in the room
 pub record Replaying : Type 0 where

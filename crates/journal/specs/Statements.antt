@@ -7,15 +7,15 @@ use Prim.Native.Nat.{ℕ, _+_, _≤_, _<_, _^_}
 use lib.ListN.{length, take}
 use Rattle.bits.specs.Places.{join}
 use Rattle.answers.specs.declared.Answer.the-variants.{BadLength}
-use Rattle.garage.specs.declared.Station.{Station}
-use Rattle.garage.specs.Station.{startOf}
+use Rattle.station.specs.declared.Station.{Station}
+use Rattle.station.specs.Station.{startOf}
 use Rattle.wire.specs.declared.Frame.{Frame}
 use Rattle.wire.specs.declared.Frame.the-variants.{Cut, Wrong}
 use Rattle.wire.specs.Reads.{frameOf}
 use Rattle.service.specs.Service.{respond, answers, answersOn, answerMessage, answerBytes}
 use Rattle.service.specs.Runs.{run, enough}
-use Rattle.journal.specs.Journal.{Messages, stationAfter, repliesTo, within, replay, counted, Follows, Journaled}
-use Rattle.journal.specs.Pieces.{further, replayFed, replaying}
+use Rattle.journal.specs.Journal.{Messages, stationAfterMessages, repliesTo, wholeWithin, replay, counted, Follows, Journaled}
+use Rattle.journal.specs.Pieces.{replayFurther, replayFed, replaying}
 
 -- ---- a restart
 
@@ -30,7 +30,7 @@ GoesOn =
 abbrev pub TornTail : Type 0
 TornTail =
     (ms : List (List ℕ)) (n : ℕ) → Messages ms
-    → replay (take n (join ms)) ≡ record { station = stationAfter startOf (within n ms); whole = length (join (within n ms)); damaged = false }
+    → replay (take n (join ms)) ≡ record { station = stationAfterMessages startOf (wholeWithin n ms); whole = length (join (wholeWithin n ms)); damaged = false }
 
 -- after a restart from a journal that was cut, with the rest cut off, the answers go on from the messages that are whole in it
 abbrev pub GoesOnTorn : Type 0
@@ -38,7 +38,7 @@ GoesOnTorn =
     (ms : List (List ℕ)) (n : ℕ) (input : List ℕ) → Messages ms
     → let torn = take n (join ms) in
     let kept = take (replay torn .whole) torn in
-    (kept ≡ join (within n ms)) × (answers (kept ++ input) ≡ answers kept ++ answersOn (replay torn .station) input)
+    (kept ≡ join (wholeWithin n ms)) × (answers (kept ++ input) ≡ answers kept ++ answersOn (replay torn .station) input)
 
 -- ---- which bytes are a journal
 
@@ -55,8 +55,8 @@ abbrev pub DamagedExactly : Type 0
 DamagedExactly = (bytes : List ℕ) → (replay bytes .damaged ≡ true) ↔ Behind Wrong bytes
 
 -- bytes are not damaged exactly if less than a message, or nothing, stands behind whole messages
-abbrev pub SoundExactly : Type 0
-SoundExactly = (bytes : List ℕ) → (replay bytes .damaged ≡ false) ↔ Behind Cut bytes
+abbrev pub UndamagedExactly : Type 0
+UndamagedExactly = (bytes : List ℕ) → (replay bytes .damaged ≡ false) ↔ Behind Cut bytes
 
 -- ---- what a turn appends
 
@@ -95,9 +95,9 @@ ReplayFeeds =
     → enough (length (held ++ piece)) ≤ length room → n + length (held ++ piece) < 2 ^ 64
     → let w = replaying (record { station = s; whole = n; have = length held; damaged = false }) (held ++ (piece ++ past)) (length held + length piece) room in
     let r = w .says in
-    further n (replayFed s held (piece ∷ pieces))
+    replayFurther n (replayFed s held (piece ∷ pieces))
     ≡ cond (r .damaged) (record { station = r .station; whole = r .whole; damaged = true })
-    (further (r .whole) (replayFed (r .station) (take (r .have) (w .buffer)) pieces))
+    (replayFurther (r .whole) (replayFed (r .station) (take (r .have) (w .buffer)) pieces))
 
 -- ---- that there are such journals
 

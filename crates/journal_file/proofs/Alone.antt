@@ -10,10 +10,10 @@ use lib.Dec.{eqb, leb}
 use lib.ListN.{length, getD, take, drop, length-take}
 use lib.Seq.{length-take-le}
 use Rattle.bits.proofs.Cases.{split}
-use Rattle.garage.specs.declared.Station.{Station}
+use Rattle.codec.specs.Bytes.{Bytes}
+use Rattle.station.specs.declared.Station.{Station}
 use Rattle.service.specs.Runs.{Serving, run, served, serving, enough}
-use Rattle.wire_laws.specs.Statements.{Bytes}
-use Rattle.wire_laws.proofs.Numbers.{bytes-take}
+use Rattle.codec.proofs.Numbers.{bytes-take}
 use Rattle.checksum.specs.Checksum.{crcOver}
 use Rattle.checksum.specs.Slices.{slices, crcBy}
 use Rattle.checksum.proofs.Promises.{by-slices}

@@ -10,9 +10,9 @@ use lib.Dec.{eqb, leb, ltb}
 use lib.ListN.{length, getD, take, drop, replicate, length-append, length-replicate}
 use lib.Seq.{take-take, getD-take, take-append-le, length-take-le}
 use Rattle.bits.proofs.Cases.{split, off, both}
-use Rattle.fours.specs.Fours.{fourAt}
+use Rattle.codec.specs.Fours.{fourAt}
 use Rattle.checksum.specs.Checksum.{crcOver}
-use Rattle.journal_file.specs.Appends.{Over, most, around, endMark, appendOf, carriedOf, payloadOf, titled, carried, noFront, frontOf, written, lostFrom, zeroed}
+use Rattle.journal_file.specs.Appends.{Over, mostCarried, around, endMark, appendOf, carriedOf, payloadOf, titled, payloadRight, noFront, frontOf, written, lostFrom, zeroed}
 use Rattle.journal_file.specs.Promises.{CutAppend, zerosFrom, ZeroedAppend}
 use Rattle.journal_file.proofs.Fronts.{Whole, whole}
 use Rattle.journal_file.proofs.Zeros.{written-most, in-opening, with-title}
@@ -30,7 +30,7 @@ said-by-opening m h =
 
 titled-by-opening : (over : Over) (sum : ℕ) (m : List ℕ) → 8 ≤ length m → titled over sum (take 8 m) ≡ titled over sum m
 titled-by-opening over sum m h =
-    ap₂ _&&_ (ap₂ eqb (said-by-opening m h) (ap (over sum) (take-take 4 8 m (omega arith)))) (ap (λ (k : ℕ). leb k most) (carried-by-opening m))
+    ap₂ _&&_ (ap₂ eqb (said-by-opening m h) (ap (over sum) (take-take 4 8 m (omega arith)))) (ap (λ (k : ℕ). leb k mostCarried) (carried-by-opening m))
 
 -- bytes that begin with the opening of an append
 module _ (sum kind : ℕ) (bytes : List ℕ) (small : sum < 2 ^ 32) (fits : length bytes ≤ 65536) where

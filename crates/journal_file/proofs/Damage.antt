@@ -12,21 +12,21 @@ use lib.Seq.{getD-take, getD-drop, ext-getD, take-take, drop-drop}
 use borrow.Author.Tests.{le-ltb, eqb-true, ltb-false}
 use Rattle.bits.proofs.Cases.{split, both}
 use Rattle.bits.proofs.Search.{lt-or-ge}
-use Rattle.wire.specs.Kinds.{fromLittleEndian}
-use Rattle.fours.specs.Fours.{fourAt}
+use Rattle.codec.specs.Bytes.{fromLittleEndian}
+use Rattle.codec.specs.Fours.{fourAt}
 use Rattle.checksum.specs.Checksum.{crcOver}
 use Rattle.checksum.specs.Bursts.{Burst}
 use Rattle.checksum.proofs.Bursts.{start-found}
 use Rattle.checksum.proofs.Promises.{crc-lt}
 use Rattle.checksum.proofs.Running.{four-at}
 use Rattle.checksum.proofs.Stored.{burst-drop, stored-burst-found}
-use Rattle.garage.specs.declared.Station.{Station}
-use Rattle.garage.specs.Station.{fit}
+use Rattle.station.specs.declared.Station.{Station}
+use Rattle.station.specs.Station.{fit}
 use Rattle.rooms.specs.Rooms.{lentStation}
 use Rattle.commands.specs.Words.{isText}
 use Rattle.journal_file.specs.declared.Kind.{Kind}
 use Rattle.journal_file.specs.declared.Kind.the-variants.{NoJournal, OtherFormat, Damaged, Unfit, Good}
-use Rattle.journal_file.specs.Appends.{most, endMark, carriedOf, payloadOf, titled, carried}
+use Rattle.journal_file.specs.Appends.{mostCarried, endMark, carriedOf, payloadOf, titled, payloadRight}
 use Rattle.journal_file.specs.Heads.{magic, format, headSize, headKind, headOf}
 use Rattle.journal_file.specs.Damage.{AppendBurstFound, HeadBurstFound, AppendInPlace}
 use Rattle.journal_file.proofs.Fronts.{Whole, whole, untitled, wrong-at}
@@ -35,9 +35,9 @@ use Rattle.journal_file.proofs.Fronts.{Whole, whole, untitled, wrong-at
 
 -- the checksums that a right title, and what is rightly carried, have
 pub title-sum : (sum : ℕ) (m : List ℕ) → titled crcOver sum m ≡ true → fourAt 4 m ≡ crcOver sum (take 4 m)
-title-sum sum m e = eqb-true (fourAt 4 m) (crcOver sum (take 4 m)) (both (eqb (fourAt 4 m) (crcOver sum (take 4 m))) (leb (carriedOf m) most) e .0)
+title-sum sum m e = eqb-true (fourAt 4 m) (crcOver sum (take 4 m)) (both (eqb (fourAt 4 m) (crcOver sum (take 4 m))) (leb (carriedOf m) mostCarried) e .0)
 
-pub carried-sum : (m : List ℕ) → carried crcOver m ≡ true → (fourAt (carriedOf m + 8) m ≡ crcOver (fourAt 4 m) (payloadOf m)) × (getD m (carriedOf m + 12) 0 ≡ 10)
+pub carried-sum : (m : List ℕ) → payloadRight crcOver m ≡ true → (fourAt (carriedOf m + 8) m ≡ crcOver (fourAt 4 m) (payloadOf m)) × (getD m (carriedOf m + 12) 0 ≡ 10)
 carried-sum m e =
     let (sums, ends) = both (eqb (fourAt (carriedOf m + 8) m) (crcOver (fourAt 4 m) (payloadOf m))) (eqb (getD m (carriedOf m + 12) 0) endMark) e in
     (eqb-true (fourAt (carriedOf m + 8) m) (crcOver (fourAt 4 m) (payloadOf m)) sums, eqb-true (getD m (carriedOf m + 12) 0) endMark ends)
@@ -65,7 +65,7 @@ module _ (sum k : ℕ) (m c : List ℕ) (l : sum < 2 ^ 32) (u : Burst k m c) (w 
       title-sum sum c t ∙ ap (crcOver sum) (sym (take-take 4 8 c (omega arith)) ∙ ap (take 4) (same-title t) ∙ take-take 4 8 m (omega arith))
       ∙ sym (title-sum sum m (w .title))
 
-  module _ (t : titled crcOver sum c ≡ true) (r : carried crcOver c ≡ true) where
+  module _ (t : titled crcOver sum c ≡ true) (r : payloadRight crcOver c ≡ true) where
     same-payload : take (carriedOf m + 4) (drop 8 c) ≡ take (carriedOf m + 4) (drop 8 m)
     same-payload =
         let n = carriedOf m in
@@ -107,7 +107,7 @@ append-burst-found sum k m c l u e differ =
     let w = whole crcOver sum m e in
     let long : 8 ≤ length c = omega (arith, w .within, u .long) in
     split (titled crcOver sum c)
-    (λ t. split (carried crcOver c)
+    (λ t. split (payloadRight crcOver c)
     (λ r. absurd (differ (same-append sum k m c l u w t r)))
     (λ r. sym (wrong-at crcOver sum c long (sym t) refl refl (omega (arith, w .within, u .long, same-carried sum k m c l u w t)) (sym r) refl)))
     (λ t. sym (untitled crcOver sum c long (sym t) refl))

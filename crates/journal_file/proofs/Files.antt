@@ -12,10 +12,10 @@ use lib.ListN.{length, getD, take, drop, length-drop}
 use lib.Seq.{take-length, length-take-le}
 use Rattle.bits.specs.Places.{join}
 use Rattle.bits.proofs.Cases.{neither}
-use Rattle.garage.specs.declared.Station.{Station}
+use Rattle.station.specs.declared.Station.{Station}
 use Rattle.service.specs.Service.{answersOn}
 use Rattle.service.specs.Runs.{Ran, run}
-use Rattle.journal.specs.Journal.{stationAfter, Follows}
+use Rattle.journal.specs.Journal.{stationAfterMessages, Follows}
 use Rattle.journal.proofs.Restart.{messages-alone, goes-on-from}
 use Rattle.journal.proofs.Which.{only-messages, both-messages, join-both, after-both}
 use Rattle.checksum.specs.Checksum.{crcOver}
@@ -23,7 +23,7 @@ use Rattle.journal_file.specs.declared.Front.{Front}
 use Rattle.journal_file.specs.declared.Replay.{Replay}
 use Rattle.journal_file.specs.declared.Step.{Step}
 use Rattle.journal_file.specs.Appends.{around, sumAfter, appendOf, carriedOf, payloadOf, wholeFront, frontOf}
-use Rattle.journal_file.specs.Replaying.{notTaken, taken, messagesTaken, markMost, markTaken, stepBy, stepOf, Leads}
+use Rattle.journal_file.specs.Replaying.{notTaken, appendTaken, messagesTaken, markMost, markTaken, stepBy, stepOf, Leads}
 use Rattle.journal_file.specs.Statements.{recordedIn, ReplayFollows, FileGoesOn, FileKeepsUp, MarkKind, FileKeepsMark}
 use Rattle.journal_file.proofs.Fronts.{Whole, whole}
 use Rattle.journal_file.proofs.Taking.{third-of, last-of}
@@ -40,7 +40,7 @@ both-follow {s} {t} {u} {a} {b} f g =
       messages = f .messages ++ g .messages;
       each = both-messages (f .messages) (g .messages) (f .each) (g .each);
       bytes-are = ap₂ _++_ (f .bytes-are) (g .bytes-are) ∙ sym (join-both (f .messages) (g .messages));
-      station = g .station ∙ ap (λ (x : Station). stationAfter x (g .messages)) (f .station) ∙ sym (after-both s (f .messages) (g .messages));
+      station = g .station ∙ ap (λ (x : Station). stationAfterMessages x (g .messages)) (f .station) ∙ sym (after-both s (f .messages) (g .messages));
     }
 
 -- a run that takes all bytes
@@ -94,7 +94,7 @@ module _ (r : Replay) (a : List ℕ) where
       → Follows (r .station) carried-messages (messagesTaken r f (w .used) (w .station) .replay .station)
   of-messages e k h =
       let x = whole crcOver (r .sum) a e in
-      let p = passes (eqb (f .carries) 0 || not (eqb (w .used) (f .carries))) (notTaken r false) (taken (w .station) f false) refl h in
+      let p = passes (eqb (f .carries) 0 || not (eqb (w .used) (f .carries))) (notTaken r false) (appendTaken (w .station) f false) refl h in
       let used : w .used ≡ f .carries = eqb-true (w .used) (f .carries) (not-false _ (neither (eqb (f .carries) 0) (not (eqb (w .used) (f .carries))) (p .0) .1)) in
       let all : w .used ≡ length (payloadOf a) = used ∙ ap (λ (g : Front). g .carries) (x .is) ∙ sym (carried-long x) in
       let kind : eqb (getD a 0 0) 1 ≡ true = ap (λ (g : Front). eqb (g .kind) 1) (sym (x .is)) ∙ k in
@@ -105,8 +105,8 @@ module _ (r : Replay) (a : List ℕ) where
       let x = whole crcOver (r .sum) a e in
       let kind : eqb (getD a 0 0) 1 ≡ false = ap (λ (g : Front). eqb (g .kind) 1) (sym (x .is)) ∙ k in
       let stays : markTaken r f .replay .station ≡ r .station =
-      mark-stays (ltb (markMost (f .kind)) (f .carries)) (eqb (f .kind) 4) (eqb (f .kind) 2 || eqb (f .kind) 3) (r .station) (notTaken r false) (taken (r .station) f true)
-      (taken (r .station) f false) refl refl refl in
+      mark-stays (ltb (markMost (f .kind)) (f .carries)) (eqb (f .kind) 4) (eqb (f .kind) 2 || eqb (f .kind) 3) (r .station) (notTaken r false) (appendTaken (r .station) f true)
+      (appendTaken (r .station) f false) refl refl refl in
       rw (kind, stays) (none-follow (r .station))
 
   pub one-follows : 0 < stepOf crcOver r a .took → Follows (r .station) carried-messages (stepOf crcOver r a .replay .station)
@@ -156,15 +156,15 @@ module _ (q : Replay) (bytes : List ℕ) (next : Station) (unclosed : q .closed 
   all-used : eqb (length bytes) 0 || not (eqb (length bytes) (length bytes)) ≡ false
   all-used = ap₂ (λ (x y : Bool). x || not y) (ne-eqb (length bytes) 0 (λ (e : length bytes ≡ 0). omega (arith, some, e))) (eq-eqb (length bytes) (length bytes) refl)
 
-  messages-there : messagesTaken q there (length bytes) next ≡ taken next there false
-  messages-there = ap (λ (x : Bool). cond x (notTaken q false) (taken next there false)) all-used
+  messages-there : messagesTaken q there (length bytes) next ≡ appendTaken next there false
+  messages-there = ap (λ (x : Bool). cond x (notTaken q false) (appendTaken next there false)) all-used
 
-  by-there : stepBy q there (length bytes) next ≡ taken next there false
+  by-there : stepBy q there (length bytes) next ≡ appendTaken next there false
   by-there =
       sym (third-of false (q .closed) true (notTaken q false) (notTaken q false) (messagesTaken q there (length bytes) next) (markTaken q there) refl unclosed refl)
       ∙ messages-there
 
-  step-there : stepOf crcOver q written ≡ taken next there false
+  step-there : stepOf crcOver q written ≡ appendTaken next there false
   unfolding stepOf
   step-there =
       let p = payload-back (q .sum) 1 bytes small fits in
@@ -209,15 +209,15 @@ module _ (q : Replay) (kind : ℕ) (bytes : List ℕ) (unclosed : q .closed ≡ 
   Marks k =
       ltb (markMost k) (length bytes) ≡ false
       → let f : Front = record { whole = true; short = false; kind = k; carries = length bytes; sum = sumAfter crcOver (q .sum) kind bytes } in
-      markTaken q f ≡ taken (q .station) f (eqb k 4)
+      markTaken q f ≡ appendTaken (q .station) f (eqb k 4)
 
-  of-kind : markTaken q mark-there ≡ taken (q .station) mark-there (eqb kind 4)
+  of-kind : markTaken q mark-there ≡ appendTaken (q .station) mark-there (eqb kind 4)
   of-kind =
       ⊎-elim (λ (e : kind ≡ 2). subst Marks (sym e) (λ n. rw n))
       (⊎-elim (λ (e : kind ≡ 3). subst Marks (sym e) (λ n. rw n)) (λ (e : kind ≡ 4). subst Marks (sym e) (λ n. rw n))) mark
       (le-ltb (markMost kind) (length bytes) fits)
 
-  step-marked : stepOf crcOver q marked ≡ taken (q .station) mark-there (eqb kind 4)
+  step-marked : stepOf crcOver q marked ≡ appendTaken (q .station) mark-there (eqb kind 4)
   unfolding stepOf
   step-marked =
       let w = run (q .station) (payloadOf marked) in

@@ -9,14 +9,13 @@ use lib.Dec.{eqb, leb, ltb}
 use lib.ListN.{length, getD, take, drop, length-append, length-take, List·getD-eq-default}
 use lib.Seq.{take-at, getD-at, getD-take, getD-drop}
 use Rattle.bits.proofs.Cases.{split}
-use Rattle.wire.specs.Kinds.{littleEndian, fromLittleEndian}
-use Rattle.wire_laws.specs.Statements.{Bytes}
-use Rattle.wire_laws.proofs.Numbers.{read-tail, number-back}
-use Rattle.fours.specs.Fours.{fourAt}
+use Rattle.codec.specs.Bytes.{littleEndian, fromLittleEndian, Bytes}
+use Rattle.codec.proofs.Numbers.{read-tail, number-back}
+use Rattle.codec.specs.Fours.{fourAt}
 use Rattle.checksum.specs.Checksum.{crcOver}
 use Rattle.checksum.specs.Slices.{slices, crcBy}
 use Rattle.checksum.proofs.Promises.{in-range, by-slices}
-use Rattle.journal_file.specs.Appends.{Over, most, around, endMark, titleOf, openingOf, sumAfter, closingOf, appendOf, carriedOf, payloadOf, titled, carried, noFront, wholeFront, frontOf}
+use Rattle.journal_file.specs.Appends.{Over, mostCarried, around, endMark, titleOf, openingOf, sumAfter, closingOf, appendOf, carriedOf, payloadOf, titled, payloadRight, noFront, wholeFront, frontOf}
 use Rattle.journal_file.specs.Promises.{AppendReadsBack, FrontByTables}
 
 -- ---- numbers behind other bytes
@@ -101,9 +100,9 @@ module _ (sum kind : ℕ) (bytes past : List ℕ) (small : sum < 2 ^ 32) (fits :
 
   is-titled : titled crcOver sum m ≡ true
   is-titled =
-      ap₂ _&&_ (eq-eqb (fourAt 4 m) (crcOver sum (take 4 m)) said) (le-leb (carriedOf m) most (omega (arith, carries)))
+      ap₂ _&&_ (eq-eqb (fourAt 4 m) (crcOver sum (take 4 m)) said) (le-leb (carriedOf m) mostCarried (omega (arith, carries)))
 
-  is-carried : carried crcOver m ≡ true
+  is-carried : payloadRight crcOver m ≡ true
   is-carried =
       ap₂ _&&_ (eq-eqb (fourAt (carriedOf m + 8) m) (crcOver (fourAt 4 m) (payloadOf m)) (last ∙ sym (ap₂ crcOver said payload)))
       (eq-eqb (getD m (carriedOf m + 12) 0) endMark ended)
@@ -164,6 +163,6 @@ front-by-tables sum m small e =
     ap₂
     (λ (a b : Bool).
     cond (ltb (length m) 8) (noFront true) (cond (not a) (noFront false) (cond (ltb (length m) (carriedOf m + around)) (noFront true) (cond b (wholeFront m) (noFront false)))))
-    (ap (λ (x : ℕ). eqb (fourAt 4 m) x && leb (carriedOf m) most) (by-slices sum (take 4 m) small (bytes-take m 4 e)))
+    (ap (λ (x : ℕ). eqb (fourAt 4 m) x && leb (carriedOf m) mostCarried) (by-slices sum (take 4 m) small (bytes-take m 4 e)))
     (ap (λ (x : ℕ). eqb (fourAt (carriedOf m + 8) m) x && eqb (getD m (carriedOf m + 12) 0) endMark)
     (by-slices (fourAt 4 m) (payloadOf m) (four-small m 4 e) (bytes-take (drop 8 m) (carriedOf m) (bytes-drop m 8 e))))

@@ -9,13 +9,13 @@ use lib.Dec.{eqb, ltb}
 use lib.ListN.{length, getD, take, drop, length-append}
 use lib.Seq.{take-at, drop-at}
 use Rattle.bits.specs.Search.{every}
-use Rattle.garage.specs.declared.Station.{Station}
-use Rattle.garage.specs.Station.{fit}
-use Rattle.wire.specs.Kinds.{littleEndian}
-use Rattle.fours.specs.Fours.{fourAt}
+use Rattle.codec.specs.Bytes.{littleEndian}
+use Rattle.station.specs.declared.Station.{Station}
+use Rattle.station.specs.Station.{fit}
+use Rattle.codec.specs.Fours.{fourAt}
 use Rattle.commands.specs.Words.{isText}
 use Rattle.rooms.specs.Rooms.{stationBytes, stationOf, lentStation}
-use Rattle.rooms.specs.Promises.{Typed}
+use Rattle.rooms.specs.Promises.{StationTyped}
 use Rattle.rooms.proofs.Promises.{station-fits, station-reads-back}
 use Rattle.checksum.specs.Checksum.{crcOver}
 use Rattle.checksum.proofs.Promises.{in-range, continues}
@@ -24,7 +24,7 @@ use Rattle.journal_file.specs.Heads.{magic, titleBytes, headSum, headByt
 use Rattle.journal_file.specs.Promises.{HeadReadsBack}
 use Rattle.journal_file.proofs.Forms.{four-behind}
 
-module _ (name : List ℕ) (s : Station) (past : List ℕ) (named : length name ≡ 40) (typed : Typed s) (fits : fit s ≡ true) where
+module _ (name : List ℕ) (s : Station) (past : List ℕ) (named : length name ≡ 40) (typed : StationTyped s) (fits : fit s ≡ true) where
   abbrev bytes : List ℕ
   bytes = stationBytes s
 

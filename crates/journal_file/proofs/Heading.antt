@@ -7,9 +7,9 @@ use borrow.Author.Tests.{lt-ltb, le-ltb, eq-eqb, ne-eqb}
 use lib.Dec.{eqb}
 use lib.ListN.{length, getD, take, drop}
 use Rattle.bits.proofs.Cases.{passed, failed}
-use Rattle.garage.specs.declared.Station.{Station}
-use Rattle.garage.specs.Station.{fit}
-use Rattle.fours.specs.Fours.{fourAt}
+use Rattle.station.specs.declared.Station.{Station}
+use Rattle.station.specs.Station.{fit}
+use Rattle.codec.specs.Fours.{fourAt}
 use Rattle.rooms.specs.Rooms.{lentStation}
 use Rattle.commands.specs.Words.{isText}
 use Rattle.journal_file.specs.declared.Kind.{Kind}

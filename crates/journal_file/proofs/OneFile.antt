@@ -9,21 +9,21 @@ use lib.ListN.{length, getD, take, drop, length-append, length-drop, List·getD-
 use lib.Seq.{take-at, drop-at, take-append-le, drop-append-le}
 use Rattle.bits.specs.Places.{join}
 use Rattle.bits.proofs.Cases.{split}
-use Rattle.wire.specs.Kinds.{fromLittleEndian}
-use Rattle.fours.specs.Fours.{fourAt}
+use Rattle.codec.specs.Bytes.{fromLittleEndian}
+use Rattle.codec.specs.Fours.{fourAt}
 use Rattle.checksum.specs.Checksum.{crcOver}
 use Rattle.checksum.specs.Bursts.{Burst}
 use Rattle.checksum.proofs.Promises.{crc-lt}
 use Rattle.checksum.proofs.Running.{four-at}
 use Rattle.checksum.proofs.Stored.{burst-drop, stored-burst-found}
-use Rattle.garage.specs.declared.Station.{Station}
+use Rattle.station.specs.declared.Station.{Station}
 use Rattle.service.specs.Runs.{run}
 use Rattle.journal_file.specs.declared.Front.{Front}
 use Rattle.journal_file.specs.declared.Replay.{Replay}
 use Rattle.journal_file.specs.declared.Step.{Step}
-use Rattle.journal_file.specs.Appends.{messagesKind, cutShortKind, badLengthKind, closedKind, most, endMark, carriedOf, payloadOf, titled, carried, wholeFront, frontOf}
-use Rattle.journal_file.specs.Replaying.{notTaken, taken, messagesTaken, markMost, markTaken, stepBy, stepOf, begun, Leads}
-use Rattle.journal_file.specs.Damage.{Journal, JournalBurstFound}
+use Rattle.journal_file.specs.Appends.{messagesKind, cutShortKind, badLengthKind, closedKind, mostCarried, endMark, carriedOf, payloadOf, titled, payloadRight, wholeFront, frontOf}
+use Rattle.journal_file.specs.Replaying.{notTaken, appendTaken, messagesTaken, markMost, markTaken, stepBy, stepOf, fileReplayBegun, Leads}
+use Rattle.journal_file.specs.Damage.{IsJournal, JournalBurstFound}
 use Rattle.journal_file.proofs.Fronts.{Whole, whole, whole-at}
 use Rattle.journal_file.proofs.Damage.{title-sum, carried-sum, same-carried, same-append, good-sum, head-sum-is}
 
@@ -37,7 +37,7 @@ module _ (f : Front) where
   fair-none : (r : Replay) (b : Bool) → Fair f (notTaken r b)
   fair-none r b h = absurd (omega arith)
 
-  fair-taken : (s : Station) (b : Bool) → Fair f (taken s f b)
+  fair-taken : (s : Station) (b : Bool) → Fair f (appendTaken s f b)
   fair-taken s b h = (refl, refl)
 
   fair-of : (b : Bool) (x y : Step) → Fair f x → Fair f y → Fair f (cond b x y)
@@ -115,8 +115,8 @@ whole-more {sum} {a} rest w =
     let payload : payloadOf (a ++ rest) ≡ payloadOf a =
         ap₂ take same (drop-append-le 8 a rest (omega arith)) ∙ take-append-le n (drop 8 a) rest (omega (arith, length-drop 8 a)) in
     let title : titled crcOver sum (a ++ rest) ≡ true =
-        ap₂ _&&_ (ap₂ eqb (four-more 4 a rest (omega arith)) (ap (crcOver sum) (take-append-le 4 a rest (omega arith)))) (ap (λ (x : ℕ). leb x most) same) ∙ w .title in
-    let right : carried crcOver (a ++ rest) ≡ true =
+        ap₂ _&&_ (ap₂ eqb (four-more 4 a rest (omega arith)) (ap (crcOver sum) (take-append-le 4 a rest (omega arith)))) (ap (λ (x : ℕ). leb x mostCarried) same) ∙ w .title in
+    let right : payloadRight crcOver (a ++ rest) ≡ true =
         ap₂ _&&_
         (ap₂ eqb (ap (λ (x : ℕ). fourAt (x + 8) (a ++ rest)) same ∙ four-more (n + 8) a rest (omega arith))
         (ap₂ crcOver (four-more 4 a rest (omega arith)) payload))
@@ -162,7 +162,7 @@ same-appends (a ∷ ls) (b ∷ ks) k r q p l x y u =
 
 -- ---- a whole file
 
-module _ (file : List ℕ) (j : Journal file) where
+module _ (file : List ℕ) (j : IsJournal file) where
   -- what stands behind the head, and the head's checksum as a reader of the file sees it
   front-is : take 128 file ≡ j .head
   front-is = ap (take 128) (j .bytes-are) ∙ take-at (j .head) (join (j .appends)) 128 (j .headed .0)
@@ -182,7 +182,7 @@ module _ (file : List ℕ) (j : Journal file) where
   file-long : 128 ≤ length file
   file-long = let h = j .headed .0 in omega (arith, ap length (j .bytes-are), length-append (j .head) (join (j .appends)))
 
-  begins-small : begun crcOver (j .head) .sum < 2 ^ 32
+  begins-small : fileReplayBegun crcOver (j .head) .sum < 2 ^ 32
   begins-small = rw (head-sum-is (j .head) (j .headed .0), head-right) (crc-lt 0 (take 124 (j .head)) (omega arith))
 
 pub journal-burst-found : JournalBurstFound
@@ -191,6 +191,6 @@ journal-burst-found k file changed u j i =
         sym (front-is changed i) ∙ stored-burst-found 0 124 k file changed (omega arith) u (omega (arith, file-long file j)) (file-right file j) (file-right changed i)
         ∙ front-is file j in
     let rest : Burst (k - 1024) (join (j .appends)) (join (i .appends)) = rw (back-is file j, back-is changed i) at (burst-drop 128 u) in
-    let others : Leads (begun crcOver (j .head)) (i .appends) (i .last) = subst (λ (z : List ℕ). Leads (begun crcOver z) (i .appends) (i .last)) heads (i .leads) in
-    let appends = same-appends (j .appends) (i .appends) (k - 1024) (begun crcOver (j .head)) (j .last) (i .last) (begins-small file j) (j .leads) others rest in
+    let others : Leads (fileReplayBegun crcOver (j .head)) (i .appends) (i .last) = subst (λ (z : List ℕ). Leads (fileReplayBegun crcOver z) (i .appends) (i .last)) heads (i .leads) in
+    let appends = same-appends (j .appends) (i .appends) (k - 1024) (fileReplayBegun crcOver (j .head)) (j .last) (i .last) (begins-small file j) (j .leads) others rest in
     j .bytes-are ∙ ap₂ _++_ (sym heads) appends ∙ sym (i .bytes-are)

@@ -9,12 +9,11 @@ use lib.Dec.{eqb, leb}
 use lib.ListN.{length, getD, take, drop, length-drop, take-append-drop}
 use lib.Seq.{take-add, drop-drop, drop-cons, length-take-le}
 use Rattle.bits.proofs.Cases.{both}
-use Rattle.wire.specs.Kinds.{littleEndian, fromLittleEndian}
-use Rattle.wire_laws.specs.Statements.{Bytes}
-use Rattle.wire_laws.proofs.Numbers.{read-tail, number-form}
-use Rattle.fours.specs.Fours.{fourAt}
+use Rattle.codec.specs.Bytes.{littleEndian, fromLittleEndian, Bytes}
+use Rattle.codec.proofs.Numbers.{read-tail, number-form}
+use Rattle.codec.specs.Fours.{fourAt}
 use Rattle.checksum.specs.Checksum.{crcOver}
-use Rattle.journal_file.specs.Appends.{most, endMark, titleOf, closingOf, sumAfter, appendOf, carriedOf, payloadOf, frontOf}
+use Rattle.journal_file.specs.Appends.{mostCarried, endMark, titleOf, closingOf, sumAfter, appendOf, carriedOf, payloadOf, frontOf}
 use Rattle.journal_file.specs.Promises.{AppendOneForm}
 use Rattle.journal_file.proofs.Fronts.{Whole, whole}
 use Rattle.journal_file.proofs.Forms.{behind, bytes-drop}
@@ -44,7 +43,7 @@ module _ (sum : ℕ) (m : List ℕ) (b : Bytes m) (e : frontOf crcOver sum m .wh
   w = whole crcOver sum m e
 
   first : fourAt 4 m ≡ crcOver sum (take 4 m)
-  first = eqb-true (fourAt 4 m) (crcOver sum (take 4 m)) (both (eqb (fourAt 4 m) (crcOver sum (take 4 m))) (leb c most) (w .title) .0)
+  first = eqb-true (fourAt 4 m) (crcOver sum (take 4 m)) (both (eqb (fourAt 4 m) (crcOver sum (take 4 m))) (leb c mostCarried) (w .title) .0)
 
   right : (eqb (fourAt (c + 8) m) (crcOver (fourAt 4 m) (payloadOf m)) ≡ true) × (eqb (getD m (c + 12) 0) endMark ≡ true)
   right = both (eqb (fourAt (c + 8) m) (crcOver (fourAt 4 m) (payloadOf m))) (eqb (getD m (c + 12) 0) endMark) (w .right)

@@ -8,14 +8,14 @@ use borrow.Author.Tests.{not-true, not-false, eq-eqb, ne-eqb, lt-ltb, le-ltb}
 use lib.Dec.{eqb}
 use lib.ListN.{length, take, drop}
 use Rattle.bits.proofs.Cases.{clash}
-use Rattle.garage.specs.declared.Station.{Station}
+use Rattle.station.specs.declared.Station.{Station}
 use Rattle.service.specs.declared.Served.{Served}
 use Rattle.service.specs.Runs.{Serving, Serves, serving}
 use Rattle.journal_file.specs.declared.Front.{Front}
 use Rattle.journal_file.specs.declared.Replay.{Replay}
 use Rattle.journal_file.specs.declared.Step.{Step}
 use Rattle.journal_file.specs.Appends.{Over, carriedOf, payloadOf, frontOf}
-use Rattle.journal_file.specs.Replaying.{notTaken, taken, messagesTaken, markMost, markTaken, stepBy, Leaves, answersMade, stepping}
+use Rattle.journal_file.specs.Replaying.{notTaken, appendTaken, messagesTaken, markMost, markTaken, stepBy, LeavesStep, answersMade, stepping}
 use Rattle.journal_file.proofs.Fronts.{Whole, whole, titled-most}
 
 -- ---- messages
@@ -24,7 +24,7 @@ module _ (r : Replay) (f : Front) (w v : Served) (e : w ≡ v) where
   pub not-all : eqb (f .carries) 0 || not (eqb (w .used) (f .carries)) ≡ true → notTaken r false ≡ messagesTaken r f (v .used) (v .station)
   not-all t = rw (← e, t)
 
-  pub all-taken : eqb (f .carries) 0 || not (eqb (w .used) (f .carries)) ≡ false → taken (w .station) f false ≡ messagesTaken r f (v .used) (v .station)
+  pub all-taken : eqb (f .carries) 0 || not (eqb (w .used) (f .carries)) ≡ false → appendTaken (w .station) f false ≡ messagesTaken r f (v .used) (v .station)
   all-taken t = rw (← e, t)
 
 -- ---- a mark
@@ -34,10 +34,10 @@ module _ (r : Replay) (f : Front) where
   carries-more n = rw (lt-ltb (markMost (f .kind)) (f .carries) n)
 
   module _ (n : f .carries ≤ markMost (f .kind)) where
-    pub closes : f .kind ≡ 4 → taken (r .station) f true ≡ markTaken r f
+    pub closes : f .kind ≡ 4 → appendTaken (r .station) f true ≡ markTaken r f
     closes k = rw (le-ltb (markMost (f .kind)) (f .carries) n, eq-eqb (f .kind) 4 k)
 
-    pub ends : (f .kind ≡ 4 → ⊥) → eqb (f .kind) 2 || eqb (f .kind) 3 ≡ true → taken (r .station) f false ≡ markTaken r f
+    pub ends : (f .kind ≡ 4 → ⊥) → eqb (f .kind) 2 || eqb (f .kind) 3 ≡ true → appendTaken (r .station) f false ≡ markTaken r f
     ends k t = rw (le-ltb (markMost (f .kind)) (f .carries) n, ne-eqb (f .kind) 4 k, t)
 
     pub no-kind : (f .kind ≡ 4 → ⊥) → eqb (f .kind) 2 || eqb (f .kind) 3 ≡ false → notTaken r false ≡ markTaken r f
@@ -100,24 +100,24 @@ module _ (over : Over) (r : Replay) (m room : List ℕ) where
 
   -- by what stands at the front
   by-front : (f : Front) → f ≡ frontOf over (r .sum) m → {q : Step} {out : List ℕ}
-      → q ≡ stepBy r f (run-of .says .used) (run-of .says .station) → out ≡ cond (answersMade r f) (run-of .leaves) room → Leaves (stepping over r m room) q out
+      → q ≡ stepBy r f (run-of .says .used) (run-of .says .station) → out ≡ cond (answersMade r f) (run-of .leaves) room → LeavesStep (stepping over r m room) q out
   unfolding stepping
   by-front f e a b = rw (← e) (a, b)
 
   module _ (f : Front) (e : f ≡ frontOf over (r .sum) m) where
-    pub none-whole : {q : Step} → not (f .whole) ≡ true → q ≡ notTaken r (f .short) → Leaves (stepping over r m room) q room
+    pub none-whole : {q : Step} → not (f .whole) ≡ true → q ≡ notTaken r (f .short) → LeavesStep (stepping over r m room) q room
     none-whole t s =
         by-front f e
         (s ∙ first-of (not (f .whole)) (r .closed) (eqb (f .kind) 1) (notTaken r (f .short)) (notTaken r false) (out-of f) (markTaken r f) t)
         (unmade-whole (f .whole) (r .closed) (eqb (f .kind) 1) (run-of .leaves) room t)
 
-    pub none-behind : {q : Step} → not (f .whole) ≡ false → r .closed ≡ true → q ≡ notTaken r false → Leaves (stepping over r m room) q room
+    pub none-behind : {q : Step} → not (f .whole) ≡ false → r .closed ≡ true → q ≡ notTaken r false → LeavesStep (stepping over r m room) q room
     none-behind t u s =
         by-front f e
         (s ∙ second-of (not (f .whole)) (r .closed) (eqb (f .kind) 1) (notTaken r (f .short)) (notTaken r false) (out-of f) (markTaken r f) t u)
         (unmade-closed (f .whole) (r .closed) (eqb (f .kind) 1) (run-of .leaves) room t u)
 
-    pub a-mark : {q : Step} → not (f .whole) ≡ false → r .closed ≡ false → (f .kind ≡ 1 → ⊥) → q ≡ markTaken r f → Leaves (stepping over r m room) q room
+    pub a-mark : {q : Step} → not (f .whole) ≡ false → r .closed ≡ false → (f .kind ≡ 1 → ⊥) → q ≡ markTaken r f → LeavesStep (stepping over r m room) q room
     a-mark t u j s =
         let k = ne-eqb (f .kind) 1 j in
         by-front f e
@@ -127,7 +127,7 @@ module _ (over : Over) (r : Replay) (m room : List ℕ) where
     pub messages-in : {q : Step} {out : List ℕ} → not (f .whole) ≡ false → r .closed ≡ false → f .kind ≡ 1
         → (let w = serving (r .station) (take (8 + f .carries - 8) (drop 8 m)) room in
           (q ≡ messagesTaken r f (w .says .used) (w .says .station)) × (out ≡ w .leaves))
-        → Leaves (stepping over r m room) q out
+        → LeavesStep (stepping over r m room) q out
     messages-in t u j s =
         let k = eq-eqb (f .kind) 1 j in
         let p = ap (λ (bytes : List ℕ). serving (r .station) bytes room) (payload-is over (r .sum) m f e t) in

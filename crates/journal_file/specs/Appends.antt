@@ -5,8 +5,8 @@ use mathlib.Core.List.{List, [], _∷_, _++_}
 use Prim.Native.Nat.{ℕ, zero, suc, _+_, _-_, _%_}
 use lib.Dec.{eqb, leb, ltb}
 use lib.ListN.{length, getD, take, drop}
-use Rattle.wire.specs.Kinds.{littleEndian, fromLittleEndian}
-use Rattle.fours.specs.Fours.{fourAt}
+use Rattle.codec.specs.Bytes.{littleEndian, fromLittleEndian}
+use Rattle.codec.specs.Fours.{fourAt}
 use Rattle.journal_file.specs.declared.Front.{Front}
 
 -- how a checksum goes on over some bytes: by CRC-32C (`crcOver` of the crate checksum), which code takes from tables
@@ -30,8 +30,8 @@ abbrev pub closedKind : ℕ
 closedKind = 4
 
 -- an append carries at most so many bytes: a read brings no more
-abbrev pub most : ℕ
-most = 65536
+abbrev pub mostCarried : ℕ
+mostCarried = 65536
 
 -- what stands around them: eight bytes before and five behind
 abbrev pub around : ℕ
@@ -73,11 +73,11 @@ payloadOf m = take (carriedOf m) (drop 8 m)
 
 -- the title is right: its checksum is the one behind it, and it carries no more than an append may
 abbrev pub titled : Over → ℕ → List ℕ → Bool
-titled over sum m = eqb (fourAt 4 m) (over sum (take 4 m)) && leb (carriedOf m) most
+titled over sum m = eqb (fourAt 4 m) (over sum (take 4 m)) && leb (carriedOf m) mostCarried
 
 -- what it carries is right: the checksum over it is the one behind it, and the end mark stands there
-abbrev pub carried : Over → List ℕ → Bool
-carried over m = eqb (fourAt (carriedOf m + 8) m) (over (fourAt 4 m) (payloadOf m)) && eqb (getD m (carriedOf m + 12) 0) endMark
+abbrev pub payloadRight : Over → List ℕ → Bool
+payloadRight over m = eqb (fourAt (carriedOf m + 8) m) (over (fourAt 4 m) (payloadOf m)) && eqb (getD m (carriedOf m + 12) 0) endMark
 
 -- no append: the bytes end inside of one, or are wrong
 abbrev pub noFront : Bool → Front
@@ -93,7 +93,7 @@ frontOf over sum m =
     cond (ltb (length m) 8) (noFront true)
     (cond (not (titled over sum m)) (noFront false)
     (cond (ltb (length m) (carriedOf m + around)) (noFront true)
-    (cond (carried over m) (wholeFront m) (noFront false))))
+    (cond (payloadRight over m) (wholeFront m) (noFront false))))
 
 -- ---- cut off by a lost power supply
 
@@ -115,7 +115,7 @@ lostFrom at n = cond (eqb n 0) 0 (n + (sector - (at + n) % sector) % sector)
 unfoldable pub zeroed : Over → ℕ → ℕ → List ℕ → Bool
 zeroed over sum at m =
     let lost = lostFrom at (written m) in
-    cond (ltb (most + around) (length m)) false
+    cond (ltb (mostCarried + around) (length m)) false
     (cond (leb (length m) lost) false
     (cond (ltb lost 8) true
     (cond (titled over sum m) (eqb (length m) (carriedOf m + around)) false)))

@@ -14,7 +14,7 @@ use Rattle.journal_file.specs.declared.Kind.the-variants.{NoJournal, Oth
 use Rattle.journal_file.specs.declared.Replay.{Replay}
 use Rattle.journal_file.specs.Appends.{around, carriedOf, noFront, frontOf}
 use Rattle.journal_file.specs.Heads.{headSize, headOf}
-use Rattle.journal_file.specs.Replaying.{begun, Leads}
+use Rattle.journal_file.specs.Replaying.{fileReplayBegun, Leads}
 
 -- bytes begin with a whole append, and others differ from them only within 32 neighbouring bits: if the change touches the append, the others
 -- are wrong there. They are never taken for an append, and never for bytes that end inside of one
@@ -41,14 +41,14 @@ AppendInPlace =
     → sum ≡ other
 
 -- a file is a journal: a good head, and appends that lead to a replay
-pub record Journal (bytes : List ℕ) : Type 0 where
+pub record IsJournal (bytes : List ℕ) : Type 0 where
   pub head : List ℕ
   pub appends : List (List ℕ)
   pub last : Replay
   pub headed : (length head ≡ headSize) × (headOf crcOver head .kind ≡ Good)
-  pub leads : Leads (begun crcOver head) appends last
+  pub leads : Leads (fileReplayBegun crcOver head) appends last
   pub bytes-are : bytes ≡ head ++ join appends
 
 -- no burst makes one journal of another, wherever it lies
 abbrev pub JournalBurstFound : Type 0
-JournalBurstFound = (k : ℕ) (file changed : List ℕ) → Burst k file changed → Journal file → Journal changed → file ≡ changed
+JournalBurstFound = (k : ℕ) (file changed : List ℕ) → Burst k file changed → IsJournal file → IsJournal changed → file ≡ changed

@@ -4,13 +4,13 @@ use mathlib.Core.List.{List, [], _∷_, _++_}
 use Prim.Native.Nat.{ℕ}
 use lib.Dec.{eqb, leb, ltb}
 use lib.ListN.{length, getD, take, drop}
-use Rattle.garage.specs.declared.Station.{Station}
-use Rattle.garage.specs.Station.{fit, closed}
-use Rattle.wire.specs.Kinds.{littleEndian}
-use Rattle.fours.specs.Fours.{fourAt}
+use Rattle.station.specs.declared.Station.{Station}
+use Rattle.station.specs.Station.{fit, closed}
+use Rattle.codec.specs.Fours.{fourAt}
 use Rattle.version.specs.Version.{version}
 use Rattle.rooms.specs.Rooms.{stationBytes, lentStation}
 use Rattle.bits.specs.Search.{every}
+use Rattle.codec.specs.Bytes.{littleEndian}
 use Rattle.commands.specs.Words.{isText}
 use Rattle.journal_file.specs.declared.Kind.{Kind}
 use Rattle.journal_file.specs.declared.Kind.the-variants.{NoJournal, OtherFormat, Damaged, Unfit, Good}
@@ -63,8 +63,8 @@ headOf over m =
     cond (ltb (length m) headSize) noHead (record { kind = headKind over m; station = lentStation (take 60 (drop 64 m)); sum = fourAt 124 m })
 
 -- the name in it
-abbrev pub nameOf : List ℕ → List ℕ
-nameOf m = take 40 (drop 24 m)
+abbrev pub headName : List ℕ → List ℕ
+headName m = take 40 (drop 24 m)
 
 -- ---- a garage's name
 

@@ -2,11 +2,12 @@
 use mathlib.Core.Path.{_≡_}
 use mathlib.Core.Bool.{Bool, true, false, cond, not, _&&_, _||_}
 use mathlib.Core.List.{List, [], _∷_, _++_}
-use Prim.Native.Nat.{ℕ, _+_, _-_, _<_, _%_, _^_}
+use Prim.Native.Nat.{ℕ, _+_, _<_}
 use lib.Dec.{eqb, ltb}
 use lib.ListN.{length}
 use Rattle.bits.specs.Places.{join}
-use Rattle.garage.specs.declared.Station.{Station}
+use Rattle.journal.specs.Journal.{counted}
+use Rattle.station.specs.declared.Station.{Station}
 use Rattle.service.specs.Runs.{run, serving}
 use Rattle.checksum.specs.Checksum.{crcOver}
 use Rattle.journal_file.specs.declared.Front.{Front}
@@ -19,20 +20,20 @@ use Rattle.journal_file.specs.Heads.{headSize, headOf}
 -- ---- one append
 
 -- before the first append: behind the head
-abbrev pub begun : Over → List ℕ → Replay
-begun over head = record { station = headOf over head .station; sum = headOf over head .sum; closed = false }
+abbrev pub fileReplayBegun : Over → List ℕ → Replay
+fileReplayBegun over head = record { station = headOf over head .station; sum = headOf over head .sum; closed = false }
 
 -- nothing was taken: the bytes end inside of an append, or are wrong
 abbrev pub notTaken : Replay → Bool → Step
 notTaken r short = record { replay = r; took = 0; short = short }
 
 -- an append was taken
-abbrev pub taken : Station → Front → Bool → Step
-taken s f closed = record { replay = record { station = s; sum = f .sum; closed = closed }; took = f .carries + around; short = false }
+abbrev pub appendTaken : Station → Front → Bool → Step
+appendTaken s f closed = record { replay = record { station = s; sum = f .sum; closed = closed }; took = f .carries + around; short = false }
 
 -- the messages of one read: all of the bytes are whole messages, one at least, and the station is the one after them
 abbrev pub messagesTaken : Replay → Front → ℕ → Station → Step
-messagesTaken r f used next = cond (eqb (f .carries) 0 || not (eqb used (f .carries))) (notTaken r false) (taken next f false)
+messagesTaken r f used next = cond (eqb (f .carries) 0 || not (eqb used (f .carries))) (notTaken r false) (appendTaken next f false)
 
 -- a mark carries at most so many bytes: what was left of the input where a session ended, less than a message, and nothing where the journal
 -- is closed
@@ -43,8 +44,8 @@ markMost kind = cond (eqb kind closedKind) 0 44
 abbrev pub markTaken : Replay → Front → Step
 markTaken r f =
     cond (ltb (markMost (f .kind)) (f .carries)) (notTaken r false)
-    (cond (eqb (f .kind) closedKind) (taken (r .station) f true)
-    (cond (eqb (f .kind) cutShortKind || eqb (f .kind) badLengthKind) (taken (r .station) f false) (notTaken r false)))
+    (cond (eqb (f .kind) closedKind) (appendTaken (r .station) f true)
+    (cond (eqb (f .kind) cutShortKind || eqb (f .kind) badLengthKind) (appendTaken (r .station) f false) (notTaken r false)))
 
 -- what the append at the front of some bytes does, where a run of what it carries used so much and left this station; behind a closed
 -- journal there is none
@@ -66,8 +67,8 @@ pub record Stepping : Type 0 where
   pub leaves : List ℕ
 
 -- what a call says is said, and what it leaves is left
-abbrev pub Leaves : Stepping → Step → List ℕ → Type 0
-Leaves w q room = (q ≡ w .says) × (room ≡ w .leaves)
+abbrev pub LeavesStep : Stepping → Step → List ℕ → Type 0
+LeavesStep w q room = (q ≡ w .says) × (room ≡ w .leaves)
 
 -- the answers are made only where the append has messages
 abbrev pub answersMade : Replay → Front → Bool
@@ -87,14 +88,10 @@ abbrev pub Leads : Replay → List (List ℕ) → Replay → Type 0
 Leads r [] q = q ≡ r
 Leads r (a ∷ more) q = (0 < length a) × (stepOf crcOver r a .took ≡ length a) × Leads (stepOf crcOver r a .replay) more q
 
--- a number as the machine counts bytes
-abbrev pub counted : ℕ → ℕ
-counted n = n % 2 ^ 64
-
 -- a good head and appends of so many bytes make this replay: its station, and the checksum that the next append goes on from
-pub record Journaled (r : Replay) (n : ℕ) : Type 0 where
+pub record FileJournaled (r : Replay) (n : ℕ) : Type 0 where
   pub head : List ℕ
   pub appends : List (List ℕ)
   pub headed : (length head ≡ headSize) × (headOf crcOver head .kind ≡ Good)
-  pub leads : Leads (begun crcOver head) appends r
+  pub leads : Leads (fileReplayBegun crcOver head) appends r
   pub long : n ≡ counted (length (head ++ join appends))

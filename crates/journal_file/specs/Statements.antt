@@ -6,13 +6,13 @@ use mathlib.Core.List.{List, [], _∷_, _++_}
 use Prim.Native.Nat.{ℕ, _^_, _≤_, _<_}
 use lib.Dec.{eqb}
 use lib.ListN.{length, getD}
-use Rattle.garage.specs.declared.Station.{Station}
+use Rattle.station.specs.declared.Station.{Station}
 use Rattle.service.specs.Service.{answersOn}
 use Rattle.service.specs.Runs.{run}
 use Rattle.journal.specs.Journal.{Follows}
 use Rattle.checksum.specs.Checksum.{crcOver}
 use Rattle.journal_file.specs.declared.Replay.{Replay}
-use Rattle.journal_file.specs.Appends.{messagesKind, cutShortKind, badLengthKind, closedKind, most, sumAfter, appendOf, payloadOf}
+use Rattle.journal_file.specs.Appends.{messagesKind, cutShortKind, badLengthKind, closedKind, mostCarried, sumAfter, appendOf, payloadOf}
 use Rattle.journal_file.specs.Replaying.{markMost, Leads}
 
 -- the messages that some appends carry, one behind the other: what the station was sent
@@ -35,7 +35,7 @@ FileGoesOn =
 abbrev pub FileKeepsUp : Type 0
 FileKeepsUp =
     (r q : Replay) (appends : List (List ℕ)) (bytes : List ℕ) (next : Station) → Leads r appends q
-    → q .closed ≡ false → q .sum < 2 ^ 32 → Follows (q .station) bytes next → 0 < length bytes → length bytes ≤ most
+    → q .closed ≡ false → q .sum < 2 ^ 32 → Follows (q .station) bytes next → 0 < length bytes → length bytes ≤ mostCarried
     → Leads r (appends ++ (appendOf crcOver (q .sum) messagesKind bytes ∷ []))
     (record { station = next; sum = sumAfter crcOver (q .sum) messagesKind bytes; closed = false })
 

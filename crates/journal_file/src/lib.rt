@@ -6,15 +6,15 @@ ghost use mathlib.Core.List.{[], _∷_};
 ghost use Prim.Native.Nat.{_+_, _≤_};
 ghost use lib.Dec.{eqb};
 ghost use lib.ListN.{length, take, drop};
+ghost use Rattle.codec.specs.Bytes.{fromLittleEndian};
 ghost use Rattle.service.specs.Runs.{serving};
-ghost use Rattle.wire.specs.Kinds.{fromLittleEndian};
 ghost use Rattle.rooms.specs.Rooms.{lentStation};
-ghost use Rattle.garage.specs.declared.Station.{Station};
+ghost use Rattle.station.specs.declared.Station.{Station};
 ghost use Rattle.checksum.specs.Slices.{crcBy};
-ghost use Rattle.journal_file.specs.Appends.{titleOf, openingOf, sumAfter, closingOf, carriedOf, titled, carried, noFront, wholeFront, frontOf, written, lostFrom, zeroed};
+ghost use Rattle.journal_file.specs.Appends.{titleOf, openingOf, sumAfter, closingOf, carriedOf, titled, payloadRight, noFront, wholeFront, frontOf, written, lostFrom, zeroed};
 ghost use Rattle.journal_file.specs.Heads.{titleBytes, headSum, headKind, headOf, nameByte, isGarage};
-ghost use Rattle.journal_file.specs.Replaying.{notTaken, taken, markMost, markTaken, messagesTaken, Leaves, stepping};
-use garage::Station;
+ghost use Rattle.journal_file.specs.Replaying.{notTaken, appendTaken, markMost, markTaken, messagesTaken, LeavesStep, stepping};
+use station::Station;
 
 const MOST: usize = 65536;
 
@@ -55,7 +55,7 @@ pub fn opening(t: &[u32], sum: u32, kind: u8, size: usize) -> [u8; 8]
     ensures { λ b. ⌜ b ≡ openingOf (crcBy (now (t .entry))) sum kind size ⌝ }
 {
     let title = title_of(kind, size);
-    let s = fours::four_bytes(checksum::continue_by(t, sum, &title));
+    let s = codec::four_bytes(checksum::continue_by(t, sum, &title));
     [
         title[0],
         title[1],
@@ -80,7 +80,7 @@ pub fn sum_after(t: &[u32], sum: u32, kind: u8, bytes: &[u8]) -> u32
 pub fn closing(sum: u32) -> [u8; 5]
     ensures { λ b. ⌜ b ≡ closingOf sum ⌝ }
 {
-    let s = fours::four_bytes(sum);
+    let s = codec::four_bytes(sum);
     [s[0], s[1], s[2], s[3], END]
 }
 
@@ -104,17 +104,17 @@ fn is_titled(t: &[u32], sum: u32, m: &[u8]) -> bool
     requires { ⌜ 8 ≤ length (now m) ⌝ }
     ensures { λ b. ⌜ b ≡ titled (crcBy (now (t .entry))) sum (now (m .entry)) ⌝ }
 {
-    let said = fours::four_at(m, 4);
+    let said = codec::four_at(m, 4);
     (said == checksum::continue_by(t, sum, &m[..4])) & (carried_of(m) <= MOST)
 }
 
 // Whether what is carried is right.
 fn is_carried(t: &[u32], m: &[u8], n: usize) -> bool
     requires { ⌜ (n ≡ carriedOf (now m)) × (n + 13 ≤ length (now m)) ⌝ }
-    ensures { λ b. ⌜ b ≡ carried (crcBy (now (t .entry))) (now (m .entry)) ⌝ }
+    ensures { λ b. ⌜ b ≡ payloadRight (crcBy (now (t .entry))) (now (m .entry)) ⌝ }
 {
-    let before = fours::four_at(m, 4);
-    let said = fours::four_at(m, n + 8);
+    let before = codec::four_at(m, 4);
+    let said = codec::four_at(m, n + 8);
     (said == checksum::continue_by(t, before, &m[8..n + 8])) & (m[n + 12] == END)
 }
 
@@ -150,7 +150,7 @@ pub fn front_of(t: &[u32], sum: u32, m: &[u8]) -> Front
             short: false,
             kind: m[0],
             carries: n,
-            sum: fours::four_at(m, n + 8),
+            sum: codec::four_at(m, n + 8),
         };
     }
     no_front(false)
@@ -303,7 +303,7 @@ fn kind_of(t: &[u32], m: &[u8], station: Station) -> Kind
     if m[20] != 2 {
         return Kind::OtherFormat;
     }
-    if fours::four_at(m, 124) != checksum::continue_by(t, 0, &m[..124]) {
+    if codec::four_at(m, 124) != checksum::continue_by(t, 0, &m[..124]) {
         return Kind::Damaged;
     }
     if !station.fit() {
@@ -328,7 +328,7 @@ pub fn head_of(t: &[u32], m: &[u8]) -> Head
     Head {
         kind,
         station,
-        sum: fours::four_at(m, 124),
+        sum: codec::four_at(m, 124),
     }
 }
 
@@ -360,7 +360,7 @@ fn not_taken(r: Replay, short: bool) -> Step
 
 fn take(station: Station, f: Front, closed: bool) -> Step
     requires { ⌜ f .carries ≤ 65536 ⌝ }
-    ensures { λ q. ⌜ q ≡ taken station f closed ⌝ }
+    ensures { λ q. ⌜ q ≡ appendTaken station f closed ⌝ }
 {
     let replay = Replay {
         station,
@@ -417,7 +417,7 @@ fn take_messages(r: Replay, f: Front, bytes: &[u8], room: &mut [u8]) -> Step
 
 // Takes the append at the front of some bytes. The room is for answers, which are not to be written.
 pub fn take_append(t: &[u32], r: Replay, m: &[u8], room: &mut [u8]) -> Step
-    ensures { λ q. ⌜ Leaves (stepping (crcBy (now (t .entry))) r (now (m .entry)) (now (room .entry))) q (now (room .exit)) ⌝ }
+    ensures { λ q. ⌜ LeavesStep (stepping (crcBy (now (t .entry))) r (now (m .entry)) (now (room .entry))) q (now (room .exit)) ⌝ }
 {
     let f = front_of(t, r.sum, m);
     if !f.whole {

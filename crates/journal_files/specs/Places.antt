@@ -5,5 +5,5 @@ use lib.Dec.{ltb}
 use lib.IntN.{ℤ, pos, negsuc}
 
 -- the place behind so many bytes of a file; there is none past 2^63
-abbrev pub placeOf : ℕ → ℤ
-placeOf n = cond (ltb n 9223372036854775808) (pos n) (negsuc 0)
+abbrev pub fileOffset : ℕ → ℤ
+fileOffset n = cond (ltb n 9223372036854775808) (pos n) (negsuc 0)

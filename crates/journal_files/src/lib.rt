@@ -2,8 +2,8 @@
 // say.
 ghost use mathlib.Core.Path.{_≡_};
 ghost use Rattle.io.specs.Counts.{Counts};
-ghost use Rattle.journal_files.specs.Places.{placeOf};
-use garage::Station;
+ghost use Rattle.journal_files.specs.Places.{fileOffset};
+use station::Station;
 use journal_file::Kind;
 use journal_reader::Reading;
 
@@ -89,7 +89,7 @@ pub fn is_of(asked: &[u8], name: &[u8]) -> bool {
 
 // A number of bytes as a place in a file; no file goes further than 2^63.
 pub fn place(n: usize) -> i64
-    ensures { λ r. ⌜ r ≡ placeOf n ⌝ }
+    ensures { λ r. ⌜ r ≡ fileOffset n ⌝ }
 {
     if n < 9223372036854775808 {
         return n as i64;
@@ -158,7 +158,7 @@ pub fn write_append(fd: i32, opening: &[u8], bytes: &[u8], closing: &[u8]) -> bo
 pub fn write_head(t: &[u32], fd: i32, garage: &[u8], station: Station) -> bool {
     let title = journal_file::title();
     let bytes = rooms::station_bytes(station);
-    let sum = fours::four_bytes(journal_file::head_sum(t, garage, station));
+    let sum = codec::four_bytes(journal_file::head_sum(t, garage, station));
     if !write(fd, &title) {
         return false;
     }

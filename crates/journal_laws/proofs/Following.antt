@@ -13,19 +13,19 @@ use Rattle.floor.specs.Floor.{driveIn}
 use Rattle.floor.specs.Cars.{cars}
 use Rattle.floor.specs.Sound.{paired, sound, total}
 use Rattle.rules.specs.Codes.{readEvent}
-use Rattle.rules.specs.Events.{inTurn, possible, placesOpen, after}
-use Rattle.garage.specs.declared.Station.{Station}
-use Rattle.garage.specs.Station.{startOf, fit}
-use Rattle.garage.specs.Held.{heldParts, partsIn, touches, liftIn, crossesDrive}
-use Rattle.garage.specs.Calls.{occurred, driven, evented, event, ask}
+use Rattle.rules.specs.Events.{inTurn, possible, placesOpen, afterEvent}
+use Rattle.station.specs.declared.Station.{Station}
+use Rattle.station.specs.Station.{startOf, fit}
+use Rattle.station.specs.Held.{heldParts, partsIn, touches, liftIn, crossesDrive}
+use Rattle.station.specs.Calls.{occurred, driven, evented, event, ask}
 use Rattle.wire.specs.Reads.{readRequest, readWhole, readMessage, readAsked}
-use Rattle.garage_laws.proofs.Fits.{fit-start}
+use Rattle.station_laws.proofs.Fits.{fit-start}
 use Rattle.service.specs.Service.{respond}
 use Rattle.service.specs.Runs.{run}
 use Rattle.service.proofs.Called.{respond-fit}
 use Rattle.rooms.specs.Rooms.{stationBytes}
-use Rattle.rooms.specs.Promises.{Typed}
-use Rattle.journal.specs.Journal.{Messages, stationAfter, Follows}
+use Rattle.rooms.specs.Promises.{StationTyped}
+use Rattle.journal.specs.Journal.{Messages, stationAfterMessages, Follows}
 use Rattle.journal.specs.Statements.{twoMessages}
 use Rattle.checksum.specs.Checksum.{crcOver}
 use Rattle.checksum.proofs.Promises.{in-range}
@@ -36,7 +36,7 @@ use Rattle.journal_file.specs.declared.Replay.{Replay}
 use Rattle.journal_file.specs.declared.Step.{Step}
 use Rattle.journal_file.specs.Appends.{Over, closedKind, payloadOf, sumAfter, appendOf, frontOf}
 use Rattle.journal_file.specs.Heads.{titleBytes, headSum, headOf}
-use Rattle.journal_file.specs.Replaying.{notTaken, taken, messagesTaken, markTaken, stepBy, stepOf, begun, Leads}
+use Rattle.journal_file.specs.Replaying.{notTaken, appendTaken, messagesTaken, markTaken, stepBy, stepOf, fileReplayBegun, Leads}
 use Rattle.journal_file.specs.Statements.{recordedIn}
 use Rattle.journal_laws.specs.Following.{headFor, Unbroken, TakesOver, StartFit, FollowGoesOn, AsOneFile, closingMark, MarkCloses, ClosedTakesNothing, ClosedIsLast, exampleName, exampleBegun, exampleAppend, exampleEnd, Followed}
 use Rattle.journal_file.proofs.Taking.{last-of}
@@ -47,7 +47,7 @@ use Rattle.journal_file.proofs.Files.{both-follow, run-of, replay-follows, foll
 -- ---- the new one
 
 -- messages keep a station fit
-fit-after : (s : Station) (ms : List (List ℕ)) → fit (stationAfter s ms) ≡ fit s
+fit-after : (s : Station) (ms : List (List ℕ)) → fit (stationAfterMessages s ms) ≡ fit s
 fit-after s [] = refl
 fit-after s (m ∷ ms) = fit-after (respond s m .station) ms ∙ respond-fit s m
 
@@ -55,19 +55,19 @@ fit-following : {s next : Station} {bytes : List ℕ} → fit s ≡ true → Fol
 fit-following {s} fits f = ap fit (f .station) ∙ fit-after s (f .messages) ∙ fits
 
 -- the head is read as it was written
-module _ (name : List ℕ) (s : Station) (named : length name ≡ 40) (typed : Typed s) (fits : fit s ≡ true) where
+module _ (name : List ℕ) (s : Station) (named : length name ≡ 40) (typed : StationTyped s) (fits : fit s ≡ true) where
   read-back : headOf crcOver (headFor name s) ≡ record { kind = Good; station = s; sum = headSum crcOver name s }
   read-back = ap (headOf crcOver) (sym (append-nil (headFor name s))) ∙ head-reads-back name s [] named typed fits
 
   new-good : headOf crcOver (headFor name s) .kind ≡ Good
   new-good = ap (λ (h : Head). h .kind) read-back
 
-  new-station : begun crcOver (headFor name s) .station ≡ s
+  new-station : fileReplayBegun crcOver (headFor name s) .station ≡ s
   new-station = ap (λ (h : Head). h .station) read-back
 
-  new-follows : (more : List (List ℕ)) (p : Replay) → Leads (begun crcOver (headFor name s)) more p → Follows s (recordedIn more) (p .station)
+  new-follows : (more : List (List ℕ)) (p : Replay) → Leads (fileReplayBegun crcOver (headFor name s)) more p → Follows s (recordedIn more) (p .station)
   new-follows more p l =
-      subst (λ (x : Station). Follows x (recordedIn more) (p .station)) new-station (replay-follows (begun crcOver (headFor name s)) p more l)
+      subst (λ (x : Station). Follows x (recordedIn more) (p .station)) new-station (replay-follows (fileReplayBegun crcOver (headFor name s)) p more l)
 
 unbroken : {s : Station} {recorded : List ℕ} {p : Replay} → Follows s recorded (p .station) → Unbroken s recorded p
 unbroken f = record { follows = f; answers = follows-goes-on f }
@@ -100,11 +100,11 @@ module _ (q : Replay) (open-still : q .closed ≡ false) (small : q .sum < 2 ^ 3
   mark-there =
       ap (frontOf crcOver (q .sum)) (sym (append-nil (closingMark (q .sum)))) ∙ append-reads-back (q .sum) closedKind [] [] small (omega arith)
 
-  by-mark : (used : ℕ) (next : Station) → stepBy q mark used next ≡ taken (q .station) mark true
+  by-mark : (used : ℕ) (next : Station) → stepBy q mark used next ≡ appendTaken (q .station) mark true
   by-mark used next =
       sym (last-of false (q .closed) false (notTaken q false) (notTaken q false) (messagesTaken q mark used next) (markTaken q mark) refl open-still refl)
 
-  closes : stepOf crcOver q (closingMark (q .sum)) ≡ taken (q .station) mark true
+  closes : stepOf crcOver q (closingMark (q .sum)) ≡ appendTaken (q .station) mark true
   unfolding stepOf
   closes =
       let w = run (q .station) (payloadOf (closingMark (q .sum))) in
@@ -140,24 +140,24 @@ closed-is-last r q (a ∷ more) e (long, took, l) = absurd (omega (arith, long, 
 abbrev driving : Station
 driving = record { bits = 0x00891B0000000000; count = 0; answered = 0; set = replicate 40 0; next = 0; apart = 0 }
 
-after-two : stationAfter startOf twoMessages ≡ driving
-unfolding cars paired sound total packed some every least inTurn possible placesOpen after heldParts partsIn touches liftIn crossesDrive fit
+after-two : stationAfterMessages startOf twoMessages ≡ driving
+unfolding cars paired sound total packed some every least inTurn possible placesOpen afterEvent heldParts partsIn touches liftIn crossesDrive fit
     occurred driven evented event ask readEvent readRequest readWhole readMessage readAsked respond
 after-two = refl
 
-typed-driving : Typed driving
+typed-driving : StationTyped driving
 typed-driving = record { image = omega arith; places = refl; issue = omega arith; apart = omega arith }
 
-typed-start : Typed startOf
+typed-start : StationTyped startOf
 typed-start = record { image = omega arith; places = refl; issue = omega arith; apart = omega arith }
 
-two-follow : Follows startOf (join twoMessages) (stationAfter startOf twoMessages)
+two-follow : Follows startOf (join twoMessages) (stationAfterMessages startOf twoMessages)
 two-follow = record { messages = twoMessages; each = (refl, (refl, tt)); bytes-are = refl; station = refl }
 
 -- an append of whole messages behind a new head
-module _ (s next : Station) (bytes : List ℕ) (typed : Typed s) (fits : fit s ≡ true) (f : Follows s bytes next) (some : 0 < length bytes) (few : length bytes ≤ 65536) where
+module _ (s next : Station) (bytes : List ℕ) (typed : StationTyped s) (fits : fit s ≡ true) (f : Follows s bytes next) (some : 0 < length bytes) (few : length bytes ≤ 65536) where
   abbrev first : Replay
-  first = begun crcOver (headFor exampleName s)
+  first = fileReplayBegun crcOver (headFor exampleName s)
 
   small : first .sum < 2 ^ 32
   small =
@@ -173,12 +173,12 @@ module _ (s next : Station) (bytes : List ℕ) (typed : Typed s) (fits : fit s �
 pub followed : Followed
 followed = record {
   begins = ap fit (new-station exampleName startOf refl typed-start fit-start) ∙ fit-start;
-  leads = one-append startOf (stationAfter startOf twoMessages) (join twoMessages) typed-start fit-start two-follow (omega arith) (omega arith);
-  typed = subst Typed (sym after-two) typed-driving;
+  leads = one-append startOf (stationAfterMessages startOf twoMessages) (join twoMessages) typed-start fit-start two-follow (omega arith) (omega arith);
+  typed = subst StationTyped (sym after-two) typed-driving;
   named = refl;
   drives = ap (λ (s : Station). bit (s .bits) driveIn) after-two;
   last = _;
   more = _;
-  goes = one-append (exampleEnd .station) (stationAfter (exampleEnd .station) twoMessages) (join twoMessages) (subst Typed (sym after-two) typed-driving)
+  goes = one-append (exampleEnd .station) (stationAfterMessages (exampleEnd .station) twoMessages) (join twoMessages) (subst StationTyped (sym after-two) typed-driving)
       (fit-following fit-start two-follow) (record { messages = twoMessages; each = (refl, (refl, tt)); bytes-are = refl; station = refl }) (omega arith) (omega arith);
 }

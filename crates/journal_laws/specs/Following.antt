@@ -8,19 +8,19 @@ use lib.ListN.{length, replicate}
 use Rattle.bits.specs.Bits.{bit}
 use Rattle.bits.specs.Places.{join}
 use Rattle.floor.specs.Floor.{driveIn}
-use Rattle.garage.specs.declared.Station.{Station}
-use Rattle.garage.specs.Station.{startOf, fit}
+use Rattle.station.specs.declared.Station.{Station}
+use Rattle.station.specs.Station.{startOf, fit}
 use Rattle.service.specs.Service.{answersOn}
 use Rattle.service.specs.Runs.{run}
-use Rattle.rooms.specs.Promises.{Typed}
-use Rattle.journal.specs.Journal.{stationAfter, Follows}
+use Rattle.rooms.specs.Promises.{StationTyped}
+use Rattle.journal.specs.Journal.{stationAfterMessages, Follows}
 use Rattle.journal.specs.Statements.{twoMessages}
 use Rattle.checksum.specs.Checksum.{crcOver}
 use Rattle.journal_file.specs.declared.Kind.the-variants.{Good}
 use Rattle.journal_file.specs.declared.Replay.{Replay}
 use Rattle.journal_file.specs.Appends.{Over, cutShortKind, closedKind, messagesKind, around, sumAfter, appendOf}
 use Rattle.journal_file.specs.Heads.{headBytes, headOf}
-use Rattle.journal_file.specs.Replaying.{begun, stepOf, Leads}
+use Rattle.journal_file.specs.Replaying.{fileReplayBegun, stepOf, Leads}
 use Rattle.journal_file.specs.Statements.{recordedIn}
 
 -- ---- the new one
@@ -40,10 +40,10 @@ pub record Unbroken (s : Station) (recorded : List ℕ) (p : Replay) : Type 0 wh
 abbrev pub TakesOver : Type 0
 TakesOver =
     (first s : Station) (recorded name : List ℕ) (more : List (List ℕ)) (p : Replay)
-    → fit first ≡ true → Follows first recorded s → Typed s → length name ≡ 40
+    → fit first ≡ true → Follows first recorded s → StationTyped s → length name ≡ 40
     → let head = headFor name s in
     (headOf crcOver head .kind ≡ Good)
-    × (Leads (begun crcOver head) more p → Unbroken first (recorded ++ recordedIn more) p)
+    × (Leads (fileReplayBegun crcOver head) more p → Unbroken first (recorded ++ recordedIn more) p)
 
 -- the start is such a station
 abbrev pub StartFit : Type 0
@@ -53,17 +53,17 @@ StartFit = fit startOf ≡ true
 abbrev pub FollowGoesOn : Type 0
 FollowGoesOn =
     (r q p : Replay) (appends more : List (List ℕ)) (name : List ℕ)
-    → fit (r .station) ≡ true → Leads r appends q → Typed (q .station) → length name ≡ 40
+    → fit (r .station) ≡ true → Leads r appends q → StationTyped (q .station) → length name ≡ 40
     → let head = headFor name (q .station) in
     (headOf crcOver head .kind ≡ Good)
-    × (Leads (begun crcOver head) more p → Unbroken (r .station) (recordedIn appends ++ recordedIn more) p)
+    × (Leads (fileReplayBegun crcOver head) more p → Unbroken (r .station) (recordedIn appends ++ recordedIn more) p)
 
 -- and the old one, had it gone on with the same messages, would have come to the same station
 abbrev pub AsOneFile : Type 0
 AsOneFile =
     (q one p : Replay) (further more : List (List ℕ)) (name : List ℕ)
-    → fit (q .station) ≡ true → Typed (q .station) → length name ≡ 40
-    → Leads q further one → Leads (begun crcOver (headFor name (q .station))) more p → recordedIn further ≡ recordedIn more
+    → fit (q .station) ≡ true → StationTyped (q .station) → length name ≡ 40
+    → Leads q further one → Leads (fileReplayBegun crcOver (headFor name (q .station))) more p → recordedIn further ≡ recordedIn more
     → one .station ≡ p .station
 
 -- ---- the old one
@@ -95,7 +95,7 @@ exampleName = 97 ∷ replicate 39 0
 
 -- a journal from the start on, with an append of two messages: a drive-in begins
 abbrev pub exampleBegun : Replay
-exampleBegun = begun crcOver (headFor exampleName startOf)
+exampleBegun = fileReplayBegun crcOver (headFor exampleName startOf)
 
 abbrev pub exampleAppend : List ℕ
 exampleAppend = appendOf crcOver (exampleBegun .sum) messagesKind (join twoMessages)
@@ -103,7 +103,7 @@ exampleAppend = appendOf crcOver (exampleBegun .sum) messagesKind (join twoMessa
 abbrev pub exampleEnd : Replay
 exampleEnd =
     record {
-      station = stationAfter startOf twoMessages;
+      station = stationAfterMessages startOf twoMessages;
       sum = sumAfter crcOver (exampleBegun .sum) messagesKind (join twoMessages);
       closed = false;
     }
@@ -112,9 +112,9 @@ exampleEnd =
 pub record Followed : Type 0 where
   pub begins : fit (exampleBegun .station) ≡ true
   pub leads : Leads exampleBegun (exampleAppend ∷ []) exampleEnd
-  pub typed : Typed (exampleEnd .station)
+  pub typed : StationTyped (exampleEnd .station)
   pub named : length exampleName ≡ 40
   pub drives : bit (exampleEnd .station .bits) driveIn ≡ true
   pub last : Replay
   pub more : List ℕ
-  pub goes : Leads (begun crcOver (headFor exampleName (exampleEnd .station))) (more ∷ []) last
+  pub goes : Leads (fileReplayBegun crcOver (headFor exampleName (exampleEnd .station))) (more ∷ []) last

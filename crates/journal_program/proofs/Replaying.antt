@@ -7,11 +7,11 @@ use Prim.Native.Nat.{ℕ, _+_, _-_, _≤_, _<_}
 use native.Mathlib.Omega.{arith}
 use lib.ListN.{length, take, length-take}
 use lib.Seq.{length-slice, length-take-le}
-use Rattle.garage.specs.declared.Station.{Station}
-use Rattle.garage.specs.Station.{startOf}
+use Rattle.station.specs.declared.Station.{Station}
+use Rattle.station.specs.Station.{startOf}
 use Rattle.service.specs.Runs.{Serving, run, served, serving, enough}
-use Rattle.turns.specs.Turns.{holding, turning}
-use Rattle.turns.proofs.Statements.{rest-is-short}
+use Rattle.service.specs.Turns.{holdingFront, turning}
+use Rattle.service.proofs.TurnStatements.{rest-is-short}
 use Rattle.journal.specs.declared.Replay.{Replay}
 use Rattle.journal.specs.Journal.{counted, Journaled}
 use Rattle.journal.specs.Pieces.{replaying}
@@ -46,7 +46,7 @@ module _ (r : Replay) (buf : List ℕ) (end : ℕ) (room : List ℕ) (q : Replay
       rw (ap (λ (x : Replay). x .have) says) (rest-is-short (r .station) buf end room (omega arith) stop)
 
   pub piece-journaled : end ≤ length buf → Journaled (r .station) (r .whole) → Journaled (q .station) (q .whole)
-  unfolding replaying turning holding
+  unfolding replaying turning holdingFront
   piece-journaled within was =
       let s = r .station in
       let input = take end buf in
@@ -55,9 +55,9 @@ module _ (r : Replay) (buf : List ℕ) (end : ℕ) (room : List ℕ) (q : Replay
       let l = length-take end buf in
       let bytes = take (run s input .used) input in
       let long : length bytes ≡ run s input .used = length-take-le (run s input .used) input u in
-      let held : holding (serving s input room .says .used) end buf .says ≡ end - run s input .used =
-      ap (λ (x : Serving). holding (x .says .used) end buf .says) all ∙ length-slice (run s input .used) end buf within in
-      let gone : end - holding (serving s input room .says .used) end buf .says ≡ length bytes = omega arith in
+      let held : holdingFront (serving s input room .says .used) end buf .says ≡ end - run s input .used =
+      ap (λ (x : Serving). holdingFront (x .says .used) end buf .says) all ∙ length-slice (run s input .used) end buf within in
+      let gone : end - holdingFront (serving s input room .says .used) end buf .says ≡ length bytes = omega arith in
       let whole : q .whole ≡ counted (r .whole + length bytes) =
       ap (λ (x : Replay). x .whole) says ∙ ap (λ (n : ℕ). counted (r .whole + n)) gone in
       let station : q .station ≡ run s input .station = ap (λ (x : Replay). x .station) says ∙ ap (λ (x : Serving). x .says .station) all in

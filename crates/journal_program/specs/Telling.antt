@@ -7,19 +7,19 @@ use lib.ListN.{length}
 use Rattle.service.specs.Runs.{enough}
 use Rattle.journal.specs.Journal as bare
 use Rattle.journal_reader.specs.declared.Reading.{Reading}
-use Rattle.journal_reader.specs.Reading.{Within}
+use Rattle.journal_reader.specs.Reading.{ReadingWithin}
 use Rattle.journal_program.specs.declared.older.Older.{Older}
 use Rattle.journal_program.specs.declared.following.End.{End}
 
 -- a reading that went well so far lies within a buffer of n bytes
 abbrev pub WithinIfWell : Reading → ℕ → Type 0
-WithinIfWell q n = q .well ≡ true → Within q n
+WithinIfWell q n = q .well ≡ true → ReadingWithin q n
 
 -- ---- version 1.0
 
 -- a buffer that is longer than a message, and room for all answers to it
-abbrev pub Roomy : List ℕ → List ℕ → Type 0
-Roomy buf out = (45 ≤ length buf) × (enough (length buf) ≤ length out)
+abbrev pub RoomToTell : List ℕ → List ℕ → Type 0
+RoomToTell buf out = (45 ≤ length buf) × (enough (length buf) ≤ length out)
 
 -- the bytes so far make the station; and where there may be more of them, less than a message is held
 abbrev pub OlderReads : Older → Type 0

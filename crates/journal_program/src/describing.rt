@@ -57,7 +57,7 @@ fn say_version(head: &[u8]) -> bool {
 
 // Whether a station is the start's: that of a garage that has not moved yet.
 fn is_start(station: &[u8]) -> bool {
-    let start = rooms::station_bytes(garage::Station::start());
+    let start = rooms::station_bytes(station::Station::start());
     commands::is_text(station, &start)
 }
 

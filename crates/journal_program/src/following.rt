@@ -7,7 +7,7 @@ ghost use lib.ListN.{length};
 ghost use Rattle.journal_program.specs.Telling.{WithinIfWell, EndsIfWell, Ends};
 use crate::older;
 use crate::reading;
-use garage::Station;
+use station::Station;
 use journal_file::Kind;
 use journal_reader::Reading;
 

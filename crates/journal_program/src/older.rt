@@ -6,7 +6,7 @@ ghost use Prim.Native.Nat.{_≤_, _<_};
 ghost use lib.ListN.{length};
 ghost use Rattle.journal.specs.Journal.{Journaled};
 ghost use Rattle.service.specs.Runs.{enough};
-ghost use Rattle.journal_program.specs.Telling.{Roomy, OlderReads, EndsIfWell};
+ghost use Rattle.journal_program.specs.Telling.{RoomToTell, OlderReads, EndsIfWell};
 use crate::following::End;
 use crate::following::unended;
 use journal::Replay;
@@ -34,7 +34,7 @@ fn replayed(r: Replay, buf: &mut [u8], end: usize, room: &mut [u8]) -> Older
 
 // Reads once, and replays what came whole.
 fn read_piece(fd: i32, r: Replay, buf: &mut [u8], room: &mut [u8]) -> Older
-    requires { ⌜ (r .have < 45) × Roomy (now buf) (now room) × Journaled (r .station) (r .whole) ⌝ }
+    requires { ⌜ (r .have < 45) × RoomToTell (now buf) (now room) × Journaled (r .station) (r .whole) ⌝ }
     ensures { λ q. ⌜ OlderReads q ⌝ }
 {
     let have = r.have;
@@ -56,7 +56,7 @@ fn read_piece(fd: i32, r: Replay, buf: &mut [u8], room: &mut [u8]) -> Older
 
 // Piece after piece; no file is so long that it takes more.
 fn replay_all(fd: i32, buf: &mut [u8], room: &mut [u8]) -> Older
-    requires { ⌜ Roomy (now buf) (now room) ⌝ }
+    requires { ⌜ RoomToTell (now buf) (now room) ⌝ }
     ensures { λ q. ⌜ Journaled (q .replay .station) (q .replay .whole) ⌝ }
 {
     let start = journal::begin();
@@ -112,7 +112,7 @@ fn end_of(r: Replay, closed: bool) -> End
 
 // Reads it to its end.
 fn read_all(fd: i32, buf: &mut [u8], room: &mut [u8]) -> End
-    requires { ⌜ Roomy (now buf) (now room) ⌝ }
+    requires { ⌜ RoomToTell (now buf) (now room) ⌝ }
     ensures { λ e. ⌜ EndsIfWell e ⌝ }
 {
     let q = replay_all(fd, buf, room);

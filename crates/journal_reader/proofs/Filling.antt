@@ -11,25 +11,25 @@ use lib.ListN.{length, take, drop}
 use lib.Seq.{take-take, take-append-le, slice, length-slice}
 use Rattle.streams.specs.declared.Input.{Input}
 use Rattle.streams.specs.declared.Input.the-variants.{Bytes, Ended, Failed, Full}
-use Rattle.streams.specs.Input.{Kept, Fills}
-use Rattle.turns.specs.Turns.{Holds, holding}
+use Rattle.streams.specs.Input.{FrontKept, Fills}
+use Rattle.service.specs.Turns.{Holds, holdingFront}
 use Rattle.journal_reader.specs.Reading.{part}
 
 -- whatever a read says, the bytes that were held stay
-pub any-kept : (before after : List ℕ) (have : ℕ) (r : Input) → Fills before have r after → Kept before have after
+pub any-kept : (before after : List ℕ) (have : ℕ) (r : Input) → Fills before have r after → FrontKept before have after
 any-kept before after have (Bytes end) f = f .2
 any-kept before after have Ended f = f .1
 any-kept before after have Failed f = f .1
 any-kept before after have Full f = ap (take have) (f .1)
 
 pub of-bytes : (before after : List ℕ) (have : ℕ) (r : Input) {end : ℕ} → Fills before have r after → r ≡ Bytes end
-    → (have ≤ end) × (end ≤ length before) × Kept before have after
+    → (have ≤ end) × (end ≤ length before) × FrontKept before have after
 of-bytes before after have r {end} f e =
     let g : Fills before have (Bytes end) after = subst (λ (x : Input). Fills before have x after) e f in
     (omega (arith, g .0), g .1, g .2)
 
 -- one read behind others
-pub kept-on : (before now after : List ℕ) {have end : ℕ} → have ≤ end → Kept before have now → Kept now end after → Kept before have after
+pub kept-on : (before now after : List ℕ) {have end : ℕ} → have ≤ end → FrontKept before have now → FrontKept now end after → FrontKept before have after
 kept-on before now after {have} {end} h a b =
     sym (take-take have end after h) ∙ ap (take have) b ∙ take-take have end now h ∙ a
 
@@ -42,14 +42,14 @@ cut-inside (suc k) n (suc e) [] h = refl
 cut-inside (suc k) n (suc e) (x ∷ l) h = cut-inside k n e l (omega (arith, h))
 
 module _ (before held after : List ℕ) (from at end have : ℕ) (fa : from ≤ at) (ae : at ≤ end) (el : end ≤ length before)
-    (holds : Holds (holding from end before) have held) where
+    (holds : Holds (holdingFront from end before) have held) where
   pub held-long : have ≡ end - from
-  unfolding holding
+  unfolding holdingFront
   held-long = holds .0 ∙ length-slice from end before el
 
   -- what was taken last still stands there
-  pub held-last : Kept held have after → part 0 (at - from) after ≡ part from at before
-  unfolding holding
+  pub held-last : FrontKept held have after → part 0 (at - from) after ≡ part from at before
+  unfolding holdingFront
   held-last kept =
       let n = at - from in
       let s = slice from end before in

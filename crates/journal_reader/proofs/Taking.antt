@@ -7,18 +7,19 @@ use native.Mathlib.Omega.{arith}
 use lib.ListN.{length, take, drop, length-drop}
 use lib.Seq.{length-take-le, take-take}
 use Rattle.bits.proofs.Cases.{split, clash}
-use Rattle.wire_laws.specs.Statements.{Bytes}
-use Rattle.wire_laws.proofs.Numbers.{bytes-take, bytes-drop}
+use Rattle.journal.specs.Journal.{counted}
+use Rattle.codec.specs.Bytes.{Bytes}
+use Rattle.codec.proofs.Numbers.{bytes-take, bytes-drop}
 use Rattle.checksum.specs.Checksum.{crcOver}
 use Rattle.checksum.specs.Slices.{crcBy}
 use Rattle.journal_file.specs.declared.Step.{Step}
-use Rattle.journal_file.specs.Replaying.{stepOf, stepping, counted}
+use Rattle.journal_file.specs.Replaying.{stepOf, stepping}
 use Rattle.journal_file.proofs.Alone.{stepping-is, step-alone, alone-long, took-room}
 use Rattle.journal_reader.specs.declared.Reading.{Reading}
-use Rattle.journal_reader.specs.Reading.{Within, Lent, Stays, Takes, Next, restIn}
-use Rattle.journal_reader.specs.Private.{stoppedAt, Brought, Steps}
+use Rattle.journal_reader.specs.Reading.{ReadingWithin, BuffersLent, Stays, AppendTakes, Next, restIn}
+use Rattle.journal_reader.specs.Private.{stoppedAt, ReadingBrought, Steps}
 
-module _ (t room buf : List ℕ) (q : Reading) (within : Within q (length buf)) (s : Step)
+module _ (t room buf : List ℕ) (q : Reading) (within : ReadingWithin q (length buf)) (s : Step)
     (e : s ≡ stepping (crcBy t) (q .replay) (restIn q buf) room .says) (some : s .took ≡ 0 → ⊥) where
   rest-long : length (restIn q buf) ≡ q .end - q .at
   rest-long = length-take-le (q .end - q .at) (drop (q .at) buf) (let l = length-drop (q .at) buf in omega (arith, l, within .2, within .3))
@@ -38,7 +39,7 @@ module _ (t room buf : List ℕ) (q : Reading) (within : Within q (length buf)) 
   pub took-small : {end : ℕ} → end ≡ q .end → end < 2 ^ 64 → q .at + s .took < 2 ^ 64
   took-small e b = let i = took-fits in omega (arith, e, b, i .2)
 
-  pub takes : q .replay .sum < 2 ^ 32 → Bytes buf → Lent t room
+  pub takes : q .replay .sum < 2 ^ 32 → Bytes buf → BuffersLent t room
       → let a = take (q .at + s .took - q .at) (drop (q .at) buf) in
       (0 < length a)
       × (stepOf crcOver (q .replay) a .took ≡ length a)
@@ -77,14 +78,14 @@ stopped-next t room before after q b r e stays =
     (λ w. clash w (and-false (b .well)), λ n. stays, λ w l. clash w refl)
 
 -- what was brought, and then taken or not
-pub taken-next : (t room before after : List ℕ) (q b r : Reading) → length after ≡ length before → Brought q before b after → Steps t room b after r → Next t room q before r after
+pub taken-next : (t room before after : List ℕ) (q b r : Reading) → length after ≡ length before → ReadingBrought q before b after → Steps t room b after r → Next t room q before r after
 taken-next t room before after q b r len (within, stays) (none, inside, took) =
-    (λ w. split (r .took) (λ y. in-buffer (inside y)) (λ n. subst (λ (x : Reading). Within x (length before)) (sym (none n)) within),
+    (λ w. split (r .took) (λ y. in-buffer (inside y)) (λ n. subst (λ (x : Reading). ReadingWithin x (length before)) (sym (none n)) within),
     λ n. subst (λ (x : Reading). Stays q before x after) (sym (none n)) stays,
     λ y l. moved (took y l))
   where
-    in-buffer : (r .from ≡ b .at) × (b .at ≤ r .at) × (r .at ≤ b .end) × (r .end ≡ b .end) → Within r (length before)
+    in-buffer : (r .from ≡ b .at) × (b .at ≤ r .at) × (r .at ≤ b .end) × (r .end ≡ b .end) → ReadingWithin r (length before)
     in-buffer i = (within .0, omega (arith, i .0, i .1), omega (arith, i .2, i .3), omega (arith, i .3, within .3))
 
-    moved : Takes b r after → Takes q r after
+    moved : AppendTakes b r after → AppendTakes q r after
     moved k = rw (← stays .0, ← stays .1) k

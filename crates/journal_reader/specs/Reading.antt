@@ -7,13 +7,14 @@ use Prim.Native.Nat.{ℕ, _+_, _-_, _≤_, _<_}
 use lib.Dec.{eqb, ltb}
 use lib.ListN.{length, take, drop}
 use Rattle.bits.specs.Places.{join}
+use Rattle.journal.specs.Journal.{counted}
 use Rattle.checksum.specs.Checksum.{crcOver}
 use Rattle.checksum.specs.Slices.{slices}
 use Rattle.journal_file.specs.declared.Kind.the-variants.{Good}
 use Rattle.journal_file.specs.declared.Replay.{Replay}
 use Rattle.journal_file.specs.Appends.{Over, frontOf, zeroed}
 use Rattle.journal_file.specs.Heads.{headSize, headOf}
-use Rattle.journal_file.specs.Replaying.{begun, stepOf, Leads, counted}
+use Rattle.journal_file.specs.Replaying.{fileReplayBegun, stepOf, Leads}
 use Rattle.journal_reader.specs.declared.Reading.{Reading}
 use Rattle.journal_reader.specs.declared.Beginning.{Beginning}
 use Rattle.journal_reader.specs.declared.Rest.{Rest}
@@ -26,8 +27,8 @@ abbrev pub part : ℕ → ℕ → List ℕ → List ℕ
 part from to m = take (to - from) (drop from m)
 
 -- a reading lies within a buffer of n bytes, which has room for the append that was taken last and for more than the next
-abbrev pub Within : Reading → ℕ → Type 0
-Within q n = (131099 ≤ n) × (q .from ≤ q .at) × (q .at ≤ q .end) × (q .end ≤ n)
+abbrev pub ReadingWithin : Reading → ℕ → Type 0
+ReadingWithin q n = (131099 ≤ n) × (q .from ≤ q .at) × (q .at ≤ q .end) × (q .end ≤ n)
 
 -- the append that was taken last, or the head, as it stands in the buffer
 abbrev pub lastIn : Reading → List ℕ → List ℕ
@@ -44,11 +45,11 @@ abbrev pub headIn : ℕ → List ℕ → List ℕ
 headIn end buf = take (cond (ltb end headSize) end headSize) buf
 
 -- a reading begins behind the head, which stands at the front of the buffer
-abbrev pub Begins : Over → Beginning → List ℕ → Type 0
-Begins over b buf =
+abbrev pub ReadingBegins : Over → Beginning → List ℕ → Type 0
+ReadingBegins over b buf =
     (b .reading .end ≤ length buf)
     × (b .kind ≡ headOf over (headIn (b .reading .end) buf) .kind)
-    × (b .reading .replay ≡ begun over (headIn (b .reading .end) buf))
+    × (b .reading .replay ≡ fileReplayBegun over (headIn (b .reading .end) buf))
     × (b .reading .place ≡ headSize)
     × (b .reading .from ≡ 0)
     × (b .reading .at ≡ headSize)
@@ -56,16 +57,16 @@ Begins over b buf =
 -- ---- one step
 
 -- the right tables, and room for all answers to an append
-abbrev pub Lent : List ℕ → List ℕ → Type 0
-Lent t room = (t ≡ slices) × (327680 ≤ length room)
+abbrev pub BuffersLent : List ℕ → List ℕ → Type 0
+BuffersLent t room = (t ≡ slices) × (327680 ≤ length room)
 
 -- no append was taken: the reading stays where it is, and the last one still stands in the buffer
 abbrev pub Stays : Reading → List ℕ → Reading → List ℕ → Type 0
 Stays q before r after = (r .replay ≡ q .replay) × (r .place ≡ q .place) × (lastIn r after ≡ lastIn q before)
 
 -- an append was taken: it stands in the buffer, whole and alone, and takes the replay to the next
-abbrev pub Takes : Reading → Reading → List ℕ → Type 0
-Takes q r after =
+abbrev pub AppendTakes : Reading → Reading → List ℕ → Type 0
+AppendTakes q r after =
     let a = lastIn r after in
     (0 < length a)
     × (stepOf crcOver (q .replay) a .took ≡ length a)
@@ -75,9 +76,9 @@ Takes q r after =
 -- what a step leaves
 abbrev pub Next : List ℕ → List ℕ → Reading → List ℕ → Reading → List ℕ → Type 0
 Next t room q before r after =
-    (r .well ≡ true → Within r (length before))
+    (r .well ≡ true → ReadingWithin r (length before))
     × (r .took ≡ false → Stays q before r after)
-    × (r .took ≡ true → Lent t room → Takes q r after)
+    × (r .took ≡ true → BuffersLent t room → AppendTakes q r after)
 
 -- ---- the end
 
@@ -89,15 +90,15 @@ restOf over sum place m =
 -- ---- all steps
 
 -- the last of some appends, or the head where there are none
-abbrev pub lastOf : List ℕ → List (List ℕ) → List ℕ
-lastOf head [] = head
-lastOf head (a ∷ more) = lastOf a more
+abbrev pub lastAppend : List ℕ → List (List ℕ) → List ℕ
+lastAppend head [] = head
+lastAppend head (a ∷ more) = lastAppend a more
 
 -- a good head and appends of so many bytes make this replay, and these bytes are the last of them
-pub record Stands (r : Replay) (n : ℕ) (last : List ℕ) : Type 0 where
+pub record ReplayStands (r : Replay) (n : ℕ) (last : List ℕ) : Type 0 where
   pub head : List ℕ
   pub appends : List (List ℕ)
   pub headed : (length head ≡ headSize) × (headOf crcOver head .kind ≡ Good)
-  pub leads : Leads (begun crcOver head) appends r
+  pub leads : Leads (fileReplayBegun crcOver head) appends r
   pub long : n ≡ counted (length (head ++ join appends))
-  pub last-is : last ≡ lastOf head appends
+  pub last-is : last ≡ lastAppend head appends

@@ -7,8 +7,8 @@ ghost use Prim.Native.Nat.{_+_, _≤_};
 ghost use lib.Dec.{ltb};
 ghost use lib.ListN.{length};
 ghost use Rattle.checksum.specs.Slices.{crcBy};
-ghost use Rattle.journal_reader.specs.Reading.{Within, Begins, Next, restOf};
-ghost use Rattle.journal_reader.specs.Private.{FilledUp, stoppedAt, Brought, Steps};
+ghost use Rattle.journal_reader.specs.Reading.{ReadingWithin, ReadingBegins, Next, restOf};
+ghost use Rattle.journal_reader.specs.Private.{FilledUp, stoppedAt, ReadingBrought, Steps};
 use journal_file::Kind;
 use journal_file::Replay;
 use streams::Input;
@@ -116,7 +116,7 @@ fn fill_up(fd: i32, buf: &mut [u8], have: usize, name: &[u8]) -> Filled
 
 // Whether a reading lies within a buffer of n bytes that has room for what follows.
 fn fits(q: Reading, n: usize) -> bool
-    ensures { λ b. ⌜ (b ≡ true → Within q n) ⌝ }
+    ensures { λ b. ⌜ (b ≡ true → ReadingWithin q n) ⌝ }
 {
     if n < LEAST {
         return false;
@@ -135,11 +135,11 @@ fn fits(q: Reading, n: usize) -> bool
 
 // Reads on with the last append held at the front of the buffer.
 fn read_on(fd: i32, q: Reading, buf: &mut [u8], name: &[u8]) -> Reading
-    requires { ⌜ Within q (length (now buf)) ⌝ }
-    ensures { λ r. ⌜ Brought q (now (buf .entry)) r (now (buf .exit)) ⌝ }
+    requires { ⌜ ReadingWithin q (length (now buf)) ⌝ }
+    ensures { λ r. ⌜ ReadingBrought q (now (buf .entry)) r (now (buf .exit)) ⌝ }
 {
     let replay = q.replay;
-    let have = turns::hold(buf, q.from, q.end);
+    let have = service::buffer::hold(buf, q.from, q.end);
     let f = fill_up(fd, buf, have, name);
     Reading {
         replay,
@@ -157,8 +157,8 @@ fn read_on(fd: i32, q: Reading, buf: &mut [u8], name: &[u8]) -> Reading
 
 // Reads on where less than an append may stand in the buffer.
 fn bring(fd: i32, q: Reading, buf: &mut [u8], name: &[u8]) -> Reading
-    requires { ⌜ Within q (length (now buf)) ⌝ }
-    ensures { λ r. ⌜ Brought q (now (buf .entry)) r (now (buf .exit)) ⌝ }
+    requires { ⌜ ReadingWithin q (length (now buf)) ⌝ }
+    ensures { λ r. ⌜ ReadingBrought q (now (buf .entry)) r (now (buf .exit)) ⌝ }
 {
     if !q.more {
         return q;
@@ -224,7 +224,7 @@ fn stopped(q: Reading, well: bool) -> Reading
 
 // Takes the append that stands in the buffer, behind one with this checksum.
 fn take(t: &[u32], q: Reading, sum: u32, end: usize, buf: &[u8], room: &mut [u8]) -> Reading
-    requires { ⌜ Within q (length (now buf)) × (sum ≡ q .replay .sum) × (end ≡ q .end) ⌝ }
+    requires { ⌜ ReadingWithin q (length (now buf)) × (sum ≡ q .replay .sum) × (end ≡ q .end) ⌝ }
     ensures { λ r. ⌜ Steps (now (t .entry)) (now (room .entry)) q (now (buf .entry)) r ⌝ }
 {
     let at = q.at;
@@ -289,7 +289,7 @@ fn head_size(end: usize) -> usize
 
 // Begins to read: what the head is.
 pub fn begin(t: &[u32], fd: i32, buf: &mut [u8], name: &[u8]) -> Beginning
-    ensures { λ b. ⌜ Begins (crcBy (now (t .entry))) b (now (buf .exit)) ⌝ }
+    ensures { λ b. ⌜ ReadingBegins (crcBy (now (t .entry))) b (now (buf .exit)) ⌝ }
 {
     let f = fill_up(fd, buf, 0, name);
     let end = f.end;

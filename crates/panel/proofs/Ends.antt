@@ -13,7 +13,7 @@ use Rattle.bits.specs.Bits.{digit}
 use Rattle.bits.proofs.Cases.{split}
 use Rattle.bits.proofs.Digits.{digit-lt}
 use Rattle.bits.proofs.Packing.{byte-digit}
-use Rattle.panel.specs.Private.{noCells, fromEnd, endFrom}
+use Rattle.panel.specs.Private.{noCells, cellFromEnd, endFrom}
 
 -- what the cells that are left make of those that are marked
 pub record Ending (span : List Bool) (up : Bool) (all : List Bool) (j left : ℕ) (marked : List Bool) : Type 0 where
@@ -22,8 +22,8 @@ pub record Ending (span : List Bool) (up : Bool) (all : List Bool) (j left : ℕ
 pub end-starts : (span : List Bool) (up : Bool) (n : ℕ) → Ending span up (endFrom 40 0 n up span noCells) 0 n noCells
 end-starts span up n = record { rest = refl }
 
-pub cell-small : (up : Bool) (j : ℕ) {k : ℕ} → k ≡ fromEnd up j → j < 40 → k < 40
-unfolding fromEnd
+pub cell-small : (up : Bool) (j : ℕ) {k : ℕ} → k ≡ cellFromEnd up j → j < 40 → k < 40
+unfolding cellFromEnd
 cell-small true j e h = omega arith
 cell-small false j e h = omega arith
 
@@ -34,17 +34,17 @@ left-enough left b = split (ltb 0 left)
     (λ t. rw t (omega arith))
 
 one-turn : (m j left : ℕ) (up : Bool) (span marked : List Bool)
-    → let here = ltb 0 left && getD span (fromEnd up j) false in
-    endFrom (suc m) j left up span marked ≡ endFrom m (suc j) (left - digit here) up span (set marked (fromEnd up j) here)
+    → let here = ltb 0 left && getD span (cellFromEnd up j) false in
+    endFrom (suc m) j left up span marked ≡ endFrom m (suc j) (left - digit here) up span (set marked (cellFromEnd up j) here)
 unfolding endFrom
 one-turn m j left up span marked = refl
 
-pub end-turns : {span : List Bool} {up : Bool} {all : List Bool} {j left : ℕ} {marked : List Bool} {k : ℕ} → Ending span up all j left marked → j < 40 → k ≡ fromEnd up j
+pub end-turns : {span : List Bool} {up : Bool} {all : List Bool} {j left : ℕ} {marked : List Bool} {k : ℕ} → Ending span up all j left marked → j < 40 → k ≡ cellFromEnd up j
     → Ending span up all (j + 1) (left - boolByte (ltb 0 left && getD span k false)) (set marked k (ltb 0 left && getD span k false))
 end-turns {span} {up} {all} {j} {left} {marked} {k} p h e =
     let m : 40 - j ≡ suc (40 - suc j) = omega arith in
     record {
-      rest = rw (e, byte-digit (ltb 0 left && getD span (fromEnd up j) false), add-one j)
+      rest = rw (e, byte-digit (ltb 0 left && getD span (cellFromEnd up j) false), add-one j)
           (sym (one-turn (40 - suc j) j left up span marked) ∙ ap (λ (m : ℕ). endFrom m j left up span marked) (sym m) ∙ p .rest);
     }
 

@@ -29,7 +29,7 @@ use Rattle.plain.specs.Conditions.{conditionIn, conditionOf, verdictOn}
 use Rattle.plain_moves.specs.Moves.{partsBits, partsAt}
 use Rattle.plain.proofs.Listing.{listed-at}
 use Rattle.panel.specs.Panel.{readBy, readIn, explained}
-use Rattle.panel.specs.Promises.{FirstFails, RefusalExplained, AllowedExplained, among, PartsDecide}
+use Rattle.panel.specs.Promises.{FirstShownFails, RefusalExplained, AllowedExplained, among, PartsDecide}
 use Rattle.panel.proofs.Tested.{past-last}
 
 -- ---- conditions and verdicts, over a list of clauses
@@ -95,11 +95,11 @@ abbrev asked : Instruction → List Clause
 asked i = cond (wellFormed i) (clauses i) []
 
 module _ (i : Instruction) (f : Bits) where
-  first-explained : (why : Reason) (c : ℕ) → First f (asked i) why c → FirstFails i f why c
+  first-explained : (why : Reason) (c : ℕ) → First f (asked i) why c → FirstShownFails i f why c
   unfolding explained conditionOf
   first-explained why c F = record { there = F .there; fails = F .fails; told = F .told; before = F .before }
 
-  explained-first : (why : Reason) (c : ℕ) → FirstFails i f why c → First f (asked i) why c
+  explained-first : (why : Reason) (c : ℕ) → FirstShownFails i f why c → First f (asked i) why c
   unfolding explained conditionOf
   explained-first why c F = record { there = F .there; fails = F .fails; told = F .told; before = F .before }
 

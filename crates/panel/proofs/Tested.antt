@@ -21,7 +21,7 @@ use Rattle.plain_moves.specs.declared.Parts.{Parts}
 use Rattle.plain_moves.specs.Moves.{partsAt, areaParts}
 use Rattle.plain_moves.proofs.Marking.{sameParts, parts-eq}
 use Rattle.panel.specs.Panel.{readBy, readIn}
-use Rattle.panel.specs.Private.{nothing, fromEnd, endFrom, beltsRead, slotsIn, rowsAhead, shuttleCells, shuttlesRead, tiltRead, liftRead, rotateRead, partsRead}
+use Rattle.panel.specs.Private.{noParts, cellFromEnd, endFrom, beltsRead, slotsOfRows, rowsAhead, shuttleCells, shuttlesRead, tiltRead, liftRead, rotateRead, partsRead}
 
 -- ---- every condition that an instruction has
 
@@ -29,12 +29,12 @@ abbrev right : Instruction → Bool
 right i = every 6 (λ c. sameParts (partsRead i c) (partsAt (readIn (clauses i) c)))
 
 all-right : T (everywhere right)
-unfolding everywhere every partsAt areaParts listed readBy fromEnd endFrom beltsRead slotsIn rowsAhead shuttleCells shuttlesRead tiltRead liftRead rotateRead partsRead
+unfolding everywhere every partsAt areaParts listed readBy cellFromEnd endFrom beltsRead slotsOfRows rowsAhead shuttleCells shuttlesRead tiltRead liftRead rotateRead partsRead
 all-right = tt
 
 -- ---- and past the last
 
-pub none-read : nothing ≡ partsAt []
+pub none-read : noParts ≡ partsAt []
 unfolding partsAt listed
 none-read = refl
 
@@ -42,7 +42,7 @@ module _ (c : ℕ) (h : 6 ≤ c) where
   other : (n : ℕ) → n < 6 → eqb c n ≡ false
   other n l = ne-eqb c n (omega arith)
 
-  none-found : (i : Instruction) → partsRead i c ≡ nothing
+  none-found : (i : Instruction) → partsRead i c ≡ noParts
   unfolding partsRead beltsRead shuttlesRead tiltRead liftRead rotateRead
   none-found (Belts row mask toward size) = rw (other 3 (omega arith), other 4 (omega arith), other 5 (omega arith))
   none-found (Shuttles side mask orientation toward) = rw (other 2 (omega arith), other 3 (omega arith), other 4 (omega arith))
@@ -66,7 +66,7 @@ read-right i w c = ⊎-elim
     (λ (l : 6 ≤ c). none-found c l i ∙ none-read ∙ ap partsAt (sym (past-last i c l))) (lt-or-ge c 6)
 
 -- as the contract has them: an ill-formed instruction is decided by nothing
-pub ill-read : (i : Instruction) (c : ℕ) {p : Parts} → wellFormed i ≡ false → p ≡ nothing → p ≡ partsAt (readIn (cond (wellFormed i) (clauses i) []) c)
+pub ill-read : (i : Instruction) (c : ℕ) {p : Parts} → wellFormed i ≡ false → p ≡ noParts → p ≡ partsAt (readIn (cond (wellFormed i) (clauses i) []) c)
 ill-read i c w e = rw w (e ∙ none-read)
 
 well-read : (i : Instruction) (c : ℕ) {p : Parts} → wellFormed i ≡ true → p ≡ partsRead i c → p ≡ partsAt (readIn (cond (wellFormed i) (clauses i) []) c)

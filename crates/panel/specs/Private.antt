@@ -33,20 +33,20 @@ slotsAlone slots = record { cells = noCells; slots = slots; lift = false }
 abbrev pub liftWith : List Bool → Parts
 liftWith cells = record { cells = cells; slots = noSlots; lift = true }
 
-abbrev pub nothing : Parts
-nothing = cellsAlone noCells
+abbrev pub noParts : Parts
+noParts = cellsAlone noCells
 
 -- ---- belts
 
 -- the cells of a floor from its end toward d, from 0
-unfoldable pub fromEnd : Bool → ℕ → ℕ
-fromEnd up j = cond up (39 - j) j
+unfoldable pub cellFromEnd : Bool → ℕ → ℕ
+cellFromEnd up j = cond up (39 - j) j
 
 -- m cells from cell j from the end on, of which the first so many that are in a span are marked
 unfoldable pub endFrom : ℕ → ℕ → ℕ → Bool → List Bool → List Bool → List Bool
 endFrom zero j left up span marked = marked
 endFrom (suc m) j left up span marked =
-    let k = fromEnd up j in
+    let k = cellFromEnd up j in
     let here = ltb 0 left && getD span k false in
     endFrom m (suc j) (left - digit here) up span (set marked k here)
 
@@ -59,14 +59,14 @@ unfoldable pub beltsRead : Parts → ℕ → ℕ → ℕ → ℕ → Parts
 beltsRead area row toward size c =
     cond (eqb c 3) (record { cells = noCells; slots = area .slots; lift = area .lift })
     (cond (eqb c 4) (cellsAlone (endOf (area .cells) toward (step row size)))
-    (cond (eqb c 5) (cond (eqb row 1) (cellsAlone (area .cells)) nothing)
-    nothing))
+    (cond (eqb c 5) (cond (eqb row 1) (cellsAlone (area .cells)) noParts)
+    noParts))
 
 -- ---- shuttles
 
 -- the slots of a side in one orientation in those of the three rows that are marked
-unfoldable pub slotsIn : ℕ → ℕ → List Bool → List Bool
-slotsIn side orientation rows =
+unfoldable pub slotsOfRows : ℕ → ℕ → List Bool → List Bool
+slotsOfRows side orientation rows =
     let first = orientation * 6 + side * 3 in
     set (set (set noSlots first (getD rows 0 false)) (first + 1) (getD rows 1 false)) (first + 2) (getD rows 2 false)
 
@@ -94,21 +94,21 @@ shuttleCells side = set (set noCells (side * 18) true) (side * 18 + 1) true
 -- what decides condition c of a shuttle move
 unfoldable pub shuttlesRead : ℕ → ℕ → ℕ → ℕ → ℕ → Parts
 shuttlesRead side mask orientation toward c =
-    cond (eqb c 2) (slotsAlone (slotsIn side orientation (rowsNamed mask)))
-    (cond (eqb c 3) (cond (eqb orientation lowered && bit mask 0) (cellsAlone (shuttleCells side)) nothing)
-    (cond (eqb c 4) (slotsAlone (slotsIn side orientation (rowsAhead mask toward)))
-    nothing))
+    cond (eqb c 2) (slotsAlone (slotsOfRows side orientation (rowsNamed mask)))
+    (cond (eqb c 3) (cond (eqb orientation lowered && bit mask 0) (cellsAlone (shuttleCells side)) noParts)
+    (cond (eqb c 4) (slotsAlone (slotsOfRows side orientation (rowsAhead mask toward)))
+    noParts))
 
 -- what decides condition c of a tilt, from lowered and from tilted
 unfoldable pub tiltRead : Parts → ℕ → ℕ → ℕ → ℕ → Parts
 tiltRead area side row orientation c =
     cond (eqb orientation lowered)
-    (cond (eqb c 0) (slotsAlone (slotsIn side 0 (true ∷ true ∷ true ∷ [])))
+    (cond (eqb c 0) (slotsAlone (slotsOfRows side 0 (true ∷ true ∷ true ∷ [])))
     (cond (eqb c 1) (cellsAlone (area .cells))
-    nothing))
-    (cond (eqb c 0) (slotsAlone (slotsIn side 1 (rowAlone row)))
-    (cond (eqb c 1) (slotsAlone (slotsIn side 0 (rowAlone row)))
-    nothing))
+    noParts))
+    (cond (eqb c 0) (slotsAlone (slotsOfRows side 1 (rowAlone row)))
+    (cond (eqb c 1) (slotsAlone (slotsOfRows side 0 (rowAlone row)))
+    noParts))
 
 -- ---- the lift
 
@@ -118,10 +118,10 @@ rowOne = listed 40 (λ k. ltb k 20)
 
 -- what decides condition c of a lift run, and of a turn
 unfoldable pub liftRead : ℕ → Parts
-liftRead c = cond (eqb c 0) (liftWith noCells) (cond (eqb c 1) (liftWith rowOne) nothing)
+liftRead c = cond (eqb c 0) (liftWith noCells) (cond (eqb c 1) (liftWith rowOne) noParts)
 
 unfoldable pub rotateRead : Parts → ℕ → Parts
-rotateRead area c = cond (eqb c 0) (liftWith noCells) (cond (eqb c 1) (cellsAlone (area .cells)) nothing)
+rotateRead area c = cond (eqb c 0) (liftWith noCells) (cond (eqb c 1) (cellsAlone (area .cells)) noParts)
 
 -- ---- all
 

@@ -18,7 +18,7 @@ use Rattle.plain_moves.specs.Moves.{partsBits}
 use Rattle.panel.specs.Panel.{explained}
 
 -- condition c of an instruction is the first that doesn't hold on a record, and has this reason
-pub record FirstFails (i : Instruction) (f : Bits) (why : Reason) (c : ℕ) : Type 0 where
+pub record FirstShownFails (i : Instruction) (f : Bits) (why : Reason) (c : ℕ) : Type 0 where
   pub there : explained i c f .there ≡ true
   pub fails : explained i c f .holds ≡ false
   pub told : explained i c f .why ≡ why
@@ -26,7 +26,7 @@ pub record FirstFails (i : Instruction) (f : Bits) (why : Reason) (c : ℕ) : Ty
 
 -- an instruction is refused with a reason exactly if the first condition that fails has this reason
 abbrev pub RefusalExplained : Type 0
-RefusalExplained = (i : Instruction) (f : Bits) (why : Reason) → (verdictOn i f ≡ NotAllowed why) ↔ ((c : ℕ) × FirstFails i f why c)
+RefusalExplained = (i : Instruction) (f : Bits) (why : Reason) → (verdictOn i f ≡ NotAllowed why) ↔ ((c : ℕ) × FirstShownFails i f why c)
 
 -- a well-formed one is allowed exactly if each of its conditions holds
 abbrev pub AllowedExplained : Type 0

@@ -8,7 +8,7 @@ ghost use Rattle.rules.specs.Named.{step};
 ghost use Rattle.rules.specs.Rules.{wellFormed, clauses};
 ghost use Rattle.plain_moves.specs.Moves.{partsAt};
 ghost use Rattle.panel.specs.Panel.{readIn};
-ghost use Rattle.panel.specs.Private.{cellsAlone, slotsAlone, liftWith, nothing, fromEnd, endOf, beltsRead, tiltRead, rowOne, liftRead, rotateRead};
+ghost use Rattle.panel.specs.Private.{cellsAlone, slotsAlone, liftWith, noParts, cellFromEnd, endOf, beltsRead, tiltRead, rowOne, liftRead, rotateRead};
 use super::shuttles;
 use plain_moves::Parts;
 use rules::Instruction;
@@ -50,7 +50,7 @@ fn lift_with(cells: [bool; 40]) -> Parts
 
 // No part.
 pub fn nothing() -> Parts
-    ensures { λ p. ⌜ p ≡ nothing ⌝ }
+    ensures { λ p. ⌜ p ≡ noParts ⌝ }
 {
     cells_alone([false; 40])
 }
@@ -60,7 +60,7 @@ pub fn nothing() -> Parts
 // A cell by its number from the end of the floor toward d, from 0.
 fn from_end(up: bool, j: u8) -> u8
     requires { ⌜ j < 40 ⌝ }
-    ensures { λ k. ⌜ k ≡ fromEnd up j ⌝ }
+    ensures { λ k. ⌜ k ≡ cellFromEnd up j ⌝ }
 {
     if up {
         return 39 - j;

@@ -1,7 +1,7 @@
 // The parts that decide each condition of a shuttle move.
 ghost use mathlib.Core.Path.{_≡_};
 ghost use Prim.Native.Nat.{_≤_};
-ghost use Rattle.panel.specs.Private.{slotsIn, rowsNamed, rowsAhead, rowAlone, shuttleCells, shuttlesRead};
+ghost use Rattle.panel.specs.Private.{slotsOfRows, rowsNamed, rowsAhead, rowAlone, shuttleCells, shuttlesRead};
 use super::deciding::cells_alone;
 use super::deciding::nothing;
 use super::deciding::slots_alone;
@@ -10,7 +10,7 @@ use plain_moves::Parts;
 // The slots of a side in one orientation, in those of the three rows that are marked.
 pub fn slots_in(side: u8, orientation: u8, rows: [bool; 3]) -> [bool; 12]
     requires { ⌜ (side ≤ 1) × (orientation ≤ 1) ⌝ }
-    ensures { λ a. ⌜ a ≡ slotsIn side orientation rows ⌝ }
+    ensures { λ a. ⌜ a ≡ slotsOfRows side orientation rows ⌝ }
 {
     let first = orientation * 6 + side * 3;
     let mut slots = [false; 12];

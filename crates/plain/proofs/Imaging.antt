@@ -11,13 +11,13 @@ use Rattle.floor.specs.Floor.{raisedCar, heightLow, heightHigh, driveIn, driveO
 use Rattle.plain.specs.declared.Floor.{Floor}
 use Rattle.plain.specs.declared.Height.{Height}
 use Rattle.plain.specs.declared.Height.the-variants.{Street, Rotation, Basement}
-use Rattle.plain.specs.Plain.{listed, heightOf, plainBits, floorOf}
+use Rattle.plain.specs.Plain.{listed, heightFrom, plainBits, floorOf}
 use Rattle.plain.specs.Private.{heightDigit}
 
 -- ---- a floor by its parts
 
 pub floor-is : (f : Bits) {cells slots : List Bool} {car coming going low high : Bool} {h : Height} → cells ≡ listed 40 f → slots ≡ listed 12 (λ j. f (40 + j))
-    → low ≡ f heightLow → high ≡ f heightHigh → h ≡ heightOf low high → car ≡ f raisedCar → coming ≡ f driveIn → going ≡ f driveOut
+    → low ≡ f heightLow → high ≡ f heightHigh → h ≡ heightFrom low high → car ≡ f raisedCar → coming ≡ f driveIn → going ≡ f driveOut
     → record { cells = cells; slots = slots; car = car; height = h; coming = coming; going = going } ≡ floorOf f
 unfolding floorOf
 floor-is f e₁ e₂ e₃ e₄ e₅ e₆ e₇ e₈ = rw (e₁, e₂, e₅, e₃, e₄, e₆, e₇, e₈)

@@ -21,8 +21,8 @@ use Rattle.floor.specs.Floor.{left, right, lowered, slot, beltOf}
 use Rattle.rules.specs.Named.{higher, cells, neededSlots, end, rowsOf, ahead}
 use Rattle.rules.specs.Rules.{beltsNamed}
 use Rattle.rules.proofs.Every.{rows, each-row}
-use Rattle.plain.specs.Named.{cellNamed}
-use Rattle.plain.specs.Private.{gaplessFrom, gapless, firstCell, width, fromEnd, lastBelt, rowAhead}
+use Rattle.rules.specs.Cells.{cellNamed}
+use Rattle.plain.specs.Private.{gaplessFrom, gapless, rowFirstCell, width, rowFromEnd, lastBelt, rowAhead}
 
 -- ---- the belts that a mask names
 
@@ -95,7 +95,7 @@ module _ (mask : ℕ) (h : mask < 8) where
 unfoldable pub picked : ℕ → ℕ → ℕ → ℕ → ℕ → ℕ → List ℕ
 picked row mask toward zero j n = []
 picked row mask toward (suc m) j n =
-    let k = fromEnd row toward j in
+    let k = rowFromEnd row toward j in
     let here = ltb 0 n && cellNamed row mask k in
     let r = picked row mask toward m (suc j) (n - digit here) in
     cond here (k ∷ r) r
@@ -109,7 +109,7 @@ abbrev endRight : ℕ → ℕ → Bool
 endRight row mask = every 2 λ toward. every 21 λ n. same (ordered (higher toward) (picked row mask toward (width row) 0 n)) (end toward n (cells row mask))
 
 end-test : T (rows endRight)
-unfolding rows every beltOf picked firstCell width fromEnd
+unfolding rows every beltOf picked rowFirstCell width rowFromEnd
 end-test = tt
 
 count-aux : (f : Bits) (l r : List ℕ) → count (reverseAux l r) f ≡ count l f + count r f
@@ -146,10 +146,10 @@ end-all row mask toward w h =
 pub record Bounds (row : ℕ) : Type 0 where
   pub some : 0 < width row
   pub short : width row ≤ 20
-  pub ends : firstCell row + width row ≤ 40
+  pub ends : rowFirstCell row + width row ≤ 40
 
 pub row-bounds : (row : ℕ) → Bounds row
-unfolding firstCell width
+unfolding rowFirstCell width
 row-bounds row = record { some = go (eqb row 1); short = go₁ (eqb row 1); ends = go₂ (eqb row 1) (eqb row 2) }
   where
     go : (b : Bool) → 0 < cond b 20 10
@@ -165,11 +165,11 @@ row-bounds row = record { some = go (eqb row 1); short = go₁ (eqb row 1); ends
     go₂ false true = omega arith
     go₂ false false = omega arith
 
-pub cell-below : (row toward j : ℕ) → j < width row → fromEnd row toward j < 40
-unfolding fromEnd
+pub cell-below : (row toward j : ℕ) → j < width row → rowFromEnd row toward j < 40
+unfolding rowFromEnd
 cell-below row toward j h = let b = row-bounds row in go (higher toward) b
   where
-    go : (up : Bool) → Bounds row → cond up (firstCell row + width row - 1 - j) (firstCell row + j) < 40
+    go : (up : Bool) → Bounds row → cond up (rowFirstCell row + width row - 1 - j) (rowFirstCell row + j) < 40
     go true b = omega arith
     go false b = omega arith
 
@@ -189,14 +189,14 @@ abbrev more : ℕ → ℕ → ℕ → ℕ → ℕ → ℕ → Bits → Bool → 
 more row mask toward m j n f b o =
     boolByte ((ltb 0 n && b) && o) + count (picked row mask toward m (suc j) (n - boolByte (ltb 0 n && b))) f
 
-one-more : (row mask toward m j n : ℕ) (f : Bits) → more row mask toward m j n f (cellNamed row mask (fromEnd row toward j)) (f (fromEnd row toward j))
+one-more : (row mask toward m j n : ℕ) (f : Bits) → more row mask toward m j n f (cellNamed row mask (rowFromEnd row toward j)) (f (rowFromEnd row toward j))
     ≡ count (picked row mask toward (suc m) j n) f
 unfolding picked
-one-more row mask toward m j n f = go (ltb 0 n && cellNamed row mask (fromEnd row toward j))
+one-more row mask toward m j n f = go (ltb 0 n && cellNamed row mask (rowFromEnd row toward j))
   where
-    go : (here : Bool) → boolByte (here && f (fromEnd row toward j)) + count (picked row mask toward m (suc j) (n - boolByte here)) f
-        ≡ count (cond here (fromEnd row toward j ∷ picked row mask toward m (suc j) (n - digit here)) (picked row mask toward m (suc j) (n - digit here))) f
-    go true = rw (byte-digit (f (fromEnd row toward j)))
+    go : (here : Bool) → boolByte (here && f (rowFromEnd row toward j)) + count (picked row mask toward m (suc j) (n - boolByte here)) f
+        ≡ count (cond here (rowFromEnd row toward j ∷ picked row mask toward m (suc j) (n - digit here)) (picked row mask toward m (suc j) (n - digit here))) f
+    go true = rw (byte-digit (f (rowFromEnd row toward j)))
     go false = omega arith
 
 -- a cell that counts is one of those left
@@ -211,7 +211,7 @@ no-more true false = omega arith
 no-more false b = omega arith
 
 pub counts : {row mask toward n left m j : ℕ} {f : Bits} {k : ℕ} {b o : Bool} → Counting row mask toward n f left m j → j < width row
-    → k ≡ fromEnd row toward j → b ≡ cellNamed row mask k → o ≡ f k
+    → k ≡ rowFromEnd row toward j → b ≡ cellNamed row mask k → o ≡ f k
     → Counting row mask toward n f (left - boolByte (ltb 0 left && b)) (m + boolByte ((ltb 0 left && b) && o)) (j + 1)
 counts {row} {mask} {toward} {n} {left} {m} {j} {f} {k} {b} {o} v h e d g =
     let w = width row - (j + 1) in

@@ -21,8 +21,8 @@ heightNumber Street = street
 heightNumber Rotation = rotation
 heightNumber Basement = basement
 
-abbrev pub heightOf : Bool → Bool → Height
-heightOf low high = cond high Basement (cond low Rotation Street)
+abbrev pub heightFrom : Bool → Bool → Height
+heightFrom low high = cond high Basement (cond low Rotation Street)
 
 -- the bits that a floor stands for
 unfoldable pub plainBits : Floor → Bits
@@ -43,7 +43,7 @@ floorOf f =
       cells = listed 40 f;
       slots = listed 12 (λ j. f (40 + j));
       car = f raisedCar;
-      height = heightOf (f heightLow) (f heightHigh);
+      height = heightFrom (f heightLow) (f heightHigh);
       coming = f driveIn;
       going = f driveOut;
     }

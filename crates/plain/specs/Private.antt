@@ -34,15 +34,15 @@ gapless mask = gaplessFrom 5 0 false false mask
 -- ---- rows of cells
 
 -- a row's first cell, and how many it has
-unfoldable pub firstCell : ℕ → ℕ
-firstCell row = cond (eqb row 1) 0 (cond (eqb row 2) 20 30)
+unfoldable pub rowFirstCell : ℕ → ℕ
+rowFirstCell row = cond (eqb row 1) 0 (cond (eqb row 2) 20 30)
 
 unfoldable pub width : ℕ → ℕ
 width row = cond (eqb row 1) 20 10
 
 -- its cell of this number from the end toward d, from 0
-unfoldable pub fromEnd : ℕ → ℕ → ℕ → ℕ
-fromEnd row toward j = cond (higher toward) (firstCell row + width row - 1 - j) (firstCell row + j)
+unfoldable pub rowFromEnd : ℕ → ℕ → ℕ → ℕ
+rowFromEnd row toward j = cond (higher toward) (rowFirstCell row + width row - 1 - j) (rowFirstCell row + j)
 
 -- the number of its last belt
 abbrev pub lastBelt : ℕ → ℕ

@@ -9,7 +9,7 @@ ghost use Rattle.rules.specs.Named.{cells, neededSlots, liftNamed, step, end};
 ghost use Rattle.rules.specs.Rules.{beltsNamed, wellFormed, clauses};
 ghost use Rattle.plain.specs.Plain.{plainBits};
 ghost use Rattle.plain.specs.Conditions.{conditionIn};
-ghost use Rattle.plain.specs.Private.{firstCell, width, fromEnd, lastBelt};
+ghost use Rattle.plain.specs.Private.{rowFirstCell, width, rowFromEnd, lastBelt};
 use super::Condition;
 use super::Floor;
 use super::conditions::none;
@@ -26,7 +26,7 @@ use answers::Reason;
 
 // A row's first cell.
 fn first_cell(row: u8) -> u8
-    ensures { λ n. ⌜ n ≡ firstCell row ⌝ }
+    ensures { λ n. ⌜ n ≡ rowFirstCell row ⌝ }
 {
     match row {
         1 => 0,
@@ -45,7 +45,7 @@ fn width(row: u8) -> u8
 // Its cell of this number from the end toward d, from 0.
 fn from_end(row: u8, toward: u8, j: u8) -> u8
     requires { ⌜ j < width row ⌝ }
-    ensures { λ k. ⌜ k ≡ fromEnd row toward j ⌝ }
+    ensures { λ k. ⌜ k ≡ rowFromEnd row toward j ⌝ }
 {
     let first = first_cell(row);
     if toward == 1 {

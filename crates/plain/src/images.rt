@@ -2,7 +2,7 @@
 ghost use mathlib.Core.Path.{_≡_};
 ghost use Prim.Native.Nat.{_+_};
 ghost use Rattle.bits.specs.Bits.{bit};
-ghost use Rattle.plain.specs.Plain.{listed, heightOf, plainBits};
+ghost use Rattle.plain.specs.Plain.{listed, heightFrom, plainBits};
 ghost use Rattle.plain.specs.Private.{heightDigit};
 use super::Floor;
 use super::Height;
@@ -35,7 +35,7 @@ pub fn slots_of(r: u64) -> [bool; 12]
 
 // The height by its two digits.
 pub fn height_of(low: bool, high: bool) -> Height
-    ensures { λ h. ⌜ h ≡ heightOf low high ⌝ }
+    ensures { λ h. ⌜ h ≡ heightFrom low high ⌝ }
 {
     if high {
         return Height::Basement;

@@ -3,7 +3,7 @@
 ghost use mathlib.Core.Path.{_≡_};
 ghost use Rattle.bits.specs.Bits.{bit, image};
 ghost use Rattle.plain.specs.Plain.{plainBits, floorOf};
-ghost use Rattle.plain.specs.Named.{cellNamed};
+ghost use Rattle.rules.specs.Cells.{cellNamed};
 ghost use Rattle.plain.specs.Conditions.{conditionOf, verdictOn};
 use answers::Reason;
 use floor::Belt;

@@ -25,11 +25,11 @@ use Rattle.rules.specs.declared.Instruction.{Instruction}
 use Rattle.rules.specs.declared.Instruction.the-variants.{Belts, Shuttles, Tilt, Lift, Rotate}
 use Rattle.rules.specs.declared.Event.{Event}
 use Rattle.rules.specs.declared.Event.the-variants.{BeginIn, BeginOut, EndDone, EndNotDone}
-use Rattle.rules.specs.Rules.{wellFormed, changes, next}
-use Rattle.rules.specs.Events.{after}
+use Rattle.rules.specs.Rules.{wellFormed, changes, nextRecord}
+use Rattle.rules.specs.Events.{afterEvent}
 use Rattle.rules.proofs.Every.{everywhere, each}
 use Rattle.rules_laws.proofs.Tried.{targets, not-target}
-use Rattle.plain.specs.Plain.{listed, heightNumber, heightOf, plainBits, floorOf}
+use Rattle.plain.specs.Plain.{listed, heightNumber, heightFrom, plainBits, floorOf}
 use Rattle.plain.proofs.Listing.{listed-at}
 use Rattle.plain_laws.specs.Promises.{SoundRecord}
 
@@ -50,7 +50,7 @@ pub record Drawn (f : Bits) : Type 0 where
 
 -- the two digits of a height that isn't 3
 height-reads : (low high : Bool) → low && high ≡ false
-    → (bit (heightNumber (heightOf low high)) 0 ≡ low) × (bit (heightNumber (heightOf low high)) 1 ≡ high)
+    → (bit (heightNumber (heightFrom low high)) 0 ≡ low) × (bit (heightNumber (heightFrom low high)) 1 ≡ high)
 height-reads true true e = clash refl e
 height-reads true false e = (refl, refl)
 height-reads false true e = (refl, refl)
@@ -61,13 +61,13 @@ pub reads-back : (f : Bits) → Drawn f → plainBits (floorOf f) ≡ f
 unfolding plainBits floorOf
 reads-back f d = fun-ext (λ k. parts-at f k (upper k))
   where
-    H : (bit (heightNumber (heightOf (f heightLow) (f heightHigh))) 0 ≡ f heightLow) × (bit (heightNumber (heightOf (f heightLow) (f heightHigh))) 1 ≡ f heightHigh)
+    H : (bit (heightNumber (heightFrom (f heightLow) (f heightHigh))) 0 ≡ f heightLow) × (bit (heightNumber (heightFrom (f heightLow) (f heightHigh))) 1 ≡ f heightHigh)
     H = height-reads (f heightLow) (f heightHigh) (d .height)
 
     upper : (k : ℕ) → 52 ≤ k
         → cond (eqb k raisedCar) (f raisedCar)
-        (cond (eqb k heightLow) (bit (heightNumber (heightOf (f heightLow) (f heightHigh))) 0)
-        (cond (eqb k heightHigh) (bit (heightNumber (heightOf (f heightLow) (f heightHigh))) 1)
+        (cond (eqb k heightLow) (bit (heightNumber (heightFrom (f heightLow) (f heightHigh))) 0)
+        (cond (eqb k heightHigh) (bit (heightNumber (heightFrom (f heightLow) (f heightHigh))) 1)
         (cond (eqb k driveIn) (f driveIn)
         (cond (eqb k driveOut) (f driveOut)
         false))))
@@ -130,23 +130,23 @@ unfolding everywhere every
 all-crossing = tt
 
 module _ (f : Bits) (d : Drawn f) where
-  kept : (i : Instruction) → T (keepsHeight i) → next i f heightLow && next i f heightHigh ≡ false
-  unfolding next
+  kept : (i : Instruction) → T (keepsHeight i) → nextRecord i f heightLow && nextRecord i f heightHigh ≡ false
+  unfolding nextRecord
   kept i t =
       let a = and-l (not (elem heightLow (targets (changes i)))) (not (elem heightHigh (targets (changes i)))) t in
       let b = and-r (not (elem heightLow (targets (changes i)))) (not (elem heightHigh (targets (changes i)))) t in
       ap₂ _&&_ (not-target (changes i) f heightLow (not-true _ (T→true _ a))) (not-target (changes i) f heightHigh (not-true _ (T→true _ b))) ∙ d .height
 
-  stays : (i : Instruction) → T (level i) → next i f heightLow && next i f heightHigh ≡ false
-  unfolding next
+  stays : (i : Instruction) → T (level i) → nextRecord i f heightLow && nextRecord i f heightHigh ≡ false
+  unfolding nextRecord
   stays (Belts row mask toward size) t = kept (Belts row mask toward size) t
   stays (Shuttles side mask orientation toward) t = kept (Shuttles side mask orientation toward) t
   stays (Tilt side row orientation) t = kept (Tilt side row orientation) t
   stays (Lift height) t = not-true _ (T→true _ t)
   stays Rotate t = kept Rotate t
 
-  pub next-drawn : (i : Instruction) → T (wellFormed i) → Drawn (next i f)
-  unfolding next
+  pub next-drawn : (i : Instruction) → T (wellFormed i) → Drawn (nextRecord i f)
+  unfolding nextRecord
   next-drawn i w = record {
     height = stays i (and-r (low i) (level i) t);
     past = λ k h. not-target (changes i) f k (off _ (λ m. (
@@ -158,17 +158,17 @@ module _ (f : Bits) (d : Drawn f) where
       t = each crossing all-crossing i w
 
   -- a car event changes nothing past the drives, and no height
-  pub after-drawn : (e : Event) → Drawn (after e f)
-  unfolding after
+  pub after-drawn : (e : Event) → Drawn (afterEvent e f)
+  unfolding afterEvent
   after-drawn e = record { height = height e; past = past e }
     where
-      height : (e : Event) → after e f heightLow && after e f heightHigh ≡ false
+      height : (e : Event) → afterEvent e f heightLow && afterEvent e f heightHigh ≡ false
       height BeginIn = d .height
       height BeginOut = d .height
       height EndDone = d .height
       height EndNotDone = d .height
 
-      past : (e : Event) (k : ℕ) → driveOut < k → after e f k ≡ false
+      past : (e : Event) (k : ℕ) → driveOut < k → afterEvent e f k ≡ false
       past BeginIn k h = rw (ne-eqb driveIn k (omega arith)) (d .past k h)
       past BeginOut k h = rw (ne-eqb driveOut k (omega arith)) (d .past k h)
       past EndDone k h = rw (ne-eqb raisedCar k (omega arith), ne-eqb driveIn k (omega arith), ne-eqb driveOut k (omega arith)) (d .past k h)

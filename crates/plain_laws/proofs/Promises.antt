@@ -13,10 +13,10 @@ use Rattle.floor.proofs.Promises.{sound-exactly}
 use Rattle.rules.specs.declared.Instruction.{Instruction}
 use Rattle.rules.specs.declared.Verdict.{Verdict}
 use Rattle.rules.specs.declared.Moved.{Moved}
-use Rattle.rules.specs.Rules.{wellFormed, clauses, conditions, allowed, next}
+use Rattle.rules.specs.Rules.{wellFormed, clauses, conditions, allowed, nextRecord}
 use Rattle.rules.specs.Verdicts.{judged, verdictOf, movedBy, movedOf}
 use Rattle.rules.proofs.Reasons.{allowed-exactly}
-use Rattle.garage_laws.proofs.Fits.{fit-has}
+use Rattle.station_laws.proofs.Fits.{fit-has}
 use Rattle.plain.specs.Plain.{plainBits, floorOf}
 use Rattle.plain.specs.Conditions.{verdictOn}
 use Rattle.plain.specs.Walks.{walked, walkOf}
@@ -54,14 +54,14 @@ module _ (r : ℕ) (s : SoundRecord r) where
   same-verdict i = verdict-shown i
 
   -- the floor after an instruction shows the bits after it
-  shows-next : (i : Instruction) → allowed i (bit r) ≡ true → plainBits (movedFloor i (floorOf (bit r))) ≡ next i (bit r)
+  shows-next : (i : Instruction) → allowed i (bit r) ≡ true → plainBits (movedFloor i (floorOf (bit r))) ≡ nextRecord i (bit r)
   unfolding movedFloor allowed
   shows-next i a =
       let w = both (wellFormed i) (allHold (conditions i) (bit r)) a .0 in
-      rw (shows, a) (reads-back (next i (bit r)) (next-drawn (bit r) (sound-drawn r s) i (true→T w)))
+      rw (shows, a) (reads-back (nextRecord i (bit r)) (next-drawn (bit r) (sound-drawn r s) i (true→T w)))
 
   -- where it is allowed, the record after it
-  next-shown : (i : Instruction) (v : Verdict) → verdictOf i r ≡ v → movedBy v (image (plainBits (movedFloor i (floorOf (bit r))))) ≡ movedBy v (image (next i (bit r)))
+  next-shown : (i : Instruction) (v : Verdict) → verdictOf i r ≡ v → movedBy v (image (plainBits (movedFloor i (floorOf (bit r))))) ≡ movedBy v (image (nextRecord i (bit r)))
   next-shown i Verdict.Allowed e = ap (λ (g : Bits). Moved.Record (image g)) (shows-next i (allowed-exactly i r .0 e))
   next-shown i (Verdict.NotAllowed why) e = refl
   next-shown i Verdict.IllFormed e = refl

@@ -22,23 +22,23 @@ use Rattle.rules.specs.declared.Event.the-variants.{BeginIn, BeginOut, EndDone,
 use Rattle.rules.specs.declared.Code.{Code}
 use Rattle.rules.specs.declared.Reading.{Reading}
 use Rattle.rules.specs.declared.Reading.the-variants.{Good, Bad}
-use Rattle.rules.specs.Rules.{allowed, next}
-use Rattle.rules.specs.Events.{inTurn, possible, placesOpen, filled, after}
-use Rattle.rules.specs.Codes.{readCode, most}
+use Rattle.rules.specs.Rules.{allowed, nextRecord}
+use Rattle.rules.specs.Events.{inTurn, possible, placesOpen, filled, afterEvent}
+use Rattle.rules.specs.Codes.{readCode, mostInSet}
 use Rattle.rules.specs.Verdicts.{onCode}
 use Rattle.rules.proofs.CodeLaws.{one-form}
 use Rattle.answers.specs.declared.Answer.{Answer}
 use Rattle.answers.specs.Answers.{nowhere}
 use Rattle.answers.specs.declared.Answer.the-variants.{BadField, SetOutstanding, OutOfTurn, SetApart, EventImpossible, KeptOpen}
-use Rattle.garage.specs.declared.Station.{Station}
-use Rattle.garage.specs.declared.Outcome.{Outcome}
-use Rattle.garage.specs.declared.Report.{Report}
-use Rattle.garage.specs.Held.{codeAt, heldParts, heldAllowed, heldNext, heldAfter, bad, overlapsEarlier, barred, liftIn, touches, liftApart, crossesDrive}
-use Rattle.garage.specs.Station.{inSet, marked, present, late, holding, opened, answering, apartWith}
-use Rattle.garage.specs.Calls.{refused, taken, accepted, spared, cleared, requested, occurred, driven, evented, ended, numbered, timely, resulted}
-use Rattle.garage.proofs.Marks.{in-set}
-use Rattle.garage_laws.proofs.Calls.{either}
-use Rattle.garage_laws.proofs.Fits.{parts-small, after-result}
+use Rattle.station.specs.declared.Station.{Station}
+use Rattle.station.specs.declared.Outcome.{Outcome}
+use Rattle.station.specs.declared.Report.{Report}
+use Rattle.station.specs.Held.{codeAt, heldParts, heldAllowed, heldNext, heldAfter, bad, overlapsEarlier, barred, liftIn, touches, liftApart, crossesDrive}
+use Rattle.station.specs.Station.{inSet, marked, presentIssue, late, holding, opened, answering, apartWith}
+use Rattle.station.specs.Calls.{refused, taken, accepted, spared, cleared, requested, occurred, driven, evented, ended, numbered, timely, resulted}
+use Rattle.station.proofs.Marks.{in-set}
+use Rattle.station_laws.proofs.Calls.{either}
+use Rattle.station_laws.proofs.Fits.{parts-small, after-result}
 use Rattle.plain.specs.Plain.{listed, plainBits, floorOf}
 use Rattle.plain.specs.Walks.{walked}
 use Rattle.plain.proofs.Listing.{listed-at}
@@ -105,7 +105,7 @@ module _ (s : Station) (c : Crosses s) where
   unfolding requested cleared spared accepted
   requested-left n set =
       either Left (ltb 0 (s .count)) (λ t. c)
-      (λ t. either Left (ltb most n) (λ t. c)
+      (λ t. either Left (ltb mostInSet n) (λ t. c)
       (λ t. either Left (eqb n 0) (λ t. c)
       (λ t. either Left (ltb (least n (bad set)) n) (λ t. c)
       (λ t. either Left (crossesDrive (s .bits) set n) (λ t. c)
@@ -119,7 +119,7 @@ module _ (s : Station) (c : Crosses s) where
   unfolding heldAllowed heldNext
   held-drawn x = read (readCode x) refl
     where
-      read : (g : Reading) → readCode x ≡ g → onCode (λ i. allowed i (bit (s .bits))) false g ≡ true → Drawn (onCode (λ i. next i (bit (s .bits))) (bit (s .bits)) g)
+      read : (g : Reading) → readCode x ≡ g → onCode (λ i. allowed i (bit (s .bits))) false g ≡ true → Drawn (onCode (λ i. nextRecord i (bit (s .bits))) (bit (s .bits)) g)
       read (Good i) e a = next-drawn (bit (s .bits)) (c .drawn) i (true→T (one-form x i e .1))
       read Bad e a = c .drawn
 
@@ -153,7 +153,7 @@ module _ (s : Station) (c : Crosses s) where
       either Left (ltb 2 (r .ending)) (λ t. c)
       (λ t. either Left (eqb (s .count) 0) (λ t. c)
       (λ t. either Left (late s (r .issue)) (λ t. c)
-      (λ t. either Left (eqb (r .issue) (present s))
+      (λ t. either Left (eqb (r .issue) (presentIssue s))
       (λ t. either Left (not (inSet s (r .number))) (λ t. c)
       (λ t. either Left (marked s (r .number)) (λ t. c)
       (λ u. let (a, b) = in-set s (r .number) (not-false _ t) in ended-left (r .number) (r .ending) (omega arith))))
@@ -210,9 +210,9 @@ module _ (s : Station) (h : SoundStation s) where
   kept a = record { is = ap (λ (s : Station). refused s a) (comes-back s c) }
 
   -- the floor after the event
-  drove : (e : Event) → Stands (onFloor (plainOf s) (drivenFloor e (plainOf s .floor))) (taken (holding s (image (after e f))))
+  drove : (e : Event) → Stands (onFloor (plainOf s) (drivenFloor e (plainOf s .floor))) (taken (holding s (image (afterEvent e f))))
   unfolding drivenFloor plainOf
-  drove e = rw (reads-back f (c .drawn)) (record { is = ap taken (drawn-on s c (after e f) (after-drawn f (c .drawn) e)) })
+  drove e = rw (reads-back f (c .drawn)) (record { is = ap taken (drawn-on s c (afterEvent e f) (after-drawn f (c .drawn) e)) })
 
   same-occurred : (e : Event) → Stands (plainOccurred (plainOf s) e) (occurred s e)
   unfolding plainOccurred occurred

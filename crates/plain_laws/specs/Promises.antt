@@ -14,11 +14,11 @@ use Rattle.rules.specs.declared.Verdict.{Verdict}
 use Rattle.rules.specs.declared.Moved.{Moved}
 use Rattle.rules.specs.Rules.{wellFormed, overlap}
 use Rattle.rules.specs.Verdicts.{verdictOf, movedOf, movedBy}
-use Rattle.garage.specs.declared.Station.{Station}
-use Rattle.garage.specs.declared.Outcome.{Outcome}
-use Rattle.garage.specs.declared.Report.{Report}
-use Rattle.garage.specs.Station.{fit}
-use Rattle.garage.specs.Calls.{requested, evented, resulted}
+use Rattle.station.specs.declared.Station.{Station}
+use Rattle.station.specs.declared.Outcome.{Outcome}
+use Rattle.station.specs.declared.Report.{Report}
+use Rattle.station.specs.Station.{fit}
+use Rattle.station.specs.Calls.{requested, evented, resulted}
 use Rattle.cards.specs.Given.{Rising}
 use Rattle.plain.specs.Plain.{plainBits, floorOf}
 use Rattle.plain.specs.Conditions.{verdictOn}

@@ -14,8 +14,8 @@ use Rattle.rules.specs.declared.Instruction.{Instruction}
 use Rattle.rules.specs.declared.Event.{Event}
 use Rattle.rules.specs.declared.Event.the-variants.{BeginIn, BeginOut, EndDone, EndNotDone}
 use Rattle.rules.specs.declared.Verdict.{Verdict}
-use Rattle.rules.specs.Rules.{wellFormed, clauses, allowed, next}
-use Rattle.rules.specs.Events.{inTurn, possible, after}
+use Rattle.rules.specs.Rules.{wellFormed, clauses, allowed, nextRecord}
+use Rattle.rules.specs.Events.{inTurn, possible, afterEvent}
 use Rattle.rules.specs.Verdicts.{isAllowed}
 use Rattle.rules.proofs.Reasons.{judged-allows}
 use Rattle.plain.specs.declared.Floor.{Floor}
@@ -39,18 +39,18 @@ module _ (i : Instruction) (f : Floor) {v : Verdict} (e : v ≡ verdictOn i (pla
   -- where it isn't allowed the floor stays
   pub stays-put : {w : Verdict} → v ≡ w → isAllowed w ≡ false → f ≡ movedFloor i f
   unfolding movedFloor
-  stays-put q n = ap (λ (b : Bool). cond b (floorOf (next i (plainBits f))) f) (sym n ∙ told-by q)
+  stays-put q n = ap (λ (b : Bool). cond b (floorOf (nextRecord i (plainBits f))) f) (sym n ∙ told-by q)
 
-  pub moves-on : {r : Floor} → allowed i (plainBits f) ≡ true → r ≡ floorOf (next i (plainBits f)) → r ≡ movedFloor i f
+  pub moves-on : {r : Floor} → allowed i (plainBits f) ≡ true → r ≡ floorOf (nextRecord i (plainBits f)) → r ≡ movedFloor i f
   unfolding movedFloor
-  moves-on a q = q ∙ ap (λ (b : Bool). cond b (floorOf (next i (plainBits f))) f) (sym a)
+  moves-on a q = q ∙ ap (λ (b : Bool). cond b (floorOf (nextRecord i (plainBits f))) f) (sym a)
 
 -- one instruction for another
 pub so-allowed : (f : Bits) {i j : Instruction} → i ≡ j → allowed i f ≡ true → allowed j f ≡ true
 so-allowed f e ok = sym (ap (λ (x : Instruction). allowed x f) e) ∙ ok
 
-pub next-of : (f : Bits) {i j : Instruction} {r : Floor} → i ≡ j → r ≡ floorOf (next j f) → r ≡ floorOf (next i f)
-next-of f e q = q ∙ ap (λ (x : Instruction). floorOf (next x f)) (sym e)
+pub next-of : (f : Bits) {i j : Instruction} {r : Floor} → i ≡ j → r ≡ floorOf (nextRecord j f) → r ≡ floorOf (nextRecord i f)
+next-of f e q = q ∙ ap (λ (x : Instruction). floorOf (nextRecord x f)) (sym e)
 
 -- ---- its turn, and its conditions
 
@@ -108,45 +108,45 @@ stop-possible f t = t ∙ sym (and-true (holds underWay f))
 -- ---- the floor after one
 
 -- no event touches a cell, a slot or the height
-untouched : (e : Event) (f : Bits) (k : ℕ) → k < 52 → f k ≡ after e f k
-unfolding after
+untouched : (e : Event) (f : Bits) (k : ℕ) → k < 52 → f k ≡ afterEvent e f k
+unfolding afterEvent
 untouched BeginIn f k h = rw (ne-eqb driveIn k (λ q. omega arith))
 untouched BeginOut f k h = rw (ne-eqb driveOut k (λ q. omega arith))
 untouched EndDone f k h = rw (ne-eqb raisedCar k (λ q. omega arith), ne-eqb driveIn k (λ q. omega arith), ne-eqb driveOut k (λ q. omega arith))
 untouched EndNotDone f k h = rw (ne-eqb driveIn k (λ q. omega arith), ne-eqb driveOut k (λ q. omega arith))
 
-same-height : (e : Event) (f : Bits) → (f heightLow ≡ after e f heightLow) × (f heightHigh ≡ after e f heightHigh)
-unfolding after
+same-height : (e : Event) (f : Bits) → (f heightLow ≡ afterEvent e f heightLow) × (f heightHigh ≡ afterEvent e f heightHigh)
+unfolding afterEvent
 same-height BeginIn f = (refl, refl)
 same-height BeginOut f = (refl, refl)
 same-height EndDone f = (refl, refl)
 same-height EndNotDone f = (refl, refl)
 
 module _ (f : Floor) (full : Sized f) where
-  driven-by : (e : Event) {car coming going : Bool} → car ≡ after e (plainBits f) raisedCar → coming ≡ after e (plainBits f) driveIn
-      → going ≡ after e (plainBits f) driveOut
+  driven-by : (e : Event) {car coming going : Bool} → car ≡ afterEvent e (plainBits f) raisedCar → coming ≡ afterEvent e (plainBits f) driveIn
+      → going ≡ afterEvent e (plainBits f) driveOut
       → record { cells = f .cells; slots = f .slots; car = car; height = f .height; coming = coming; going = going } ≡ drivenFloor e f
   unfolding drivenFloor
   driven-by e p q r =
-      let g = after e (plainBits f) in
+      let g = afterEvent e (plainBits f) in
       let h = same-height e (plainBits f) in
       floor-is g (cells-kept f g full (λ k l. untouched e (plainBits f) k (omega arith))) (slots-kept f g full (λ k a l. untouched e (plainBits f) k l))
       (h .0) (h .1) (height-bits f) p q r
 
   pub begun-in : record { cells = f .cells; slots = f .slots; car = f .car; height = f .height; coming = true; going = f .going } ≡ drivenFloor BeginIn f
-  unfolding after
+  unfolding afterEvent
   begun-in = driven-by BeginIn (car-bit f refl) refl (going-bit f refl)
 
   pub begun-out : record { cells = f .cells; slots = f .slots; car = f .car; height = f .height; coming = f .coming; going = true } ≡ drivenFloor BeginOut f
-  unfolding after
+  unfolding afterEvent
   begun-out = driven-by BeginOut (car-bit f refl) (coming-bit f refl) refl
 
   pub ended-done : record { cells = f .cells; slots = f .slots; car = f .coming; height = f .height; coming = false; going = false } ≡ drivenFloor EndDone f
-  unfolding after
+  unfolding afterEvent
   ended-done = driven-by EndDone (coming-bit f refl ∙ sym (and-true (plainBits f driveIn))) refl refl
 
   pub ended-not-done : record { cells = f .cells; slots = f .slots; car = f .car; height = f .height; coming = false; going = false } ≡ drivenFloor EndNotDone f
-  unfolding after
+  unfolding afterEvent
   ended-not-done = driven-by EndNotDone (car-bit f refl) refl refl
 
 pub driven-as : (f : Floor) {r : Floor} {d e : Event} → e ≡ d → r ≡ drivenFloor d f → r ≡ drivenFloor e f

@@ -14,8 +14,8 @@ use Rattle.bits.proofs.Cases.{split, clash, both}
 use Rattle.bits.proofs.Digits.{bit-past}
 use Rattle.floor.specs.Floor.{beltOf, slot, place}
 use Rattle.rules.specs.Named.{step}
-use Rattle.plain.specs.Named.{cellNamed}
-use Rattle.plain_moves.specs.Private.{cellsIn, slotsIn, slotAt, stored, cellBehind, beltAfter, rowNamed, rowBehind, rowSource, firstCell, slotFrom, slotsAfter, carAt, rowFrom, cellsAfter}
+use Rattle.rules.specs.Cells.{cellNamed, rowNamed, rowBehind}
+use Rattle.plain_moves.specs.Private.{cellBits, slotBits, slotIndex, stored, cellBehind, beltAfter, rowSource, positionFirstCell, slotFrom, slotsAfter, carAt, rowFrom, cellsAfter}
 
 -- ---- belts
 
@@ -106,8 +106,8 @@ module _ (side : ℕ) (f : Bits) {row from : ℕ} (new : List Bool) where
 
 -- ---- the cells of a position
 
-pub first-small : (side row : ℕ) → side ≤ 1 → firstCell side row < 40
-unfolding firstCell
+pub first-small : (side row : ℕ) → side ≤ 1 → positionFirstCell side row < 40
+unfolding positionFirstCell
 first-small side row s = go (eqb row 1) (eqb row 2)
   where
     go : (a b : Bool) → cond a (side * 18) (cond b (20 + side * 9) (30 + side * 9)) < 40
@@ -115,20 +115,20 @@ first-small side row s = go (eqb row 1) (eqb row 2)
     go false true = omega arith
     go false false = omega arith
 
-pub half-small : (side : ℕ) {row : ℕ} → side ≤ 1 → row ≡ 1 → firstCell side row < 20
-unfolding firstCell
+pub half-small : (side : ℕ) {row : ℕ} → side ≤ 1 → row ≡ 1 → positionFirstCell side row < 20
+unfolding positionFirstCell
 half-small side {row} s e = rw (eq-eqb row 1 e) (omega arith)
 
-module _ (side row : ℕ) {first : ℕ} (d : first ≡ firstCell side row) where
+module _ (side row : ℕ) {first : ℕ} (d : first ≡ positionFirstCell side row) where
   -- two half cells in row 1, else one cell
   place-two : row ≡ 1 → place side row ≡ first ∷ (first + 1) ∷ []
-  unfolding firstCell
+  unfolding positionFirstCell
   place-two e = let o = eq-eqb row 1 e in
       let p : first ≡ side * 18 = d ∙ rw o in
       rw (o, add-one first) (ap (λ (k : ℕ). k ∷ suc k ∷ []) (sym p))
 
   place-one : (row ≡ 1 → ⊥) → place side row ≡ first ∷ []
-  unfolding firstCell
+  unfolding positionFirstCell
   place-one e = let o = ne-eqb row 1 e in split (eqb row 2)
       (λ t. let p : first ≡ 20 + side * 9 = d ∙ rw (o, t) in rw (o, t) (ap (λ (k : ℕ). k ∷ []) (sym p)))
       (λ t. let p : first ≡ 30 + side * 9 = d ∙ rw (o, t) in rw (o, t) (ap (λ (k : ℕ). k ∷ []) (sym p)))
@@ -160,26 +160,26 @@ no-car side f {row} e = rw (eq-eqb row 0 e)
 
 -- as many rows are made as come before the next
 pub slots-more : (side mask orientation toward : ℕ) (a : List Bool) {new : List Bool} {row at from : ℕ} {v : Bool} → 1 ≤ row
-    → new ≡ slotsAfter side mask orientation toward a (row - 1) → at ≡ slotAt side orientation row → from ≡ rowSource mask toward row
-    → v ≡ slotFrom side orientation (slotsIn a) from → set new at v ≡ slotsAfter side mask orientation toward a (row + 1 - 1)
+    → new ≡ slotsAfter side mask orientation toward a (row - 1) → at ≡ slotIndex side orientation row → from ≡ rowSource mask toward row
+    → v ≡ slotFrom side orientation (slotBits a) from → set new at v ≡ slotsAfter side mask orientation toward a (row + 1 - 1)
 unfolding slotsAfter
 slots-more side mask orientation toward a {new} {row} {at} {from} {v} h e d s q =
     let r : row ≡ suc (row - 1) = omega arith in
     let m : suc (row - 1) ≡ row + 1 - 1 = omega arith in
-    ap₂ (λ (l : List Bool) (b : Bool). set l at b) e (q ∙ ap (slotFrom side orientation (slotsIn a)) s)
-    ∙ ap (λ (j : ℕ). set (slotsAfter side mask orientation toward a (row - 1)) j (slotFrom side orientation (slotsIn a) (rowSource mask toward row))) d
-    ∙ ap (λ (n : ℕ). set (slotsAfter side mask orientation toward a (row - 1)) (slotAt side orientation n)
-    (slotFrom side orientation (slotsIn a) (rowSource mask toward n))) r
+    ap₂ (λ (l : List Bool) (b : Bool). set l at b) e (q ∙ ap (slotFrom side orientation (slotBits a)) s)
+    ∙ ap (λ (j : ℕ). set (slotsAfter side mask orientation toward a (row - 1)) j (slotFrom side orientation (slotBits a) (rowSource mask toward row))) d
+    ∙ ap (λ (n : ℕ). set (slotsAfter side mask orientation toward a (row - 1)) (slotIndex side orientation n)
+    (slotFrom side orientation (slotBits a) (rowSource mask toward n))) r
     ∙ ap (slotsAfter side mask orientation toward a) m
 
 pub cells-more : (side mask toward : ℕ) (a : List Bool) {new made : List Bool} {row from : ℕ} → 1 ≤ row → new ≡ cellsAfter side mask toward a (row - 1)
-    → from ≡ rowSource mask toward row → made ≡ rowFrom side (cellsIn a) row from new → made ≡ cellsAfter side mask toward a (row + 1 - 1)
+    → from ≡ rowSource mask toward row → made ≡ rowFrom side (cellBits a) row from new → made ≡ cellsAfter side mask toward a (row + 1 - 1)
 unfolding cellsAfter
 cells-more side mask toward a {new} {made} {row} {from} h e s q =
     let r : row ≡ suc (row - 1) = omega arith in
     let m : suc (row - 1) ≡ row + 1 - 1 = omega arith in
-    q ∙ ap₂ (λ (j : ℕ) (l : List Bool). rowFrom side (cellsIn a) row j l) s e
-    ∙ ap (λ (n : ℕ). rowFrom side (cellsIn a) n (rowSource mask toward n) (cellsAfter side mask toward a (row - 1))) r
+    q ∙ ap₂ (λ (j : ℕ) (l : List Bool). rowFrom side (cellBits a) row j l) s e
+    ∙ ap (λ (n : ℕ). rowFrom side (cellBits a) n (rowSource mask toward n) (cellsAfter side mask toward a (row - 1))) r
     ∙ ap (cellsAfter side mask toward a) m
 
 -- past the third row all are

@@ -11,24 +11,24 @@ use Rattle.floor.specs.Floor.{raisedCar, heightLow, heightHigh, driveIn, driveO
 use Rattle.plain.specs.declared.Floor.{Floor}
 use Rattle.plain.specs.declared.Height.{Height}
 use Rattle.plain.specs.declared.Height.the-variants.{Street, Rotation, Basement}
-use Rattle.plain.specs.Plain.{listed, heightNumber, heightOf, plainBits, floorOf}
-use Rattle.plain_moves.specs.Private.{slotsIn}
+use Rattle.plain.specs.Plain.{listed, heightNumber, heightFrom, plainBits, floorOf}
+use Rattle.plain_moves.specs.Private.{slotBits}
 use Rattle.plain.proofs.Listing.{listed-same, list-is}
 use Rattle.plain.proofs.Imaging.{floor-is, car-bit, coming-bit, going-bit}
 use Rattle.plain.proofs.Standing.{cell-bit, slot-bit}
 
 -- ---- a floor's bits
 
-pub slot-in : (f : Floor) (k : ℕ) → 40 ≤ k → k < 52 → slotsIn (f .slots) k ≡ plainBits f k
+pub slot-in : (f : Floor) (k : ℕ) → 40 ≤ k → k < 52 → slotBits (f .slots) k ≡ plainBits f k
 slot-in f k l h = slot-bit f (k - 40) k (omega arith) (omega arith)
 
 -- a height is that of its digits
-height-back : (h : Height) → h ≡ heightOf (bit (heightNumber h) 0) (bit (heightNumber h) 1)
+height-back : (h : Height) → h ≡ heightFrom (bit (heightNumber h) 0) (bit (heightNumber h) 1)
 height-back Street = refl
 height-back Rotation = refl
 height-back Basement = refl
 
-pub height-bits : (f : Floor) → f .height ≡ heightOf (plainBits f heightLow) (plainBits f heightHigh)
+pub height-bits : (f : Floor) → f .height ≡ heightFrom (plainBits f heightLow) (plainBits f heightHigh)
 unfolding plainBits
 height-bits f = height-back (f .height)
 

@@ -13,18 +13,18 @@ use Rattle.floor.specs.Floor.{raisedCar, heightLow, heightHigh, street, basemen
 use Rattle.floor.specs.Tests.{Test, fact, choose, holds, atBasement, changed}
 use Rattle.floor.specs.Tests.{set as set-at}
 use Rattle.rules.specs.declared.Instruction.the-variants.{Lift}
-use Rattle.rules.specs.Rules.{changes, next}
+use Rattle.rules.specs.Rules.{changes, nextRecord}
 use Rattle.plain.specs.declared.Floor.{Floor}
 use Rattle.plain.specs.declared.Height.{Height}
-use Rattle.plain.specs.Plain.{listed, heightOf, plainBits, floorOf}
+use Rattle.plain.specs.Plain.{listed, heightFrom, plainBits, floorOf}
 use Rattle.plain.proofs.Listing.{listed-same, list-is, set-listed}
 use Rattle.plain.proofs.Imaging.{floor-is, coming-bit, going-bit}
 use Rattle.plain.proofs.Standing.{cell-bit}
 use Rattle.plain_moves.proofs.Floors.{Sized, cells-kept, slots-kept}
 
 -- the height of a number
-pub height-number : {m n : ℕ} → n ≡ m → heightOf (bit m 0) (bit m 1) ≡ heightOf (bit n 0) (bit n 1)
-height-number e = ap (λ (n : ℕ). heightOf (bit n 0) (bit n 1)) (sym e)
+pub height-number : {m n : ℕ} → n ≡ m → heightFrom (bit m 0) (bit m 1) ≡ heightFrom (bit n 0) (bit n 1)
+height-number e = ap (λ (n : ℕ). heightFrom (bit n 0) (bit n 1)) (sym e)
 
 -- ---- the lift's two cells
 
@@ -96,8 +96,8 @@ module _ (f : Floor) (full : Sized f) (height : ℕ) where
 
   -- both cells stored
   pub cells-stored : {v w : Bool} → v ≡ holds (cellTakes height 11) (plainBits f) → w ≡ holds (cellTakes height 12) (plainBits f)
-      → set (set (f .cells) 11 v) 12 w ≡ listed 40 (next (Lift height) (plainBits f))
-  unfolding next
+      → set (set (f .cells) 11 v) 12 w ≡ listed 40 (nextRecord (Lift height) (plainBits f))
+  unfolding nextRecord
   cells-stored {v} {w} p q = stored-two v w ∙ listed-same 40 _ _ (λ j h. one j h ∙ sym (cell-then height (plainBits f) j h))
     where
       one : (j : ℕ) → j < 40 → cond (eqb 12 j) w (cond (eqb 11 j) v (getD (f .cells) j false))
@@ -107,9 +107,9 @@ module _ (f : Floor) (full : Sized f) (height : ℕ) where
           (λ t. split (eqb 12 j) (λ u. rw (t, u) q) (λ u. rw (t, u) (cell-bit f j h)))
 
   -- neither
-  pub cells-left : (height ≡ basement → ⊥) → holds atBasement (plainBits f) ≡ false → f .cells ≡ listed 40 (next (Lift height) (plainBits f))
-  unfolding next
-  cells-left e low = cells-kept f (next (Lift height) (plainBits f)) full (λ k h. one k ∙ sym (cell-then height (plainBits f) k h))
+  pub cells-left : (height ≡ basement → ⊥) → holds atBasement (plainBits f) ≡ false → f .cells ≡ listed 40 (nextRecord (Lift height) (plainBits f))
+  unfolding nextRecord
+  cells-left e low = cells-kept f (nextRecord (Lift height) (plainBits f)) full (λ k h. one k ∙ sym (cell-then height (plainBits f) k h))
     where
       one : (k : ℕ) → plainBits f k
           ≡ cond (eqb 11 k) (holds (cellTakes height 11) (plainBits f)) (cond (eqb 12 k) (holds (cellTakes height 12) (plainBits f)) (plainBits f k))
@@ -119,10 +119,10 @@ module _ (f : Floor) (full : Sized f) (height : ℕ) where
           (λ u. rw (t, u) (ap (plainBits f) (sym (eqb-true 12 k u)) ∙ cell-stays height (plainBits f) e low 12))
           (λ u. rw (t, u)))
 
-  pub lifted : {c : List Bool} {car : Bool} {to : Height} → c ≡ listed 40 (next (Lift height) (plainBits f)) → car ≡ holds (liftTakes height) (plainBits f)
-      → to ≡ heightOf (bit height 0) (bit height 1)
-      → record { cells = c; slots = f .slots; car = car; height = to; coming = f .coming; going = f .going } ≡ floorOf (next (Lift height) (plainBits f))
-  unfolding next
+  pub lifted : {c : List Bool} {car : Bool} {to : Height} → c ≡ listed 40 (nextRecord (Lift height) (plainBits f)) → car ≡ holds (liftTakes height) (plainBits f)
+      → to ≡ heightFrom (bit height 0) (bit height 1)
+      → record { cells = c; slots = f .slots; car = car; height = to; coming = f .coming; going = f .going } ≡ floorOf (nextRecord (Lift height) (plainBits f))
+  unfolding nextRecord
   lifted p q e =
-      floor-is (next (Lift height) (plainBits f)) p (slots-kept f (next (Lift height) (plainBits f)) full (slot-then height (plainBits f)))
+      floor-is (nextRecord (Lift height) (plainBits f)) p (slots-kept f (nextRecord (Lift height) (plainBits f)) full (slot-then height (plainBits f)))
       refl refl e q (coming-bit f refl) (going-bit f refl)

@@ -18,8 +18,8 @@ use Rattle.plain.specs.Plain.{listed}
 use Rattle.plain.proofs.Ranges.{is-well, belts-ranges}
 use Rattle.plain_moves.specs.declared.Parts.{Parts}
 use Rattle.plain_moves.specs.Moves.{partsAt, areaParts}
-use Rattle.plain.specs.Named.{cellNamed}
-use Rattle.plain_moves.specs.Private.{slotAt, stored, firstCell, rowNamed, rowBehind}
+use Rattle.rules.specs.Cells.{cellNamed, rowNamed, rowBehind}
+use Rattle.plain_moves.specs.Private.{slotIndex, stored, positionFirstCell}
 
 -- ---- two arrays, and two parts, are the same
 
@@ -60,7 +60,7 @@ beltParts : ℕ → ℕ → Parts
 beltParts row mask =
     record {
       cells = listed 40 (cellNamed row mask);
-      slots = set (set noSlots (slotAt 0 0 row) (cellNamed row mask (firstCell 0 row))) (slotAt 1 0 row) (cellNamed row mask (firstCell 1 row));
+      slots = set (set noSlots (slotIndex 0 0 row) (cellNamed row mask (positionFirstCell 0 row))) (slotIndex 1 0 row) (cellNamed row mask (positionFirstCell 1 row));
       lift = cellNamed row mask 11;
     }
 
@@ -76,13 +76,13 @@ shuttleCells side mask orientation toward (suc n) =
 unfoldable pub shuttleSlots : ℕ → ℕ → ℕ → ℕ → ℕ → List Bool
 shuttleSlots side mask orientation toward zero = noSlots
 shuttleSlots side mask orientation toward (suc n) =
-    set (shuttleSlots side mask orientation toward n) (slotAt side orientation (suc n)) (touched mask toward (suc n))
+    set (shuttleSlots side mask orientation toward n) (slotIndex side orientation (suc n)) (touched mask toward (suc n))
 
 -- the first n lowered slots of a side, for a tilt
 unfoldable pub tiltSlots : ℕ → ℕ → ℕ → ℕ → List Bool
-tiltSlots side row orientation zero = set noSlots (slotAt side 1 row) true
+tiltSlots side row orientation zero = set noSlots (slotIndex side 1 row) true
 tiltSlots side row orientation (suc n) =
-    set (tiltSlots side row orientation n) (slotAt side 0 (suc n)) (eqb (suc n) row || eqb orientation lowered)
+    set (tiltSlots side row orientation n) (slotIndex side 0 (suc n)) (eqb (suc n) row || eqb orientation lowered)
 
 -- the first n cells on each side of the lift
 unfoldable pub besideLift : ℕ → List Bool
@@ -103,20 +103,20 @@ marked (Lift height) = true
 marked Rotate = true
 
 all-marked : T (everywhere marked)
-unfolding everywhere every marked partsAt listed stored firstCell rowNamed rowBehind shuttleCells shuttleSlots tiltSlots
+unfolding everywhere every marked partsAt listed stored positionFirstCell rowNamed rowBehind shuttleCells shuttleSlots tiltSlots
 all-marked = tt
 
 beltsMarked : ℕ → ℕ → Bool
 beltsMarked row mask = sameParts (beltParts row mask) (partsAt (areaOf (Belts row mask 0 0)))
 
 belts-marked : T (rows beltsMarked)
-unfolding rows every beltsMarked beltParts partsAt listed beltOf firstCell
+unfolding rows every beltsMarked beltParts partsAt listed beltOf positionFirstCell
 belts-marked = tt
 
 -- ---- what it says of each
 
 pub belts-area : (row mask : ℕ) → T (beltsNamed row mask) → {c : List Bool} {l r : ℕ} {x y z : Bool} → c ≡ listed 40 (cellNamed row mask)
-    → l ≡ slotAt 0 0 row → x ≡ cellNamed row mask (firstCell 0 row) → r ≡ slotAt 1 0 row → y ≡ cellNamed row mask (firstCell 1 row)
+    → l ≡ slotIndex 0 0 row → x ≡ cellNamed row mask (positionFirstCell 0 row) → r ≡ slotIndex 1 0 row → y ≡ cellNamed row mask (positionFirstCell 1 row)
     → z ≡ cellNamed row mask 11
     → record { cells = c; slots = set (set noSlots l x) r y; lift = z } ≡ partsAt (areaOf (Belts row mask 0 0))
 unfolding beltParts beltsMarked
@@ -124,7 +124,7 @@ belts-area row mask w {c} {l} {r} {x} {y} {z} e1 e2 e3 e4 e5 e6 =
     ap₂ (λ (c : List Bool) (z : Bool). record { cells = c; slots = set (set noSlots l x) r y; lift = z }) e1 e6
     ∙ ap (λ (s : List Bool). record { cells = listed 40 (cellNamed row mask); slots = s; lift = cellNamed row mask 11 })
     (ap₂ (λ (l : ℕ) (x : Bool). set (set noSlots l x) r y) e2 e3
-    ∙ ap₂ (λ (r : ℕ) (y : Bool). set (set noSlots (slotAt 0 0 row) (cellNamed row mask (firstCell 0 row))) r y) e4 e5)
+    ∙ ap₂ (λ (r : ℕ) (y : Bool). set (set noSlots (slotIndex 0 0 row) (cellNamed row mask (positionFirstCell 0 row))) r y) e4 e5)
     ∙ parts-eq (beltParts row mask) (partsAt (areaOf (Belts row mask 0 0))) (each-row beltsMarked belts-marked row mask w)
 
 module _ (side mask orientation toward : ℕ) where
@@ -141,14 +141,14 @@ module _ (side mask orientation toward : ℕ) where
       ∙ ap (shuttleCells side mask orientation toward) m
 
   pub shuttle-slots-more : {row at : ℕ} {slots : List Bool} {on : Bool} → 0 < row → slots ≡ shuttleSlots side mask orientation toward (row - 1)
-      → at ≡ slotAt side orientation row → on ≡ touched mask toward row → set slots at on ≡ shuttleSlots side mask orientation toward (row + 1 - 1)
+      → at ≡ slotIndex side orientation row → on ≡ touched mask toward row → set slots at on ≡ shuttleSlots side mask orientation toward (row + 1 - 1)
   unfolding shuttleSlots
   shuttle-slots-more {row} {at} {slots} {on} h e p d =
       let r : row ≡ suc (row - 1) = omega arith in
       let m : suc (row - 1) ≡ row + 1 - 1 = omega arith in
       ap₂ (λ (l : List Bool) (b : Bool). set l at b) e d
       ∙ ap (λ (j : ℕ). set (shuttleSlots side mask orientation toward (row - 1)) j (touched mask toward row)) p
-      ∙ ap (λ (n : ℕ). set (shuttleSlots side mask orientation toward (row - 1)) (slotAt side orientation n) (touched mask toward n)) r
+      ∙ ap (λ (n : ℕ). set (shuttleSlots side mask orientation toward (row - 1)) (slotIndex side orientation n) (touched mask toward n)) r
       ∙ ap (shuttleSlots side mask orientation toward) m
 
   pub shuttles-area : T (wellFormed (Shuttles side mask orientation toward)) → {c s : List Bool} {row : ℕ}
@@ -162,18 +162,18 @@ module _ (side mask orientation toward : ℕ) where
       ∙ parts-eq _ (partsAt (areaOf (Shuttles side mask orientation toward))) (each marked all-marked (Shuttles side mask orientation toward) w)
 
 module _ (side row orientation : ℕ) where
-  pub tilt-starts : {at : ℕ} → at ≡ slotAt side 1 row → set noSlots at true ≡ tiltSlots side row orientation 0
+  pub tilt-starts : {at : ℕ} → at ≡ slotIndex side 1 row → set noSlots at true ≡ tiltSlots side row orientation 0
   unfolding tiltSlots
   tilt-starts e = ap (λ (j : ℕ). set noSlots j true) e
 
-  pub tilt-more : {other at : ℕ} {slots : List Bool} → 0 < other → slots ≡ tiltSlots side row orientation (other - 1) → at ≡ slotAt side 0 other
+  pub tilt-more : {other at : ℕ} {slots : List Bool} → 0 < other → slots ≡ tiltSlots side row orientation (other - 1) → at ≡ slotIndex side 0 other
       → set slots at (eqb other row || eqb orientation lowered) ≡ tiltSlots side row orientation (other + 1 - 1)
   unfolding tiltSlots
   tilt-more {other} {at} h e p =
       let r : other ≡ suc (other - 1) = omega arith in
       let m : suc (other - 1) ≡ other + 1 - 1 = omega arith in
       ap₂ (λ (l : List Bool) (j : ℕ). set l j (eqb other row || eqb orientation lowered)) e p
-      ∙ ap (λ (n : ℕ). set (tiltSlots side row orientation (other - 1)) (slotAt side 0 n) (eqb n row || eqb orientation lowered)) r
+      ∙ ap (λ (n : ℕ). set (tiltSlots side row orientation (other - 1)) (slotIndex side 0 n) (eqb n row || eqb orientation lowered)) r
       ∙ ap (tiltSlots side row orientation) m
 
   pub tilt-area : T (wellFormed (Tilt side row orientation)) → {c s : List Bool} {other : ℕ}

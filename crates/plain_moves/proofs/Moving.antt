@@ -17,11 +17,11 @@ use Rattle.floor.specs.Tests.{changed, allHold}
 use Rattle.rules.specs.declared.Instruction.{Instruction}
 use Rattle.rules.specs.declared.Instruction.the-variants.{Belts, Shuttles, Tilt, Rotate}
 use Rattle.rules.specs.Named.{cells, step, rowsOf}
-use Rattle.rules.specs.Rules.{wellFormed, conditions, allowed, changes, next}
+use Rattle.rules.specs.Rules.{wellFormed, conditions, allowed, changes, nextRecord}
 use Rattle.plain.specs.declared.Floor.{Floor}
 use Rattle.plain.specs.Plain.{listed, plainBits, floorOf}
-use Rattle.plain.specs.Named.{cellNamed}
-use Rattle.plain_moves.specs.Private.{cellsIn, slotsIn, slotAt, cellBehind, beltAfter, rowSource, slotFrom, slotsAfter, carAt, rowFrom, cellsAfter}
+use Rattle.rules.specs.Cells.{cellNamed}
+use Rattle.plain_moves.specs.Private.{cellBits, slotBits, slotIndex, cellBehind, beltAfter, rowSource, slotFrom, slotsAfter, carAt, rowFrom, cellsAfter}
 use Rattle.plain.proofs.Listing.{listed-same}
 use Rattle.plain_moves.proofs.Contents.{Content, told, all, has, Told, told-starts, told-set, told-stored, told-either, rightAt, told-ends, keeps, kept}
 use Rattle.plain.proofs.Imaging.{floor-is, car-bit, coming-bit, going-bit}
@@ -51,11 +51,11 @@ no-gap-rows side mask orientation toward f ok =
 
 -- ---- arrays that are as they were
 
-cells-start : (a : List Bool) → length a ≡ 40 → Told 40 (cellsIn a) a itself
-cells-start a len = told-starts 40 (cellsIn a) a itself len (λ j. sym (and-true (getD a j false)))
+cells-start : (a : List Bool) → length a ≡ 40 → Told 40 (cellBits a) a itself
+cells-start a len = told-starts 40 (cellBits a) a itself len (λ j. sym (and-true (getD a j false)))
 
-slots-start : (a : List Bool) → length a ≡ 12 → Told 12 (slotsIn a) a (λ j. itself (slotPlace j))
-slots-start a len = told-starts 12 (slotsIn a) a (λ j. itself (slotPlace j)) len (λ j.
+slots-start : (a : List Bool) → length a ≡ 12 → Told 12 (slotBits a) a (λ j. itself (slotPlace j))
+slots-start a len = told-starts 12 (slotBits a) a (λ j. itself (slotPlace j)) len (λ j.
     let i : j ≡ 40 + j - 40 = omega arith in
     ap (λ (n : ℕ). getD a n false) i ∙ sym (and-true (getD a (40 + j - 40) false)))
 
@@ -70,9 +70,9 @@ module _ (f : Floor) (i : Instruction) (x y : ℕ → Content) (right : T (right
       kept (changes i) (plainBits f) (52 + j)
       (each-below 5 (λ n. keeps (changes i) (52 + n)) (and-r (every 12 (rightAt (changes i) 12 slotPlace (from 40 12) y)) _ rest) j h)
 
-  moved-by : {c s : List Bool} → Told 40 (cellsIn (f .cells)) c x → Told 12 (slotsIn (f .slots)) s y
-      → record { cells = c; slots = s; car = f .car; height = f .height; coming = f .coming; going = f .going } ≡ floorOf (next i (plainBits f))
-  unfolding next
+  moved-by : {c s : List Bool} → Told 40 (cellBits (f .cells)) c x → Told 12 (slotBits (f .slots)) s y
+      → record { cells = c; slots = s; car = f .car; height = f .height; coming = f .coming; going = f .going } ≡ floorOf (nextRecord i (plainBits f))
+  unfolding nextRecord
   moved-by p q =
       floor-is (changed (changes i) (plainBits f))
       (told-ends (changes i) 40 (λ k. k) (from 0 40) x (plainBits f)
@@ -101,14 +101,14 @@ belt-has row mask toward size f k = go (cellNamed row mask k) (cellNamed row mas
 
 module _ (f : Floor) (full : Sized f) where
   pub belts-run : (row mask toward size : ℕ) → allowed (Belts row mask toward size) (plainBits f) ≡ true
-      → {c : List Bool} → c ≡ listed 40 (beltAfter row mask toward size (cellsIn (f .cells)))
+      → {c : List Bool} → c ≡ listed 40 (beltAfter row mask toward size (cellBits (f .cells)))
       → record { cells = c; slots = f .slots; car = f .car; height = f .height; coming = f .coming; going = f .going }
-      ≡ floorOf (next (Belts row mask toward size) (plainBits f))
+      ≡ floorOf (nextRecord (Belts row mask toward size) (plainBits f))
   belts-run row mask toward size ok e =
       let i = Belts row mask toward size in
       moved-by f i (beltContent row mask toward size) (λ j. itself (slotPlace j))
       (belts-right row mask toward size (true→T (well i (plainBits f) ok)) (no-gap-belts row mask toward size (plainBits f) ok))
-      (record { is = e ∙ listed-same 40 _ _ (λ k h. belt-has row mask toward size (cellsIn (f .cells)) k) })
+      (record { is = e ∙ listed-same 40 _ _ (λ k h. belt-has row mask toward size (cellBits (f .cells)) k) })
       (slots-start (f .slots) (full .slots))
 
 -- ---- shuttles
@@ -123,12 +123,12 @@ slot-has side orientation f from = go (eqb from 0) (slot side orientation from)
 
 module _ (side mask orientation toward : ℕ) where
   slots-told : side ≤ 1 → orientation ≤ 1 → (a : List Bool) → length a ≡ 12 → (n : ℕ) → n ≤ 3
-      → Told 12 (slotsIn a) (slotsAfter side mask orientation toward a n) (slotContents side mask orientation toward n)
+      → Told 12 (slotBits a) (slotsAfter side mask orientation toward a n) (slotContents side mask orientation toward n)
   unfolding slotsAfter slotContents
   slots-told s o a len zero h = slots-start a len
   slots-told s o a len (suc n) h =
-      told-set (slots-told s o a len n (omega arith)) (slotAt side orientation (suc n)) (slotContent side orientation (rowSource mask toward (suc n)))
-      (omega arith) (slot-has side orientation (slotsIn a) (rowSource mask toward (suc n)))
+      told-set (slots-told s o a len n (omega arith)) (slotIndex side orientation (suc n)) (slotContent side orientation (rowSource mask toward (suc n)))
+      (omega arith) (slot-has side orientation (slotBits a) (rowSource mask toward (suc n)))
 
 place-cell : (side row k : ℕ) → side ≤ 1 → T (elem k (place side row)) → k < 40
 place-cell side row k s = go (eqb row 1) (eqb row 2)
@@ -147,21 +147,21 @@ car-has side f from = go (eqb from 0)
     go false = refl
 
 module _ (side mask toward : ℕ) where
-  cells-told : side ≤ 1 → (a : List Bool) → length a ≡ 40 → (n : ℕ) → Told 40 (cellsIn a) (cellsAfter side mask toward a n) (cellContents side mask toward n)
+  cells-told : side ≤ 1 → (a : List Bool) → length a ≡ 40 → (n : ℕ) → Told 40 (cellBits a) (cellsAfter side mask toward a n) (cellContents side mask toward n)
   unfolding cellsAfter rowFrom cellContents
   cells-told s a len zero = cells-start a len
   cells-told s a len (suc n) =
       let before = cells-told s a len n in
       let from = rowSource mask toward (suc n) in
       told-either (eqb from (suc n)) before
-      (told-stored before (place side (suc n)) (carContent side from) (λ k. place-cell side (suc n) k s) (car-has side (cellsIn a) from))
+      (told-stored before (place side (suc n)) (carContent side from) (λ k. place-cell side (suc n) k s) (car-has side (cellBits a) from))
 
 module _ (f : Floor) (full : Sized f) where
   pub shuttles-moved : (side mask orientation toward : ℕ) → allowed (Shuttles side mask orientation toward) (plainBits f) ≡ true
       → {c s : List Bool} → s ≡ slotsAfter side mask orientation toward (f .slots) 3
       → c ≡ cond (eqb orientation lowered) (cellsAfter side mask toward (f .cells) 3) (f .cells)
       → record { cells = c; slots = s; car = f .car; height = f .height; coming = f .coming; going = f .going }
-      ≡ floorOf (next (Shuttles side mask orientation toward) (plainBits f))
+      ≡ floorOf (nextRecord (Shuttles side mask orientation toward) (plainBits f))
   shuttles-moved side mask orientation toward ok p q =
       let i = Shuttles side mask orientation toward in
       let b = shuttles-ranges side mask orientation toward (true→T (well i (plainBits f) ok)) in
@@ -175,10 +175,10 @@ module _ (f : Floor) (full : Sized f) where
   -- ---- a tilt
 
   pub tilt-moved : (side row orientation : ℕ) → T (wellFormed (Tilt side row orientation)) → {from to : ℕ} {s : List Bool}
-      → from ≡ slotAt side orientation row → to ≡ slotAt side (1 - orientation) row → s ≡ set (set (f .slots) from false) to true
+      → from ≡ slotIndex side orientation row → to ≡ slotIndex side (1 - orientation) row → s ≡ set (set (f .slots) from false) to true
       → from < 12 → to < 12
       → record { cells = f .cells; slots = s; car = f .car; height = f .height; coming = f .coming; going = f .going }
-      ≡ floorOf (next (Tilt side row orientation) (plainBits f))
+      ≡ floorOf (nextRecord (Tilt side row orientation) (plainBits f))
   unfolding tiltContents
   tilt-moved side row orientation w {from} {to} d e p h l =
       let v = told-set (told-set (slots-start (f .slots) (full .slots)) from (told false) h refl) to (told true) l refl in
@@ -186,11 +186,11 @@ module _ (f : Floor) (full : Sized f) where
       (cells-start (f .cells) (full .cells))
       (record {
         is = p ∙ v .is
-            ∙ ap₂ (λ (m n : ℕ). listed 12 (λ j. has (cond (eqb n j) (told true) (cond (eqb m j) (told false) (itself (slotPlace j)))) (slotsIn (f .slots)))) d e;
+            ∙ ap₂ (λ (m n : ℕ). listed 12 (λ j. has (cond (eqb n j) (told true) (cond (eqb m j) (told false) (itself (slotPlace j)))) (slotBits (f .slots)))) d e;
       })
 
   -- ---- rotating
 
-  pub rotated : f ≡ floorOf (next Rotate (plainBits f))
-  unfolding next
+  pub rotated : f ≡ floorOf (nextRecord Rotate (plainBits f))
+  unfolding nextRecord
   rotated = floor-kept f (plainBits f) full (λ k. refl)

@@ -15,8 +15,8 @@ use Rattle.rules.specs.declared.Instruction.the-variants.{Belts, Shuttles, Tilt
 use Rattle.rules.specs.Named.{cells, step, rowsOf}
 use Rattle.rules.specs.Rules.{wellFormed, changes}
 use Rattle.rules.proofs.Every.{everywhere, each}
-use Rattle.plain.specs.Named.{cellNamed}
-use Rattle.plain_moves.specs.Private.{slotAt, cellBehind, rowNamed, rowBehind, rowSource}
+use Rattle.rules.specs.Cells.{cellNamed, rowNamed, rowBehind}
+use Rattle.plain_moves.specs.Private.{slotIndex, cellBehind, rowSource}
 use Rattle.plain_moves.proofs.Contents.{Content, told, all, rightAt, keeps}
 
 -- ---- what is taken
@@ -42,7 +42,7 @@ unfoldable pub slotContents : ℕ → ℕ → ℕ → ℕ → ℕ → ℕ → Co
 slotContents side mask orientation toward zero j = itself (slotPlace j)
 slotContents side mask orientation toward (suc n) j =
     let r = slotContents side mask orientation toward n j in
-    cond (eqb (slotAt side orientation (suc n)) j) (slotContent side orientation (rowSource mask toward (suc n))) r
+    cond (eqb (slotIndex side orientation (suc n)) j) (slotContent side orientation (rowSource mask toward (suc n))) r
 
 -- what the cells of a row take from the position of another, and the cells with the first n rows made so
 unfoldable pub carContent : ℕ → ℕ → Content
@@ -57,7 +57,7 @@ cellContents side mask toward (suc n) k =
 -- the slots after a tilt
 unfoldable pub tiltContents : ℕ → ℕ → ℕ → ℕ → Content
 tiltContents side row orientation j =
-    cond (eqb (slotAt side (1 - orientation) row) j) (told true) (cond (eqb (slotAt side orientation row) j) (told false) (itself (slotPlace j)))
+    cond (eqb (slotIndex side (1 - orientation) row) j) (told true) (cond (eqb (slotIndex side orientation row) j) (told false) (itself (slotPlace j)))
 
 -- ---- all in one test
 

@@ -11,8 +11,8 @@ use Rattle.floor.specs.Floor.{raisedCar, lift}
 use Rattle.rules.specs.declared.Instruction.{Instruction}
 use Rattle.rules.specs.declared.Event.{Event}
 use Rattle.rules.specs.declared.Event.the-variants.{BeginIn, BeginOut, EndDone, EndNotDone}
-use Rattle.rules.specs.Rules.{wellFormed, areaOf, allowed, next}
-use Rattle.rules.specs.Events.{filled, after}
+use Rattle.rules.specs.Rules.{wellFormed, areaOf, allowed, nextRecord}
+use Rattle.rules.specs.Events.{filled, afterEvent}
 use Rattle.plain.specs.declared.Floor.{Floor}
 use Rattle.plain.specs.Plain.{listed, plainBits, floorOf}
 use Rattle.plain_moves.specs.declared.Parts.{Parts}
@@ -21,11 +21,11 @@ use Rattle.plain_moves.specs.declared.Parts.{Parts}
 
 -- the floor after an instruction, where it is allowed; else the floor as it was
 unfoldable pub movedFloor : Instruction → Floor → Floor
-movedFloor i f = cond (allowed i (plainBits f)) (floorOf (next i (plainBits f))) f
+movedFloor i f = cond (allowed i (plainBits f)) (floorOf (nextRecord i (plainBits f))) f
 
 -- the floor after a car event
 unfoldable pub drivenFloor : Event → Floor → Floor
-drivenFloor e f = floorOf (after e (plainBits f))
+drivenFloor e f = floorOf (afterEvent e (plainBits f))
 
 -- a drive-in begins only while fewer cars are there than the garage is filled with; no other event is asked
 abbrev pub opensWith : Event → ℕ → Bool

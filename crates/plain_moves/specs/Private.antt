@@ -5,21 +5,21 @@ use mathlib.Core.List.{List, [], _∷_}
 use Prim.Native.Nat.{ℕ, zero, suc, _+_, _-_, _*_}
 use lib.Dec.{eqb, ltb}
 use lib.ListN.{getD, set}
-use Rattle.bits.specs.Bits.{Bits, bit, allSet}
+use Rattle.bits.specs.Bits.{Bits, allSet}
 use Rattle.floor.specs.Floor.{slot, place}
 use Rattle.rules.specs.Named.{higher, step}
-use Rattle.plain.specs.Named.{cellNamed}
+use Rattle.rules.specs.Cells.{cellNamed, rowNamed, rowBehind}
 
 -- the forty cells as bits, and the twelve slots, which are the bits from 40 on
-abbrev pub cellsIn : List Bool → Bits
-cellsIn a k = getD a k false
+abbrev pub cellBits : List Bool → Bits
+cellBits a k = getD a k false
 
-abbrev pub slotsIn : List Bool → Bits
-slotsIn a k = getD a (k - 40) false
+abbrev pub slotBits : List Bool → Bits
+slotBits a k = getD a (k - 40) false
 
 -- a slot's place among the twelve
-abbrev pub slotAt : ℕ → ℕ → ℕ → ℕ
-slotAt side orientation row = slot side orientation row - 40
+abbrev pub slotIndex : ℕ → ℕ → ℕ → ℕ
+slotIndex side orientation row = slot side orientation row - 40
 
 -- some elements set to a value
 unfoldable pub stored : List ℕ → Bool → List Bool → List Bool
@@ -40,17 +40,9 @@ beltAfter row mask toward size f k =
 
 -- ---- shuttles
 
--- the mask names a row
-unfoldable pub rowNamed : ℕ → ℕ → Bool
-rowNamed mask row = not (eqb row 0) && bit mask (row - 1)
-
--- the row behind, seen toward d; 0 or 4, where no row is, at the wall
-unfoldable pub rowBehind : ℕ → ℕ → ℕ
-rowBehind toward row = cond (higher toward) (row - 1) (row + 1)
-
 -- the first cell of a position
-unfoldable pub firstCell : ℕ → ℕ → ℕ
-firstCell side row = cond (eqb row 1) (side * 18) (cond (eqb row 2) (20 + side * 9) (30 + side * 9))
+unfoldable pub positionFirstCell : ℕ → ℕ → ℕ
+positionFirstCell side row = cond (eqb row 1) (side * 18) (cond (eqb row 2) (20 + side * 9) (30 + side * 9))
 
 -- the row from which a row takes what it has afterwards: the named row behind; where none is, a named one takes from 0, where nothing is,
 -- and any other from itself
@@ -65,8 +57,8 @@ slotFrom side orientation f from = not (eqb from 0) && f (slot side orientation 
 unfoldable pub slotsAfter : ℕ → ℕ → ℕ → ℕ → List Bool → ℕ → List Bool
 slotsAfter side mask orientation toward a zero = a
 slotsAfter side mask orientation toward a (suc n) =
-    set (slotsAfter side mask orientation toward a n) (slotAt side orientation (suc n))
-    (slotFrom side orientation (slotsIn a) (rowSource mask toward (suc n)))
+    set (slotsAfter side mask orientation toward a n) (slotIndex side orientation (suc n))
+    (slotFrom side orientation (slotBits a) (rowSource mask toward (suc n)))
 
 -- a car is at the position of a row
 unfoldable pub carAt : ℕ → Bits → ℕ → Bool
@@ -79,4 +71,4 @@ rowFrom side f row from new = cond (eqb from row) new (stored (place side row) (
 -- the cells with the first n rows made so
 unfoldable pub cellsAfter : ℕ → ℕ → ℕ → List Bool → ℕ → List Bool
 cellsAfter side mask toward a zero = a
-cellsAfter side mask toward a (suc n) = rowFrom side (cellsIn a) (suc n) (rowSource mask toward (suc n)) (cellsAfter side mask toward a n)
+cellsAfter side mask toward a (suc n) = rowFrom side (cellBits a) (suc n) (rowSource mask toward (suc n)) (cellsAfter side mask toward a n)

@@ -6,10 +6,9 @@ ghost use Prim.Native.Nat.{_≤_};
 ghost use lib.Dec.{T};
 ghost use Rattle.rules.specs.declared.Instruction.{Instruction};
 ghost use Rattle.rules.specs.Rules.{beltsNamed, wellFormed, areaOf};
-ghost use Rattle.plain.specs.Named.{cellNamed};
+ghost use Rattle.rules.specs.Cells.{cellNamed, rowNamed, rowBehind};
 ghost use Rattle.plain.specs.Plain.{listed};
 ghost use Rattle.plain_moves.specs.Moves.{partsAt};
-ghost use Rattle.plain_moves.specs.Private.{rowNamed, rowBehind};
 use super::Parts;
 use super::shuttles;
 

@@ -4,13 +4,13 @@ ghost use mathlib.Core.Bool.{true};
 ghost use Prim.Native.Nat.{_≤_, _<_};
 ghost use Rattle.rules.specs.declared.Instruction.{Instruction};
 ghost use Rattle.rules.specs.Named.{step};
-ghost use Rattle.rules.specs.Rules.{allowed, next};
+ghost use Rattle.rules.specs.Rules.{allowed, nextRecord};
 ghost use Rattle.plain.specs.Plain.{listed, plainBits, floorOf};
-ghost use Rattle.plain_moves.specs.Private.{cellsIn, cellBehind, beltAfter};
+ghost use Rattle.plain_moves.specs.Private.{cellBits, cellBehind, beltAfter};
 use plain::Floor;
 
 // No cell's number.
-const NOWHERE: u8 = 64;
+const NO_CELL: u8 = 64;
 
 // By how many cells a run shifts.
 fn step(row: u8, size: u8) -> u8
@@ -26,7 +26,7 @@ fn behind(toward: u8, n: u8, cell: u8) -> u8
 {
     if toward == 1 {
         if cell < n {
-            return NOWHERE;
+            return NO_CELL;
         }
         return cell - n;
     }
@@ -37,7 +37,7 @@ fn behind(toward: u8, n: u8, cell: u8) -> u8
 // free if that is not of the span.
 fn comes(old: &[bool; 40], row: u8, mask: u8, toward: u8, size: u8, cell: u8) -> bool
     requires { ⌜ cell < 40 ⌝ }
-    ensures { λ b. ⌜ b ≡ beltAfter row mask toward size (cellsIn (now (old .entry))) cell ⌝ }
+    ensures { λ b. ⌜ b ≡ beltAfter row mask toward size (cellBits (now (old .entry))) cell ⌝ }
 {
     if !plain::named(row, mask, cell) {
         return old[cell as usize];
@@ -51,7 +51,7 @@ fn comes(old: &[bool; 40], row: u8, mask: u8, toward: u8, size: u8, cell: u8) ->
 
 // The cells after the run.
 fn shifted(old: [bool; 40], row: u8, mask: u8, toward: u8, size: u8) -> [bool; 40]
-    ensures { λ a. ⌜ a ≡ listed 40 (beltAfter row mask toward size (cellsIn old)) ⌝ }
+    ensures { λ a. ⌜ a ≡ listed 40 (beltAfter row mask toward size (cellBits old)) ⌝ }
 {
     let mut new = [false; 40];
     let mut cell: u8 = 0;
@@ -65,7 +65,7 @@ fn shifted(old: [bool; 40], row: u8, mask: u8, toward: u8, size: u8) -> [bool; 4
 // The floor after the run.
 pub fn run(f: Floor, row: u8, mask: u8, toward: u8, size: u8) -> Floor
     requires { ⌜ allowed (Instruction.Belts row mask toward size) (plainBits f) ≡ true ⌝ }
-    ensures { λ r. ⌜ r ≡ floorOf (next (Instruction.Belts row mask toward size) (plainBits f)) ⌝ }
+    ensures { λ r. ⌜ r ≡ floorOf (nextRecord (Instruction.Belts row mask toward size) (plainBits f)) ⌝ }
 {
     let old = f.cells;
     let cells = shifted(old, row, mask, toward, size);

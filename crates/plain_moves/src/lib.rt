@@ -4,7 +4,7 @@ ghost use mathlib.Core.Path.{_≡_};
 ghost use mathlib.Core.Bool.{true};
 ghost use Rattle.bits.specs.Bits.{bit};
 ghost use Rattle.floor.specs.Tests.{holds, underWay};
-ghost use Rattle.rules.specs.Rules.{allowed, next};
+ghost use Rattle.rules.specs.Rules.{allowed, nextRecord};
 ghost use Rattle.rules.specs.Events.{inTurn, possible};
 ghost use Rattle.plain.specs.Plain.{plainBits, floorOf};
 ghost use Rattle.plain_moves.specs.Moves.{movedFloor, drivenFloor, opensWith, partsOf, areaParts};
@@ -31,7 +31,7 @@ pub struct Parts {
 // The floor after an instruction that is allowed. Rotating changes nothing.
 fn after(f: Floor, i: Instruction) -> Floor
     requires { ⌜ allowed i (plainBits f) ≡ true ⌝ }
-    ensures { λ r. ⌜ r ≡ floorOf (next i (plainBits f)) ⌝ }
+    ensures { λ r. ⌜ r ≡ floorOf (nextRecord i (plainBits f)) ⌝ }
 {
     match i {
         Instruction::Belts {

@@ -5,15 +5,15 @@ ghost use Rattle.bits.specs.Bits.{bit};
 ghost use Rattle.floor.specs.Tests.{holds, heightIs, atBasement};
 ghost use Rattle.floor.specs.Floor.{street};
 ghost use Rattle.rules.specs.declared.Instruction.{Instruction};
-ghost use Rattle.rules.specs.Rules.{wellFormed, next};
-ghost use Rattle.plain.specs.Plain.{heightOf, plainBits, floorOf};
+ghost use Rattle.rules.specs.Rules.{wellFormed, nextRecord};
+ghost use Rattle.plain.specs.Plain.{heightFrom, plainBits, floorOf};
 use plain::Floor;
 use plain::Height;
 
 // The height of a number.
 fn height_of(n: u8) -> Height
     requires { ⌜ T (wellFormed (Instruction.Lift n)) ⌝ }
-    ensures { λ h. ⌜ h ≡ heightOf (bit n 0) (bit n 1) ⌝ }
+    ensures { λ h. ⌜ h ≡ heightFrom (bit n 0) (bit n 1) ⌝ }
 {
     match n {
         0 => Height::Street,
@@ -50,7 +50,7 @@ fn at_basement(f: Floor) -> bool
 // the raised lift if both were occupied, and they are free; between street and rotation only the height changes.
 pub fn moved(f: Floor, height: u8) -> Floor
     requires { ⌜ T (wellFormed (Instruction.Lift height)) ⌝ }
-    ensures { λ r. ⌜ r ≡ floorOf (next (Instruction.Lift height) (plainBits f)) ⌝ }
+    ensures { λ r. ⌜ r ≡ floorOf (nextRecord (Instruction.Lift height) (plainBits f)) ⌝ }
 {
     let to = height_of(height);
     let mut cells = f.cells;

@@ -4,16 +4,17 @@ ghost use mathlib.Core.Bool.{true};
 ghost use Prim.Native.Nat.{_≤_};
 ghost use lib.Dec.{T};
 ghost use Rattle.floor.specs.Floor.{place};
+ghost use Rattle.rules.specs.Cells.{rowNamed, rowBehind};
 ghost use Rattle.rules.specs.declared.Instruction.{Instruction};
-ghost use Rattle.rules.specs.Rules.{wellFormed, allowed, next};
+ghost use Rattle.rules.specs.Rules.{wellFormed, allowed, nextRecord};
 ghost use Rattle.plain.specs.Plain.{plainBits, floorOf};
-ghost use Rattle.plain_moves.specs.Private.{cellsIn, slotsIn, slotAt, stored, firstCell, rowNamed, rowBehind, rowSource, slotFrom, slotsAfter, carAt, rowFrom, cellsAfter};
+ghost use Rattle.plain_moves.specs.Private.{cellBits, slotBits, slotIndex, stored, positionFirstCell, rowSource, slotFrom, slotsAfter, carAt, rowFrom, cellsAfter};
 use plain::Floor;
 
 // A slot's place among the twelve.
 pub fn slot(side: u8, orientation: u8, row: u8) -> u8
     requires { ⌜ (side ≤ 1) × (orientation ≤ 1) × (1 ≤ row) × (row ≤ 3) ⌝ }
-    ensures { λ j. ⌜ j ≡ slotAt side orientation row ⌝ }
+    ensures { λ j. ⌜ j ≡ slotIndex side orientation row ⌝ }
 {
     orientation * 6 + side * 3 + row - 1
 }
@@ -58,7 +59,7 @@ fn source(mask: u8, toward: u8, row: u8) -> u8
 // The first cell of a position.
 pub fn first_cell(side: u8, row: u8) -> u8
     requires { ⌜ side ≤ 1 ⌝ }
-    ensures { λ k. ⌜ k ≡ firstCell side row ⌝ }
+    ensures { λ k. ⌜ k ≡ positionFirstCell side row ⌝ }
 {
     match row {
         1 => side * 18,
@@ -72,7 +73,7 @@ pub fn first_cell(side: u8, row: u8) -> u8
 // What a slot has afterwards: what the slot of the row has from which it takes.
 fn slot_from(slots: &[bool; 12], side: u8, orientation: u8, from: u8) -> bool
     requires { ⌜ (side ≤ 1) × (orientation ≤ 1) × (from ≤ 3) ⌝ }
-    ensures { λ b. ⌜ b ≡ slotFrom side orientation (slotsIn (now (slots .entry))) from ⌝ }
+    ensures { λ b. ⌜ b ≡ slotFrom side orientation (slotBits (now (slots .entry))) from ⌝ }
 {
     if from == 0 {
         return false;
@@ -102,7 +103,7 @@ fn slots_after(slots: [bool; 12], side: u8, mask: u8, orientation: u8, toward: u
 // A car is at the position of a row: on both half cells in row 1, on the one cell in rows 2 and 3.
 fn car_at(cells: &[bool; 40], side: u8, row: u8) -> bool
     requires { ⌜ side ≤ 1 ⌝ }
-    ensures { λ b. ⌜ b ≡ carAt side (cellsIn (now (cells .entry))) row ⌝ }
+    ensures { λ b. ⌜ b ≡ carAt side (cellBits (now (cells .entry))) row ⌝ }
 {
     if row == 0 {
         return false;
@@ -133,7 +134,7 @@ pub fn put(cells: [bool; 40], side: u8, row: u8, car: bool) -> [bool; 40]
 // in row 1.
 fn row_from(new: [bool; 40], old: &[bool; 40], side: u8, row: u8, from: u8) -> [bool; 40]
     requires { ⌜ side ≤ 1 ⌝ }
-    ensures { λ a. ⌜ a ≡ rowFrom side (cellsIn (now (old .entry))) row from new ⌝ }
+    ensures { λ a. ⌜ a ≡ rowFrom side (cellBits (now (old .entry))) row from new ⌝ }
 {
     if from == row {
         return new;
@@ -162,7 +163,7 @@ fn cells_after(cells: [bool; 40], side: u8, mask: u8, toward: u8) -> [bool; 40]
 // The floor after the shuttles of some rows have moved.
 pub fn moved(f: Floor, side: u8, mask: u8, orientation: u8, toward: u8) -> Floor
     requires { ⌜ allowed (Instruction.Shuttles side mask orientation toward) (plainBits f) ≡ true ⌝ }
-    ensures { λ r. ⌜ r ≡ floorOf (next (Instruction.Shuttles side mask orientation toward) (plainBits f)) ⌝ }
+    ensures { λ r. ⌜ r ≡ floorOf (nextRecord (Instruction.Shuttles side mask orientation toward) (plainBits f)) ⌝ }
 {
     let old = f.slots;
     let slots = slots_after(old, side, mask, orientation, toward);
@@ -180,7 +181,7 @@ pub fn moved(f: Floor, side: u8, mask: u8, orientation: u8, toward: u8) -> Floor
 // The floor after a shuttle has taken the other orientation.
 pub fn tilted(f: Floor, side: u8, row: u8, orientation: u8) -> Floor
     requires { ⌜ T (wellFormed (Instruction.Tilt side row orientation)) ⌝ }
-    ensures { λ r. ⌜ r ≡ floorOf (next (Instruction.Tilt side row orientation) (plainBits f)) ⌝ }
+    ensures { λ r. ⌜ r ≡ floorOf (nextRecord (Instruction.Tilt side row orientation) (plainBits f)) ⌝ }
 {
     let mut slots = f.slots;
     let from = slot(side, orientation, row);

@@ -17,8 +17,8 @@ use Rattle.bits.proofs.Sharing.{share-at, share-is}
 use Rattle.bits.proofs.Operations.{bit-or}
 use Rattle.floor.specs.Floor.{lift}
 use Rattle.rules.specs.declared.Code.{Code}
-use Rattle.garage.specs.Held.{codeAt, heldArea, partsIn, heldParts, touches}
-use Rattle.garage.proofs.Areas.{held-small, held-upper}
+use Rattle.station.specs.Held.{codeAt, heldArea, partsIn, heldParts, touches}
+use Rattle.station.proofs.Areas.{held-small, held-upper}
 use Rattle.plain.proofs.Listing.{listed-at}
 use Rattle.plain_moves.specs.declared.Parts.{Parts}
 use Rattle.plain_moves.specs.Moves.{partsBits, partsOf, partsAt, meeting, together}

@@ -20,12 +20,12 @@ use Rattle.rules.specs.declared.Event.{Event}
 use Rattle.rules.specs.declared.EventReading.{EventReading}
 use Rattle.rules.specs.Codes.{readEvent}
 use Rattle.rules.specs.Events.{possible}
-use Rattle.garage.specs.declared.Station.{Station}
-use Rattle.garage.specs.declared.Outcome.{Outcome}
-use Rattle.garage.specs.Held.{codeAt, heldArea, heldAfter, heldParts}
-use Rattle.garage.specs.Station.{answering}
-use Rattle.garage.specs.Calls.{refused, taken, unlessAny, opening, ended}
-use Rattle.garage.proofs.Moves.{onEvent}
+use Rattle.station.specs.declared.Station.{Station}
+use Rattle.station.specs.declared.Outcome.{Outcome}
+use Rattle.station.specs.Held.{codeAt, heldArea, heldAfter, heldParts}
+use Rattle.station.specs.Station.{answering}
+use Rattle.station.specs.Calls.{refused, taken, unlessAny, opening, ended}
+use Rattle.station.proofs.Moves.{onEvent}
 use Rattle.plain.specs.declared.Floor.{Floor}
 use Rattle.plain.specs.declared.Walk.{Walk}
 use Rattle.plain.specs.Plain.{listed, plainBits, floorOf}

@@ -14,12 +14,12 @@ use Rattle.rules.specs.declared.Instruction.{Instruction}
 use Rattle.rules.specs.declared.Reading.{Reading}
 use Rattle.rules.specs.declared.Reading.the-variants.{Good, Bad}
 use Rattle.rules.specs.declared.Verdict.the-variants.{IllFormed}
-use Rattle.rules.specs.Rules.{wellFormed, allowed, clauses, next}
+use Rattle.rules.specs.Rules.{wellFormed, allowed, clauses, nextRecord}
 use Rattle.rules.specs.Codes.{readCode, readBytes}
 use Rattle.rules.specs.Verdicts.{judged, verdictOf, onCode, codeVerdict}
 use Rattle.rules.proofs.CodeLaws.{one-form}
-use Rattle.garage.specs.Held.{codeAt, isGood, heldArea, heldAllowed, heldNext, heldAfter, bad}
-use Rattle.garage.proofs.Loops.{past-eighth}
+use Rattle.station.specs.Held.{codeAt, isGood, heldArea, heldAllowed, heldNext, heldAfter, bad}
+use Rattle.station.proofs.Loops.{past-eighth}
 use Rattle.plain.specs.declared.Floor.{Floor}
 use Rattle.plain.specs.Plain.{listed, plainBits, floorOf}
 use Rattle.plain.specs.Conditions.{verdictOn}
@@ -76,5 +76,5 @@ module _ (set : List ℕ) (i : ℕ) {y : Reading} (e : y ≡ readCode (codeAt se
         → movedFloor x f ≡ floorOf (bit (heldAfter (codeAt set i) (image (plainBits f))))
     unfolding heldAfter heldAllowed heldNext movedFloor
     its-move c s x g = rw (sym e ∙ g, floor-bits f) (split (allowed x (plainBits f))
-        (λ t. rw t (floor-same (next x (plainBits f)) (bit (image (next x (plainBits f)))) (λ k h. sym (bit-image (next x (plainBits f)) k h))))
+        (λ t. rw t (floor-same (nextRecord x (plainBits f)) (bit (image (nextRecord x (plainBits f)))) (λ k h. sym (bit-image (nextRecord x (plainBits f)) k h))))
         (λ t. rw (t, floor-bits f) (sym (floor-back f c s))))

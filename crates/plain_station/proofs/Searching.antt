@@ -12,8 +12,8 @@ use Rattle.bits.proofs.Least.{Passed}
 use Rattle.floor.specs.Floor.{lift}
 use Rattle.rules.specs.declared.Verdict.{Verdict}
 use Rattle.rules.specs.Verdicts.{isAllowed, codeVerdict}
-use Rattle.garage.specs.Held.{codeAt, heldArea, touches, overlapsEarlier, barred, liftIn}
-use Rattle.garage.proofs.Moves.{held-verdict}
+use Rattle.station.specs.Held.{codeAt, heldArea, touches, overlapsEarlier, barred, liftIn}
+use Rattle.station.proofs.Moves.{held-verdict}
 use Rattle.plain_moves.specs.declared.Parts.{Parts}
 use Rattle.plain_moves.specs.Moves.{partsBits, partsAt, meeting}
 use Rattle.plain_station.proofs.Areas.{meets-apart, meets-area}

@@ -11,11 +11,11 @@ use Rattle.answers.specs.Answers.{nowhere}
 use Rattle.rules.specs.declared.Event.{Event}
 use Rattle.rules.specs.declared.Event.the-variants.{BeginIn, BeginOut, EndDone, EndNotDone}
 use Rattle.rules.specs.Events.{inTurn, possible}
-use Rattle.garage.specs.declared.Station.{Station}
-use Rattle.garage.specs.declared.Outcome.{Outcome}
-use Rattle.garage.specs.declared.Report.{Report}
-use Rattle.garage.specs.Held.{liftIn}
-use Rattle.garage.specs.Calls.{requested, resulted}
+use Rattle.station.specs.declared.Station.{Station}
+use Rattle.station.specs.declared.Outcome.{Outcome}
+use Rattle.station.specs.declared.Report.{Report}
+use Rattle.station.specs.Held.{liftIn}
+use Rattle.station.specs.Calls.{requested, resulted}
 use Rattle.plain.specs.declared.Floor.{Floor}
 use Rattle.plain.specs.Plain.{listed, plainBits, floorOf}
 use Rattle.plain.specs.Walks.{walked}
@@ -26,8 +26,8 @@ use Rattle.plain_station.specs.declared.PlainOutcome.{PlainOutcome}
 -- ---- a plain station and a packed one
 
 -- whether each of eight is answered
-abbrev pub marksOf : Plain → Bits
-marksOf p j = getD (p .answered) j false
+abbrev pub answeredMarks : Plain → Bits
+answeredMarks p j = getD (p .answered) j false
 
 -- the station that a plain one stands for; the plain one of a station
 unfoldable pub packedOf : Plain → Station
@@ -35,7 +35,7 @@ packedOf p =
     record {
       bits = image (plainBits (p .floor));
       count = p .count;
-      answered = packed 8 0 (marksOf p);
+      answered = packed 8 0 (answeredMarks p);
       set = p .set;
       next = p .next;
       apart = image (partsBits (p .apart));

@@ -4,13 +4,13 @@ ghost use mathlib.Core.Path.{_≡_};
 ghost use mathlib.Core.Bool.{false};
 ghost use lib.ListN.{getD};
 ghost use Rattle.bits.specs.Bits.{bit, packed};
-ghost use Rattle.garage.specs.Calls as packed_calls;
+ghost use Rattle.station.specs.Calls as packed_calls;
 ghost use Rattle.plain.specs.Plain.{listed};
 ghost use Rattle.plain_station.specs.Plain.{packedOf, plainOf, plainOutcome, refusedPlain};
 use answers::Answer;
-use garage::Station;
 use plain::Floor;
 use plain_moves::Parts;
+use station::Station;
 
 mod events;
 mod requests;

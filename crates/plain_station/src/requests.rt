@@ -1,13 +1,13 @@
 // A request: a set of instructions, taken if no set is outstanding, none moves the lift under a driver or touches a part that is set apart,
 // no two overlap and each is allowed.
 ghost use mathlib.Core.Path.{_≡_};
-ghost use Rattle.garage.specs.Calls as packed_calls;
+ghost use Rattle.station.specs.Calls as packed_calls;
 ghost use Rattle.plain_station.specs.Plain.{packedOf, plainOutcome, plainRequested};
 use super::Plain;
 use super::PlainOutcome;
 use super::sets;
 use answers::Answer;
-use garage::Station;
+use station::Station;
 use std::num::wrapping_add_u16;
 
 impl Plain {

@@ -2,8 +2,8 @@
 ghost use mathlib.Core.Path.{_≡_};
 ghost use Prim.Native.Nat.{_≤_, _<_};
 ghost use Rattle.answers.specs.declared.Answer.the-variants.{Taken};
-ghost use Rattle.garage.specs.Station.{inSet, behind};
-ghost use Rattle.garage.specs.Calls as packed_calls;
+ghost use Rattle.station.specs.Station.{inSet, behind};
+ghost use Rattle.station.specs.Calls as packed_calls;
 ghost use Rattle.plain_station.specs.Plain.{packedOf, plainOutcome, plainResulted};
 ghost use Rattle.plain_station.specs.Private.{allAnswered, plainAnswering};
 use super::Plain;
@@ -11,10 +11,10 @@ use super::PlainOutcome;
 use super::sets;
 use answers::Answer;
 use answers::NOWHERE;
-use garage::Report;
-use garage::Station;
 use plain::Floor;
 use plain_moves::Parts;
+use station::Report;
+use station::Station;
 use std::num::wrapping_sub_u16;
 
 // Each of the first n is answered.

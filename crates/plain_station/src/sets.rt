@@ -7,7 +7,7 @@ ghost use Rattle.bits.specs.Bits.{bit, image};
 ghost use Rattle.bits.specs.Search.{least};
 ghost use Rattle.rules.specs.Codes.{readCode};
 ghost use Rattle.rules.specs.Verdicts.{isAllowed, codeVerdict};
-ghost use Rattle.garage.specs.Held.{codeAt, heldArea, heldAfter, bad, touches, overlapsEarlier, barred, liftIn};
+ghost use Rattle.station.specs.Held.{codeAt, heldArea, heldAfter, bad, touches, overlapsEarlier, barred, liftIn};
 ghost use Rattle.plain.specs.Plain.{plainBits, floorOf};
 ghost use Rattle.plain_moves.specs.Moves.{partsBits, partsAt};
 use plain::Floor;

@@ -2,8 +2,8 @@
 // set refused, from 0, or 255.
 ghost use mathlib.Core.Path.{_≡_};
 ghost use Prim.Native.Nat.{_+_, _*_};
-ghost use Rattle.plans.specs.Plans.{judgement};
-ghost use Rattle.plan_c.specs.Entries.{returned};
+ghost use Rattle.plan.specs.Plans.{judgement};
+ghost use Rattle.plan_c.specs.Entries.{returnedJudgement};
 
 // A judgement as one number.
 fn said(number: u8, set: u8) -> u32
@@ -15,8 +15,8 @@ fn said(number: u8, set: u8) -> u32
 // Judges a plan.
 #[no_mangle]
 pub extern "C" fn plan_judge(plan: &[u8]) -> u32
-    ensures { λ r. ⌜ r ≡ returned (judgement (now (plan .entry))) ⌝ }
+    ensures { λ r. ⌜ r ≡ returnedJudgement (judgement (now (plan .entry))) ⌝ }
 {
-    let j = plans::judge(plan);
+    let j = plan::judge(plan);
     said(j.number, j.set)
 }

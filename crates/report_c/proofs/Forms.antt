@@ -6,10 +6,10 @@ use Prim.Native.Nat.{ℕ, _≤_, _<_}
 use native.Mathlib.Omega.{arith}
 use lib.ListN.{length, getD, List·getD-eq-default}
 use Rattle.bits.proofs.Search.{lt-or-ge}
-use Rattle.wire_laws.specs.Statements.{Bytes}
+use Rattle.codec.specs.Bytes.{Bytes}
 use Rattle.totals.specs.Totals.{totalsOf}
-use Rattle.fours.proofs.Fours.{valued-length}
-use Rattle.fours.proofs.Forms.{number, held-at, number-small, fours-read-back, fours-one-form}
+use Rattle.codec.proofs.Fours.{valued-length}
+use Rattle.codec.proofs.Forms.{number, held-at, number-small, fours-read-back, fours-one-form}
 use Rattle.report_c.specs.Entries.{totalsBytes, totalsIn}
 use Rattle.report_c.specs.Promises.{TotalsReadBack, TotalsOneForm, AnyBytesHold}
 

@@ -14,29 +14,29 @@ use Rattle.bits.proofs.Search.{lt-or-ge}
 use Rattle.bits.proofs.Least.{least-below}
 use Rattle.floor.specs.declared.Total.{Total}
 use Rattle.floor.specs.declared.Total.the-variants.{Cars, Unsound}
-use Rattle.floor.specs.Sound.{total}
+use Rattle.floor.specs.Sound.{total, carsIn}
 use Rattle.floor.proofs.Few.{few-cars}
-use Rattle.garage.specs.declared.Station.{Station}
+use Rattle.station.specs.declared.Station.{Station}
 use Rattle.service.specs.Service.{respond}
 use Rattle.totals.specs.declared.Totals.{Totals}
 use Rattle.totals.specs.declared.Happened.{Happened}
-use Rattle.totals.specs.Totals.{Name, size, order, nameAt, counts, next, nexts, most, nothing, full, firstFull, countedIn}
+use Rattle.totals.specs.Totals.{Name, size, order, nameAt, counts, nextTotal, nexts, mostCounted, noneFull, full, firstFull, countedIn}
 use Rattle.totals.specs.Totals.Name.{Kind, Number, Done, Failed, CarsIn, CarsOut, MostCars}
 use Rattle.totals.proofs.Order.{nexts-length, after-at, after-beyond}
-use Rattle.weeks.specs.Weeks.{carsIn, happened}
+use Rattle.week.specs.Weeks.{happened}
 use Rattle.rooms.specs.Rooms.{stationOf, writes}
 use Rattle.report_c.specs.Entries.{totalsBytes, totalsIn, tallied, counting}
-use Rattle.report_c.specs.Promises.{Typed, MessageCounted}
+use Rattle.report_c.specs.Promises.{TotalsTyped, MessageCounted}
 use Rattle.report_c.proofs.Forms.{totals-read-back, any-bytes-hold}
 use Rattle.report_c.proofs.Rooms.{totals-size}
 
 -- ---- no total passes the most
 
-added : (b : Bool) (v : ℕ) → v ≤ most → b && leb most v ≡ false → v + digit b ≤ most
-added true v l e = let k = leb-false most v e in omega arith
+added : (b : Bool) (v : ℕ) → v ≤ mostCounted → b && leb mostCounted v ≡ false → v + digit b ≤ mostCounted
+added true v l e = let k = leb-false mostCounted v e in omega arith
 added false v l e = omega arith
 
-next-small : (x : Name) (h : Happened) (v : ℕ) → h .cars ≤ most → v ≤ most → counts x h && leb most v ≡ false → next x h v ≤ most
+next-small : (x : Name) (h : Happened) (v : ℕ) → h .cars ≤ mostCounted → v ≤ mostCounted → counts x h && leb mostCounted v ≡ false → nextTotal x h v ≤ mostCounted
 next-small (Kind k) h v c l e = added (counts (Kind k) h) v l e
 next-small (Number n) h v c l e = added (counts (Number n) h) v l e
 next-small (Done op) h v c l e = added (counts (Done op) h) v l e
@@ -46,13 +46,13 @@ next-small CarsOut h v c l e = added (counts CarsOut h) v l e
 next-small MostCars h v c l e = omega arith
 
 module _ (t : Totals) (h : Happened) where
-  pub counted-typed : Typed t → h .cars ≤ most → Typed (countedIn t h .totals)
+  pub counted-typed : TotalsTyped t → h .cars ≤ mostCounted → TotalsTyped (countedIn t h .totals)
   unfolding countedIn
   counted-typed w c = split (ltb (firstFull t h) size)
       (λ e. rw e w)
       (λ e. rw e (record { places = nexts-length order h (t .counts) ∙ w .places; small = λ p. go e p (lt-or-ge p 52) }))
     where
-      go : ltb (firstFull t h) size ≡ false → (p : ℕ) → (p < 52) ⊎ (52 ≤ p) → getD (nexts order h (t .counts)) p 0 ≤ most
+      go : ltb (firstFull t h) size ≡ false → (p : ℕ) → (p < 52) ⊎ (52 ≤ p) → getD (nexts order h (t .counts)) p 0 ≤ mostCounted
       go e p (inl l) =
           let z = ltb-false (firstFull t h) size e in
           rw (after-at h (t .counts) p l (omega (arith, w .places)))
@@ -60,15 +60,15 @@ module _ (t : Totals) (h : Happened) where
       go e p (inr l) = rw (after-beyond h (t .counts) p l) (w .small p)
 
   -- where one is full, all stay
-  full-stays : (countedIn t h .full ≡ nothing → ⊥) → countedIn t h .totals ≡ t
+  full-stays : (countedIn t h .full ≡ noneFull → ⊥) → countedIn t h .totals ≡ t
   unfolding countedIn
   full-stays n = split (ltb (firstFull t h) size) (λ e. rw e) (λ e. absurd (n (rw e)))
 
-few : (x : Total) → ((n : ℕ) → x ≡ Cars n → n ≤ 30) → carsIn x ≤ most
+few : (x : Total) → ((n : ℕ) → x ≡ Cars n → n ≤ 30) → carsIn x ≤ mostCounted
 few (Cars n) f = let k = f n refl in omega arith
 few Unsound f = omega arith
 
-happened-few : (s : Station) (message : List ℕ) → happened s message .cars ≤ most
+happened-few : (s : Station) (message : List ℕ) → happened s message .cars ≤ mostCounted
 unfolding happened
 happened-few s message = let r = respond s message .station .bits in few (total r) (few-cars r)
 
@@ -77,11 +77,11 @@ happened-few s message = let r = respond s message .station .bits in few (total 
 -- a room that holds totals as code does, holds such totals after a message
 pub record Counted (room station message : List ℕ) : Type 0 where
   pub long : 208 ≤ length (counting room station message .leaves)
-  pub typed : Typed (countedIn (totalsIn room) (happened (stationOf station) message) .totals)
+  pub typed : TotalsTyped (countedIn (totalsIn room) (happened (stationOf station) message) .totals)
   pub totals : totalsIn (counting room station message .leaves) ≡ countedIn (totalsIn room) (happened (stationOf station) message) .totals
   pub full : counting room station message .says / 256 ≡ countedIn (totalsIn room) (happened (stationOf station) message) .full
 
-pub counted-room : (room station message : List ℕ) → Typed (totalsIn room) → 208 ≤ length room → 60 ≤ length station → Counted room station message
+pub counted-room : (room station message : List ℕ) → TotalsTyped (totalsIn room) → 208 ≤ length room → 60 ≤ length station → Counted room station message
 unfolding counting tallied writes
 counted-room room station message w h l =
     let x = happened (stationOf station) message in
@@ -89,8 +89,8 @@ counted-room room station message w h l =
     let c = countedIn t x in
     let typed = counted-typed t x w (happened-few (stationOf station) message) in
     let past = drop (length (totalsBytes (c .totals))) room in
-    split (eqb (c .full) nothing)
-    (λ e. let f = eqb-true (c .full) nothing e in
+    split (eqb (c .full) noneFull)
+    (λ e. let f = eqb-true (c .full) noneFull e in
     let z = totals-size (c .totals) in
     record {
       long = rw (le-ltb _ _ h, le-ltb _ _ l, e, length-append (totalsBytes (c .totals)) past) (omega arith);
@@ -101,7 +101,7 @@ counted-room room station message w h l =
     (λ e. record {
       long = rw (le-ltb _ _ h, le-ltb _ _ l, e) h;
       typed = typed;
-      totals = rw (le-ltb _ _ h, le-ltb _ _ l, e) (sym (full-stays t x (eqb-false (c .full) nothing e)));
+      totals = rw (le-ltb _ _ h, le-ltb _ _ l, e) (sym (full-stays t x (eqb-false (c .full) noneFull e)));
       full = rw (le-ltb _ _ h, le-ltb _ _ l, e) (omega arith);
     })
 

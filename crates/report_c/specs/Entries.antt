@@ -6,12 +6,12 @@ use lib.Dec.{eqb, ltb}
 use lib.ListN.{length, drop}
 use Rattle.answers.specs.declared.Answer.the-variants.{Taken, BadField}
 use Rattle.answers.specs.Answers.{nowhere}
-use Rattle.fours.specs.Fours.{foursIn, foursBytes}
+use Rattle.codec.specs.Fours.{foursIn, foursBytes}
 use Rattle.totals.specs.declared.Totals.{Totals}
 use Rattle.totals.specs.declared.Tally.{Tally}
-use Rattle.totals.specs.Totals.{size, totalsOf, nothing, countedIn, blank}
-use Rattle.lines.specs.Lines.{reportOf}
-use Rattle.weeks.specs.Weeks.{happened}
+use Rattle.totals.specs.Totals.{size, totalsOf, noneFull, countedIn, blank}
+use Rattle.report_text.specs.Lines.{reportOf}
+use Rattle.week.specs.Weeks.{happened}
 use Rattle.rooms.specs.Rooms.{stationSize, stationOf, returned, Entry, writes, noRoom}
 
 -- ---- totals in bytes
@@ -41,7 +41,7 @@ fullNumber = 40
 -- totals in which something was counted are written; where one is full that is said with its place, and nothing is written
 unfoldable pub tallied : Tally → List ℕ → Entry
 tallied c room =
-    cond (eqb (c .full) nothing) (writes Taken (totalsBytes (c .totals)) room) (record { says = fullNumber + 256 * c .full; leaves = room })
+    cond (eqb (c .full) noneFull) (writes Taken (totalsBytes (c .totals)) room) (record { says = fullNumber + 256 * c .full; leaves = room })
 
 -- the first message of some bytes is counted, by what it does on the lent station: 17 where either room is too short, then as above
 unfoldable pub counting : List ℕ → List ℕ → List ℕ → Entry
@@ -50,8 +50,8 @@ counting room station message =
     (tallied (countedIn (totalsIn room) (happened (stationOf station) message)) room)
 
 -- which total is full: a place of the totals, or none
-abbrev pub known : ℕ → Bool
-known full = ltb full size || eqb full nothing
+abbrev pub knownFull : ℕ → Bool
+knownFull full = ltb full size || eqb full noneFull
 
 -- a text is written: 17 where the room is too short; else how long it is, 65536 times
 unfoldable pub texting : List ℕ → List ℕ → Entry
@@ -62,5 +62,5 @@ texting text out =
 -- the report's text: 4 where what is full is neither a place nor none, then 17 where either room is too short
 unfoldable pub lining : List ℕ → ℕ → List ℕ → Entry
 lining room full out =
-    cond (not (known full)) (record { says = returned (BadField nowhere); leaves = out })
+    cond (not (knownFull full)) (record { says = returned (BadField nowhere); leaves = out })
     (cond (ltb (length room) totalsSize) (noRoom out) (texting (reportOf (totalsIn room) full) out))

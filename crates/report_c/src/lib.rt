@@ -5,8 +5,8 @@ ghost use mathlib.Core.List.{_++_};
 ghost use Prim.Native.Nat.{_≤_};
 ghost use lib.ListN.{length, take, drop};
 ghost use Rattle.totals.specs.Totals.{totalsOf};
-ghost use Rattle.rooms.specs.Rooms.{Leaves};
-ghost use Rattle.report_c.specs.Entries.{totalsSize, totalsBytes, totalsIn, starting, counting, known, texting, lining};
+ghost use Rattle.rooms.specs.Rooms.{LeavesRoom};
+ghost use Rattle.report_c.specs.Entries.{totalsSize, totalsBytes, totalsIn, starting, counting, knownFull, texting, lining};
 use answers::Answer;
 use answers::NOWHERE;
 use rooms::say;
@@ -35,7 +35,7 @@ fn load(room: &[u8]) -> Totals
     let mut counts = [0u32; SIZE];
     let mut place: usize = 0;
     while place < SIZE {
-        counts[place] = fours::four_at(room, 4 * place);
+        counts[place] = codec::four_at(room, 4 * place);
         place += 1;
     }
     Totals { counts }
@@ -48,7 +48,7 @@ fn keep(counts: &[u32; SIZE], room: &mut [u8])
 {
     let mut place: usize = 0;
     while place < SIZE {
-        let four = fours::four_bytes(counts[place]);
+        let four = codec::four_bytes(counts[place]);
         bytes::copy(&four, &mut room[4 * place..4 * place + 4]);
         place += 1;
     }
@@ -59,7 +59,7 @@ fn keep(counts: &[u32; SIZE], room: &mut [u8])
 // Writes the totals of a new report.
 #[no_mangle]
 pub extern "C" fn report_start(totals: &mut [u8]) -> u32
-    ensures { λ r. ⌜ Leaves (starting (now (totals .entry))) r (now (totals .exit)) ⌝ }
+    ensures { λ r. ⌜ LeavesRoom (starting (now (totals .entry))) r (now (totals .exit)) ⌝ }
 {
     if totals.len() < TOTALS {
         return say(Answer::NoRoom);
@@ -72,7 +72,7 @@ pub extern "C" fn report_start(totals: &mut [u8]) -> u32
 // Counts the first message of a run, as it is before the lent station is given it; where a total is full, its place is told.
 #[no_mangle]
 pub extern "C" fn report_message(totals: &mut [u8], station: &[u8], message: &[u8]) -> u32
-    ensures { λ r. ⌜ Leaves (counting (now (totals .entry)) (now (station .entry)) (now (message .entry))) r (now (totals .exit)) ⌝ }
+    ensures { λ r. ⌜ LeavesRoom (counting (now (totals .entry)) (now (station .entry)) (now (message .entry))) r (now (totals .exit)) ⌝ }
 {
     if totals.len() < TOTALS {
         return say(Answer::NoRoom);
@@ -83,7 +83,7 @@ pub extern "C" fn report_message(totals: &mut [u8], station: &[u8], message: &[u
     let s = rooms::station_of(station);
     let t = load(totals);
     let mut counts = t.counts;
-    let full = weeks::count_message(&mut counts, s, message);
+    let full = week::count_message(&mut counts, s, message);
     if full != NOTHING {
         return FULL + 256 * (full as u32);
     }
@@ -93,7 +93,7 @@ pub extern "C" fn report_message(totals: &mut [u8], station: &[u8], message: &[u
 
 // Whether what is full is a place of the totals, or none.
 fn known(full: u8) -> bool
-    ensures { λ b. ⌜ b ≡ known full ⌝ }
+    ensures { λ b. ⌜ b ≡ knownFull full ⌝ }
 {
     ((full as usize) < SIZE) | (full == NOTHING)
 }
@@ -101,7 +101,7 @@ fn known(full: u8) -> bool
 // Writes the first bytes of a line to a room that has as many, and says how many they are.
 fn put(line: [u8; 1092], size: usize, out: &mut [u8]) -> u32
     requires { ⌜ size ≤ length line ⌝ }
-    ensures { λ r. ⌜ Leaves (texting (take size line) (now (out .entry))) r (now (out .exit)) ⌝ }
+    ensures { λ r. ⌜ LeavesRoom (texting (take size line) (now (out .entry))) r (now (out .exit)) ⌝ }
 {
     if out.len() < size {
         return say(Answer::NoRoom);
@@ -113,7 +113,7 @@ fn put(line: [u8; 1092], size: usize, out: &mut [u8]) -> u32
 // The report's text: one line for each total in force, or the name of the one that is full.
 #[no_mangle]
 pub extern "C" fn report_lines(totals: &[u8], full: u8, out: &mut [u8]) -> u32
-    ensures { λ r. ⌜ Leaves (lining (now (totals .entry)) full (now (out .entry))) r (now (out .exit)) ⌝ }
+    ensures { λ r. ⌜ LeavesRoom (lining (now (totals .entry)) full (now (out .entry))) r (now (out .exit)) ⌝ }
 {
     if !known(full) {
         return say(Answer::BadField(NOWHERE));
@@ -122,7 +122,7 @@ pub extern "C" fn report_lines(totals: &[u8], full: u8, out: &mut [u8]) -> u32
         return say(Answer::NoRoom);
     }
     let t = load(totals);
-    let text = lines::report(t, full);
+    let text = report_text::report(t, full);
     let line = text.bytes;
     put(line, text.size, out)
 }

@@ -6,8 +6,9 @@ use native.Mathlib.Omega.{arith}
 use lib.ListN as list
 use lib.ListN.{length, getD, take, drop, replicate}
 use lib.Seq.{length-take-le, getD-take, getD-drop}
-use Rattle.garage.specs.declared.Station.{Station}
-use Rattle.wire.specs.Kinds.{littleEndian, fromLittleEndian, setOf}
+use Rattle.codec.specs.Bytes.{littleEndian, fromLittleEndian}
+use Rattle.station.specs.declared.Station.{Station}
+use Rattle.wire.specs.Kinds.{setOf}
 use Rattle.wire.proofs.Parts.{set-short}
 use Rattle.rooms.specs.Rooms.{stationBytes}
 

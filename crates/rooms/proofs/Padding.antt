@@ -16,12 +16,12 @@ use Rattle.floor.specs.Tests.{holds, underWay}
 use Rattle.rules.specs.declared.Code.{Code}
 use Rattle.answers.specs.declared.Answer.the-variants.{TooFewBytes, TooMany, SetOutstanding, EmptySet, BadField, Overlap, Opened, OutOfTurn, SetApart}
 use Rattle.rules.specs.Verdicts.{codeVerdict, answerFor}
-use Rattle.garage.specs.declared.Station.{Station}
-use Rattle.garage.specs.declared.Outcome.{Outcome}
-use Rattle.garage.specs.Held.{codeAt, isGood, heldArea, heldAllowed, heldParts, overlapsEarlier, touches, liftIn, crossesDrive}
-use Rattle.garage.specs.Station.{opened}
-use Rattle.garage.specs.Calls.{refused, onFit, unlessAny, accepted, spared, cleared, requested, request}
-use Rattle.garage.proofs.Padding.{padded-code}
+use Rattle.station.specs.declared.Station.{Station}
+use Rattle.station.specs.declared.Outcome.{Outcome}
+use Rattle.station.specs.Held.{codeAt, isGood, heldArea, heldAllowed, heldParts, overlapsEarlier, touches, liftIn, crossesDrive}
+use Rattle.station.specs.Station.{opened}
+use Rattle.station.specs.Calls.{refused, onFit, unlessAny, accepted, spared, cleared, requested, request}
+use Rattle.station.proofs.Padding.{padded-code}
 use Rattle.wire.specs.Kinds.{setOf}
 use Rattle.wire.proofs.Parts.{set-short}
 use Rattle.bits.proofs.Cases.{split}

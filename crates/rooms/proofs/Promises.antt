@@ -8,17 +8,16 @@ use lib.Dec.{ltb}
 use lib.ListN.{length, getD, take, drop, length-append, length-drop}
 use lib.Seq.{take-at, take-add, length-take-le, drop-at, drop-cons, drop-drop, getD-drop}
 use Rattle.bits.proofs.Cases.{split}
+use Rattle.codec.specs.Bytes.{littleEndian, fromLittleEndian, Bytes}
 use Rattle.answers.specs.declared.Answer.{Answer}
 use Rattle.answers.specs.declared.Answer.the-variants.{NoRoom}
 use Rattle.answers.specs.Answers.{numberOf, OfTable}
 use Rattle.answers.proofs.Promises.{number-byte}
-use Rattle.garage.specs.declared.Station.{Station}
-use Rattle.wire.specs.Kinds.{littleEndian, fromLittleEndian}
-use Rattle.wire_laws.specs.Statements.{Bytes}
-use Rattle.wire_laws.proofs.Numbers.{bytes-take, bytes-drop, read-from, number-back, two-form, image-reads-back, image-one-form}
+use Rattle.station.specs.declared.Station.{Station}
+use Rattle.codec.proofs.Numbers.{bytes-take, bytes-drop, read-from, number-back, two-form, image-reads-back, image-one-form}
 use Rattle.rooms.specs.Rooms.{stationBytes, stationOf, returned, writes}
-use Rattle.rooms.specs.Questions.{moved, judgement, recordIn, nexting}
-use Rattle.rooms.specs.Promises.{Typed, StationFits, StationReadsBack, StationOneForm, ReturnedReadsBack}
+use Rattle.rooms.specs.Questions.{moved, requestAnswer, recordIn, nexting}
+use Rattle.rooms.specs.Promises.{StationTyped, StationFits, StationReadsBack, StationOneForm, ReturnedReadsBack}
 use Rattle.rooms.proofs.Bytes.{within}
 
 pub station-fits : StationFits
@@ -26,7 +25,7 @@ unfolding stationBytes
 station-fits s t = omega (arith, t .places, length-append (s .set) (littleEndian 2 (s .next) ++ littleEndian 8 (s .apart)))
 
 -- what stands behind the set, the issue of the next one and what is set apart, reads back
-module _ (s : Station) (past : List ℕ) (t : Typed s) where
+module _ (s : Station) (past : List ℕ) (t : StationTyped s) where
   abbrev behind : List ℕ
   behind = littleEndian 2 (s .next) ++ (littleEndian 8 (s .apart) ++ past)
 
@@ -102,8 +101,8 @@ pub next-untouched : (r : ℕ) (five room : List ℕ) → (nexting r five room .
 unfolding nexting writes
 next-untouched r five room h = split (ltb (length room) 8)
     (λ t. rw t)
-    (λ t. rw t (refused-writes (judgement r five) (littleEndian 8 (recordIn (moved r five))) room (λ z. h (rw t z))))
+    (λ t. rw t (refused-writes (requestAnswer r five) (littleEndian 8 (recordIn (moved r five))) room (λ z. h (rw t z))))
 
 pub next-of-table : (r : ℕ) (five room : List ℕ) → OfTable (nexting r five room .says % 256)
 unfolding nexting writes
-next-of-table r five room = split (ltb (length room) 8) (λ t. rw t (of-table NoRoom)) (λ t. rw t (of-table (judgement r five)))
+next-of-table r five room = split (ltb (length room) 8) (λ t. rw t (of-table NoRoom)) (λ t. rw t (of-table (requestAnswer r five)))

@@ -3,14 +3,14 @@ use mathlib.Core.Path.{_≡_}
 use mathlib.Core.List.{List, _++_}
 use Prim.Native.Nat.{ℕ, _/_, _%_, _^_, _≤_, _<_}
 use lib.ListN.{length, take}
+use Rattle.codec.specs.Bytes.{Bytes}
 use Rattle.answers.specs.declared.Answer.{Answer}
 use Rattle.answers.specs.Answers.{numberOf, placeOf, issueOf}
-use Rattle.garage.specs.declared.Station.{Station}
-use Rattle.wire_laws.specs.Statements.{Bytes}
+use Rattle.station.specs.declared.Station.{Station}
 use Rattle.rooms.specs.Rooms.{stationSize, stationBytes, stationOf, returned}
 
 -- a station as code holds it: the record is a number of 64 bits, the set has forty places, the next issue 16 bits, what is set apart 64
-pub record Typed (s : Station) : Type 0 where
+pub record StationTyped (s : Station) : Type 0 where
   pub image : s .bits < 2 ^ 64
   pub places : length (s .set) ≡ 40
   pub issue : s .next < 2 ^ 16
@@ -18,11 +18,11 @@ pub record Typed (s : Station) : Type 0 where
 
 -- a station takes 60 bytes
 abbrev pub StationFits : Type 0
-StationFits = (s : Station) → Typed s → length (stationBytes s) ≡ stationSize
+StationFits = (s : Station) → StationTyped s → length (stationBytes s) ≡ stationSize
 
 -- a station that was written reads back, whatever stands past it
 abbrev pub StationReadsBack : Type 0
-StationReadsBack = (s : Station) (past : List ℕ) → Typed s → stationOf (stationBytes s ++ past) ≡ s
+StationReadsBack = (s : Station) (past : List ℕ) → StationTyped s → stationOf (stationBytes s ++ past) ≡ s
 
 -- the bytes of a room are those of the station that they hold
 abbrev pub StationOneForm : Type 0

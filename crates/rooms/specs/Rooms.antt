@@ -6,15 +6,15 @@ use mathlib.Core.List.{List, _∷_, _++_}
 use Prim.Native.Nat.{ℕ, _+_, _*_, _%_}
 use lib.Dec.{eqb, leb, ltb}
 use lib.ListN.{length, getD, take, drop}
-use Rattle.rules.specs.Codes.{most}
+use Rattle.codec.specs.Bytes.{littleEndian, fromLittleEndian}
+use Rattle.rules.specs.Codes.{mostInSet}
 use Rattle.answers.specs.declared.Answer.{Answer}
 use Rattle.answers.specs.declared.Answer.the-variants.{TooFewBytes, NoRoom}
 use Rattle.answers.specs.Answers.{numberOf, placeOf, issueOf}
-use Rattle.garage.specs.declared.Station.{Station}
-use Rattle.garage.specs.declared.Outcome.{Outcome}
-use Rattle.garage.specs.Station.{closed}
-use Rattle.garage.specs.Calls.{refused, request}
-use Rattle.wire.specs.Kinds.{littleEndian, fromLittleEndian}
+use Rattle.station.specs.declared.Station.{Station}
+use Rattle.station.specs.declared.Outcome.{Outcome}
+use Rattle.station.specs.Station.{closed}
+use Rattle.station.specs.Calls.{refused, request}
 
 -- ---- a station in bytes
 
@@ -59,8 +59,8 @@ pub record Entry : Type 0 where
   pub leaves : List ℕ
 
 -- what an entry says is returned, and what it leaves is left
-abbrev pub Leaves : Entry → ℕ → List ℕ → Type 0
-Leaves e r room = (r ≡ e .says) × (room ≡ e .leaves)
+abbrev pub LeavesRoom : Entry → ℕ → List ℕ → Type 0
+LeavesRoom e r room = (r ≡ e .says) × (room ≡ e .leaves)
 
 -- taken, it writes these bytes at the start of the room and keeps what stands past them; refused, it writes nothing
 unfoldable pub writes : Answer → List ℕ → List ℕ → Entry
@@ -71,14 +71,14 @@ abbrev pub noRoom : List ℕ → Entry
 noRoom room = record { says = returned NoRoom; leaves = room }
 
 -- a number is said, and where it says "taken" these bytes are written at the start of the room; where they don't fit, 17 is, and none
-unfoldable pub told : ℕ → List ℕ → List ℕ → Entry
-told n bytes room =
+unfoldable pub telling : ℕ → List ℕ → List ℕ → Entry
+telling n bytes room =
     cond (ltb (length room) (length bytes)) (noRoom room)
     (record { says = n; leaves = cond (eqb (n % 256) 0) (bytes ++ drop (length bytes) room) room })
 
 -- a call's outcome is told: 17 where the room is too short for a station, then its own answer
-unfoldable pub kept : Outcome → List ℕ → Entry
-kept o room = cond (ltb (length room) stationSize) (noRoom room) (writes (o .answer) (stationBytes (o .station)) room)
+unfoldable pub outcomeKept : Outcome → List ℕ → Entry
+outcomeKept o room = cond (ltb (length room) stationSize) (noRoom room) (writes (o .answer) (stationBytes (o .station)) room)
 
 -- a call on the lent station: 17, then the call's own answers
 unfoldable pub entry : (Station → Outcome) → List ℕ → Entry
@@ -88,8 +88,8 @@ entry call room =
 
 -- a request whose set is lent as a run of bytes: 1 where it is shorter than its count says; what stands past its instructions is not looked at
 unfoldable pub requestOf : ℕ → List ℕ → Station → Outcome
-requestOf n set s = cond (leb n most && ltb (length set) (5 * n)) (refused s TooFewBytes) (request s n (take (5 * n) set))
+requestOf n set s = cond (leb n mostInSet && ltb (length set) (5 * n)) (refused s TooFewBytes) (request s n (take (5 * n) set))
 
 -- how many bytes a request of n instructions asks for: five each, and none where they are too many
 abbrev pub bytesAsked : ℕ → ℕ
-bytesAsked n = cond (ltb most n) 0 (5 * n)
+bytesAsked n = cond (ltb mostInSet n) 0 (5 * n)

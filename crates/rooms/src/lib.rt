@@ -3,10 +3,10 @@
 ghost use mathlib.Core.Path.{_≡_};
 ghost use Prim.Native.Nat.{_≤_};
 ghost use lib.ListN.{length};
-ghost use Rattle.rooms.specs.Rooms.{stationSize, stationBytes, stationOf, lentStation, imageBytes, returned, Leaves, told, kept, bytesAsked};
+ghost use Rattle.rooms.specs.Rooms.{stationSize, stationBytes, stationOf, lentStation, imageBytes, returned, LeavesRoom, telling, outcomeKept, bytesAsked};
 use answers::Answer;
-use garage::Outcome;
-use garage::Station;
+use station::Outcome;
+use station::Station;
 
 // The bytes of a lent station, where the issue of the next set stands in it, and what is set apart.
 const STATION: usize = 60;
@@ -112,7 +112,7 @@ pub fn say(a: Answer) -> u32
 
 // Says a number, and writes src to the start of room where that is "taken"; where src does not fit, says so and writes nothing.
 pub fn tell(said: u32, src: &[u8], room: &mut [u8]) -> u32
-    ensures { λ r. ⌜ Leaves (told said (now (src .entry)) (now (room .entry))) r (now (room .exit)) ⌝ }
+    ensures { λ r. ⌜ LeavesRoom (telling said (now (src .entry)) (now (room .entry))) r (now (room .exit)) ⌝ }
 {
     if room.len() < src.len() {
         return say(Answer::NoRoom);
@@ -126,7 +126,7 @@ pub fn tell(said: u32, src: &[u8], room: &mut [u8]) -> u32
 
 // The same of a call's outcome: its answer, and its station in bytes.
 pub fn keep(o: Outcome, room: &mut [u8]) -> u32
-    ensures { λ r. ⌜ Leaves (kept o (now (room .entry))) r (now (room .exit)) ⌝ }
+    ensures { λ r. ⌜ LeavesRoom (outcomeKept o (now (room .entry))) r (now (room .exit)) ⌝ }
 {
     let s = o.station;
     let b = station_bytes(s);

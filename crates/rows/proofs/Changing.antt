@@ -14,7 +14,7 @@ use Rattle.bits.proofs.Search.{every-at}
 use Rattle.bits.proofs.Digits.{by-bits}
 use Rattle.rules.specs.declared.Instruction.{Instruction}
 use Rattle.rules.specs.declared.Instruction.the-variants.{Belts, Shuttles, Tilt, Lift, Rotate}
-use Rattle.rules.specs.Rules.{wellFormed, changes, next}
+use Rattle.rules.specs.Rules.{wellFormed, changes, nextRecord}
 use Rattle.rules.proofs.Every.{everywhere, each}
 use Rattle.rows.specs.Private.{moveRow, moveOf, whole}
 use Rattle.rows.proofs.Steps.{Atom, flat}
@@ -67,13 +67,13 @@ ask Rotate l h t = T→true _ t
 
 -- on every record
 pub row-moves : (i : Instruction) (r : ℕ) → wellFormed i ≡ true → isLift i ≡ false → whole i ≡ true → moveRow (moveOf i) r < 2 ^ 64
-    → moveRow (moveOf i) r ≡ image (next i (bit r))
-unfolding next
+    → moveRow (moveOf i) r ≡ image (nextRecord i (bit r))
+unfolding nextRecord
 row-moves i r w l h small =
     let m = moveOf i in
     let a = both (ltb (m .fromA) (2 ^ 64)) (ltb (m .fromB) (2 ^ 64) && every 64 (alike i)) (ask i l h (each tried all-moved i (true→T w))) in
     let b = both (ltb (m .fromB) (2 ^ 64)) (every 64 (alike i)) (a .1) in
-    by-bits (moveRow m r) (next i (bit r)) small
+    by-bits (moveRow m r) (nextRecord i (bit r)) small
     (λ k kh. move-right m r k (ltb-true (m .fromA) (2 ^ 64) (a .0)) (ltb-true (m .fromB) (2 ^ 64) (b .0))
     ∙ flat-right (bit r) (rowTakes m k)
     ∙ ap (λ x. allMeet x (bit r)) {x = flat (rowTakes m k)} {y = flat (takes (changes i) k)}

@@ -12,7 +12,7 @@ use Rattle.rules.specs.declared.Instruction.the-variants.{Belts, Shuttles, Tilt
 use Rattle.rules.specs.Rules.{wellFormed, clauses}
 use Rattle.rules.specs.Verdicts.{judged}
 use Rattle.rules.proofs.Every.{everywhere, each}
-use Rattle.rows.specs.Private.{judgedRow, rowOf}
+use Rattle.rows.specs.Private.{judgedRow, maskRow}
 use Rattle.rows.proofs.Steps.{steps, cut, run, rowSteps, allFit}
 use Rattle.areas.specs.Private.{beltsMask, rowsMask, positions, tiltedSlots, shuttlesMask, corner, tiltMask, areaMask}
 use Rattle.rows.proofs.Flat.{steps-right, cut-right}
@@ -27,7 +27,7 @@ isLift (Lift height) = true
 isLift Rotate = false
 
 abbrev asks : Instruction → Bool
-asks i = let ps = rowOf i in allFit ps && sameSteps (cut (rowSteps ps)) (cut (steps (clauses i)))
+asks i = let ps = maskRow i in allFit ps && sameSteps (cut (rowSteps ps)) (cut (steps (clauses i)))
 
 abbrev tried : Instruction → Bool
 tried (Belts row mask toward size) = asks (Belts row mask toward size)
@@ -37,7 +37,7 @@ tried (Lift height) = true
 tried Rotate = asks Rotate
 
 all-ask : T (everywhere tried)
-unfolding everywhere every places rowOf beltsMask rowsMask positions tiltedSlots shuttlesMask corner tiltMask areaMask
+unfolding everywhere every places maskRow beltsMask rowsMask positions tiltedSlots shuttlesMask corner tiltMask areaMask
 all-ask = tt
 
 ask : (i : Instruction) → isLift i ≡ false → T (tried i) → asks i ≡ true
@@ -48,9 +48,9 @@ ask (Lift height) l t = absurd (true≢false l)
 ask Rotate l t = T→true (asks _) t
 
 -- on every record
-pub row-judges : (i : Instruction) (r : ℕ) → wellFormed i ≡ true → isLift i ≡ false → judgedRow (rowOf i) r ≡ judged (clauses i) (bit r)
+pub row-judges : (i : Instruction) (r : ℕ) → wellFormed i ≡ true → isLift i ≡ false → judgedRow (maskRow i) r ≡ judged (clauses i) (bit r)
 row-judges i r w l =
-    let ps = rowOf i in
+    let ps = maskRow i in
     let b = both (allFit ps) (sameSteps (cut (rowSteps ps)) (cut (steps (clauses i)))) (ask i l (each tried all-ask i (true→T w))) in
     row-right r ps (b .0)
     ∙ sym (cut-right (bit r) (rowSteps ps)) ∙ ap (λ ss. run ss (bit r)) (steps-same (cut (rowSteps ps)) (cut (steps (clauses i))) (b .1)) ∙ cut-right (bit r) (steps (clauses i))

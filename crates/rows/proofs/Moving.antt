@@ -11,7 +11,7 @@ use Rattle.bits.proofs.Digits.{bit-none}
 use Rattle.bits.proofs.Operations.{bit-and, bit-or, bit-shl, bit-shr, bit-low}
 use Rattle.bits.proofs.Masks.{all-places}
 use Rattle.floor.specs.Tests.{Test, fact, set, exactly, even, no, both, either, holds, Change, _≔_, changed}
-use Rattle.rows.specs.Private.{Move, carried, moveRow}
+use Rattle.rows.specs.Private.{Move, carriedBits, moveRow}
 use Rattle.rows.proofs.Takes.{takes, or2, live, takesB, takesA, moves, takesMoved, takesNew, rowTakes}
 
 pub takes-right : (cs : List Change) (f : Bits) (k : ℕ) → changed cs f k ≡ holds (takes cs k) f
@@ -58,7 +58,7 @@ three true true false false = refl
 three true false c d = refl
 three false b c d = refl
 
-carried-right : (r a x k : ℕ) → a < 2 ^ 64 → bit (carried r a x) k ≡ (bit x k && not (eqb a 0)) && allSet (places a) (bit r)
+carried-right : (r a x k : ℕ) → a < 2 ^ 64 → bit (carriedBits r a x) k ≡ (bit x k && not (eqb a 0)) && allSet (places a) (bit r)
 carried-right r a x k h = go (eqb (bitAnd r a) a) (not (eqb a 0)) ∙ ap (λ (b : Bool). (bit x k && not (eqb a 0)) && b) (all-places r a h)
   where
     all : (b : Bool) → b ≡ (b && true) && true

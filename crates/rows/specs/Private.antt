@@ -41,8 +41,8 @@ judgedRow [] r = Verdict.Allowed
 judgedRow (p ∷ ps) r = cond (passes p r) (judgedRow ps r) (Verdict.NotAllowed (because p))
 
 -- what looks at the record, in order: these bits are so; there is room, and it is free; and, before the room or after it, pairs
-abbrev pub asked : ℕ → ℕ → Reason → Bool → ℕ → ℕ → Reason → List Part
-asked care need why early m room late =
+abbrev pub looksAsked : ℕ → ℕ → Reason → Bool → ℕ → ℕ → Reason → List Part
+looksAsked care need why early m room late =
     look care need why ∷ pairs early m ∷ halt (eqb room 0) late ∷ look room 0 late ∷ pairs (not early) m ∷ []
 
 -- the bits that are not in a mask
@@ -58,11 +58,11 @@ abbrev pub gaps : ℕ → Bool
 gaps mask = not (eqb (bitAnd (mask + bitAnd mask (32 - mask)) mask) 0)
 
 -- the cells, slots and lowered slots of an area, its tilted slots, and its cells by row
-abbrev pub cellsIn : ℕ → ℕ
-cellsIn a = bitAnd a 0xFFFFFFFFFF
+abbrev pub cellsOfArea : ℕ → ℕ
+cellsOfArea a = bitAnd a 0xFFFFFFFFFF
 
-abbrev pub slotsIn : ℕ → ℕ
-slotsIn a = bitAnd a 0xFFF0000000000
+abbrev pub slotsOfArea : ℕ → ℕ
+slotsOfArea a = bitAnd a 0xFFF0000000000
 
 abbrev pub loweredIn : ℕ → ℕ
 loweredIn a = bitAnd a 0x3F0000000000
@@ -80,8 +80,8 @@ abbrev pub thirdIn : ℕ → ℕ
 thirdIn a = bitAnd a 0xFFC0000000
 
 -- what of a span stays in it, shifted toward d by n
-abbrev pub within : ℕ → ℕ → ℕ → ℕ
-within span toward n = bitAnd span (shifted span ((1 - toward) * n) (toward * n))
+abbrev pub spanWithin : ℕ → ℕ → ℕ → ℕ
+spanWithin span toward n = bitAnd span (shifted span ((1 - toward) * n) (toward * n))
 
 -- slots and the lift's height are as needed; the end of the span is its room; row 1 holds pairs
 abbrev pub beltsRow : ℕ → ℕ → ℕ → ℕ → ℕ → List Part
@@ -89,8 +89,8 @@ beltsRow a row mask toward size =
     halt (not (eqb row 1 || eqb size 1)) HalfMove
     ∷ halt (eqb mask 0) NothingNamed
     ∷ halt (gaps mask) Gap
-    ∷ asked (bitAnd a 0x6FFF0000000000) (bitAnd a 0x4FFF0000000000) NotAvailable false (firstIn a)
-      (bitAnd (cellsIn a) (others (within (cellsIn a) toward (step row size)))) NotFree
+    ∷ looksAsked (bitAnd a 0x6FFF0000000000) (bitAnd a 0x4FFF0000000000) NotAvailable false (firstIn a)
+      (bitAnd (cellsOfArea a) (others (spanWithin (cellsOfArea a) toward (step row size)))) NotFree
 
 -- the named slots are set; a shuttle of row 1 has a pair; the slot that is moved into is the room
 abbrev pub namedSlots : ℕ → ℕ → ℕ → ℕ
@@ -101,23 +101,23 @@ shuttlesRow a side mask orientation =
     let named : ℕ = namedSlots side mask orientation in
     halt (eqb mask 0) NothingNamed
     ∷ halt (eqb mask 5) Gap
-    ∷ asked named named NotAvailable true (mask % 2 * firstIn a) (bitAnd (slotsIn a) (others named)) NotFree
+    ∷ looksAsked named named NotAvailable true (mask % 2 * firstIn a) (bitAnd (slotsOfArea a) (others named)) NotFree
 
 abbrev pub tiltRow : ℕ → ℕ → List Part
 tiltRow a orientation =
     cond (eqb orientation 0)
-    (asked (loweredIn a) (loweredIn a) NotAvailable false 0 (cellsIn a) CellsNotFree)
-    (asked (tiltedIn a) (tiltedIn a) NotAvailable false 0 (loweredIn a) NotFree)
+    (looksAsked (loweredIn a) (loweredIn a) NotAvailable false 0 (cellsOfArea a) CellsNotFree)
+    (looksAsked (tiltedIn a) (tiltedIn a) NotAvailable false 0 (loweredIn a) NotFree)
 
 abbrev pub rotateRow : List Part
-rotateRow = asked 0x60000000000000 0x20000000000000 NotAtRotation false 0 0xE700 CellsNotFree
+rotateRow = looksAsked 0x60000000000000 0x20000000000000 NotAtRotation false 0 0xE700 CellsNotFree
 
-unfoldable pub rowOf : Instruction → List Part
-rowOf (Belts row mask toward size) = beltsRow (areaMask (Belts row mask toward size)) row mask toward size
-rowOf (Shuttles side mask orientation toward) = shuttlesRow (areaMask (Shuttles side mask orientation toward)) side mask orientation
-rowOf (Tilt side row orientation) = tiltRow (areaMask (Tilt side row orientation)) orientation
-rowOf (Lift height) = []
-rowOf Rotate = rotateRow
+unfoldable pub maskRow : Instruction → List Part
+maskRow (Belts row mask toward size) = beltsRow (areaMask (Belts row mask toward size)) row mask toward size
+maskRow (Shuttles side mask orientation toward) = shuttlesRow (areaMask (Shuttles side mask orientation toward)) side mask orientation
+maskRow (Tilt side row orientation) = tiltRow (areaMask (Tilt side row orientation)) orientation
+maskRow (Lift height) = []
+maskRow Rotate = rotateRow
 
 -- the belts or rows that it names leave no gap
 abbrev pub whole : Instruction → Bool
@@ -142,28 +142,28 @@ pub record Move : Type 0 where
   pub toB : ℕ
 
 -- what a car becomes: all of these bits, if there are any, become those
-abbrev pub carried : ℕ → ℕ → ℕ → ℕ
-carried r from to = cond (eqb (bitAnd r from) from && not (eqb from 0)) to 0
+abbrev pub carriedBits : ℕ → ℕ → ℕ → ℕ
+carriedBits r from to = cond (eqb (bitAnd r from) from && not (eqb from 0)) to 0
 
 abbrev pub moveRow : Move → ℕ → ℕ
 moveRow m r =
     bitOr (bitAnd r (m .keep))
     (bitOr (m .new)
     (bitOr (shifted (bitAnd r (m .movers)) (m .up) (m .down))
-    (bitOr (carried r (m .fromA) (m .toA)) (carried r (m .fromB) (m .toB)))))
+    (bitOr (carriedBits r (m .fromA) (m .toA)) (carriedBits r (m .fromB) (m .toB)))))
 
 -- cells of a span shift inside it
 abbrev pub beltsMove : ℕ → ℕ → ℕ → ℕ → Move
 beltsMove a row toward size =
     let n : ℕ = step row size in
-    record { keep = others (cellsIn a); new = 0; movers = within (cellsIn a) toward n; up = toward * n; down = (1 - toward) * n;
+    record { keep = others (cellsOfArea a); new = 0; movers = spanWithin (cellsOfArea a) toward n; up = toward * n; down = (1 - toward) * n;
     fromA = 0; toA = 0; fromB = 0; toB = 0 }
 
 -- slots shift by one, and the cars of lowered shuttles go from row to row
 abbrev pub shuttlesMove : ℕ → ℕ → Move
 shuttlesMove a toward =
     let d : Bool = eqb toward 1 in
-    record { keep = others a; new = 0; movers = within (slotsIn a) toward 1; up = toward; down = 1 - toward;
+    record { keep = others a; new = 0; movers = spanWithin (slotsOfArea a) toward 1; up = toward; down = 1 - toward;
     fromA = cond d (firstIn a) (secondIn a); toA = cond d (secondIn a) (firstIn a);
     fromB = cond d (secondIn a) (thirdIn a); toB = cond d (thirdIn a) (secondIn a) }
 

@@ -10,7 +10,7 @@ use Rattle.answers.specs.declared.Reason.{Reason}
 use Rattle.rules.specs.declared.Instruction.{Instruction}
 use Rattle.rules.specs.declared.Verdict.{Verdict}
 use Rattle.rules.specs.declared.Moved.{Moved}
-use Rattle.rules.specs.Rules.{wellFormed, clauses, conditions, allowed, next}
+use Rattle.rules.specs.Rules.{wellFormed, clauses, conditions, allowed, nextRecord}
 use Rattle.rules.specs.Verdicts.{judged, verdictOf, isAllowed, movedBy, movedOf}
 use Rattle.rules.proofs.Reasons.{judged-allows, allowed-exactly}
 
@@ -20,9 +20,9 @@ module _ (i : Instruction) (r : ℕ) where
   ill-formed w = (rw w, rw w)
 
   -- the next record is answered, or what the verdict says
-  pub moved-by : {v : Verdict} → v ≡ verdictOf i r → movedBy v (image (next i (bit r))) ≡ movedOf i r
+  pub moved-by : {v : Verdict} → v ≡ verdictOf i r → movedBy v (image (nextRecord i (bit r))) ≡ movedOf i r
   unfolding movedOf
-  moved-by e = ap (λ (v : Verdict). movedBy v (image (next i (bit r)))) e
+  moved-by e = ap (λ (v : Verdict). movedBy v (image (nextRecord i (bit r)))) e
 
   -- where it is answered, the instruction is well formed and allowed
   pub moves : Verdict.Allowed ≡ verdictOf i r → (wellFormed i ≡ true) × (allowed i (bit r) ≡ true)
@@ -39,7 +39,7 @@ module _ (i : Instruction) (r : ℕ) where
     unfolding verdictOf movedOf
     not-moved e = rw (w, sym e)
 
-    pub has-moved : {x : ℕ} → Verdict.Allowed ≡ judged (clauses i) (bit r) → x ≡ image (next i (bit r)) → Moved.Record x ≡ movedOf i r
+    pub has-moved : {x : ℕ} → Verdict.Allowed ≡ judged (clauses i) (bit r) → x ≡ image (nextRecord i (bit r)) → Moved.Record x ≡ movedOf i r
     unfolding verdictOf movedOf
     has-moved e q = rw (w, sym e) (ap Moved.Record q)
 

@@ -15,7 +15,7 @@ use Rattle.rules.specs.declared.Event.{Event}
 use Rattle.rules.specs.declared.Event.the-variants.{BeginIn, BeginOut, EndDone, EndNotDone}
 use Rattle.rules.specs.declared.EventReading.{EventReading}
 use Rattle.rules.specs.Rules.{wellFormed}
-use Rattle.rules.specs.Codes.{codeOf, kept, readCode, eventCode, readEvent}
+use Rattle.rules.specs.Codes.{codeOf, wellFormedOnly, readCode, eventCode, readEvent}
 
 pub reads-back : (i : Instruction) → wellFormed i ≡ true → readCode (codeOf i) ≡ Good i
 unfolding readCode codeOf
@@ -43,7 +43,7 @@ module _ (x : Code) (i : Instruction) where
   bad : Bad ≡ Good i → Form
   bad e = absurd (let z : _≡_ {A = ℕ} 0 1 = cc in omega arith)
 
-  good : (j : Instruction) → x ≡ codeOf j → kept j ≡ Good i → Form
+  good : (j : Instruction) → x ≡ codeOf j → wellFormedOnly j ≡ Good i → Form
   good j p e = split (wellFormed j)
       (λ w. let h : Good j ≡ Good i = sym (ap (λ (b : Bool). cond b (Good j) Bad) w) ∙ e in
       let s : j ≡ i = cc in

@@ -21,9 +21,9 @@ use Rattle.rules.specs.declared.Verdict.{Verdict}
 use Rattle.rules.specs.declared.Verdict.the-variants.{NotAllowed, IllFormed}
 use Rattle.rules.specs.declared.Event.{Event}
 use Rattle.rules.specs.declared.Event.the-variants.{BeginIn, BeginOut, EndDone, EndNotDone}
-use Rattle.rules.specs.Rules.{wellFormed, areaOf, area, seen, Clause, _else_, test, clauses, conditions, changes, allowed, next}
+use Rattle.rules.specs.Rules.{wellFormed, areaOf, area, seen, Clause, _else_, test, clauses, conditions, changes, allowed, nextRecord}
 use Rattle.rules.specs.Verdicts.{judged, verdictOf}
-use Rattle.rules.specs.Events.{turn, beginConditions, eventConditions, eventChanges, inTurn, possible, after}
+use Rattle.rules.specs.Events.{turn, beginConditions, eventConditions, eventChanges, inTurn, possible, afterEvent}
 use Rattle.rules.proofs.Every.{everywhere, each}
 
 -- the tests that read only the area: the conditions; of a lift run's, what they ask besides the counts
@@ -71,12 +71,12 @@ module _ (i : Instruction) (w : T (wellFormed i)) where
   changes-in : T (changeIn (areaOf i) (changes i))
   changes-in = and-r (allReadIn (areaOf i) (own i)) (changeIn (areaOf i) (changes i)) (each framed all-framed i w)
 
-  pub same-next : (f g : Bits) → Agree i f g → Agree i (next i f) (next i g)
-  unfolding next area
+  pub same-next : (f g : Bits) → Agree i f g → Agree i (nextRecord i f) (nextRecord i g)
+  unfolding nextRecord area
   same-next f g e k m = changed-agree (areaOf i) f g (in-area i f g e) (changes i) changes-in k (true→T m)
 
-  pub kept-outside : (f : Bits) (k : ℕ) → area i k ≡ false → next i f k ≡ f k
-  unfolding next area
+  pub kept-outside : (f : Bits) (k : ℕ) → area i k ≡ false → nextRecord i f k ≡ f k
+  unfolding nextRecord area
   kept-outside f k o = changed-outside (areaOf i) f (changes i) changes-in k o
 
 -- ---- verdicts, condition by condition
@@ -160,10 +160,10 @@ module _ (e : Event) where
   unfolding inTurn
   same-turn f g a = holds-agree driven f g a (turn e) (and-l (readsIn driven (turn e)) (allReadIn driven (beginConditions e)) (event-framed .0))
 
-  pub same-after : (f g : Bits) → ((k : ℕ) → T (elem k driven) → f k ≡ g k) → (k : ℕ) → T (elem k driven) → after e f k ≡ after e g k
-  unfolding after
+  pub same-after : (f g : Bits) → ((k : ℕ) → T (elem k driven) → f k ≡ g k) → (k : ℕ) → T (elem k driven) → afterEvent e f k ≡ afterEvent e g k
+  unfolding afterEvent
   same-after f g a = changed-agree driven f g a (eventChanges e) (event-framed .1)
 
-  pub after-outside : (f : Bits) (k : ℕ) → elem k driven ≡ false → after e f k ≡ f k
-  unfolding after
+  pub after-outside : (f : Bits) (k : ℕ) → elem k driven ≡ false → afterEvent e f k ≡ f k
+  unfolding afterEvent
   after-outside f k o = changed-outside driven f (eventChanges e) (event-framed .1) k o

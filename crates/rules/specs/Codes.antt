@@ -27,16 +27,16 @@ abbrev pub bytesOf : Instruction → List ℕ
 bytesOf i = let x = codeOf i in x .op ∷ x .a ∷ x .b ∷ x .c ∷ x .d ∷ []
 
 -- an instruction that is well formed is read, any other is bad
-abbrev pub kept : Instruction → Reading
-kept i = cond (wellFormed i) (Good i) Bad
+abbrev pub wellFormedOnly : Instruction → Reading
+wellFormedOnly i = cond (wellFormed i) (Good i) Bad
 
 -- what five bytes say
 unfoldable pub readCode : Code → Reading
 readCode x =
-    cond (eqb (x .op) 1) (kept (Belts (x .a) (x .b) (x .c) (x .d)))
-    (cond (eqb (x .op) 2) (kept (Shuttles (x .a) (x .b) (x .c) (x .d)))
-    (cond (eqb (x .op) 3) (cond (eqb (x .d) 0) (kept (Tilt (x .a) (x .b) (x .c))) Bad)
-    (cond (eqb (x .op) 4) (cond (eqb (x .b) 0 && eqb (x .c) 0 && eqb (x .d) 0) (kept (Lift (x .a))) Bad)
+    cond (eqb (x .op) 1) (wellFormedOnly (Belts (x .a) (x .b) (x .c) (x .d)))
+    (cond (eqb (x .op) 2) (wellFormedOnly (Shuttles (x .a) (x .b) (x .c) (x .d)))
+    (cond (eqb (x .op) 3) (cond (eqb (x .d) 0) (wellFormedOnly (Tilt (x .a) (x .b) (x .c))) Bad)
+    (cond (eqb (x .op) 4) (cond (eqb (x .b) 0 && eqb (x .c) 0 && eqb (x .d) 0) (wellFormedOnly (Lift (x .a))) Bad)
     (cond (eqb (x .op) 5) (cond (eqb (x .a) 0 && eqb (x .b) 0 && eqb (x .c) 0 && eqb (x .d) 0) (Good Rotate) Bad)
     Bad))))
 
@@ -49,8 +49,8 @@ unfoldable pub readBytes : List ℕ → Reading
 readBytes s = cond (ltb (length s) 5) Bad (readCode (codeFrom s))
 
 -- the largest set of instructions
-abbrev pub most : ℕ
-most = 8
+abbrev pub mostInSet : ℕ
+mostInSet = 8
 
 -- the byte of an event
 abbrev pub eventCode : Event → ℕ

@@ -54,5 +54,5 @@ placesOpen BeginOut f = true
 placesOpen EndDone f = true
 placesOpen EndNotDone f = true
 
-unfoldable pub after : Event → Bits → Bits
-after e f = changed (eventChanges e) f
+unfoldable pub afterEvent : Event → Bits → Bits
+afterEvent e f = changed (eventChanges e) f

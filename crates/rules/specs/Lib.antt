@@ -1,4 +1,5 @@
 pub mod Named
+pub mod Cells
 pub mod Rules
 pub mod Events
 pub mod Codes

@@ -155,5 +155,5 @@ changes (Lift height) =
 -- the record stays the same
 changes Rotate = []
 
-unfoldable pub next : Instruction → Bits → Bits
-next i f = changed (changes i) f
+unfoldable pub nextRecord : Instruction → Bits → Bits
+nextRecord i f = changed (changes i) f

@@ -16,8 +16,8 @@ use Rattle.rules.specs.declared.Moved.{Moved}
 use Rattle.rules.specs.declared.Driven.{Driven}
 use Rattle.rules.specs.declared.Area.{Area}
 use Rattle.rules.specs.declared.Sharing.{Sharing}
-use Rattle.rules.specs.Rules.{wellFormed, area, overlap, Clause, _else_, clauses, next}
-use Rattle.rules.specs.Events.{inTurn, possible, placesOpen, after}
+use Rattle.rules.specs.Rules.{wellFormed, area, overlap, Clause, _else_, clauses, nextRecord}
+use Rattle.rules.specs.Events.{inTurn, possible, placesOpen, afterEvent}
 use Rattle.rules.specs.Codes.{readCode}
 
 -- what a record says of conditions: all hold, or the reason of the first that fails
@@ -43,7 +43,7 @@ movedBy Verdict.IllFormed x = Moved.IllFormed
 
 -- the image after it, where it is allowed
 unfoldable pub movedOf : Instruction → ℕ → Moved
-movedOf i r = movedBy (verdictOf i r) (image (next i (bit r)))
+movedOf i r = movedBy (verdictOf i r) (image (nextRecord i (bit r)))
 
 -- what is answered for a verdict on the instruction at this place
 abbrev pub answerFor : Verdict → ℕ → Answer
@@ -64,7 +64,7 @@ unfoldable pub drivenOf : Event → ℕ → Driven
 drivenOf e r =
     cond (inTurn e (bit r))
     (cond (possible e (bit r))
-    (cond (placesOpen e (bit r)) (Driven.Record (image (after e (bit r)))) Driven.KeptOpen)
+    (cond (placesOpen e (bit r)) (Driven.Record (image (afterEvent e (bit r)))) Driven.KeptOpen)
     Driven.Impossible)
     Driven.OutOfTurn
 

@@ -2,7 +2,7 @@
 ghost use mathlib.Core.Path.{_≡_};
 ghost use mathlib.Core.Bool.{cond};
 ghost use Rattle.rules.specs.Rules.{wellFormed};
-ghost use Rattle.rules.specs.Codes.{codeOf, kept, readCode, readBytes, readEvent};
+ghost use Rattle.rules.specs.Codes.{codeOf, wellFormedOnly, readCode, readBytes, readEvent};
 ghost use Rattle.rules.specs.Verdicts.{answerFor};
 use answers::Answer;
 use answers::Reason;
@@ -222,7 +222,7 @@ pub fn code_of(i: Instruction) -> Code
 
 // An instruction that is well formed is read, where its spare bytes are zero.
 fn kept(zero: bool, i: Instruction) -> Reading
-    ensures { λ y. ⌜ y ≡ cond zero (kept i) Reading.Bad ⌝ }
+    ensures { λ y. ⌜ y ≡ cond zero (wellFormedOnly i) Reading.Bad ⌝ }
 {
     if zero {
         if well_formed(i) {

@@ -24,10 +24,10 @@ use Rattle.rules.specs.declared.Instruction.{Instruction}
 use Rattle.rules.specs.declared.Instruction.the-variants.{Shuttles, Lift}
 use Rattle.rules.specs.declared.Event.{Event}
 use Rattle.rules.specs.declared.Event.the-variants.{BeginIn, BeginOut, EndDone, EndNotDone}
-use Rattle.rules.specs.Rules.{wellFormed, areaOf, overlap, sides, conditions, allowed, next}
-use Rattle.rules.specs.Events.{eventConditions, possible, after}
+use Rattle.rules.specs.Rules.{wellFormed, areaOf, overlap, sides, conditions, allowed, nextRecord}
+use Rattle.rules.specs.Events.{eventConditions, possible, afterEvent}
 use Rattle.rules.proofs.Frame as frame
-use Rattle.rules_laws.specs.Laws.{SameVerdict, SameReason, SameBits, KeptOutside, withLift, LiftOverlaps, SidesKept, SidesNeedSound, EventsLocal, Clear, StaysSound, SameCars, EventSound, Counted, EventCars}
+use Rattle.rules_laws.specs.Laws.{SameVerdict, SameReason, SameBits, KeptOutside, withLift, LiftOverlaps, SidesKept, SidesNeedSound, EventsLocal, Clear, StaysSound, SameCars, EventSound, CarsAfterEvent, EventCars}
 use Rattle.rules_laws.proofs.Shift.{whole-same}
 use Rattle.rules_laws.proofs.RulesKept.{clearance, instruction-rules, event-rules}
 use Rattle.rules_laws.proofs.Moves.{Safe, safe, cars-same}
@@ -69,8 +69,8 @@ module _ (i : Instruction) (f : Bits) (s : Sound f) (ok : allowed i f ≡ true) 
   unfolding allowed
   passed = both (wellFormed i) (allHold (conditions i) f) ok
 
-  moved : Safe f (next i f)
-  unfolding next
+  moved : Safe f (nextRecord i f)
+  unfolding nextRecord
   moved = safe i f (true→T (passed .0)) (true→T (passed .1)) (true→T (s .rules)) (layout-whole f (s .layout))
 
   clear : Clear i f → T (allHold (clearance i) f)
@@ -79,16 +79,16 @@ module _ (i : Instruction) (f : Bits) (s : Sound f) (ok : allowed i f ≡ true) 
       (λ l. rw l tt)
   clear (inr elsewhere) = rw elsewhere tt
 
-  kept : Clear i f → allHold soundRules (next i f) ≡ true
-  unfolding next
-  kept c = T→true (allHold soundRules (next i f)) (instruction-rules i (true→T (passed .0)) f (clear c) (true→T (passed .1)) (true→T (s .rules)))
+  kept : Clear i f → allHold soundRules (nextRecord i f) ≡ true
+  unfolding nextRecord
+  kept c = T→true (allHold soundRules (nextRecord i f)) (instruction-rules i (true→T (passed .0)) f (clear c) (true→T (passed .1)) (true→T (s .rules)))
 
-  level : withLift i ≡ false → sides (next i f) ≡ sides f
-  unfolding next
+  level : withLift i ≡ false → sides (nextRecord i f) ≡ sides f
+  unfolding nextRecord
   level o = kept-sides i o f (true→T (passed .0)) (true→T (passed .1)) (true→T (s .rules)) (layout-whole f (s .layout))
 
 pub stays-sound : StaysSound
-stays-sound i f s c ok = record { layout = whole-layout (next i f) (moved i f s ok .whole); rules = kept i f s ok c }
+stays-sound i f s c ok = record { layout = whole-layout (nextRecord i f) (moved i f s ok .whole); rules = kept i f s ok c }
 
 pub same-cars : SameCars
 same-cars i f s ok = moved i f s ok .same
@@ -103,7 +103,7 @@ sides-kept i height o f s ok = level i f s ok (sym (lift-overlaps i height (pass
 
 -- a car stands half on the left shuttle's belt in row 1, where no shuttle is: an empty one that comes there clears that half
 pub sides-need-sound : SidesNeedSound
-unfolding overlap allowed next
+unfolding overlap allowed nextRecord
 sides-need-sound = record {
   bits = bit 0x00407E0000000006;
   instruction = Shuttles 0 6 0 0;
@@ -115,16 +115,16 @@ sides-need-sound = record {
 -- ---- events
 
 pub event-sound : EventSound
-unfolding possible after
-event-sound e f s ok = record { layout = whole-layout (after e f) (whole-same f (after e f) 20 row (layout-whole f (s .layout))); rules = rules }
+unfolding possible afterEvent
+event-sound e f s ok = record { layout = whole-layout (afterEvent e f) (whole-same f (afterEvent e f) 20 row (layout-whole f (s .layout))); rules = rules }
   where
-    row : (k : ℕ) → k < 20 → after e f k ≡ f k
+    row : (k : ℕ) → k < 20 → afterEvent e f k ≡ f k
     row k h =
         frame.after-outside e f k
         (simp (ne-eqb raisedCar k (λ p. omega arith), ne-eqb heightLow k (λ p. omega arith), ne-eqb heightHigh k (λ p. omega arith), ne-eqb driveIn k (λ p. omega arith), ne-eqb driveOut k (λ p. omega arith)))
 
-    rules : allHold soundRules (after e f) ≡ true
-    rules = T→true (allHold soundRules (after e f)) (event-rules e f (true→T ok) (true→T (s .rules)))
+    rules : allHold soundRules (afterEvent e f) ≡ true
+    rules = T→true (allHold soundRules (afterEvent e f)) (event-rules e f (true→T ok) (true→T (s .rules)))
 
 -- after a drive that is done there is a car on the raised lift exactly if it was a drive-in, and before it exactly if it was a drive-out
 module _ (f : Bits) (s : Sound f) (ok : T (allHold (eventConditions EndDone) f)) where
@@ -146,12 +146,12 @@ module _ (f : Bits) (s : Sound f) (ok : T (allHold (eventConditions EndDone) f))
   pub done-cars : (n : ℕ) → n + digit (holds (set (driveIn ∷ [])) f) + digit (f driveOut) ≡ n + digit (f raisedCar) + digit (f driveIn)
   done-cars n = drove n (f raisedCar) (f driveIn) (f driveOut) (T→true (allHold (eventConditions EndDone) f) ok) (rule 12) (rule 14) (rule 15)
 
-ended-cars : (f : Bits) → Sound f → possible EndDone f ≡ true → Counted EndDone f (cars (after EndDone f)) (cars f)
-unfolding possible after cars
+ended-cars : (f : Bits) → Sound f → possible EndDone f ≡ true → CarsAfterEvent EndDone f (cars (afterEvent EndDone f)) (cars f)
+unfolding possible afterEvent cars
 ended-cars f s ok = done-cars f s (true→T ok) (count (rowCells 1) f / 2 + count (rowCells 2 ++ rowCells 3) f)
 
 pub event-cars : EventCars
-unfolding after cars
+unfolding afterEvent cars
 event-cars BeginIn f s ok = refl
 event-cars BeginOut f s ok = refl
 event-cars EndDone f s ok = ended-cars f s ok
@@ -179,20 +179,20 @@ module _ (g : Bits) where
   })
 
 -- an allowed instruction clear of drives makes a sound image of a sound image; an allowed one keeps the number of cars
-pub image-sound : (i : Instruction) (r : ℕ) → sound r ≡ true → Clear i (bit r) → allowed i (bit r) ≡ true → sound (image (next i (bit r))) ≡ true
-image-sound i r s c ok = sound-image (next i (bit r)) (stays-sound i (bit r) (sound-exactly r .0 s) c ok)
+pub image-sound : (i : Instruction) (r : ℕ) → sound r ≡ true → Clear i (bit r) → allowed i (bit r) ≡ true → sound (image (nextRecord i (bit r))) ≡ true
+image-sound i r s c ok = sound-image (nextRecord i (bit r)) (stays-sound i (bit r) (sound-exactly r .0 s) c ok)
 
-pub image-cars : (i : Instruction) (r : ℕ) → sound r ≡ true → allowed i (bit r) ≡ true → cars (bit (image (next i (bit r)))) ≡ cars (bit r)
-image-cars i r s ok = cars-image (next i (bit r)) ∙ same-cars i (bit r) (sound-exactly r .0 s) ok
+pub image-cars : (i : Instruction) (r : ℕ) → sound r ≡ true → allowed i (bit r) ≡ true → cars (bit (image (nextRecord i (bit r)))) ≡ cars (bit r)
+image-cars i r s ok = cars-image (nextRecord i (bit r)) ∙ same-cars i (bit r) (sound-exactly r .0 s) ok
 
 -- and, where it doesn't overlap a lift run, whether each side's count is even
 pub image-sides : (i : Instruction) (height : ℕ) → overlap i (Lift height) ≡ false
-    → (r : ℕ) → sound r ≡ true → allowed i (bit r) ≡ true → sides (bit (image (next i (bit r)))) ≡ sides (bit r)
-image-sides i height o r s ok = sides-image (next i (bit r)) ∙ sides-kept i height o (bit r) (sound-exactly r .0 s) ok
+    → (r : ℕ) → sound r ≡ true → allowed i (bit r) ≡ true → sides (bit (image (nextRecord i (bit r)))) ≡ sides (bit r)
+image-sides i height o r s ok = sides-image (nextRecord i (bit r)) ∙ sides-kept i height o (bit r) (sound-exactly r .0 s) ok
 
 -- a possible event too, with as many cars as it counts
-pub event-image-sound : (e : Event) (r : ℕ) → sound r ≡ true → possible e (bit r) ≡ true → sound (image (after e (bit r))) ≡ true
-event-image-sound e r s ok = sound-image (after e (bit r)) (event-sound e (bit r) (sound-exactly r .0 s) ok)
+pub event-image-sound : (e : Event) (r : ℕ) → sound r ≡ true → possible e (bit r) ≡ true → sound (image (afterEvent e (bit r))) ≡ true
+event-image-sound e r s ok = sound-image (afterEvent e (bit r)) (event-sound e (bit r) (sound-exactly r .0 s) ok)
 
-pub event-image-cars : (e : Event) (r : ℕ) → sound r ≡ true → possible e (bit r) ≡ true → Counted e (bit r) (cars (bit (image (after e (bit r))))) (cars (bit r))
-event-image-cars e r s ok = subst (λ (n : ℕ). Counted e (bit r) n (cars (bit r))) (sym (cars-image (after e (bit r)))) (event-cars e (bit r) (sound-exactly r .0 s) ok)
+pub event-image-cars : (e : Event) (r : ℕ) → sound r ≡ true → possible e (bit r) ≡ true → CarsAfterEvent e (bit r) (cars (bit (image (afterEvent e (bit r))))) (cars (bit r))
+event-image-cars e r s ok = subst (λ (n : ℕ). CarsAfterEvent e (bit r) n (cars (bit r))) (sym (cars-image (afterEvent e (bit r)))) (event-cars e (bit r) (sound-exactly r .0 s) ok)

@@ -21,8 +21,8 @@ use Rattle.floor.specs.Tests.{allHold}
 use Rattle.floor.specs.Sound.{paired, sound, total}
 use Rattle.rules.specs.declared.Instruction.{Instruction}
 use Rattle.rules.specs.declared.Instruction.the-variants.{Belts, Shuttles, Tilt, Lift, Rotate}
-use Rattle.rules.specs.Rules.{wellFormed, area, conditions, allowed, next}
-use Rattle.rules.specs.Events.{inTurn, possible, placesOpen, after}
+use Rattle.rules.specs.Rules.{wellFormed, area, conditions, allowed, nextRecord}
+use Rattle.rules.specs.Events.{inTurn, possible, placesOpen, afterEvent}
 use Rattle.rules.specs.Verdicts.{drivenOf}
 use Rattle.rules.proofs.Every.{everywhere, each}
 use Rattle.rules.proofs.Frame.{area-small, kept-outside}
@@ -40,13 +40,13 @@ unfolding area
 in-record i k w m = area-small i w k m
 
 -- the next record of an image is that of an image
-next-image : (i : Instruction) (r : ℕ) → wellFormed i ≡ true → r < 2 ^ 64 → next i (bit r) ≡ bit (image (next i (bit r)))
+next-image : (i : Instruction) (r : ℕ) → wellFormed i ≡ true → r < 2 ^ 64 → nextRecord i (bit r) ≡ bit (image (nextRecord i (bit r)))
 next-image i r w l = fun-ext (λ k. split (ltb k 64)
-    (λ h. sym (bit-image (next i (bit r)) k (ltb-true k 64 h)))
+    (λ h. sym (bit-image (nextRecord i (bit r)) k (ltb-true k 64 h)))
     (λ h.
     let n = ltb-false k 64 h in
     kept-outside i (true→T w) (bit r) k (off (area i k) (λ m. absurd (let z = in-record i k w m in omega arith)))
-    ∙ bit-past r 64 k l n ∙ sym (bit-past (image (next i (bit r))) 64 k (packed-lt 64 0 (next i (bit r))) n)))
+    ∙ bit-past r 64 k l n ∙ sym (bit-past (image (nextRecord i (bit r))) 64 k (packed-lt 64 0 (nextRecord i (bit r))) n)))
 
 -- ---- records that no moves leave
 
@@ -66,16 +66,16 @@ small r m = ltb→lt r (2 ^ 64) (pass-at (λ r. ltb r (2 ^ 64)) heights tt r m)
 
 -- what is allowed on the record r is a lift run, and leads to one of the three
 abbrev shut : ℕ → Instruction → Bool
-shut r i = cond (allowed i (bit r)) (isLift i && elem (image (next i (bit r))) heights) true
+shut r i = cond (allowed i (bit r)) (isLift i && elem (image (nextRecord i (bit r))) heights) true
 
 all-shut : T (allPass (λ r. everywhere (shut r)) heights)
-unfolding everywhere every allowed next packed
+unfolding everywhere every allowed nextRecord packed
 all-shut = tt
 
 shut-at : (r : ℕ) → T (elem r heights) → (i : Instruction) → allowed i (bit r) ≡ true
-    → T (isLift i && elem (image (next i (bit r))) heights)
+    → T (isLift i && elem (image (nextRecord i (bit r))) heights)
 shut-at r m i ok =
-    under (allowed i (bit r)) (isLift i && elem (image (next i (bit r))) heights) ok
+    under (allowed i (bit r)) (isLift i && elem (image (nextRecord i (bit r))) heights) ok
     (each (shut r) (pass-at (λ r. everywhere (shut r)) heights all-shut r m) i (true→T (well i (bit r) ok)))
 
 -- so moves lead from one of the three to one of the three
@@ -84,8 +84,8 @@ shut-after : (is : List Instruction) (r : ℕ) → T (elem r heights) → Moves 
 unfolding Moves recordAfter
 shut-after [] r m moves = (r, m, refl)
 shut-after (i ∷ is) r m moves =
-    let q = image (next i (bit r)) in
-    let e : next i (bit r) ≡ bit q = next-image i r (well i (bit r) (moves .0)) (small r m) in
+    let q = image (nextRecord i (bit r)) in
+    let e : nextRecord i (bit r) ≡ bit q = next-image i r (well i (bit r) (moves .0)) (small r m) in
     let (p, n, d) = shut-after is q (and-r (isLift i) (elem q heights) (shut-at r m i (moves .0))) (subst (Moves is) e (moves .2)) in
     (p, n, ap (recordAfter is) e ∙ d)
 
@@ -125,11 +125,11 @@ abbrev fetching : List Instruction
 fetching = Lift 2 ∷ Belts 1 6 1 1 ∷ Lift 0 ∷ []
 
 fetch : Reaches (bit unlocked) (recordAfter fetching (bit unlocked))
-unfolding Moves recordAfter allowed next
+unfolding Moves recordAfter allowed nextRecord
 fetch = record { by = fetching; moves = (refl, inl refl, (refl, inl refl, (refl, inl refl, tt))); ends = λ k. refl }
 
 pub drive-in-locks : DriveInLocks
-unfolding total sound paired cars drivenOf inTurn possible placesOpen after packed recordAfter next
+unfolding total sound paired cars drivenOf inTurn possible placesOpen afterEvent packed recordAfter nextRecord
 drive-in-locks = record {
   fourteen = refl;
   begins = refl;
@@ -138,7 +138,7 @@ drive-in-locks = record {
   fetchable = (recordAfter fetching (bit unlocked), fetch, refl);
   onlyLift = λ g a i ok.
       let (q, m, e) = reached g a in
-      only-lift i (and-l (isLift i) (elem (image (next i (bit q))) heights) (shut-at q m i (sym (ap (allowed i) e) ∙ ok)));
+      only-lift i (and-l (isLift i) (elem (image (nextRecord i (bit q))) heights) (shut-at q m i (sym (ap (allowed i) e) ∙ ok)));
   othersStay = λ g a k o. let (q, m, e) = reached g a in ap (λ (x : Bits). x k) e ∙ others-stay q m k o;
   canLeave = refl;
 }

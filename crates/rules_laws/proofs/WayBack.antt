@@ -20,8 +20,8 @@ use Rattle.floor.proofs.Promises.{layout-exactly}
 use Rattle.rules.specs.declared.Instruction.{Instruction}
 use Rattle.rules.specs.declared.Instruction.the-variants.{Belts, Shuttles, Tilt, Lift, Rotate}
 use Rattle.rules.specs.declared.Event.the-variants.{EndDone}
-use Rattle.rules.specs.Rules.{wellFormed, areaOf, conditions, changes, allowed, next}
-use Rattle.rules.specs.Events.{possible, after}
+use Rattle.rules.specs.Rules.{wellFormed, areaOf, conditions, changes, allowed, nextRecord}
+use Rattle.rules.specs.Events.{possible, afterEvent}
 use Rattle.rules.proofs.Every.{everywhere, each}
 use Rattle.rules_laws.specs.Laws.{Clear}
 use Rattle.rules_laws.specs.Undoing.{undo, Undoes, EveryMoveUndone, UndoneNeedsSound}
@@ -45,10 +45,10 @@ all-leave : T (everywhere leavesDrives)
 unfolding everywhere every
 all-leave = tt
 
-same-drives : (i : Instruction) (f : Bits) → wellFormed i ≡ true → holds underWay (next i f) ≡ holds underWay f
-unfolding next
+same-drives : (i : Instruction) (f : Bits) → wellFormed i ≡ true → holds underWay (nextRecord i f) ≡ holds underWay f
+unfolding nextRecord
 same-drives i f w =
-    holds-agree drives (next i f) f
+    holds-agree drives (nextRecord i f) f
     (λ k m. not-target (changes i) f k
     (apart-at drives (targets (changes i)) (none (share drives (targets (changes i))) (each leavesDrives all-leave i (true→T w))) k m))
     underWay tt
@@ -76,10 +76,10 @@ same-lift i f w = whichever i ∙ beq→eq (share (areaOf (turned i)) lift) (sha
     whichever Rotate = refl
 
 undone-at : (i : Instruction) (f : Bits) → Sound f → allowed i f ≡ true → Undoes (undo i f) i f
-unfolding allowed next
+unfolding allowed nextRecord
 undone-at i f s ok = record {
   formed = T→true (wellFormed (undo i f)) (b .formed);
-  goes = and-intro (T→true (wellFormed (undo i f)) (b .formed)) (T→true (allHold (conditions (undo i f)) (next i f)) (b .hold));
+  goes = and-intro (T→true (wellFormed (undo i f)) (b .formed)) (T→true (allHold (conditions (undo i f)) (nextRecord i f)) (b .hold));
   clear = clear;
   back = b .same;
 }
@@ -90,7 +90,7 @@ undone-at i f s ok = record {
     b : Back (undo i f) i f
     b = undone i f (true→T (w .0)) (true→T (w .1)) (true→T (s .rules)) (whole-iff-paired f .0 (layout-exactly f .1 (s .layout)))
 
-    clear : Clear i f → Clear (undo i f) (next i f)
+    clear : Clear i f → Clear (undo i f) (nextRecord i f)
     clear (inl idle) = inl (same-drives i f (w .0) ∙ idle)
     clear (inr elsewhere) = inr (same-lift i f (w .0) ∙ elsewhere)
 
@@ -103,10 +103,10 @@ abbrev wiped : Bits
 wiped = bit 0x00089D0000100000
 
 abbrev unbrought : Instruction → Bool
-unbrought j = not (next j (next (Shuttles 0 1 0 1) wiped) 20)
+unbrought j = not (nextRecord j (nextRecord (Shuttles 0 1 0 1) wiped) 20)
 
 all-unbrought : T (everywhere unbrought)
-unfolding everywhere every next
+unfolding everywhere every nextRecord
 all-unbrought = tt
 
 pub undone-needs-sound : UndoneNeedsSound
@@ -116,7 +116,7 @@ undone-needs-sound = record {
   instruction = Shuttles 0 1 0 1;
   goes = refl;
   lost = λ j ok b. clash (b 20)
-      (gone (next j (next (Shuttles 0 1 0 1) wiped) 20) (each unbrought all-unbrought j (true→T (well j _ ok .0))));
+      (gone (nextRecord j (nextRecord (Shuttles 0 1 0 1) wiped) 20) (each unbrought all-unbrought j (true→T (well j _ ok .0))));
 }
   where
     gone : (b : Bool) → T (not b) → b ≡ false
@@ -128,14 +128,14 @@ undone-needs-sound = record {
 moves-append : (is js : List Instruction) (f : Bits) → Moves is f → Moves js (recordAfter is f) → Moves (is ++ js) f
 unfolding Moves recordAfter
 moves-append [] js f m n = n
-moves-append (i ∷ is) js f m n = (m .0, m .1, moves-append is js (next i f) (m .2) n)
+moves-append (i ∷ is) js f m n = (m .0, m .1, moves-append is js (nextRecord i f) (m .2) n)
 
 after-append : (is js : List Instruction) (f : Bits) → recordAfter (is ++ js) f ≡ recordAfter js (recordAfter is f)
 unfolding recordAfter
 after-append [] js f = refl
-after-append (i ∷ is) js f = after-append is js (next i f)
+after-append (i ∷ is) js f = after-append is js (nextRecord i f)
 
-one-more : (i : Instruction) (is : List Instruction) (f : Bits) → allowed i f ≡ true → Clear i f → Moves is (next i f) → Moves (i ∷ is) f
+one-more : (i : Instruction) (is : List Instruction) (f : Bits) → allowed i f ≡ true → Clear i f → Moves is (nextRecord i f) → Moves (i ∷ is) f
 unfolding Moves
 one-more i is f ok c m = (ok, c, m)
 
@@ -145,13 +145,13 @@ way-back : (is : List Instruction) (f : Bits) → Sound f → Moves is f
 unfolding Moves recordAfter wayBack
 way-back [] f s m = (tt, refl)
 way-back (i ∷ is) f s m =
-    let g = next i f in
+    let g = nextRecord i f in
     let h = recordAfter is g in
     let (n, e) = way-back is g (stays-sound i f s (m .1) (m .0)) (m .2) in
     let u : Undoes (undo i f) i f = undone-at i f s (m .0) in (
       moves-append (wayBack is g) (undo i f ∷ []) h n
           (subst (Moves (undo i f ∷ [])) (sym e) (one-more (undo i f) [] g (u .goes) (u .clear (m .1)) tt)),
-      after-append (wayBack is g) (undo i f ∷ []) h ∙ ap (next (undo i f)) e ∙ fun-ext (u .back),
+      after-append (wayBack is g) (undo i f ∷ []) h ∙ ap (nextRecord (undo i f)) e ∙ fun-ext (u .back),
     )
 
 pub always-a-way-back : AlwaysAWayBack
@@ -184,9 +184,9 @@ back-to : (f g : Bits) → Sound f → Reaches f g → Reaches g f
 back-to f g s a = reached-still f g f s a (here f)
 
 pub last-in-can-leave : LastInCanLeave
-unfolding possible after
+unfolding possible afterEvent
 last-in-can-leave f g s d reached = (
-  back-to (after EndDone f) g (event-sound EndDone f s (rw d (going (f driveOut)))) reached,
+  back-to (afterEvent EndDone f) g (event-sound EndDone f s (rw d (going (f driveOut)))) reached,
   and-intro (or-else drives (heightIs street) f (nth-holds f soundRules (true→T (s .rules)) 13) driveIn tt d) (rw d),
 )
   where

@@ -16,8 +16,8 @@ use Rattle.rules.specs.declared.Instruction.the-variants.{Belts, Shuttles, Tilt
 use Rattle.rules.specs.declared.Event.{Event}
 use Rattle.rules.specs.declared.Event.the-variants.{BeginIn, BeginOut, EndDone, EndNotDone}
 use Rattle.rules.specs.Named.{liftNamed}
-use Rattle.rules.specs.Rules.{wellFormed, areaOf, area, overlap, sides, seen, allowed, next}
-use Rattle.rules.specs.Events.{inTurn, possible, after}
+use Rattle.rules.specs.Rules.{wellFormed, areaOf, area, overlap, sides, seen, allowed, nextRecord}
+use Rattle.rules.specs.Events.{inTurn, possible, afterEvent}
 use Rattle.rules.specs.Verdicts.{verdictOf}
 
 -- ---- areas
@@ -37,11 +37,11 @@ SameReason = (i : Instruction) (r q : ℕ) → Agree (area i) (bit r) (bit q) �
 
 -- on two records that agree on its area, a well-formed instruction leaves the same bits there
 abbrev pub SameBits : Type 0
-SameBits = (i : Instruction) → wellFormed i ≡ true → (f g : Bits) → Agree (area i) f g → Agree (area i) (next i f) (next i g)
+SameBits = (i : Instruction) → wellFormed i ≡ true → (f g : Bits) → Agree (area i) f g → Agree (area i) (nextRecord i f) (nextRecord i g)
 
 -- a well-formed instruction changes nothing outside its area
 abbrev pub KeptOutside : Type 0
-KeptOutside = (i : Instruction) → wellFormed i ≡ true → (f : Bits) (k : ℕ) → area i k ≡ false → next i f k ≡ f k
+KeptOutside = (i : Instruction) → wellFormed i ≡ true → (f : Bits) (k : ℕ) → area i k ≡ false → nextRecord i f k ≡ f k
 
 -- belt runs that name the lift belt, lift runs and rotations
 abbrev pub withLift : Instruction → Bool
@@ -59,7 +59,7 @@ LiftOverlaps = (i : Instruction) (height : ℕ) → wellFormed i ≡ true → ov
 abbrev pub SidesKept : Type 0
 SidesKept =
     (i : Instruction) (height : ℕ) → overlap i (Lift height) ≡ false
-    → (f : Bits) → Sound f → allowed i f ≡ true → sides (next i f) ≡ sides f
+    → (f : Bits) → Sound f → allowed i f ≡ true → sides (nextRecord i f) ≡ sides f
 
 -- the record must be sound: there is one, and an instruction allowed on it that doesn't overlap a lift run, where a count turns
 pub record SidesNeedSound : Type 0 where
@@ -67,7 +67,7 @@ pub record SidesNeedSound : Type 0 where
   pub instruction : Instruction
   pub apart : (height : ℕ) → overlap instruction (Lift height) ≡ false
   pub goes : allowed instruction bits ≡ true
-  pub changes : sides (next instruction bits) ≡ sides bits → ⊥
+  pub changes : sides (nextRecord instruction bits) ≡ sides bits → ⊥
 
 -- the lift's bits and the drives'
 abbrev pub liftArea : Bits
@@ -77,8 +77,8 @@ liftArea k = elem k (lift ++ drives)
 pub record EventsLocal : Type 0 where
   pub sameVerdict : (e : Event) (f g : Bits) → Agree liftArea f g → possible e f ≡ possible e g
   pub sameTurn : (e : Event) (f g : Bits) → Agree liftArea f g → inTurn e f ≡ inTurn e g
-  pub sameBits : (e : Event) (f g : Bits) → Agree liftArea f g → Agree liftArea (after e f) (after e g)
-  pub keptOutside : (e : Event) (f : Bits) (k : ℕ) → liftArea k ≡ false → after e f k ≡ f k
+  pub sameBits : (e : Event) (f g : Bits) → Agree liftArea f g → Agree liftArea (afterEvent e f) (afterEvent e g)
+  pub keptOutside : (e : Event) (f : Bits) (k : ℕ) → liftArea k ≡ false → afterEvent e f k ≡ f k
 
 -- ---- sound records and cars
 
@@ -88,23 +88,23 @@ Clear i f = (holds underWay f ≡ false) ⊎ (share (areaOf i) lift ≡ false)
 
 -- an allowed instruction that is clear of drives makes a sound record of a sound record
 abbrev pub StaysSound : Type 0
-StaysSound = (i : Instruction) (f : Bits) → Sound f → Clear i f → allowed i f ≡ true → Sound (next i f)
+StaysSound = (i : Instruction) (f : Bits) → Sound f → Clear i f → allowed i f ≡ true → Sound (nextRecord i f)
 
 -- an allowed one keeps the number of cars, clear of drives or not
 abbrev pub SameCars : Type 0
-SameCars = (i : Instruction) (f : Bits) → Sound f → allowed i f ≡ true → cars (next i f) ≡ cars f
+SameCars = (i : Instruction) (f : Bits) → Sound f → allowed i f ≡ true → cars (nextRecord i f) ≡ cars f
 
 -- a possible event makes a sound record of a sound record
 abbrev pub EventSound : Type 0
-EventSound = (e : Event) (f : Bits) → Sound f → possible e f ≡ true → Sound (after e f)
+EventSound = (e : Event) (f : Bits) → Sound f → possible e f ≡ true → Sound (afterEvent e f)
 
 -- n cars after an event on the record f, m before it: an end that is done makes one more of a drive-in, one less of a drive-out
-abbrev pub Counted : Event → Bits → ℕ → ℕ → Type 0
-Counted BeginIn f n m = n ≡ m
-Counted BeginOut f n m = n ≡ m
-Counted EndDone f n m = n + digit (f driveOut) ≡ m + digit (f driveIn)
-Counted EndNotDone f n m = n ≡ m
+abbrev pub CarsAfterEvent : Event → Bits → ℕ → ℕ → Type 0
+CarsAfterEvent BeginIn f n m = n ≡ m
+CarsAfterEvent BeginOut f n m = n ≡ m
+CarsAfterEvent EndDone f n m = n + digit (f driveOut) ≡ m + digit (f driveIn)
+CarsAfterEvent EndNotDone f n m = n ≡ m
 
 -- a possible event on a sound record makes one car more at the done end of a drive-in, one less at that of a drive-out, and else none
 abbrev pub EventCars : Type 0
-EventCars = (e : Event) (f : Bits) → Sound f → possible e f ≡ true → Counted e f (cars (after e f)) (cars f)
+EventCars = (e : Event) (f : Bits) → Sound f → possible e f ≡ true → CarsAfterEvent e f (cars (afterEvent e f)) (cars f)

@@ -12,8 +12,8 @@ use Rattle.rules.specs.declared.Instruction.{Instruction}
 use Rattle.rules.specs.declared.Instruction.the-variants.{Belts, Shuttles, Tilt, Lift, Rotate}
 use Rattle.rules.specs.declared.Event.the-variants.{BeginOut, EndDone}
 use Rattle.rules.specs.Named.{higher}
-use Rattle.rules.specs.Rules.{wellFormed, allowed, next}
-use Rattle.rules.specs.Events.{possible, after}
+use Rattle.rules.specs.Rules.{wellFormed, allowed, nextRecord}
+use Rattle.rules.specs.Events.{possible, afterEvent}
 use Rattle.rules_laws.specs.Laws.{Clear}
 
 -- ---- the instruction that undoes another
@@ -27,8 +27,8 @@ abbrev pub rowsReached : ℕ → ℕ → ℕ
 rowsReached mask toward = cond (higher toward) (mask * 2) (mask / 2)
 
 -- the lift's height
-abbrev pub heightOf : Bits → ℕ
-heightOf f = digit (f heightLow) + 2 * digit (f heightHigh)
+abbrev pub liftHeight : Bits → ℕ
+liftHeight f = digit (f heightLow) + 2 * digit (f heightHigh)
 
 -- what undoes an instruction that was done on the record f
 abbrev pub undo : Instruction → Bits → Instruction
@@ -39,16 +39,16 @@ undo (Shuttles side mask orientation toward) f = Shuttles side (rowsReached mask
 -- the shuttle, which now has the other orientation, is tilted back from it
 undo (Tilt side row orientation) f = Tilt side row (other orientation)
 -- the lift goes to the height at which it was
-undo (Lift height) f = Lift (heightOf f)
+undo (Lift height) f = Lift (liftHeight f)
 -- the record stayed the same, and stays so once more
 undo Rotate f = Rotate
 
 -- j undoes i, done on the record f: it is allowed on the next record, and clear of drives if i was, and it leads back bit by bit
 pub record Undoes (j i : Instruction) (f : Bits) : Type 0 where
   pub formed : wellFormed j ≡ true
-  pub goes : allowed j (next i f) ≡ true
-  pub clear : Clear i f → Clear j (next i f)
-  pub back : (k : ℕ) → next j (next i f) k ≡ f k
+  pub goes : allowed j (nextRecord i f) ≡ true
+  pub clear : Clear i f → Clear j (nextRecord i f)
+  pub back : (k : ℕ) → nextRecord j (nextRecord i f) k ≡ f k
 
 -- on a sound record, each allowed instruction is undone
 abbrev pub EveryMoveUndone : Type 0
@@ -59,24 +59,24 @@ pub record UndoneNeedsSound : Type 0 where
   pub bits : Bits
   pub instruction : Instruction
   pub goes : allowed instruction bits ≡ true
-  pub lost : (j : Instruction) → allowed j (next instruction bits) ≡ true → ((k : ℕ) → next j (next instruction bits) k ≡ bits k) → ⊥
+  pub lost : (j : Instruction) → allowed j (nextRecord instruction bits) ≡ true → ((k : ℕ) → nextRecord j (nextRecord instruction bits) k ≡ bits k) → ⊥
 
 -- ---- moves, one after the other
 
 -- the record after them
 unfoldable pub recordAfter : List Instruction → Bits → Bits
 recordAfter [] f = f
-recordAfter (i ∷ is) f = recordAfter is (next i f)
+recordAfter (i ∷ is) f = recordAfter is (nextRecord i f)
 
 -- each is allowed on the record that those before it leave, and clear of drives
 unfoldable pub Moves : List Instruction → Bits → Type 0
 Moves [] f = Unit {0}
-Moves (i ∷ is) f = (allowed i f ≡ true) × Clear i f × Moves is (next i f)
+Moves (i ∷ is) f = (allowed i f ≡ true) × Clear i f × Moves is (nextRecord i f)
 
 -- each undone, the last first
 unfoldable pub wayBack : List Instruction → Bits → List Instruction
 wayBack [] f = []
-wayBack (i ∷ is) f = wayBack is (next i f) ++ undo i f ∷ []
+wayBack (i ∷ is) f = wayBack is (nextRecord i f) ++ undo i f ∷ []
 
 -- after any moves on a sound record, the way back is moves again, and leads to the first record bit by bit
 abbrev pub AlwaysAWayBack : Type 0
@@ -98,5 +98,5 @@ StillReached = (f g h : Bits) → Sound f → Reaches f g → Reaches f h → Re
 -- which a drive-out can begin, and it is the record after that end
 abbrev pub LastInCanLeave : Type 0
 LastInCanLeave =
-    (f g : Bits) → Sound f → f driveIn ≡ true → Reaches (after EndDone f) g
-    → Reaches g (after EndDone f) × (possible BeginOut (after EndDone f) ≡ true)
+    (f g : Bits) → Sound f → f driveIn ≡ true → Reaches (afterEvent EndDone f) g
+    → Reaches g (afterEvent EndDone f) × (possible BeginOut (afterEvent EndDone f) ≡ true)

@@ -10,16 +10,16 @@ use borrow.Author.Tests.{not-true, not-false}
 use Rattle.bits.proofs.Cases.{split, clash, both}
 use Rattle.answers.specs.declared.Answer.the-variants.{Taken, Unfit, UnknownKind}
 use Rattle.answers.specs.Answers.{numberOf}
-use Rattle.garage.specs.declared.Station.{Station}
-use Rattle.garage.specs.declared.Outcome.{Outcome}
-use Rattle.garage.specs.declared.Turn.{Turn}
-use Rattle.garage.specs.Station.{fit}
-use Rattle.garage.specs.Calls.{refused, request, event, result, takeImage, ask}
-use Rattle.garage.specs.Turns.{turnOf}
-use Rattle.garage.proofs.Turns.{Kept, kept-refused, kept-requested, kept-evented, kept-resulted, kept-imaged}
-use Rattle.garage_laws.specs.Runs as run
-use Rattle.garage_laws.specs.Runs.{Call}
-use Rattle.garage_laws.proofs.Demands.{fit-stays}
+use Rattle.station.specs.declared.Station.{Station}
+use Rattle.station.specs.declared.Outcome.{Outcome}
+use Rattle.station.specs.declared.Turn.{Turn}
+use Rattle.station.specs.Station.{fit}
+use Rattle.station.specs.Calls.{refused, request, event, result, takeImage, ask}
+use Rattle.station.specs.Turns.{turnOf}
+use Rattle.station.proofs.Turns.{Kept, kept-refused, kept-requested, kept-evented, kept-resulted, kept-imaged}
+use Rattle.station_laws.specs.Runs as run
+use Rattle.station_laws.specs.Runs.{Call}
+use Rattle.station_laws.proofs.Demands.{fit-stays}
 use Rattle.wire.specs.declared.What.{What}
 use Rattle.wire.specs.declared.What.the-variants.{Request, Event, Result, Image, Ask, Answer, Held}
 use Rattle.wire.specs.Reads.{readAsked}
@@ -32,8 +32,8 @@ pub each-called : (P : Outcome → Type 0) (s : Station) → ((c : Call) → P (
     → (makesCall w ≡ false → P (refused s UnknownKind)) → P (called w s n set)
 each-called P s f Request n set g = f (run.request n set)
 each-called P s f (Event way) n set g = f (run.event way)
-each-called P s f (Result issue number ending) n set g = f (run.result issue number ending)
-each-called P s f (Image bits apart) n set g = f (run.image bits apart)
+each-called P s f (Result issue number ending) n set g = f (run.resultCall issue number ending)
+each-called P s f (Image bits apart) n set g = f (run.imageCall bits apart)
 each-called P s f Ask n set g = f run.ask
 each-called P s f (Answer number place issue) n set g = g refl
 each-called P s f (Held bits apart) n set g = g refl

@@ -11,6 +11,7 @@ use lib.ListN.{getD, length, take, drop, replicate, length-drop, drop-of-length-
 use lib.Seq.{length-take-le, take-all, take-at}
 use Rattle.bits.specs.Search.{least}
 use Rattle.bits.proofs.Cases.{split, clash}
+use Rattle.codec.specs.Bytes.{fromLittleEndian}
 use Rattle.rules.specs.declared.Reading.{Reading}
 use Rattle.rules.specs.declared.Reading.the-variants.{Good, Bad}
 use Rattle.rules.specs.Codes.{readCode, readBytes}
@@ -18,28 +19,28 @@ use Rattle.rules.specs.Verdicts.{onCode}
 use Rattle.answers.specs.declared.Answer.{Answer}
 use Rattle.answers.specs.declared.Answer.the-variants.{Taken, TooFewBytes, BadLength, UnknownKind, BadField, TooMany, SetOutstanding, EmptySet, Unfit}
 use Rattle.answers.specs.Answers.{numberOf, nowhere}
-use Rattle.garage.specs.declared.Station.{Station}
-use Rattle.garage.specs.declared.Outcome.{Outcome}
-use Rattle.garage.specs.declared.Turn.{Turn}
-use Rattle.garage.specs.Station.{fit}
-use Rattle.garage.specs.Held.{codeAt, isGood, bad}
-use Rattle.garage.specs.Calls.{refused, requested}
-use Rattle.garage.specs.Turns.{turnOf, keptSet, afterTurn}
-use Rattle.garage.proofs.Padding.{padded-code}
-use Rattle.garage.proofs.Turns.{Kept, rebuilt, kept-refused, kept-requested, kept-evented, kept-resulted, kept-imaged}
+use Rattle.station.specs.declared.Station.{Station}
+use Rattle.station.specs.declared.Outcome.{Outcome}
+use Rattle.station.specs.declared.Turn.{Turn}
+use Rattle.station.specs.Station.{fit}
+use Rattle.station.specs.Held.{codeAt, isGood, bad}
+use Rattle.station.specs.Calls.{refused, requested}
+use Rattle.station.specs.Turns.{turnOf, keptSet, afterTurn}
+use Rattle.station.proofs.Padding.{padded-code}
+use Rattle.station.proofs.Turns.{Kept, rebuilt, kept-refused, kept-requested, kept-evented, kept-resulted, kept-imaged}
 use Rattle.wire.specs.declared.What.{What}
 use Rattle.wire.specs.declared.What.the-variants.{Request, Event, Result, Image, Ask, Held}
 use Rattle.wire.specs.declared.Said.{Said}
 use Rattle.wire.specs.declared.Message.{Message}
 use Rattle.wire.specs.declared.Received.{Received}
 use Rattle.wire.specs.declared.Frame.the-variants.{Cut, Wrong, Whole}
-use Rattle.wire.specs.Kinds.{Kind, fromLittleEndian, event, result, image, asked, inRange, plain, setOf}
+use Rattle.wire.specs.Kinds.{SizedKind, eventKind, resultKind, imageKind, kindsAsked, inRange, plain, setOf}
 use Rattle.wire.specs.Reads.{kindAt, frameOf, isBad, badIn, sized, readRequest, readAmong, readWhole, readAsked, saidIn}
 use Rattle.wire.proofs.Parts.{from-on, set-short}
 use Rattle.wire.proofs.Reading.{read-too-many, read-bad-length, read-bad-one, read-all-good}
 use Rattle.service.specs.declared.Reply.{Reply}
 use Rattle.service.specs.Service.{answerMessage, replyMessage, replyOf, respond, onKnown, calledKnown, respondKnown}
-use Rattle.service.specs.Private.{calledAs, heard, told, replied}
+use Rattle.service.specs.Private.{calledAs, messageCall, replySaid, messageReply}
 use Rattle.service.proofs.Readings.{ways}
 use Rattle.service.proofs.Called.{known-reply, kept-on-known}
 
@@ -55,28 +56,28 @@ sized-plain m n w =
     (λ _. ways Plain (inRange w) (λ _. record { plainly = refl }) (λ _. record { plainly = refl }))
     (λ _. record { plainly = refl })
 
-among-plain : (ks : List Kind) (m : List ℕ) → Plain (readAmong ks m)
+among-plain : (ks : List SizedKind) (m : List ℕ) → Plain (readAmong ks m)
 among-plain [] m = record { plainly = refl }
 among-plain (k ∷ ks) m =
     ways Plain (eqb (kindAt m) (k .number)) (λ _. sized-plain m (4 + k .size) (k .says m)) (λ _. among-plain ks m)
 
-module _ (known : Bool) (s : Station) (m : List ℕ) (k : kindAt m ≡ 1 → ⊥) {x : Said} (e : x ≡ saidIn (readAmong asked m)) where
-  among : heard known s m ≡ calledAs known s (readAmong asked m)
-  unfolding heard readWhole
-  among = ap (λ (t : Bool). calledAs known s (cond t (readRequest m) (readAmong asked m))) (ne-eqb (kindAt m) 1 k)
+module _ (known : Bool) (s : Station) (m : List ℕ) (k : kindAt m ≡ 1 → ⊥) {x : Said} (e : x ≡ saidIn (readAmong kindsAsked m)) where
+  among : messageCall known s m ≡ calledAs known s (readAmong kindsAsked m)
+  unfolding messageCall readWhole
+  among = ap (λ (t : Bool). calledAs known s (cond t (readRequest m) (readAmong kindsAsked m))) (ne-eqb (kindAt m) 1 k)
 
-  pub said-refused : (numberOf (x .answer) ≡ 0 → ⊥) → refused s (x .answer) ≡ heard known s m
+  pub said-refused : (numberOf (x .answer) ≡ 0 → ⊥) → refused s (x .answer) ≡ messageCall known s m
   said-refused z =
-      let r = readAmong asked m in
+      let r = readAmong kindsAsked m in
       let n = ne-eqb (numberOf (r .answer)) 0 (rw e at z) in
       ap (λ (y : Said). refused s (y .answer)) e ∙ sym (among ∙ rw n)
 
-  pub said-called : numberOf (x .answer) ≡ 0 → calledKnown known (x .what) s 0 (replicate 40 0) ≡ heard known s m
+  pub said-called : numberOf (x .answer) ≡ 0 → calledKnown known (x .what) s 0 (replicate 40 0) ≡ messageCall known s m
   said-called z =
-      let r = readAmong asked m in
+      let r = readAmong kindsAsked m in
       let n = eq-eqb (numberOf (r .answer)) 0 (rw e at z) in
       ap (λ (y : Said). calledKnown known (y .what) s 0 (replicate 40 0)) e
-      ∙ sym (among ∙ rw n (ap (λ (y : Message). calledKnown known (y .what) s (y .count) (y .set)) (among-plain asked m .plainly)))
+      ∙ sym (among ∙ rw n (ap (λ (y : Message). calledKnown known (y .what) s (y .count) (y .set)) (among-plain kindsAsked m .plainly)))
 
 -- ---- a request
 
@@ -113,19 +114,19 @@ read-is m =
     (λ _. record { requests = λ q. absurd (omega arith) })))
 
 module _ (s : Station) (m : List ℕ) (k : kindAt m ≡ 1) where
-  asking : (known : Bool) → heard known s m ≡ calledAs known s (readRequest m)
-  unfolding heard readWhole
-  asking known = ap (λ (t : Bool). calledAs known s (cond t (readRequest m) (readAmong asked m))) (eq-eqb (kindAt m) 1 k)
+  asking : (known : Bool) → messageCall known s m ≡ calledAs known s (readRequest m)
+  unfolding messageCall readWhole
+  asking known = ap (λ (t : Bool). calledAs known s (cond t (readRequest m) (readAmong kindsAsked m))) (eq-eqb (kindAt m) 1 k)
 
   module _ {n : ℕ} (e : n ≡ getD m 4 0) where
-    pub too-many : 8 < n → refused s TooMany ≡ heard true s m
+    pub too-many : 8 < n → refused s TooMany ≡ messageCall true s m
     too-many h = sym (asking true ∙ ap (calledAs true s) (read-too-many m e h))
 
-    pub bad-length : n ≤ 8 → (length m ≡ 5 + 5 * n → ⊥) → refused s BadLength ≡ heard true s m
+    pub bad-length : n ≤ 8 → (length m ≡ 5 + 5 * n → ⊥) → refused s BadLength ≡ messageCall true s m
     bad-length h l = sym (asking true ∙ ap (calledAs true s) (read-bad-length m e h l))
 
     -- on a station without a set the call tells a bad instruction as the reader does
-    pub opened : n ≤ 8 → length m ≡ 5 + 5 * n → s .count ≡ 0 → {set : List ℕ} → set ≡ setOf (drop 5 m) → requested s n set ≡ heard true s m
+    pub opened : n ≤ 8 → length m ≡ 5 + 5 * n → s .count ≡ 0 → {set : List ℕ} → set ≡ setOf (drop 5 m) → requested s n set ≡ messageCall true s m
     unfolding requested
     opened h l z {set} f =
         let d : length (drop 5 m) ≡ 5 * n = length-drop 5 m ∙ omega arith in
@@ -143,10 +144,10 @@ module _ (s : Station) (m : List ℕ) (k : kindAt m ≡ 1) where
         (g ∙ ap (λ (q : List ℕ). q ++ replicate (40 - length q) 0) (sym (from-on m 5)))))))
 
   module _ {r : Received} (e : r ≡ readRequest m) where
-    pub request-refused : (known : Bool) → (numberOf (r .answer) ≡ 0 → ⊥) → refused s (r .answer) ≡ heard known s m
+    pub request-refused : (known : Bool) → (numberOf (r .answer) ≡ 0 → ⊥) → refused s (r .answer) ≡ messageCall known s m
     request-refused known z = sym (asking known ∙ rw (← e, ne-eqb (numberOf (r .answer)) 0 z))
 
-    read : (known : Bool) → numberOf (r .answer) ≡ 0 → calledKnown known Request s (r .message .count) (r .message .set) ≡ heard known s m
+    read : (known : Bool) → numberOf (r .answer) ≡ 0 → calledKnown known Request s (r .message .count) (r .message .set) ≡ messageCall known s m
     read known z =
         let w : r .message .what ≡ Request = subst Requests (sym e) (read-is m) .requests z in
         sym (asking known ∙ rw (← e, eq-eqb (numberOf (r .answer)) 0 z, w))
@@ -158,11 +159,11 @@ module _ (s : Station) (m : List ℕ) (k : kindAt m ≡ 1) where
         positive : (k : ℕ) → (k ≡ 0 → ⊥) → 0 < k
         positive k c = omega arith
 
-    pub request-beside : {known : Bool} → numberOf (r .answer) ≡ 0 → known ≡ true → known && eqb (s .count) 0 ≡ false → refused s SetOutstanding ≡ heard known s m
+    pub request-beside : {known : Bool} → numberOf (r .answer) ≡ 0 → known ≡ true → known && eqb (s .count) 0 ≡ false → refused s SetOutstanding ≡ messageCall known s m
     request-beside {known} z q f =
         rw q (sym (beside (r .message .count) (r .message .set) (eqb-false (s .count) 0 (rw q at f))) ∙ read true z)
 
-    pub request-unfit : {known : Bool} → numberOf (r .answer) ≡ 0 → known ≡ false → refused s Unfit ≡ heard known s m
+    pub request-unfit : {known : Bool} → numberOf (r .answer) ≡ 0 → known ≡ false → refused s Unfit ≡ messageCall known s m
     request-unfit {known} z q = rw q (read false z)
 
 -- ---- the set that is left
@@ -202,31 +203,31 @@ module _ (known : Bool) (s : Station) (m : List ℕ) where
           set-short (drop 5 m) (omega arith)
           ∙ rw (d, take-at (take (5 * n) (drop 5 m)) (replicate (40 - 5 * n) 0) (5 * n) (length-take-le (5 * n) (drop 5 m) (omega arith)), take-all (5 * n) (drop 5 m) (omega arith))
 
-  whole-kept : K (readWhole asked m)
+  whole-kept : K (readWhole kindsAsked m)
   unfolding readWhole
   whole-kept =
       let fresh = setOf (drop 5 m) in
       ways K (eqb (kindAt m) 1) (λ _. request-kept)
-      (λ _. ways K (eqb (kindAt m) 2) (λ _. sized-kept 5 (event .says m) (on (kept-evented s fresh (getD m 4 0))))
+      (λ _. ways K (eqb (kindAt m) 2) (λ _. sized-kept 5 (eventKind .says m) (on (kept-evented s fresh (getD m 4 0))))
       (λ _. ways K (eqb (kindAt m) 3)
-      (λ _. sized-kept 8 (result .says m) (on (kept-resulted s fresh (record { issue = fromLittleEndian 2 4 m; number = getD m 6 0; ending = getD m 7 0 }))))
+      (λ _. sized-kept 8 (resultKind .says m) (on (kept-resulted s fresh (record { issue = fromLittleEndian 2 4 m; number = getD m 6 0; ending = getD m 7 0 }))))
       (λ _. ways K (eqb (kindAt m) 4)
-      (λ _. sized-kept 20 (image .says m) (on (kept-imaged s fresh (record { bits = fromLittleEndian 8 4 m; apart = fromLittleEndian 8 12 m }))))
+      (λ _. sized-kept 20 (imageKind .says m) (on (kept-imaged s fresh (record { bits = fromLittleEndian 8 4 m; apart = fromLittleEndian 8 12 m }))))
       (λ _. ways K (eqb (kindAt m) 5) (λ _. sized-kept 4 Ask (on (no Taken)))
       (λ _. record { keeps = no UnknownKind })))))
 
-  pub heard-kept : Kept s (setOf (drop 5 m)) (heard known s m)
-  unfolding heard
+  pub heard-kept : Kept s (setOf (drop 5 m)) (messageCall known s m)
+  unfolding messageCall
   heard-kept = whole-kept .keeps
 
 -- ---- the reply
 
 -- what a message is told, by the two tests that its turn makes
 module _ (kind : ℕ) (t : Turn) {n : ℕ} (e : n ≡ numberOf (t .answer)) where
-  pub told-image : eqb kind 5 && eqb n 0 ≡ true → told kind t ≡ Held (t .bits) (t .apart)
+  pub told-image : eqb kind 5 && eqb n 0 ≡ true → replySaid kind t ≡ Held (t .bits) (t .apart)
   told-image q = ap (λ (b : Bool). cond b (Held (t .bits) (t .apart)) (answerMessage (t .answer))) (ap (λ (x : ℕ). eqb kind 5 && eqb x 0) (sym e) ∙ q)
 
-  pub told-answer : eqb kind 5 && eqb n 0 ≡ false → told kind t ≡ answerMessage (t .answer)
+  pub told-answer : eqb kind 5 && eqb n 0 ≡ false → replySaid kind t ≡ answerMessage (t .answer)
   told-answer q = ap (λ (b : Bool). cond b (Held (t .bits) (t .apart)) (answerMessage (t .answer))) (ap (λ (x : ℕ). eqb kind 5 && eqb x 0) (sym e) ∙ q)
 
 abbrev isAsk : What → Bool
@@ -243,7 +244,7 @@ module _ (k : ℕ) where
   record Right (r : Received) : Type 0 where
     rightly : numberOf (r .answer) ≡ 0 → eqb k 5 ≡ isAsk (r .message .what)
 
-  reply-told : (w : What) (o : Outcome) → eqb k 5 ≡ isAsk w → replyOf w o ≡ replied k o
+  reply-told : (w : What) (o : Outcome) → eqb k 5 ≡ isAsk w → replyOf w o ≡ messageReply k o
   reply-told Request o e = rw e
   reply-told (Event way) o e = rw e
   reply-told (Result issue number ending) o e = rw e
@@ -256,7 +257,7 @@ module _ (k : ℕ) where
   replying : (known : Bool) (s : Station) (r : Received) → Right r
       → cond (eqb (numberOf (r .answer)) 0) (replyOf (r .message .what) (calledKnown known (r .message .what) s (r .message .count) (r .message .set)))
       (record { station = s; answer = answerMessage (r .answer) })
-      ≡ replied k (calledAs known s r)
+      ≡ messageReply k (calledAs known s r)
   replying known s r f =
       split (eqb (numberOf (r .answer)) 0)
       (λ t. rw t (reply-told (r .message .what) _ (f .rightly (eqb-true (numberOf (r .answer)) 0 t))))
@@ -269,14 +270,14 @@ module _ (k : ℕ) where
       (λ _. ways Right (inRange w) (λ _. record { rightly = λ q. e }) (λ _. record { rightly = λ q. absurd (omega arith) }))
       (λ _. record { rightly = λ q. absurd (omega arith) })
 
-right : (m : List ℕ) → Right (kindAt m) (readWhole asked m)
+right : (m : List ℕ) → Right (kindAt m) (readWhole kindsAsked m)
 unfolding readWhole
 right m =
     let k = kindAt m in
     ways (Right k) (eqb k 1) (λ e. record { rightly = λ q. rw (eqb-true k 1 e, read-is m .requests q) })
-    (λ _. ways (Right k) (eqb k 2) (λ e. sized-right k m 5 (event .says m) (rw (eqb-true k 2 e)))
-    (λ _. ways (Right k) (eqb k 3) (λ e. sized-right k m 8 (result .says m) (rw (eqb-true k 3 e)))
-    (λ _. ways (Right k) (eqb k 4) (λ e. sized-right k m 20 (image .says m) (rw (eqb-true k 4 e)))
+    (λ _. ways (Right k) (eqb k 2) (λ e. sized-right k m 5 (eventKind .says m) (rw (eqb-true k 2 e)))
+    (λ _. ways (Right k) (eqb k 3) (λ e. sized-right k m 8 (resultKind .says m) (rw (eqb-true k 3 e)))
+    (λ _. ways (Right k) (eqb k 4) (λ e. sized-right k m 20 (imageKind .says m) (rw (eqb-true k 4 e)))
     (λ _. ways (Right k) (eqb k 5) (λ e. sized-right k m 4 Ask e)
     (λ _. record { rightly = λ q. absurd (omega arith) })))))
 
@@ -289,20 +290,20 @@ module _ (known : Bool) (s : Station) (bytes : List ℕ) where
   unfolding respondKnown readAsked
   respond-wrong e = rw e
 
-  pub respond-whole : (n : ℕ) → frameOf bytes ≡ Whole n → respondKnown known s bytes ≡ replied (kindAt (take n bytes)) (heard known s (take n bytes))
-  unfolding respondKnown readAsked heard
-  respond-whole n e = rw e (replying (kindAt (take n bytes)) known s (readWhole asked (take n bytes)) (right (take n bytes)))
+  pub respond-whole : (n : ℕ) → frameOf bytes ≡ Whole n → respondKnown known s bytes ≡ messageReply (kindAt (take n bytes)) (messageCall known s (take n bytes))
+  unfolding respondKnown readAsked messageCall
+  respond-whole n e = rw e (replying (kindAt (take n bytes)) known s (readWhole kindsAsked (take n bytes)) (right (take n bytes)))
 
 -- a station by the turn of a message and the set that it brings
-module _ (known : Bool) (s : Station) (m : List ℕ) {t : Turn} (e : t ≡ turnOf (heard known s m)) where
-  pub heard-after : afterTurn s t (setOf (drop 5 m)) ≡ heard known s m
+module _ (known : Bool) (s : Station) (m : List ℕ) {t : Turn} (e : t ≡ turnOf (messageCall known s m)) where
+  pub heard-after : afterTurn s t (setOf (drop 5 m)) ≡ messageCall known s m
   heard-after = rebuilt s (setOf (drop 5 m)) e (heard-kept known s m)
 
-  pub heard-told : {k : ℕ} → k ≡ kindAt m → told k t ≡ replied (kindAt m) (heard known s m) .answer
-  heard-told f = ap₂ told f e
+  pub heard-told : {k : ℕ} → k ≡ kindAt m → replySaid k t ≡ messageReply (kindAt m) (messageCall known s m) .answer
+  heard-told f = ap₂ replySaid f e
 
-  pub reply-by : {k : ℕ} {w : What} {set : List ℕ} {o : Outcome} → k ≡ kindAt m → w ≡ told k t → set ≡ setOf (drop 5 m) → o ≡ afterTurn s t set
-      → record { station = o .station; answer = w } ≡ replied (kindAt m) (heard known s m)
+  pub reply-by : {k : ℕ} {w : What} {set : List ℕ} {o : Outcome} → k ≡ kindAt m → w ≡ replySaid k t → set ≡ setOf (drop 5 m) → o ≡ afterTurn s t set
+      → record { station = o .station; answer = w } ≡ messageReply (kindAt m) (messageCall known s m)
   reply-by f g h q =
       ap₂ (λ (x : Outcome) (w : What). record { station = x .station; answer = w }) (q ∙ ap (afterTurn s t) h ∙ heard-after) (g ∙ heard-told f)
 
@@ -338,17 +339,17 @@ module _ (s : Station) where
 
 -- the station that a message leaves, and what it is told, are the reply to it
 module _ (s : Station) (bytes : List ℕ) {known : Bool} (f : known ≡ fit s) (n : ℕ) (e : frameOf bytes ≡ Whole n) {t : Turn} {k : ℕ}
-    (h : t ≡ turnOf (heard known s (take n bytes))) (q : k ≡ kindAt (take n bytes)) where
-  reply : {x : Station} → x ≡ heard known s (take n bytes) .station → record { station = x; answer = told k t } ≡ respond s bytes
+    (h : t ≡ turnOf (messageCall known s (take n bytes))) (q : k ≡ kindAt (take n bytes)) where
+  reply : {x : Station} → x ≡ messageCall known s (take n bytes) .station → record { station = x; answer = replySaid k t } ≡ respond s bytes
   reply g =
       ap₂ (λ (x : Station) (w : What). record { station = x; answer = w }) g (heard-told known s (take n bytes) h q)
       ∙ sym (respond-whole known s bytes n e)
       ∙ known-reply s bytes f
 
-  pub reply-new : {x : Station} → x ≡ afterTurn s t (setOf (drop 5 (take n bytes))) .station → record { station = x; answer = told k t } ≡ respond s bytes
+  pub reply-new : {x : Station} → x ≡ afterTurn s t (setOf (drop 5 (take n bytes))) .station → record { station = x; answer = replySaid k t } ≡ respond s bytes
   reply-new g = reply (g ∙ ap (λ (o : Outcome). o .station) (heard-after known s (take n bytes) h))
 
   pub reply-same : t .count ≡ s .count
-      → record { station = record { bits = t .bits; count = s .count; answered = t .answered; set = s .set; next = t .next; apart = t .apart }; answer = told k t }
+      → record { station = record { bits = t .bits; count = s .count; answered = t .answered; set = s .set; next = t .next; apart = t .apart }; answer = replySaid k t }
       ≡ respond s bytes
   reply-same c = reply-new (set-stays s t (setOf (drop 5 (take n bytes))) c)

@@ -7,3 +7,8 @@ pub mod Running
 mod Turns
 pub mod Pieces
 pub mod Determined
+mod Shifting
+mod Holding
+mod Turning
+pub mod TurnStatements
+pub mod TurnsDetermined

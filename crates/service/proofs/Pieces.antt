@@ -11,14 +11,14 @@ use lib.ListN.{length, drop, length-append, List·getD-append}
 use lib.Seq.{take-append-le, drop-append-le, drop-drop}
 use Rattle.bits.specs.Places.{join}
 use Rattle.answers.specs.declared.Answer.the-variants.{TooFewBytes, BadLength}
-use Rattle.garage.specs.declared.Station.{Station}
+use Rattle.station.specs.declared.Station.{Station}
 use Rattle.wire.specs.declared.Frame.{Frame}
 use Rattle.wire.specs.declared.Frame.the-variants.{Cut, Wrong, Whole}
-use Rattle.wire.specs.Kinds.{asked}
-use Rattle.wire.specs.Reads.{frameOf, lengthAt, refused, readWhole, readFramed, readAsked}
+use Rattle.wire.specs.Kinds.{kindsAsked}
+use Rattle.wire.specs.Reads.{frameOf, lengthAt, messageRefused, readWhole, readFramed, readAsked}
 use Rattle.wire.proofs.Frames.{when, whole-frame}
 use Rattle.service.specs.Service.{respond, answerMessage, answerBytes, noBytes, goOn, answersFor, answersOn}
-use Rattle.service.specs.Runs.{Ran, after, runOf, run, lastOf, feed}
+use Rattle.service.specs.Runs.{Ran, runAfter, runOf, run, lastOf, feed}
 use Rattle.service.specs.Statements.{NoInput, CutAnywhere}
 use Rattle.service.proofs.Running.{none-cut, shorter}
 
@@ -66,11 +66,11 @@ same-reply s a b e = rw e
 pub reading-more : (a t : List ℕ) (n : ℕ) → frameOf a ≡ Whole n → readAsked (a ++ t) ≡ readAsked a
 unfolding readAsked
 reading-more a t n e =
-    ap (λ (f : Frame). readFramed asked f (a ++ t)) (whole-more a t n e)
-    ∙ ap (readWhole asked) (take-append-le n a t (whole-frame a n e .within))
-    ∙ sym (ap (λ (f : Frame). readFramed asked f a) e)
+    ap (λ (f : Frame). readFramed kindsAsked f (a ++ t)) (whole-more a t n e)
+    ∙ ap (readWhole kindsAsked) (take-append-le n a t (whole-frame a n e .within))
+    ∙ sym (ap (λ (f : Frame). readFramed kindsAsked f a) e)
 
-pub reading-wrong : (a : List ℕ) → frameOf a ≡ Wrong → readAsked a ≡ refused BadLength 0
+pub reading-wrong : (a : List ℕ) → frameOf a ≡ Wrong → readAsked a ≡ messageRefused BadLength 0
 unfolding readAsked
 reading-wrong a e = rw e
 
@@ -134,7 +134,7 @@ onwards r a t = r .bytes ++ cond (r .stop) [] (answersOn (r .station) (drop (r .
 
 turned : (f : Frame) (go : Station → List ℕ → Ran) (s : Station) (a t : List ℕ) → frameOf a ≡ f
     → ((x : Station) (u : List ℕ) → length u + 4 ≤ length a → answersOn x (u ++ t) ≡ onwards (go x u) u t)
-    → answersOn s (a ++ t) ≡ onwards (after f go s a) a t
+    → answersOn s (a ++ t) ≡ onwards (runAfter f go s a) a t
 turned Cut go s a t e rec = refl
 turned Wrong go s a t e rec = answers-wrong s (a ++ t) (wrong-more a t e) ∙ sym (append-nil _)
 turned (Whole n) go s a t e rec =
@@ -153,7 +153,7 @@ in-pieces (suc k) s a t h = turned (frameOf a) (runOf k) s a t refl (λ x u l. i
 -- what a run leaves is cut short, unless it stopped
 left : (f : Frame) (go : Station → List ℕ → Ran) (s : Station) (a : List ℕ) → frameOf a ≡ f
     → ((x : Station) (u : List ℕ) → length u + 4 ≤ length a → go x u .stop ≡ false → frameOf (drop (go x u .used) u) ≡ Cut)
-    → after f go s a .stop ≡ false → frameOf (drop (after f go s a .used) a) ≡ Cut
+    → runAfter f go s a .stop ≡ false → frameOf (drop (runAfter f go s a .used) a) ≡ Cut
 left Cut go s a e rec q = e
 left Wrong go s a e rec q = let z : _≡_ {A = ℕ} 0 1 = cc in absurd (omega arith)
 left (Whole n) go s a e rec q =

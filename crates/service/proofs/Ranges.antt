@@ -12,11 +12,11 @@ use Rattle.bits.proofs.Cases.{split, both}
 use Rattle.answers.specs.declared.Answer.{Answer}
 use Rattle.answers.specs.Answers.{numberOf, inTable, placeOf}
 use Rattle.answers.proofs.Promises.{answer-in}
-use Rattle.garage.specs.declared.Station.{Station}
-use Rattle.garage.specs.declared.Outcome.{Outcome}
-use Rattle.garage_laws.specs.Runs.{call}
-use Rattle.garage_laws.proofs.EachCall.{not-seventeen}
-use Rattle.garage_laws.proofs.Demands.{refused-untouched, places-in-range}
+use Rattle.station.specs.declared.Station.{Station}
+use Rattle.station.specs.declared.Outcome.{Outcome}
+use Rattle.station_laws.specs.Runs.{call}
+use Rattle.station_laws.proofs.EachCall.{not-seventeen}
+use Rattle.station_laws.proofs.Demands.{refused-untouched, places-in-range}
 use Rattle.wire.specs.declared.What.{What}
 use Rattle.wire.specs.declared.What.the-variants.{Request, Event, Result, Image, Ask, Held}
 use Rattle.wire.specs.Kinds.{inRange}

@@ -17,8 +17,8 @@ use Rattle.wire.specs.declared.What.{What}
 use Rattle.wire.specs.declared.Received.{Received}
 use Rattle.wire.specs.declared.Frame.{Frame}
 use Rattle.wire.specs.declared.Frame.the-variants.{Cut, Wrong, Whole}
-use Rattle.wire.specs.Kinds.{Kind, inRange, asked, requesting}
-use Rattle.wire.specs.Reads.{frameOf, kindAt, refused, taken, sized, badIn, readRequest, readAmong, readWhole, readFramed, readAsked}
+use Rattle.wire.specs.Kinds.{SizedKind, inRange, kindsAsked, requesting}
+use Rattle.wire.specs.Reads.{frameOf, kindAt, messageRefused, messageTaken, sized, badIn, readRequest, readAmong, readWhole, readFramed, readAsked}
 use Rattle.service.specs.Service.{answerMessage}
 
 -- an answer that a message can be told: in its ranges, and not 17
@@ -38,10 +38,10 @@ bad-told : (p : ℕ) → p < 8 → tellable (BadField p) ≡ true
 bad-told p h = rw (le-leb p 7 (omega arith))
 
 -- refused, with no set
-blank : {a : Answer} {n : ℕ} → tellable a ≡ true → Received-fine (refused a n)
+blank : {a : Answer} {n : ℕ} → tellable a ≡ true → Received-fine (messageRefused a n)
 blank e = record { told = e; padded = refl }
 
-requested : (c n : ℕ) (s : List ℕ) → length s ≡ 5 * c → Received-fine (taken (requesting c s) n)
+requested : (c n : ℕ) (s : List ℕ) → length s ≡ 5 * c → Received-fine (messageTaken (requesting c s) n)
 requested c n s e = record {
   told = refl;
   padded = sym (ap (λ l. l ++ replicate (40 - 5 * c) 0)
@@ -71,18 +71,18 @@ read-request-fine m =
     (λ _. requested count (length m) (drop 5 m) (length-drop 5 m ∙ omega arith)))
     (λ _. blank refl)))
 
-among-fine : (ks : List Kind) (m : List ℕ) → Received-fine (readAmong ks m)
+among-fine : (ks : List SizedKind) (m : List ℕ) → Received-fine (readAmong ks m)
 among-fine [] m = blank refl
 among-fine (k ∷ ks) m = ways Received-fine (eqb (kindAt m) (k .number)) (λ _. sized-fine m (4 + k .size) (k .says m)) (λ _. among-fine ks m)
 
-whole-fine : (ks : List Kind) (m : List ℕ) → Received-fine (readWhole ks m)
+whole-fine : (ks : List SizedKind) (m : List ℕ) → Received-fine (readWhole ks m)
 unfolding readWhole
 whole-fine ks m = ways Received-fine (eqb (kindAt m) 1) (λ _. read-request-fine m) (λ _. among-fine ks m)
 
-framed-fine : (f : Frame) (s : List ℕ) → Received-fine (readFramed asked f s)
+framed-fine : (f : Frame) (s : List ℕ) → Received-fine (readFramed kindsAsked f s)
 framed-fine Cut s = blank refl
 framed-fine Wrong s = blank refl
-framed-fine (Whole n) s = whole-fine asked (take n s)
+framed-fine (Whole n) s = whole-fine kindsAsked (take n s)
 
 pub read-fine : (s : List ℕ) → Received-fine (readAsked s)
 unfolding readAsked

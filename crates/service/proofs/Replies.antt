@@ -20,7 +20,7 @@ use Rattle.wire.specs.declared.What.{What}
 use Rattle.wire.specs.declared.What.the-variants.{Request, Event, Result, Image, Ask, Held}
 use Rattle.wire.specs.Kinds.{inRange, plain}
 use Rattle.wire.specs.declared.Written.{Written}
-use Rattle.wire.specs.Writes.{Writing, Leaves, kept, put, writing}
+use Rattle.wire.specs.Writes.{Writing, LeavesMessage, nothingWritten, put, writingMessage}
 use Rattle.wire.proofs.Room.{ranged}
 use Rattle.service.specs.Service.{answerMessage, answerBytes}
 use Rattle.service.specs.Private.{makesCall}
@@ -39,8 +39,8 @@ makes-call (Held bits apart) h = absurd (miss (0 ∷ 1 ∷ 2 ∷ 3 ∷ 4 ∷ [])
 -- ---- writing
 
 -- a message that holds no instruction, its fields in their ranges
-pub plain-written : (w : What) (room : List ℕ) → inRange w ≡ true → writing (plain w) room ≡ put (answerBytes w) room
-unfolding answerBytes writing least
+pub plain-written : (w : What) (room : List ℕ) → inRange w ≡ true → writingMessage (plain w) room ≡ put (answerBytes w) room
+unfolding answerBytes writingMessage least
 plain-written Request room e = refl
 plain-written (Event way) room e = ranged (plain (Event way)) room (Event way) refl refl e
 plain-written (Result issue number ending) room e = ranged (plain (Result issue number ending)) room (Result issue number ending) refl refl e
@@ -51,7 +51,7 @@ plain-written (Held bits apart) room e = refl
 
 -- and room that is long enough for it
 pub wrote : (w : What) (room : List ℕ) {r : Written} {last : List ℕ} → inRange w ≡ true → length (answerBytes w) ≤ length room
-    → Leaves (writing (plain w) room) r last → (r .size ≡ length (answerBytes w)) × (last ≡ answerBytes w ++ drop (length (answerBytes w)) room)
+    → LeavesMessage (writingMessage (plain w) room) r last → (r .size ≡ length (answerBytes w)) × (last ≡ answerBytes w ++ drop (length (answerBytes w)) room)
 wrote w room f h (e, l) =
     let p : put (answerBytes w) room ≡ record { says = record { answer = Taken; size = length (answerBytes w) }; leaves = answerBytes w ++ drop (length (answerBytes w)) room }
     = simp (le-ltb (length room) (length (answerBytes w)) h) in
@@ -99,22 +99,22 @@ fits-by-fifth n room =
 
 -- ---- the end of the input
 
-pub nothing-left : (held room : List ℕ) → length held ≡ 0 → Leaves (finishing held room) (record { answer = Taken; size = 0 }) room
+pub nothing-left : (held room : List ℕ) → length held ≡ 0 → LeavesMessage (finishing held room) (record { answer = Taken; size = 0 }) room
 nothing-left [] room e = simp (le-ltb (length room) 0 (omega arith)) (refl, refl)
 nothing-left (b ∷ bs) room e = absurd (omega arith)
 
 pub something-left : (held room : List ℕ) {w : What} {r : Written} {last : List ℕ} → (length held ≡ 0 → ⊥) → w ≡ answerMessage TooFewBytes
-    → Leaves (writing (plain w) room) r last → Leaves (finishing held room) r last
+    → LeavesMessage (writingMessage (plain w) room) r last → LeavesMessage (finishing held room) r last
 something-left [] room h e f = absurd (h refl)
 something-left (b ∷ bs) room {w} {r} {last} h e f =
-    let p : writing (plain w) room ≡ put (answerBytes (answerMessage TooFewBytes)) room = rw e (plain-written (answerMessage TooFewBytes) room refl) in
+    let p : writingMessage (plain w) room ≡ put (answerBytes (answerMessage TooFewBytes)) room = rw e (plain-written (answerMessage TooFewBytes) room refl) in
     (f .0 ∙ ap (λ (x : Writing). x .says) p, f .1 ∙ ap (λ (x : Writing). x .leaves) p)
 
 -- what was put stands within the room
-pub put-within : (bytes room : List ℕ) {r : Written} {last : List ℕ} → Leaves (put bytes room) r last → r .size ≤ length last
+pub put-within : (bytes room : List ℕ) {r : Written} {last : List ℕ} → LeavesMessage (put bytes room) r last → r .size ≤ length last
 put-within bytes room (e, l) = rw (e, l) (within (ltb (length room) (length bytes)))
   where
-    within : (t : Bool) → let w = cond t (kept NoRoom room)
+    within : (t : Bool) → let w = cond t (nothingWritten NoRoom room)
         (record { says = record { answer = Taken; size = length bytes }; leaves = bytes ++ drop (length bytes) room }) in
         w .says .size ≤ length (w .leaves)
     within true = omega arith

@@ -11,13 +11,13 @@ use lib.Dec.{leb, ltb}
 use lib.ListN.{length, drop, length-append, length-drop}
 use Rattle.bits.proofs.Cases.{split}
 use Rattle.answers.specs.declared.Answer.the-variants.{BadLength}
-use Rattle.garage.specs.declared.Station.{Station}
+use Rattle.station.specs.declared.Station.{Station}
 use Rattle.wire.specs.declared.Frame.{Frame}
 use Rattle.wire.specs.declared.Frame.the-variants.{Cut, Wrong, Whole}
 use Rattle.wire.specs.Reads.{frameOf}
 use Rattle.wire.proofs.Frames.{when, whole-frame}
 use Rattle.service.specs.Service.{respond, answerMessage, answerBytes}
-use Rattle.service.specs.Runs.{Ran, ends, further, after, runOf, run, enough, serving}
+use Rattle.service.specs.Runs.{Ran, runEnds, runFurther, runAfter, runOf, run, enough, serving}
 use Rattle.service.proofs.Replies.{answer-bytes-length, answer-length}
 
 -- no bytes are no whole message
@@ -37,11 +37,11 @@ wrong-long input e = when (ltb (length input) 2) Cut _ _ e (λ _ z. absurd (no z
     no z = let n : _≡_ {A = ℕ} 0 1 = cc in omega arith
 
 same-after : (f : Frame) (go ho : Station → List ℕ → Ran) (s : Station) (input : List ℕ) → frameOf input ≡ f
-    → ((x : Station) (rest : List ℕ) → length rest + 4 ≤ length input → go x rest ≡ ho x rest) → after f go s input ≡ after f ho s input
+    → ((x : Station) (rest : List ℕ) → length rest + 4 ≤ length input → go x rest ≡ ho x rest) → runAfter f go s input ≡ runAfter f ho s input
 same-after Cut go ho s input e h = refl
 same-after Wrong go ho s input e h = refl
 same-after (Whole n) go ho s input e h =
-    ap (further n (answerBytes (respond s input .answer))) (h (respond s input .station) (drop n input) (shorter input n e))
+    ap (runFurther n (answerBytes (respond s input .answer))) (h (respond s input .station) (drop n input) (shorter input n e))
 
 -- more turns than bytes change nothing
 same : (k j : ℕ) (s : Station) (input : List ℕ) → length input ≤ k → length input ≤ j → runOf k s input ≡ runOf j s input
@@ -53,30 +53,30 @@ same (suc k) (suc j) s input h g =
     same-after (frameOf input) (runOf k) (runOf j) s input refl (λ x rest l. same k j x rest (omega arith) (omega arith))
 
 -- one turn, and then as many as there were
-unrolled : (s : Station) (input : List ℕ) → run s input ≡ after (frameOf input) (runOf (length input)) s input
+unrolled : (s : Station) (input : List ℕ) → run s input ≡ runAfter (frameOf input) (runOf (length input)) s input
 unfolding runOf
 unrolled s input = same (length input) (suc (length input)) s input (omega arith) (omega arith)
 
-pub turn-cut : (s : Station) (input : List ℕ) → frameOf input ≡ Cut → run s input ≡ ends s [] false
+pub turn-cut : (s : Station) (input : List ℕ) → frameOf input ≡ Cut → run s input ≡ runEnds s [] false
 turn-cut s input e = unrolled s input ∙ rw e
 
-pub turn-wrong : (s : Station) (input : List ℕ) → frameOf input ≡ Wrong → run s input ≡ ends s (answerBytes (answerMessage BadLength)) true
+pub turn-wrong : (s : Station) (input : List ℕ) → frameOf input ≡ Wrong → run s input ≡ runEnds s (answerBytes (answerMessage BadLength)) true
 turn-wrong s input e = unrolled s input ∙ rw e
 
 pub turn-whole : (s : Station) (input : List ℕ) (n : ℕ) → frameOf input ≡ Whole n
-    → run s input ≡ further n (answerBytes (respond s input .answer)) (run (respond s input .station) (drop n input))
+    → run s input ≡ runFurther n (answerBytes (respond s input .answer)) (run (respond s input .station) (drop n input))
 turn-whole s input n e =
     let l = shorter input n e in
     unrolled s input
     ∙ rw e
-    (ap (further n (answerBytes (respond s input .answer)))
+    (ap (runFurther n (answerBytes (respond s input .answer)))
     (same (length input) (length (drop n input)) (respond s input .station) (drop n input) (omega arith) (omega arith)))
 
 -- nothing before it, and one thing after another before it
-pub further-none : (r : Ran) → r ≡ further 0 [] r
+pub further-none : (r : Ran) → r ≡ runFurther 0 [] r
 further-none r = ap (λ (n : ℕ). record { station = r .station; used = n; bytes = r .bytes; stop = r .stop }) (sym (zero-add (r .used)))
 
-pub further-more : (a b : ℕ) (x y : List ℕ) (r : Ran) → further a x (further b y r) ≡ further (a + b) (x ++ y) r
+pub further-more : (a b : ℕ) (x y : List ℕ) (r : Ran) → runFurther a x (runFurther b y r) ≡ runFurther (a + b) (x ++ y) r
 further-more a b x y r = rw (add-assoc, append-assoc)
 
 -- ---- a run stays within its input, and its answers within the room that is enough
@@ -86,7 +86,7 @@ pub record Within (r : Ran) (n : ℕ) : Type 0 where
   pub made : length (r .bytes) ≤ enough n
 
 after-within : (f : Frame) (go : Station → List ℕ → Ran) (s : Station) (input : List ℕ) → frameOf input ≡ f
-    → ((x : Station) (rest : List ℕ) → length rest + 4 ≤ length input → Within (go x rest) (length rest)) → Within (after f go s input) (length input)
+    → ((x : Station) (rest : List ℕ) → length rest + 4 ≤ length input → Within (go x rest) (length rest)) → Within (runAfter f go s input) (length input)
 after-within Cut go s input e h = record { used = omega arith; made = omega arith }
 after-within Wrong go s input e h = record { used = omega arith; made = omega (arith, wrong-long input e, answer-length BadLength) }
 after-within (Whole n) go s input e h =

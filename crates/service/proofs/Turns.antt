@@ -8,14 +8,14 @@ use native.Mathlib.Omega.{arith}
 use lib.ListN.{length, take, drop, length-append, length-take, length-drop, drop-of-length-le}
 use lib.Seq.{length-take-le, take-all, take-at, drop-at, drop-drop}
 use Rattle.answers.specs.declared.Answer.the-variants.{Taken, BadLength}
-use Rattle.garage.specs.declared.Station.{Station}
+use Rattle.station.specs.declared.Station.{Station}
 use Rattle.wire.specs.declared.Frame.the-variants.{Cut, Wrong, Whole}
 use Rattle.wire.specs.declared.What.{What}
 use Rattle.wire.specs.Reads.{frameOf}
 use Rattle.wire.proofs.Frames.{whole-frame}
 use Rattle.service.specs.declared.Reply.{Reply}
 use Rattle.service.specs.Service.{respond, answerMessage, answerBytes}
-use Rattle.service.specs.Runs.{ends, further, run, enough, Serves, served}
+use Rattle.service.specs.Runs.{runEnds, runFurther, run, enough, Serves, served}
 use Rattle.service.proofs.Replies.{answer-bytes-length, answer-length}
 use Rattle.service.proofs.Running.{shorter, wrong-long, turn-cut, turn-wrong, turn-whole, further-none, further-more}
 
@@ -42,7 +42,7 @@ pub record Midway (input before : List ℕ) (s₀ : Station) (out : List ℕ) (s
   pub small : made ≤ enough at
   pub long : length out ≡ length before
   pub room : out ≡ take made out ++ drop made before
-  pub rest : run s₀ input ≡ further at (take made out) (run s (drop at input))
+  pub rest : run s₀ input ≡ runFurther at (take made out) (run s (drop at input))
 
 pub started : (input before : List ℕ) (s : Station) → Midway input before s before s 0 0
 started input before s = record { within = omega arith; small = omega arith; long = refl; room = refl; rest = further-none _ }
@@ -69,10 +69,10 @@ module _ {input before : List ℕ} {s₀ : Station} {out : List ℕ} {s : Statio
       rw f (simp (length-take, length-drop) (omega arith))
 
   -- the run ends here, and b is the last that it says
-  ended : (b last : List ℕ) (stop : Bool) → run s (drop at input) ≡ ends s b stop → last ≡ (take made out ++ b) ++ drop (made + length b) before
+  ended : (b last : List ℕ) (stop : Bool) → run s (drop at input) ≡ runEnds s b stop → last ≡ (take made out ++ b) ++ drop (made + length b) before
       → Serves (served (run s₀ input) before) (record { answer = Taken; station = s; used = at; made = made + length b; stop = stop }) last
   ended b last stop e h =
-      rw (m .rest ∙ ap (further at (take made out)) e, add-zero, length-append (take made out) b, done-length) (refl, h)
+      rw (m .rest ∙ ap (runFurther at (take made out)) e, add-zero, length-append (take made out) b, done-length) (refl, h)
 
   -- a message that is cut short
   pub cut-short : frameOf (drop at input) ≡ Cut
@@ -112,7 +112,7 @@ module _ {input before : List ℕ} {s₀ : Station} {out : List ℕ} {s : Statio
           room = more ∙ rw (all-said, size);
           rest =
               m .rest
-              ∙ ap (further at (take made out)) (turn-whole s (drop at input) n e)
+              ∙ ap (runFurther at (take made out)) (turn-whole s (drop at input) n e)
               ∙ further-more at n (take made out) (answerBytes (x .answer)) (run (x .station) (drop n (drop at input)))
               ∙ rw (← f, ← g, all-said, drop-drop n at input);
         }

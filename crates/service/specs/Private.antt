@@ -4,15 +4,15 @@ use mathlib.Core.List.{List}
 use Prim.Native.Nat.{ℕ}
 use lib.Dec.{eqb}
 use Rattle.answers.specs.Answers.{numberOf}
-use Rattle.garage.specs.declared.Station.{Station}
-use Rattle.garage.specs.declared.Outcome.{Outcome}
-use Rattle.garage.specs.declared.Turn.{Turn}
-use Rattle.garage.specs.Calls.{refused}
-use Rattle.garage.specs.Turns.{turnOf}
+use Rattle.station.specs.declared.Station.{Station}
+use Rattle.station.specs.declared.Outcome.{Outcome}
+use Rattle.station.specs.declared.Turn.{Turn}
+use Rattle.station.specs.Calls.{refused}
+use Rattle.station.specs.Turns.{turnOf}
 use Rattle.wire.specs.declared.What.{What}
 use Rattle.wire.specs.declared.What.the-variants.{Request, Event, Result, Image, Ask, Answer, Held}
 use Rattle.wire.specs.declared.Received.{Received}
-use Rattle.wire.specs.Kinds.{ask, asked}
+use Rattle.wire.specs.Kinds.{askKind, kindsAsked}
 use Rattle.wire.specs.Reads.{readWhole}
 use Rattle.service.specs.declared.Reply.{Reply}
 use Rattle.service.specs.Service.{answerMessage, calledKnown}
@@ -35,13 +35,13 @@ calledAs known s r =
     (refused s (r .answer))
 
 -- a message whose bytes are exactly m as a call
-unfoldable pub heard : Bool → Station → List ℕ → Outcome
-heard known s m = calledAs known s (readWhole asked m)
+unfoldable pub messageCall : Bool → Station → List ℕ → Outcome
+messageCall known s m = calledAs known s (readWhole kindsAsked m)
 
 -- what a message of this kind is told after its turn: an ask that was taken, the image
-abbrev pub told : ℕ → Turn → What
-told kind t = cond (eqb kind (ask .number) && eqb (numberOf (t .answer)) 0) (Held (t .bits) (t .apart)) (answerMessage (t .answer))
+abbrev pub replySaid : ℕ → Turn → What
+replySaid kind t = cond (eqb kind (askKind .number) && eqb (numberOf (t .answer)) 0) (Held (t .bits) (t .apart)) (answerMessage (t .answer))
 
 -- the reply to it
-abbrev pub replied : ℕ → Outcome → Reply
-replied kind o = record { station = o .station; answer = told kind (turnOf o) }
+abbrev pub messageReply : ℕ → Outcome → Reply
+messageReply kind o = record { station = o .station; answer = replySaid kind (turnOf o) }

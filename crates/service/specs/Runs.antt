@@ -7,7 +7,7 @@ use Prim.Native.Nat.{ℕ, zero, suc, _+_, _*_}
 use lib.Dec.{leb}
 use lib.ListN.{length, drop}
 use Rattle.answers.specs.declared.Answer.the-variants.{Taken, TooFewBytes, BadLength, NoRoom}
-use Rattle.garage.specs.declared.Station.{Station}
+use Rattle.station.specs.declared.Station.{Station}
 use Rattle.wire.specs.declared.Frame.{Frame}
 use Rattle.wire.specs.declared.Frame.the-variants.{Cut, Wrong, Whole}
 use Rattle.wire.specs.Reads.{frameOf}
@@ -23,23 +23,23 @@ pub record Ran : Type 0 where
   pub stop : Bool
 
 -- the run ends here, with these last bytes
-abbrev pub ends : Station → List ℕ → Bool → Ran
-ends s bytes stop = record { station = s; used = 0; bytes = bytes; stop = stop }
+abbrev pub runEnds : Station → List ℕ → Bool → Ran
+runEnds s bytes stop = record { station = s; used = 0; bytes = bytes; stop = stop }
 
 -- n bytes taken and these answered before it
-abbrev pub further : ℕ → List ℕ → Ran → Ran
-further n bytes r = record { station = r .station; used = n + r .used; bytes = bytes ++ r .bytes; stop = r .stop }
+abbrev pub runFurther : ℕ → List ℕ → Ran → Ran
+runFurther n bytes r = record { station = r .station; used = n + r .used; bytes = bytes ++ r .bytes; stop = r .stop }
 
 -- one message, and then what go says of the rest: a message that is cut short is left, a wrong length is answered with 2 and stops the run
-abbrev pub after : Frame → (Station → List ℕ → Ran) → Station → List ℕ → Ran
-after Cut go s input = ends s [] false
-after Wrong go s input = ends s (answerBytes (answerMessage BadLength)) true
-after (Whole n) go s input = further n (answerBytes (respond s input .answer)) (go (respond s input .station) (drop n input))
+abbrev pub runAfter : Frame → (Station → List ℕ → Ran) → Station → List ℕ → Ran
+runAfter Cut go s input = runEnds s [] false
+runAfter Wrong go s input = runEnds s (answerBytes (answerMessage BadLength)) true
+runAfter (Whole n) go s input = runFurther n (answerBytes (respond s input .answer)) (go (respond s input .station) (drop n input))
 
 -- at most so many messages
 unfoldable pub runOf : ℕ → Station → List ℕ → Ran
-runOf zero s input = ends s [] false
-runOf (suc k) s input = after (frameOf input) (runOf k) s input
+runOf zero s input = runEnds s [] false
+runOf (suc k) s input = runAfter (frameOf input) (runOf k) s input
 
 -- all of them: each takes a byte at least
 abbrev pub run : Station → List ℕ → Ran

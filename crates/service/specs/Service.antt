@@ -8,10 +8,10 @@ use lib.ListN.{length, drop}
 use Rattle.answers.specs.declared.Answer.{Answer}
 use Rattle.answers.specs.declared.Answer.the-variants.{Unfit, UnknownKind}
 use Rattle.answers.specs.Answers.{numberOf, placeOf, issueOf}
-use Rattle.garage.specs.declared.Station.{Station}
-use Rattle.garage.specs.declared.Outcome.{Outcome}
-use Rattle.garage.specs.Station.{startOf}
-use Rattle.garage.specs.Calls.{refused, taken, requested, request, evented, event, resulted, result, imaged, takeImage, ask}
+use Rattle.station.specs.declared.Station.{Station}
+use Rattle.station.specs.declared.Outcome.{Outcome}
+use Rattle.station.specs.Station.{startOf}
+use Rattle.station.specs.Calls.{refused, taken, requested, request, evented, event, resulted, result, imaged, takeImage, ask}
 use Rattle.wire.specs.declared.What.{What}
 use Rattle.wire.specs.declared.What.the-variants.{Request, Event, Result, Image, Ask, Held}
 use Rattle.wire.specs.declared.Frame.{Frame}

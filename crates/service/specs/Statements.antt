@@ -6,8 +6,8 @@ use mathlib.Core.List.{List, []}
 use Prim.Native.Nat.{ℕ, _≤_}
 use Rattle.bits.specs.Places.{join}
 use Rattle.answers.specs.Answers.{OfTable, nowhere}
-use Rattle.garage.specs.declared.Station.{Station}
-use Rattle.garage.specs.Station.{fit}
+use Rattle.station.specs.declared.Station.{Station}
+use Rattle.station.specs.Station.{fit}
 use Rattle.wire.specs.declared.What.{What}
 use Rattle.wire.specs.declared.What.the-variants.{Request, Event, Result, Image, Ask, Held}
 use Rattle.wire.specs.Kinds.{inRange}

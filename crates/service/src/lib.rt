@@ -5,22 +5,24 @@ ghost use mathlib.Core.List.{_++_};
 ghost use Prim.Native.Nat.{_≤_};
 ghost use lib.Dec.{leb};
 ghost use lib.ListN.{length, drop, replicate};
-ghost use Rattle.garage.specs.Calls.{refused};
-ghost use Rattle.garage.specs.Turns.{turnOf, afterTurn};
-ghost use Rattle.wire.specs.Kinds.{first, request, inRange, setOf};
+ghost use Rattle.station.specs.Calls.{refused};
+ghost use Rattle.station.specs.Turns.{turnOf, afterTurn};
+ghost use Rattle.wire.specs.Kinds.{firstInstruction, requestKind, inRange, setOf};
 ghost use Rattle.wire.specs.Reads.{kindAt};
-ghost use Rattle.wire.specs.Writes.{Leaves};
+ghost use Rattle.wire.specs.Writes.{LeavesMessage};
 ghost use Rattle.service.specs.Service.{answerMessage, respond, calledKnown, respondKnown, answerBytes};
-ghost use Rattle.service.specs.Private.{makesCall, heard, told, replied};
+ghost use Rattle.service.specs.Private.{makesCall, messageCall, replySaid, messageReply};
 ghost use Rattle.service.specs.Runs.{Serves, run, enough, served, serving, finishing};
 use answers::Answer;
-use garage::Picture;
-use garage::Report;
-use garage::Station;
-use garage::Turn;
+use station::Picture;
+use station::Report;
+use station::Station;
+use station::Turn;
 use wire::Frame;
 use wire::What;
 use wire::Written;
+
+pub mod buffer;
 
 // What a message leaves: the next station, and what it is answered with.
 pub struct Reply {
@@ -106,7 +108,7 @@ fn turn(known: bool, what: What, s: Station) -> Turn
 
 // The places of the set that a request brings.
 fn fresh(m: &[u8]) -> [u8; 40]
-    ensures { λ r. ⌜ r ≡ setOf (drop first (now (m .entry))) ⌝ }
+    ensures { λ r. ⌜ r ≡ setOf (drop firstInstruction (now (m .entry))) ⌝ }
 {
     if m.len() < 5 {
         return [0; 40];
@@ -116,8 +118,8 @@ fn fresh(m: &[u8]) -> [u8; 40]
 
 // A request on a fit station that holds no set: its instructions are read once, by the call, which tells a bad one as a reader does.
 fn opening(s: Station, m: &[u8]) -> Turn
-    requires { ⌜ (kindAt (now m) ≡ request) × (s .count ≡ 0) ⌝ }
-    ensures { λ t. ⌜ t ≡ turnOf (heard true s (now (m .entry))) ⌝ }
+    requires { ⌜ (kindAt (now m) ≡ requestKind) × (s .count ≡ 0) ⌝ }
+    ensures { λ t. ⌜ t ≡ turnOf (messageCall true s (now (m .entry))) ⌝ }
 {
     let count = wire::byte(m, 4);
     if 8 < count {
@@ -132,8 +134,8 @@ fn opening(s: Station, m: &[u8]) -> Turn
 
 // A request on any station.
 fn asked(known: bool, s: Station, m: &[u8]) -> Turn
-    requires { ⌜ kindAt (now m) ≡ request ⌝ }
-    ensures { λ t. ⌜ t ≡ turnOf (heard known s (now (m .entry))) ⌝ }
+    requires { ⌜ kindAt (now m) ≡ requestKind ⌝ }
+    ensures { λ t. ⌜ t ≡ turnOf (messageCall known s (now (m .entry))) ⌝ }
 {
     if known & (s.count == 0) {
         return opening(s, m);
@@ -151,7 +153,7 @@ fn asked(known: bool, s: Station, m: &[u8]) -> Turn
 
 // The turn of a message whose bytes are exactly m.
 fn heard(known: bool, s: Station, m: &[u8]) -> Turn
-    ensures { λ t. ⌜ t ≡ turnOf (heard known s (now (m .entry))) ⌝ }
+    ensures { λ t. ⌜ t ≡ turnOf (messageCall known s (now (m .entry))) ⌝ }
 {
     if wire::kind_at(m) == 1 {
         return asked(known, s, m);
@@ -178,7 +180,7 @@ fn answer_message(answer: Answer) -> What
 
 // What a message of this kind is told after its turn: an ask that was taken, the image.
 fn told(kind: u16, t: Turn) -> What
-    ensures { λ w. ⌜ w ≡ told kind t ⌝ }
+    ensures { λ w. ⌜ w ≡ replySaid kind t ⌝ }
 {
     let answer = t.answer;
     if (kind == 5) & (answer.number() == 0) {
@@ -192,7 +194,7 @@ fn told(kind: u16, t: Turn) -> What
 
 // The reply to a message whose bytes are exactly m.
 fn answered(known: bool, s: Station, m: &[u8]) -> Reply
-    ensures { λ r. ⌜ r ≡ replied (kindAt (now (m .entry))) (heard known s (now (m .entry))) ⌝ }
+    ensures { λ r. ⌜ r ≡ messageReply (kindAt (now (m .entry))) (messageCall known s (now (m .entry))) ⌝ }
 {
     let t = heard(known, s, m);
     let answer = told(wire::kind_at(m), t);
@@ -256,8 +258,8 @@ fn put(answer: Answer, out: &mut [u8]) -> usize
 
 // The same of what a message of this kind is told after its turn.
 fn tell(kind: u16, t: Turn, out: &mut [u8]) -> usize
-    requires { ⌜ length (answerBytes (told kind t)) ≤ length (now out) ⌝ }
-    ensures { λ n. ⌜ (n ≡ length (answerBytes (told kind t))) × (now (out .exit) ≡ answerBytes (told kind t) ++ drop (length (answerBytes (told kind t))) (now (out .entry))) ⌝ }
+    requires { ⌜ length (answerBytes (replySaid kind t)) ≤ length (now out) ⌝ }
+    ensures { λ n. ⌜ (n ≡ length (answerBytes (replySaid kind t))) × (now (out .exit) ≡ answerBytes (replySaid kind t) ++ drop (length (answerBytes (replySaid kind t))) (now (out .entry))) ⌝ }
 {
     let answer = t.answer;
     if (kind == 5) & (answer.number() == 0) {
@@ -274,7 +276,7 @@ fn tell(kind: u16, t: Turn, out: &mut [u8]) -> usize
 
 // The station that a turn leaves where its set changes.
 fn left(s: Station, t: Turn, m: &[u8]) -> Station
-    ensures { λ x. ⌜ x ≡ afterTurn s t (setOf (drop first (now (m .entry)))) .station ⌝ }
+    ensures { λ x. ⌜ x ≡ afterTurn s t (setOf (drop firstInstruction (now (m .entry)))) .station ⌝ }
 {
     if s.count < t.count {
         let set = fresh(m);
@@ -363,7 +365,7 @@ pub fn serve(s: Station, input: &[u8], out: &mut [u8]) -> Served
 
 // The end of the input: where bytes of a message that was cut short are left over, they are answered with 1.
 pub fn finish(held: &[u8], out: &mut [u8]) -> Written
-    ensures { λ r. ⌜ Leaves (finishing (now (held .entry)) (now (out .entry))) r (now (out .exit)) ⌝ }
+    ensures { λ r. ⌜ LeavesMessage (finishing (now (held .entry)) (now (out .entry))) r (now (out .exit)) ⌝ }
 {
     if held.len() == 0 {
         return Written {

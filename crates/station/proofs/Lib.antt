@@ -1,3 +1,7 @@
-mod Turning
-mod Adding
-mod OpeningStands
+pub mod Areas
+pub mod Padding
+pub mod Loops
+pub mod Marks
+pub mod Moves
+pub mod Issues
+pub mod Turns

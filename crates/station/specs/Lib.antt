@@ -1,3 +1,5 @@
-pub mod Words
-pub mod Keeping
-pub mod Opened
+pub mod Held
+pub mod Station
+pub mod Calls
+pub mod Turns
+pub mod Private

@@ -5,14 +5,14 @@ use Prim.Native.Nat.{ℕ, _≤_, _<_}
 use native.Mathlib.Omega.{arith}
 use borrow.Author.Tests.{lt-ltb, le-ltb}
 use lib.ListN.{length}
+use Rattle.codec.specs.Bytes.{littleEndian}
 use Rattle.answers.specs.declared.Answer.{Answer}
 use Rattle.answers.specs.declared.Answer.the-variants.{TooFewBytes, BadField, NoRoom}
 use Rattle.rules.specs.declared.Area.{Area}
 use Rattle.rules.specs.declared.Reading.{Reading}
 use Rattle.rules.specs.Codes.{readBytes}
 use Rattle.rules.specs.Verdicts.{onCode, sharingOf}
-use Rattle.wire.specs.Kinds.{littleEndian}
-use Rattle.rooms.specs.Rooms.{returned, Leaves, writes, told}
+use Rattle.rooms.specs.Rooms.{returned, LeavesRoom, writes, telling}
 use Rattle.rooms.proofs.Rooms.{as-writes}
 use Rattle.station_c.specs.Sets.{areaIn, areaSaid, areaBits, areaAnswer, areaInto, sharingSaid, pairAnswer}
 
@@ -20,18 +20,18 @@ use Rattle.station_c.specs.Sets.{areaIn, areaSaid, areaBits, areaAnswer,
 
 module _ (five room : List ℕ) where
   -- its room is too short
-  pub area-short : {r : ℕ} → length room < 8 → r ≡ returned NoRoom → Leaves (areaInto five room) r room
+  pub area-short : {r : ℕ} → length room < 8 → r ≡ returned NoRoom → LeavesRoom (areaInto five room) r room
   unfolding areaInto
   area-short h e = rw (lt-ltb _ _ h) (e, refl)
 
   -- too few bytes say no instruction
-  pub area-few : {r : ℕ} → 8 ≤ length room → length five < 5 → r ≡ returned TooFewBytes → Leaves (areaInto five room) r room
+  pub area-few : {r : ℕ} → 8 ≤ length room → length five < 5 → r ≡ returned TooFewBytes → LeavesRoom (areaInto five room) r room
   unfolding areaInto areaAnswer writes
   area-few h l e = rw (le-ltb _ _ h, lt-ltb _ _ l) (e, refl)
 
   -- else it is written, or there is none
   pub area-told : {m : Area} {a : Answer} {x : ℕ} {b : List ℕ} {n r : ℕ} {last : List ℕ} → 8 ≤ length room → 5 ≤ length five → m ≡ areaIn five
-      → a ≡ areaSaid m → x ≡ areaBits m → b ≡ littleEndian 8 x → n ≡ returned a → Leaves (told n b room) r last → Leaves (areaInto five room) r last
+      → a ≡ areaSaid m → x ≡ areaBits m → b ≡ littleEndian 8 x → n ≡ returned a → LeavesRoom (telling n b room) r last → LeavesRoom (areaInto five room) r last
   unfolding areaInto areaAnswer
   area-told {m} {a} {x} {b} h l e f g k q w =
       let size : length b ≡ 8 = ap length k in

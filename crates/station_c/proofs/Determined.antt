@@ -2,10 +2,10 @@
 use mathlib.Core.Path.{_≡_, sym, _∙_}
 use mathlib.Core.List.{List}
 use Prim.Native.Nat.{ℕ}
-use Rattle.rooms.specs.Rooms.{Entry, Leaves}
+use Rattle.rooms.specs.Rooms.{Entry, LeavesRoom}
 use Rattle.station_c.specs.Entries.{Exchange, Exchanges}
 
-pub one-entry : (e : Entry) (r s : ℕ) (room other : List ℕ) → Leaves e r room → Leaves e s other → (r ≡ s) × (room ≡ other)
+pub one-entry : (e : Entry) (r s : ℕ) (room other : List ℕ) → LeavesRoom e r room → LeavesRoom e s other → (r ≡ s) × (room ≡ other)
 one-entry e r s room other p q = (p .0 ∙ sym (q .0), p .1 ∙ sym (q .1))
 
 pub one-exchange : (e : Exchange) (r s : ℕ) (room other reply another : List ℕ)

@@ -13,14 +13,14 @@ use lib.Seq.{take-length}
 use Rattle.bits.proofs.Cases.{split, off}
 use Rattle.answers.specs.declared.Answer.the-variants.{Taken, NoRoom}
 use Rattle.answers.specs.Answers.{numberOf}
-use Rattle.garage.specs.declared.Station.{Station}
+use Rattle.station.specs.declared.Station.{Station}
 use Rattle.wire.proofs.What as what
 use Rattle.wire.specs.declared.What.{What}
 use Rattle.wire.specs.declared.What.the-variants.{Request, Event, Result, Image, Ask, Held}
 use Rattle.wire.specs.declared.Written.{Written}
 use Rattle.wire.specs.Kinds.{plain}
 use Rattle.wire.specs.Writes as writes
-use Rattle.wire.specs.Writes.{Writing, writing}
+use Rattle.wire.specs.Writes.{Writing, writingMessage}
 use Rattle.service.specs.declared.Reply.{Reply}
 use Rattle.service.specs.Service as service
 use Rattle.service.specs.Service.{respond}
@@ -45,19 +45,19 @@ module _ (room message reply : List ℕ) where
   short-room h e = rw (lt-ltb _ _ h) (e, refl, refl)
 
   module _ {s : Station} {o : Reply} {w : Written} {last : List ℕ} (h : 60 ≤ length room) (e : s ≡ stationOf room) (f : o ≡ respond s message)
-      (g : writes.Leaves (writing (plain (o .answer)) reply) w last) where
+      (g : writes.LeavesMessage (writingMessage (plain (o .answer)) reply) w last) where
     -- the reply's room is too short
     short : Bool
     short = ltb (length reply) (length (service.answerBytes (o .answer)))
 
-    written : writing (plain (o .answer)) reply ≡ writes.put (service.answerBytes (o .answer)) reply
+    written : writingMessage (plain (o .answer)) reply ≡ writes.put (service.answerBytes (o .answer)) reply
     written = plain-written (o .answer) reply (rw f (replies-in-range s message))
 
     -- then nothing was written
     not-wrote : short ≡ true → (w .answer ≡ NoRoom) × (last ≡ reply)
     unfolding short
     not-wrote t =
-        let q : writing (plain (o .answer)) reply ≡ writes.kept NoRoom reply = written ∙ rw t in
+        let q : writingMessage (plain (o .answer)) reply ≡ writes.nothingWritten NoRoom reply = written ∙ rw t in
         (ap (λ (x : Written). x .answer) (g .0 ∙ ap (λ (x : Writing). x .says) q), g .1 ∙ ap (λ (x : Writing). x .leaves) q)
 
     -- else all of it was
@@ -65,7 +65,7 @@ module _ (room message reply : List ℕ) where
     unfolding short
     wrote t =
         let b = service.answerBytes (o .answer) in
-        let q : writing (plain (o .answer)) reply ≡ record { says = record { answer = Taken; size = length b }; leaves = b ++ drop (length b) reply } = written ∙ rw t in
+        let q : writingMessage (plain (o .answer)) reply ≡ record { says = record { answer = Taken; size = length b }; leaves = b ++ drop (length b) reply } = written ∙ rw t in
         (ap (λ (x : Written). x .answer) (g .0 ∙ ap (λ (x : Writing). x .says) q), g .1 ∙ ap (λ (x : Writing). x .leaves) q)
 
     pub short-reply : {n r : ℕ} → n ≡ numberOf (w .answer) → (n ≡ 0 → ⊥) → r ≡ returned (w .answer) → Exchanges (exchange room message reply) r room last

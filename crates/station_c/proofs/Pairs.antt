@@ -28,9 +28,9 @@ use Rattle.rules.specs.Codes.{readCode, readBytes, codeFrom}
 use Rattle.rules.specs.Verdicts.{onCode, maskOf, sharingOf}
 use Rattle.rules.proofs.CodeLaws.{one-form}
 use Rattle.rules.proofs.Frame.{area-small}
-use Rattle.garage.specs.Held.{codeAt, heldArea}
-use Rattle.garage.specs.Private.{heldMask}
-use Rattle.garage.proofs.Areas.{partsMask, touching}
+use Rattle.station.specs.Held.{codeAt, heldArea}
+use Rattle.station.specs.Private.{heldMask}
+use Rattle.station.proofs.Areas.{partsMask, touching}
 use Rattle.rooms.proofs.Promises.{eight-back}
 use Rattle.rooms.specs.Rooms.{writes}
 use Rattle.station_c.specs.Sets.{areaIn, areaAnswer, areaInto, sharingSaid, pairAnswer}

@@ -7,28 +7,28 @@ use borrow.Author.Tests.{ne-eqb}
 use lib.Dec.{ltb}
 use lib.ListN.{length}
 use Rattle.bits.proofs.Cases.{split}
+use Rattle.codec.specs.Bytes.{littleEndian}
 use Rattle.answers.specs.declared.Answer.{Answer}
 use Rattle.answers.specs.declared.Answer.the-variants.{Taken, NoRoom}
 use Rattle.answers.specs.Answers.{OfTable}
 use Rattle.answers.proofs.Promises.{number-byte}
-use Rattle.garage.specs.Calls.{ask}
+use Rattle.station.specs.Calls.{ask}
 use Rattle.wire.specs.declared.What.{What}
 use Rattle.wire.specs.declared.What.the-variants.{Request, Event, Result, Image, Ask, Held}
-use Rattle.wire.specs.Kinds.{littleEndian}
 use Rattle.service.specs.Service as service
 use Rattle.service.specs.Service.{respond}
 use Rattle.service.specs.Statements.{Answers}
 use Rattle.service.proofs.Ranges.{always-answered, never-seventeen}
 use Rattle.rooms.specs.Rooms.{stationBytes, stationOf, imageBytes, returned, writes, entry}
-use Rattle.rooms.specs.Questions.{judgement}
+use Rattle.rooms.specs.Questions.{requestAnswer}
 use Rattle.station_c.specs.Entries.{asking, returnedOf, exchange}
 use Rattle.station_c.specs.Sets.{areaIn, areaBits, areaAnswer, areaInto, pairAnswer}
 use Rattle.rooms.proofs.Promises.{refused-writes, of-table, next-untouched, next-of-table}
-use Rattle.station_c.specs.Promises.{RefusedUntouched, AskRefusedUntouched, NextRefusedUntouched, MessageRefusedUntouched, AreaRefusedUntouched, NumbersInTable}
+use Rattle.station_c.specs.Promises.{StationEntryUntouched, AskRefusedUntouched, NextRefusedUntouched, MessageRefusedUntouched, AreaRefusedUntouched, NumbersInTable}
 
 -- ---- refused, nothing is written
 
-pub refused-untouched : RefusedUntouched
+pub refused-untouched : StationEntryUntouched
 unfolding entry writes
 refused-untouched call room h = split (ltb (length room) 60)
     (λ t. rw t)
@@ -71,7 +71,7 @@ numbers-in-table = (
   λ room message reply. split (ltb (length room) 60 || ltb (length reply) (length (service.answerBytes (respond (stationOf room) message .answer))))
       (λ t. rw t (of-table NoRoom))
       (λ t. rw t (reply-of-table (respond (stationOf room) message .answer) (always-answered (stationOf room) message))),
-  λ r five. of-table (judgement r five),
+  λ r five. of-table (requestAnswer r five),
   next-of-table,
   λ five room. split (ltb (length room) 8) (λ t. rw t (of-table NoRoom)) (λ t. rw t (of-table (areaAnswer five))),
   λ one other. of-table (pairAnswer one other),

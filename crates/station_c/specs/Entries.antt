@@ -9,7 +9,7 @@ use lib.ListN.{length, drop}
 use Rattle.floor.specs.declared.Total.{Total}
 use Rattle.floor.specs.declared.Total.the-variants.{Cars, Unsound}
 use Rattle.answers.specs.declared.Answer.the-variants.{Taken, NoRoom}
-use Rattle.garage.specs.Calls.{ask}
+use Rattle.station.specs.Calls.{ask}
 use Rattle.wire.specs.declared.What.{What}
 use Rattle.wire.specs.declared.What.the-variants.{Request, Event, Result, Image, Ask, Held}
 use Rattle.rooms.specs.Rooms.{stationSize, stationBytes, stationOf, imageBytes, returned, Entry, writes, noRoom}

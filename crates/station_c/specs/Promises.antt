@@ -5,20 +5,20 @@ use mathlib.Core.List.{List}
 use Prim.Native.Nat.{ℕ, _/_, _%_, _^_, _<_}
 use lib.Bits.{bitAnd}
 use lib.Dec.{eqb}
+use Rattle.codec.specs.Bytes.{fromLittleEndian}
 use Rattle.answers.specs.declared.Answer.the-variants.{Taken, Overlap}
 use Rattle.answers.specs.Answers.{numberOf, OfTable}
-use Rattle.garage.specs.declared.Station.{Station}
-use Rattle.garage.specs.declared.Outcome.{Outcome}
-use Rattle.garage.specs.Held.{touches}
-use Rattle.wire.specs.Kinds.{fromLittleEndian}
+use Rattle.station.specs.declared.Station.{Station}
+use Rattle.station.specs.declared.Outcome.{Outcome}
+use Rattle.station.specs.Held.{touches}
 use Rattle.rooms.specs.Rooms.{returned, entry}
-use Rattle.rooms.specs.Questions.{judgement, nexting}
+use Rattle.rooms.specs.Questions.{requestAnswer, nexting}
 use Rattle.station_c.specs.Entries.{asking, exchange}
 use Rattle.station_c.specs.Sets.{areaInto, pairAnswer}
 
 -- an entry that refuses leaves the room as it was
-abbrev pub RefusedUntouched : Type 0
-RefusedUntouched = (call : Station → Outcome) (room : List ℕ) → (entry call room .says % 256 ≡ 0 → ⊥) → entry call room .leaves ≡ room
+abbrev pub StationEntryUntouched : Type 0
+StationEntryUntouched = (call : Station → Outcome) (room : List ℕ) → (entry call room .says % 256 ≡ 0 → ⊥) → entry call room .leaves ≡ room
 
 -- an ask that refuses leaves the image's room as it was
 abbrev pub AskRefusedUntouched : Type 0
@@ -44,7 +44,7 @@ NumbersInTable =
     ((call : Station → Outcome) (room : List ℕ) → OfTable (entry call room .says % 256))
     × ((room image : List ℕ) → OfTable (asking room image .says % 256))
     × ((room message reply : List ℕ) → OfTable (exchange room message reply .says % 256))
-    × ((r : ℕ) (five : List ℕ) → OfTable (returned (judgement r five) % 256))
+    × ((r : ℕ) (five : List ℕ) → OfTable (returned (requestAnswer r five) % 256))
     × ((r : ℕ) (five room : List ℕ) → OfTable (nexting r five room .says % 256))
     × ((five room : List ℕ) → OfTable (areaInto five room .says % 256))
     × ((one other : List ℕ) → OfTable (returned (pairAnswer one other) % 256))

@@ -5,6 +5,7 @@ use mathlib.Core.List.{List}
 use Prim.Native.Nat.{ℕ}
 use lib.Dec.{ltb}
 use lib.ListN.{length}
+use Rattle.codec.specs.Bytes.{littleEndian}
 use Rattle.rules.specs.declared.Area.{Area}
 use Rattle.rules.specs.declared.Area.the-variants.{Mask}
 use Rattle.rules.specs.declared.Sharing.{Sharing}
@@ -14,7 +15,6 @@ use Rattle.rules.specs.Verdicts.{onCode, maskOf, sharingOf}
 use Rattle.answers.specs.declared.Answer.{Answer}
 use Rattle.answers.specs.declared.Answer.the-variants.{Taken, TooFewBytes, BadField, Overlap}
 use Rattle.answers.specs.Answers.{nowhere}
-use Rattle.wire.specs.Kinds.{littleEndian}
 use Rattle.rooms.specs.Rooms.{Entry, noRoom, writes}
 
 -- ---- an instruction's area

@@ -7,20 +7,16 @@ ghost use lib.ListN.{length};
 ghost use Rattle.floor.specs.Sound.{sound, total};
 ghost use Rattle.rules.specs.Codes.{codeFrom};
 ghost use Rattle.rules.specs.Verdicts.{movedOf};
-ghost use Rattle.garage.specs.Held.{crosses};
-ghost use Rattle.garage.specs.Station.{startOf};
-ghost use Rattle.garage.specs.Calls.{taken, event, result, takeImage};
+ghost use Rattle.station.specs.Held.{crosses};
+ghost use Rattle.station.specs.Station.{startOf};
+ghost use Rattle.station.specs.Calls.{taken, event, result, takeImage};
 ghost use Rattle.version.specs.Version.{version};
-ghost use Rattle.rooms.specs.Rooms.{returned, Leaves, writes, entry, requestOf};
-ghost use Rattle.rooms.specs.Questions.{moved, answerTo, judgement, recordIn, nexting};
+ghost use Rattle.rooms.specs.Rooms.{returned, LeavesRoom, writes, entry, requestOf};
+ghost use Rattle.rooms.specs.Questions.{moved, answerTo, requestAnswer, recordIn, nexting};
 ghost use Rattle.station_c.specs.Entries.{asking, returnedOf, Exchanges, exchange, carsOr255};
 use answers::Answer;
 use answers::NOWHERE;
 use floor::Total;
-use garage::Outcome;
-use garage::Picture;
-use garage::Report;
-use garage::Station;
 use rooms::bytes_asked;
 use rooms::image_in;
 use rooms::keep;
@@ -32,6 +28,10 @@ use rules::Code;
 use rules::Instruction;
 use rules::Moved;
 use rules::Reading;
+use station::Outcome;
+use station::Picture;
+use station::Report;
+use station::Station;
 use wire::What;
 
 pub mod sets;
@@ -50,7 +50,7 @@ const CODE: usize = 5;
 // Writes the start station.
 #[no_mangle]
 pub extern "C" fn station_start(room: &mut [u8]) -> u32
-    ensures { λ r. ⌜ Leaves (entry (λ s. taken startOf) (now (room .entry))) r (now (room .exit)) ⌝ }
+    ensures { λ r. ⌜ LeavesRoom (entry (λ s. taken startOf) (now (room .entry))) r (now (room .exit)) ⌝ }
 {
     if room.len() < STATION {
         return say(Answer::NoRoom);
@@ -81,7 +81,7 @@ fn requested(s: Station, count: u8, set: &[u8]) -> Outcome
 // A request of `count` instructions, five bytes each.
 #[no_mangle]
 pub extern "C" fn station_request(room: &mut [u8], count: u8, set: &[u8]) -> u32
-    ensures { λ r. ⌜ Leaves (entry (requestOf count (now (set .entry))) (now (room .entry))) r (now (room .exit)) ⌝ }
+    ensures { λ r. ⌜ LeavesRoom (entry (requestOf count (now (set .entry))) (now (room .entry))) r (now (room .exit)) ⌝ }
 {
     if room.len() < STATION {
         return say(Answer::NoRoom);
@@ -94,7 +94,7 @@ pub extern "C" fn station_request(room: &mut [u8], count: u8, set: &[u8]) -> u32
 // A car event: a drive begins, 1 in, 2 out; the one under way ends, 3 done, 4 not done.
 #[no_mangle]
 pub extern "C" fn station_event(room: &mut [u8], way: u8) -> u32
-    ensures { λ r. ⌜ Leaves (entry (λ s. event s way) (now (room .entry))) r (now (room .exit)) ⌝ }
+    ensures { λ r. ⌜ LeavesRoom (entry (λ s. event s way) (now (room .entry))) r (now (room .exit)) ⌝ }
 {
     if room.len() < STATION {
         return say(Answer::NoRoom);
@@ -107,7 +107,7 @@ pub extern "C" fn station_event(room: &mut [u8], way: u8) -> u32
 // The result of an instruction, by the issue of its set and its number from 0: 0 failed, 1 done, 2 stuck.
 #[no_mangle]
 pub extern "C" fn station_result(room: &mut [u8], issue: u16, number: u8, ending: u8) -> u32
-    ensures { λ r. ⌜ Leaves (entry (λ s. result s (record { issue = issue; number = number; ending = ending })) (now (room .entry))) r (now (room .exit)) ⌝ }
+    ensures { λ r. ⌜ LeavesRoom (entry (λ s. result s (record { issue = issue; number = number; ending = ending })) (now (room .entry))) r (now (room .exit)) ⌝ }
 {
     if room.len() < STATION {
         return say(Answer::NoRoom);
@@ -124,7 +124,7 @@ pub extern "C" fn station_result(room: &mut [u8], issue: u16, number: u8, ending
 // An image, which becomes the record with nothing set apart.
 #[no_mangle]
 pub extern "C" fn station_image(room: &mut [u8], image: u64, apart: u64) -> u32
-    ensures { λ r. ⌜ Leaves (entry (λ s. takeImage s (record { bits = image; apart = apart })) (now (room .entry))) r (now (room .exit)) ⌝ }
+    ensures { λ r. ⌜ LeavesRoom (entry (λ s. takeImage s (record { bits = image; apart = apart })) (now (room .entry))) r (now (room .exit)) ⌝ }
 {
     if room.len() < STATION {
         return say(Answer::NoRoom);
@@ -137,7 +137,7 @@ pub extern "C" fn station_image(room: &mut [u8], image: u64, apart: u64) -> u32
 // The record's eight bytes and then those of what is set apart, to a room of their own.
 #[no_mangle]
 pub extern "C" fn station_ask(room: &[u8], image: &mut [u8]) -> u32
-    ensures { λ r. ⌜ Leaves (asking (now (room .entry)) (now (image .entry))) r (now (image .exit)) ⌝ }
+    ensures { λ r. ⌜ LeavesRoom (asking (now (room .entry)) (now (image .entry))) r (now (image .exit)) ⌝ }
 {
     if room.len() < STATION {
         return say(Answer::NoRoom);
@@ -278,13 +278,13 @@ fn crossing(image: u64, five: &[u8]) -> bool
         c: five[3],
         d: five[4],
     };
-    garage::crosses(x, image)
+    station::crosses(x, image)
 }
 
 // What a request of the instruction that five bytes say is told on a record.
 #[no_mangle]
 pub extern "C" fn garage_allowed(image: u64, five: &[u8]) -> u32
-    ensures { λ r. ⌜ r ≡ returned (judgement image (now (five .entry))) ⌝ }
+    ensures { λ r. ⌜ r ≡ returned (requestAnswer image (now (five .entry))) ⌝ }
 {
     if five.len() < CODE {
         return say(Answer::TooFewBytes);
@@ -305,7 +305,7 @@ pub extern "C" fn garage_allowed(image: u64, five: &[u8]) -> u32
 // The eight bytes of the record after an instruction, to a room of their own.
 #[no_mangle]
 pub extern "C" fn garage_next(image: u64, five: &[u8], next: &mut [u8]) -> u32
-    ensures { λ r. ⌜ Leaves (nexting image (now (five .entry)) (now (next .entry))) r (now (next .exit)) ⌝ }
+    ensures { λ r. ⌜ LeavesRoom (nexting image (now (five .entry)) (now (next .entry))) r (now (next .exit)) ⌝ }
 {
     if next.len() < RECORD {
         return say(Answer::NoRoom);

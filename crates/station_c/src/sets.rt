@@ -1,7 +1,7 @@
 // Questions for building sets, which need no record: an instruction's area, and whether two may stand in one set. What each answers stands
 // in specs/Sets.antt.
 ghost use mathlib.Core.Path.{_≡_};
-ghost use Rattle.rooms.specs.Rooms.{returned, Leaves};
+ghost use Rattle.rooms.specs.Rooms.{returned, LeavesRoom};
 ghost use Rattle.station_c.specs.Sets.{areaIn, areaSaid, areaBits, areaInto, sharingSaid, pairAnswer};
 use super::CODE;
 use super::RECORD;
@@ -49,7 +49,7 @@ fn area_bits(a: Area) -> u64
 // The eight bytes of an instruction's area, to a room of their own.
 #[no_mangle]
 pub extern "C" fn garage_area(five: &[u8], area: &mut [u8]) -> u32
-    ensures { λ r. ⌜ Leaves (areaInto (now (five .entry)) (now (area .entry))) r (now (area .exit)) ⌝ }
+    ensures { λ r. ⌜ LeavesRoom (areaInto (now (five .entry)) (now (area .entry))) r (now (area .exit)) ⌝ }
 {
     if area.len() < RECORD {
         return say(Answer::NoRoom);

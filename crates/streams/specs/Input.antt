@@ -7,12 +7,12 @@ use Rattle.streams.specs.declared.Input.{Input}
 use Rattle.streams.specs.declared.Input.the-variants.{Bytes, Ended, Failed, Full}
 
 -- a buffer whose first bytes are as they were
-abbrev pub Kept : List ℕ → ℕ → List ℕ → Type 0
-Kept before have after = take have after ≡ take have before
+abbrev pub FrontKept : List ℕ → ℕ → List ℕ → Type 0
+FrontKept before have after = take have after ≡ take have before
 
 -- what a read of a buffer that holds some bytes may say, and that these stay: it brings a byte at least, and there is no room exactly if the bytes held fill the buffer
 abbrev pub Fills : List ℕ → ℕ → Input → List ℕ → Type 0
-Fills before have (Bytes end) after = (have < end) × (end ≤ length before) × Kept before have after
-Fills before have Ended after = (have < length before) × Kept before have after
-Fills before have Failed after = (have < length before) × Kept before have after
+Fills before have (Bytes end) after = (have < end) × (end ≤ length before) × FrontKept before have after
+Fills before have Ended after = (have < length before) × FrontKept before have after
+Fills before have Failed after = (have < length before) × FrontKept before have after
 Fills before have Full after = (length before ≤ have) × (after ≡ before)

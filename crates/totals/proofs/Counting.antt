@@ -17,9 +17,9 @@ use Rattle.bits.proofs.Search.{lt-or-ge, each}
 use Rattle.bits.proofs.Least.{least-is, least-none}
 use Rattle.totals.specs.declared.Mark.{Mark}
 use Rattle.totals.specs.declared.Happened.{Happened}
-use Rattle.totals.specs.Totals.{Name, order, nameAt, counts, next, nexts, most, nothing, full, countedIn, totalsOf}
+use Rattle.totals.specs.Totals.{Name, order, nameAt, counts, nextTotal, nexts, mostCounted, noneFull, full, countedIn, totalsOf}
 use Rattle.totals.specs.Totals.Name.{Kind, Number, Done, Failed, CarsIn, CarsOut, MostCars}
-use Rattle.totals.specs.Private.{marksOf, fills, fullAmong, raised, withCars, raisedAll}
+use Rattle.totals.specs.Private.{countMarks, fills, fullAmong, raised, withCars, raisedAll}
 use Rattle.totals.proofs.Order.{most-cars-at, nexts-length, after-at, after-beyond}
 use Rattle.totals.proofs.Placing.{hits, misses, in-kinds, in-answers, in-results, results-low, results-high, in-drives, marks-within, hit, counts-hit}
 
@@ -61,10 +61,10 @@ unfolding every nameAt order
 all-counts = tt
 
 -- a count is raised by one where the message counts
-pub next-count : (h : Happened) (p v : ℕ) → p < 51 → next (nameAt p) h v ≡ v + digit (counts (nameAt p) h)
+pub next-count : (h : Happened) (p v : ℕ) → p < 51 → nextTotal (nameAt p) h v ≡ v + digit (counts (nameAt p) h)
 next-count h p v l = go (nameAt p) (each 51 (λ p. isCount (nameAt p)) all-counts p l)
   where
-    go : (n : Name) → T (isCount n) → next n h v ≡ v + digit (counts n h)
+    go : (n : Name) → T (isCount n) → nextTotal n h v ≡ v + digit (counts n h)
     go (Kind k) c = refl
     go (Number n) c = refl
     go (Done op) c = refl
@@ -75,12 +75,12 @@ next-count h p v l = go (nameAt p) (each 51 (λ p. isCount (nameAt p)) all-count
 
 module _ (h : Happened) where
   -- no two marks add at one place
-  sum-hit : (p : ℕ) → digit (hits (marksOf h .kind) p) + digit (hits (marksOf h .answer) p) + digit (hits (marksOf h .result) p)
-      + digit (hits (marksOf h .drive) p) ≡ digit (hit h p)
+  sum-hit : (p : ℕ) → digit (hits (countMarks h .kind) p) + digit (hits (countMarks h .answer) p) + digit (hits (countMarks h .result) p)
+      + digit (hits (countMarks h .drive) p) ≡ digit (hit h p)
   sum-hit p =
-      split (hits (marksOf h .kind) p) by-kind (λ x. rw x
-      (split (hits (marksOf h .answer) p) by-answer (λ y. rw y
-      (split (hits (marksOf h .result) p) by-result (λ z. rw z (alone (digit (hits (marksOf h .drive) p))))))))
+      split (hits (countMarks h .kind) p) by-kind (λ x. rw x
+      (split (hits (countMarks h .answer) p) by-answer (λ y. rw y
+      (split (hits (countMarks h .result) p) by-result (λ z. rw z (alone (digit (hits (countMarks h .drive) p))))))))
     where
       alone : (n : ℕ) → 0 + n ≡ n
       alone n = omega arith
@@ -88,60 +88,60 @@ module _ (h : Happened) where
       at : (m : Mark) → hits m p ≡ true → m .at ≡ p
       at m t = eqb-true (m .at) p (both (eqb (m .at) p) (eqb (m .more) 1) t .0)
 
-      answer-off : p < 5 → hits (marksOf h .answer) p ≡ false
+      answer-off : p < 5 → hits (countMarks h .answer) p ≡ false
       answer-off l = misses p (in-answers h) (λ e. omega (arith, in-answers h .low))
 
-      result-off : p < 39 → hits (marksOf h .result) p ≡ false
+      result-off : p < 39 → hits (countMarks h .result) p ≡ false
       result-off l = misses p (in-results h) (λ e. omega (arith, results-low h))
 
-      drive-off : p < 49 → hits (marksOf h .drive) p ≡ false
+      drive-off : p < 49 → hits (countMarks h .drive) p ≡ false
       drive-off l = misses p (in-drives h) (λ e. omega (arith, in-drives h .low))
 
-      by-kind : hits (marksOf h .kind) p ≡ true
-          → digit (hits (marksOf h .kind) p) + digit (hits (marksOf h .answer) p) + digit (hits (marksOf h .result) p)
-          + digit (hits (marksOf h .drive) p) ≡ digit (hit h p)
+      by-kind : hits (countMarks h .kind) p ≡ true
+          → digit (hits (countMarks h .kind) p) + digit (hits (countMarks h .answer) p) + digit (hits (countMarks h .result) p)
+          + digit (hits (countMarks h .drive) p) ≡ digit (hit h p)
       by-kind x =
-          let l : p < 5 = omega (arith, at (marksOf h .kind) x, in-kinds h .high) in
+          let l : p < 5 = omega (arith, at (countMarks h .kind) x, in-kinds h .high) in
           rw (x, answer-off l, result-off (omega arith), drive-off (omega arith)) refl
 
-      by-answer : hits (marksOf h .answer) p ≡ true
-          → digit false + digit (hits (marksOf h .answer) p) + digit (hits (marksOf h .result) p) + digit (hits (marksOf h .drive) p)
-          ≡ digit (hits (marksOf h .answer) p || (hits (marksOf h .result) p || hits (marksOf h .drive) p))
+      by-answer : hits (countMarks h .answer) p ≡ true
+          → digit false + digit (hits (countMarks h .answer) p) + digit (hits (countMarks h .result) p) + digit (hits (countMarks h .drive) p)
+          ≡ digit (hits (countMarks h .answer) p || (hits (countMarks h .result) p || hits (countMarks h .drive) p))
       by-answer x =
-          let l : p < 39 = omega (arith, at (marksOf h .answer) x, in-answers h .high) in
+          let l : p < 39 = omega (arith, at (countMarks h .answer) x, in-answers h .high) in
           rw (x, result-off l, drive-off (omega arith)) refl
 
-      by-result : hits (marksOf h .result) p ≡ true
-          → digit false + digit false + digit (hits (marksOf h .result) p) + digit (hits (marksOf h .drive) p)
-          ≡ digit (hits (marksOf h .result) p || hits (marksOf h .drive) p)
+      by-result : hits (countMarks h .result) p ≡ true
+          → digit false + digit false + digit (hits (countMarks h .result) p) + digit (hits (countMarks h .drive) p)
+          ≡ digit (hits (countMarks h .result) p || hits (countMarks h .drive) p)
       by-result x =
-          let l : p < 49 = omega (arith, at (marksOf h .result) x, results-high h) in
+          let l : p < 49 = omega (arith, at (countMarks h .result) x, results-high h) in
           rw (x, drive-off l) refl
 
   -- the totals with what the four marks add
   abbrev four : List ℕ → List ℕ
-  four c = raised (raised (raised (raised c (marksOf h .kind)) (marksOf h .answer)) (marksOf h .result)) (marksOf h .drive)
+  four c = raised (raised (raised (raised c (countMarks h .kind)) (countMarks h .answer)) (countMarks h .result)) (countMarks h .drive)
 
   four-length : (c : List ℕ) → length (four c) ≡ length c
   four-length c =
-      raised-length (raised (raised (raised c (marksOf h .kind)) (marksOf h .answer)) (marksOf h .result)) (marksOf h .drive)
-      ∙ raised-length (raised (raised c (marksOf h .kind)) (marksOf h .answer)) (marksOf h .result)
-      ∙ raised-length (raised c (marksOf h .kind)) (marksOf h .answer) ∙ raised-length c (marksOf h .kind)
+      raised-length (raised (raised (raised c (countMarks h .kind)) (countMarks h .answer)) (countMarks h .result)) (countMarks h .drive)
+      ∙ raised-length (raised (raised c (countMarks h .kind)) (countMarks h .answer)) (countMarks h .result)
+      ∙ raised-length (raised c (countMarks h .kind)) (countMarks h .answer) ∙ raised-length c (countMarks h .kind)
 
   four-at : (c : List ℕ) (p : ℕ) → p < length c → getD (four c) p 0 ≡ getD c p 0 + digit (hit h p)
   four-at c p l =
-      let c₁ = raised c (marksOf h .kind) in
-      let c₂ = raised c₁ (marksOf h .answer) in
-      let c₃ = raised c₂ (marksOf h .result) in
-      let l₁ : p < length c₁ = omega (arith, raised-length c (marksOf h .kind)) in
-      let l₂ : p < length c₂ = omega (arith, raised-length c₁ (marksOf h .answer)) in
-      let l₃ : p < length c₃ = omega (arith, raised-length c₂ (marksOf h .result)) in
+      let c₁ = raised c (countMarks h .kind) in
+      let c₂ = raised c₁ (countMarks h .answer) in
+      let c₃ = raised c₂ (countMarks h .result) in
+      let l₁ : p < length c₁ = omega (arith, raised-length c (countMarks h .kind)) in
+      let l₂ : p < length c₂ = omega (arith, raised-length c₁ (countMarks h .answer)) in
+      let l₃ : p < length c₃ = omega (arith, raised-length c₂ (countMarks h .result)) in
       omega (
         arith,
-        raised-at c (marksOf h .kind) p (in-kinds h .small) l,
-        raised-at c₁ (marksOf h .answer) p (in-answers h .small) l₁,
-        raised-at c₂ (marksOf h .result) p (in-results h .small) l₂,
-        raised-at c₃ (marksOf h .drive) p (in-drives h .small) l₃,
+        raised-at c (countMarks h .kind) p (in-kinds h .small) l,
+        raised-at c₁ (countMarks h .answer) p (in-answers h .small) l₁,
+        raised-at c₂ (countMarks h .result) p (in-results h .small) l₂,
+        raised-at c₃ (countMarks h .drive) p (in-drives h .small) l₃,
         sum-hit p,
       )
 
@@ -163,7 +163,7 @@ module _ (h : Happened) where
       last p e l =
           rw (e) (getD-set-same (four c) 51 (max (getD (four c) 51 0) (h .cars)) 0 (omega (arith, four-length c))
           ∙ ap (λ (n : ℕ). max n (h .cars)) (unmoved (four-at c 51 (omega arith)))
-          ∙ sym (after-at h c 51 (omega arith) (omega arith) ∙ ap (λ n. next n h (getD c 51 0)) most-cars-at))
+          ∙ sym (after-at h c 51 (omega arith) (omega arith) ∙ ap (λ n. nextTotal n h (getD c 51 0)) most-cars-at))
         where
           unmoved : getD (four c) 51 0 ≡ getD c 51 0 + digit (hit h 51) → getD (four c) 51 0 ≡ getD c 51 0
           unmoved x = x ∙ ap (λ b. getD c 51 0 + digit b) (sym (counts-hit h 51 (omega arith)) ∙ ap (λ n. counts n h) most-cars-at) ∙ omega arith
@@ -234,32 +234,32 @@ spread x y z w false = simp and-false
 
 module _ (c : List ℕ) (h : Happened) where
   -- a mark that adds one at a full total fills it
-  filled-at : (m : Mark) (j : ℕ) → hits m j && leb most (getD c j 0) ≡ (eqb (m .at) j && fills c m)
+  filled-at : (m : Mark) (j : ℕ) → hits m j && leb mostCounted (getD c j 0) ≡ (eqb (m .at) j && fills c m)
   filled-at m j = split (eqb (m .at) j) (λ t. let e : m .at ≡ j = eqb-true (m .at) j t in rw (t, e) refl) (λ t. rw t refl)
 
-  full-is : (j : ℕ) → j < 52 → full (totalsOf c) h j ≡ (eqb (marksOf h .kind .at) j && fills c (marksOf h .kind)
-      || (eqb (marksOf h .answer .at) j && fills c (marksOf h .answer) || (eqb (marksOf h .result .at) j && fills c (marksOf h .result)
-      || eqb (marksOf h .drive .at) j && fills c (marksOf h .drive))))
+  full-is : (j : ℕ) → j < 52 → full (totalsOf c) h j ≡ (eqb (countMarks h .kind .at) j && fills c (countMarks h .kind)
+      || (eqb (countMarks h .answer .at) j && fills c (countMarks h .answer) || (eqb (countMarks h .result .at) j && fills c (countMarks h .result)
+      || eqb (countMarks h .drive .at) j && fills c (countMarks h .drive))))
   full-is j l =
-      ap (λ b. b && leb most (getD c j 0)) (counts-hit h j l)
-      ∙ spread (hits (marksOf h .kind) j) (hits (marksOf h .answer) j) (hits (marksOf h .result) j) (hits (marksOf h .drive) j)
-      (leb most (getD c j 0))
-      ∙ ap₂ _||_ (filled-at (marksOf h .kind) j) (ap₂ _||_ (filled-at (marksOf h .answer) j) (ap₂ _||_ (filled-at (marksOf h .result) j)
-      (filled-at (marksOf h .drive) j)))
+      ap (λ b. b && leb mostCounted (getD c j 0)) (counts-hit h j l)
+      ∙ spread (hits (countMarks h .kind) j) (hits (countMarks h .answer) j) (hits (countMarks h .result) j) (hits (countMarks h .drive) j)
+      (leb mostCounted (getD c j 0))
+      ∙ ap₂ _||_ (filled-at (countMarks h .kind) j) (ap₂ _||_ (filled-at (countMarks h .answer) j) (ap₂ _||_ (filled-at (countMarks h .result) j)
+      (filled-at (countMarks h .drive) j)))
 
   -- the first place that is told, and the totals with it
-  pub counted-is : countedIn (totalsOf c) h ≡ cond (eqb (fullAmong c (marksOf h)) nothing)
-      (record { totals = totalsOf (raisedAll c h); full = nothing }) (record { totals = totalsOf c; full = fullAmong c (marksOf h) })
+  pub counted-is : countedIn (totalsOf c) h ≡ cond (eqb (fullAmong c (countMarks h)) noneFull)
+      (record { totals = totalsOf (raisedAll c h); full = noneFull }) (record { totals = totalsOf c; full = fullAmong c (countMarks h) })
   unfolding countedIn fullAmong
   counted-is =
       rw (
         raised-all h c,
-        first-of (full (totalsOf c) h) (marksOf h .kind .at) (marksOf h .answer .at) (marksOf h .result .at) (marksOf h .drive .at)
-            (fills c (marksOf h .kind)) (fills c (marksOf h .answer)) (fills c (marksOf h .result)) (fills c (marksOf h .drive))
+        first-of (full (totalsOf c) h) (countMarks h .kind .at) (countMarks h .answer .at) (countMarks h .result .at) (countMarks h .drive .at)
+            (fills c (countMarks h .kind)) (fills c (countMarks h .answer)) (fills c (countMarks h .result)) (fills c (countMarks h .drive))
             (omega (arith, in-kinds h .high, in-answers h .low)) (omega (arith, in-answers h .high, results-low h))
             (omega (arith, results-high h, in-drives h .low)) (omega (arith, in-drives h .high)) full-is,
       )
-      (told-of (marksOf h .kind .at) (marksOf h .answer .at) (marksOf h .result .at) (marksOf h .drive .at)
-      (fills c (marksOf h .kind)) (fills c (marksOf h .answer)) (fills c (marksOf h .result)) (fills c (marksOf h .drive))
-      (λ p. record { totals = totalsOf c; full = p }) (record { totals = totalsOf (nexts order h c); full = nothing })
+      (told-of (countMarks h .kind .at) (countMarks h .answer .at) (countMarks h .result .at) (countMarks h .drive .at)
+      (fills c (countMarks h .kind)) (fills c (countMarks h .answer)) (fills c (countMarks h .result)) (fills c (countMarks h .drive))
+      (λ p. record { totals = totalsOf c; full = p }) (record { totals = totalsOf (nexts order h c); full = noneFull })
       (marks-within h .kind) (marks-within h .answer) (marks-within h .result) (marks-within h .drive))

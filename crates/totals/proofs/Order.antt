@@ -6,7 +6,7 @@ use native.Mathlib.Omega.{arith}
 use lib.ListN.{length, getD}
 use Rattle.bits.specs.Places.{from}
 use Rattle.totals.specs.declared.Happened.{Happened}
-use Rattle.totals.specs.Totals.{Name, order, nameAt, next, nexts}
+use Rattle.totals.specs.Totals.{Name, order, nameAt, nextTotal, nexts}
 use Rattle.totals.specs.Totals.Name.{Kind, Number, Done, Failed, CarsIn, CarsOut, MostCars}
 
 -- a run of names, and what stands after it
@@ -86,7 +86,7 @@ nexts-length (x ∷ xs) h [] = refl
 nexts-length (x ∷ xs) h (v ∷ vs) = ap suc (nexts-length xs h vs)
 
 nexts-within : (xs : List Name) (h : Happened) (vs : List ℕ) (p : ℕ) → p < length xs → p < length vs
-    → getD (nexts xs h vs) p 0 ≡ next (getD xs p MostCars) h (getD vs p 0)
+    → getD (nexts xs h vs) p 0 ≡ nextTotal (getD xs p MostCars) h (getD vs p 0)
 unfolding nexts
 nexts-within [] h vs p a b = absurd (omega arith)
 nexts-within (x ∷ xs) h [] p a b = absurd (omega arith)
@@ -104,7 +104,7 @@ pub order-length : length order ≡ 52
 unfolding order
 order-length = refl
 
-pub after-at : (h : Happened) (vs : List ℕ) (p : ℕ) → p < 52 → p < length vs → getD (nexts order h vs) p 0 ≡ next (nameAt p) h (getD vs p 0)
+pub after-at : (h : Happened) (vs : List ℕ) (p : ℕ) → p < 52 → p < length vs → getD (nexts order h vs) p 0 ≡ nextTotal (nameAt p) h (getD vs p 0)
 unfolding nameAt
 after-at h vs p a b = nexts-within order h vs p (omega (arith, order-length)) b
 

@@ -12,7 +12,7 @@ use Rattle.bits.proofs.Search.{lt-or-ge}
 use Rattle.totals.specs.declared.Mark.{Mark}
 use Rattle.totals.specs.declared.Happened.{Happened}
 use Rattle.totals.specs.Totals.{nameAt, counts}
-use Rattle.totals.specs.Private.{markOf, resultsFrom, marksOf, Within}
+use Rattle.totals.specs.Private.{countMark, resultsFrom, countMarks, MarksWithin}
 use Rattle.totals.proofs.Order.{kind-at, number-at, done-at, failed-at, cars-in-at, cars-out-at, most-cars-at}
 
 -- a mark adds one at a place
@@ -26,8 +26,8 @@ pub record Among (p n : ℕ) (m : Mark) : Type 0 where
   pub small : m .more ≤ 1
 
 module _ (p n a x : ℕ) (some : 0 < n) where
-  pub among : Among p n (markOf p n a x)
-  unfolding markOf
+  pub among : Among p n (countMark p n a x)
+  unfolding countMark
   among = split (leb a x && ltb x (a + n))
       (λ t.
       let (l, r) = both (leb a x) (ltb x (a + n)) t in
@@ -37,8 +37,8 @@ module _ (p n a x : ℕ) (some : 0 < n) where
       (λ t. rw t (record { low = omega arith; high = omega arith; small = omega arith }))
 
   -- it adds one exactly at the place of x
-  pub hits-at : (i q : ℕ) → i < n → q ≡ p + i → eqb x (a + i) ≡ hits (markOf p n a x) q
-  unfolding markOf
+  pub hits-at : (i q : ℕ) → i < n → q ≡ p + i → eqb x (a + i) ≡ hits (countMark p n a x) q
+  unfolding countMark
   hits-at i q h at = rw at (split (leb a x && ltb x (a + n)) (λ t. rw t (inside t)) (λ t. rw t (outside t)))
     where
       inside : leb a x && ltb x (a + n) ≡ true → eqb x (a + i) ≡ (eqb (p + (x - a)) (p + i) && true)
@@ -65,46 +65,46 @@ from-results true p e = omega arith
 from-results false p e = omega arith
 
 -- results count among the done or among the failed
-done-hits : (b : Bool) (x i q : ℕ) → i < 5 → q ≡ 39 + i → (b && eqb x (1 + i)) ≡ hits (markOf (resultsFrom b) 5 1 x) q
+done-hits : (b : Bool) (x i q : ℕ) → i < 5 → q ≡ 39 + i → (b && eqb x (1 + i)) ≡ hits (countMark (resultsFrom b) 5 1 x) q
 done-hits true x i q l e = hits-at 39 5 1 x (omega arith) i q l e
 done-hits false x i q l e = sym (misses q (among 44 5 1 x (omega arith)) (λ z. omega (arith, among 44 5 1 x (omega arith) .low)))
 
-failed-hits : (b : Bool) (x i q : ℕ) → i < 5 → q ≡ 44 + i → (not b && eqb x (1 + i)) ≡ hits (markOf (resultsFrom b) 5 1 x) q
+failed-hits : (b : Bool) (x i q : ℕ) → i < 5 → q ≡ 44 + i → (not b && eqb x (1 + i)) ≡ hits (countMark (resultsFrom b) 5 1 x) q
 failed-hits false x i q l e = hits-at 44 5 1 x (omega arith) i q l e
 failed-hits true x i q l e = sym (misses q (among 39 5 1 x (omega arith)) (λ z. omega (arith, among 39 5 1 x (omega arith) .high)))
 
 module _ (h : Happened) where
-  pub in-kinds : Among 0 5 (marksOf h .kind)
-  unfolding marksOf
+  pub in-kinds : Among 0 5 (countMarks h .kind)
+  unfolding countMarks
   in-kinds = among 0 5 1 (h .kind) (omega arith)
 
-  pub in-answers : Among 5 34 (marksOf h .answer)
-  unfolding marksOf
+  pub in-answers : Among 5 34 (countMarks h .answer)
+  unfolding countMarks
   in-answers = among 5 34 0 (h .answer) (omega arith)
 
-  pub in-results : Among (resultsFrom (h .done)) 5 (marksOf h .result)
-  unfolding marksOf
+  pub in-results : Among (resultsFrom (h .done)) 5 (countMarks h .result)
+  unfolding countMarks
   in-results = among (resultsFrom (h .done)) 5 1 (h .op) (omega arith)
 
-  pub results-low : 39 ≤ marksOf h .result .at
+  pub results-low : 39 ≤ countMarks h .result .at
   results-low = omega (arith, in-results .low, from39 (h .done))
     where
       from39 : (b : Bool) → 39 ≤ resultsFrom b
       from39 true = omega arith
       from39 false = omega arith
 
-  pub results-high : marksOf h .result .at < 49
+  pub results-high : countMarks h .result .at < 49
   results-high = omega (arith, in-results .high, to44 (h .done))
     where
       to44 : (b : Bool) → resultsFrom b ≤ 44
       to44 true = omega arith
       to44 false = omega arith
 
-  pub in-drives : Among 49 2 (marksOf h .drive)
-  unfolding marksOf
+  pub in-drives : Among 49 2 (countMarks h .drive)
+  unfolding countMarks
   in-drives = among 49 2 1 (h .drive) (omega arith)
 
-  pub marks-within : Within (marksOf h)
+  pub marks-within : MarksWithin (countMarks h)
   marks-within = record {
     kind = omega (arith, in-kinds .high);
     answer = omega (arith, in-answers .high);
@@ -114,25 +114,25 @@ module _ (h : Happened) where
 
   -- whether some mark adds one at a place
   abbrev pub hit : ℕ → Bool
-  hit p = hits (marksOf h .kind) p || (hits (marksOf h .answer) p || (hits (marksOf h .result) p || hits (marksOf h .drive) p))
+  hit p = hits (countMarks h .kind) p || (hits (countMarks h .answer) p || (hits (countMarks h .result) p || hits (countMarks h .drive) p))
 
   abbrev Hit : ℕ → Type 0
   Hit p = counts (nameAt p) h ≡ hit p
 
-  kind-misses : (p : ℕ) → 5 ≤ p → hits (marksOf h .kind) p ≡ false
+  kind-misses : (p : ℕ) → 5 ≤ p → hits (countMarks h .kind) p ≡ false
   kind-misses p l = misses p in-kinds (λ e. omega (arith, in-kinds .high))
 
-  answer-misses : (p : ℕ) → (marksOf h .answer .at ≡ p → ⊥) → hits (marksOf h .answer) p ≡ false
+  answer-misses : (p : ℕ) → (countMarks h .answer .at ≡ p → ⊥) → hits (countMarks h .answer) p ≡ false
   answer-misses p l = misses p in-answers l
 
-  result-misses : (p : ℕ) → (marksOf h .result .at ≡ p → ⊥) → hits (marksOf h .result) p ≡ false
+  result-misses : (p : ℕ) → (countMarks h .result .at ≡ p → ⊥) → hits (countMarks h .result) p ≡ false
   result-misses p l = misses p in-results l
 
-  drive-misses : (p : ℕ) → p < 49 → hits (marksOf h .drive) p ≡ false
+  drive-misses : (p : ℕ) → p < 49 → hits (countMarks h .drive) p ≡ false
   drive-misses p l = misses p in-drives (λ e. omega (arith, in-drives .low))
 
   by-kind : (i : ℕ) → i < 5 → Hit i
-  unfolding marksOf
+  unfolding countMarks
   by-kind i l =
       rw (
         kind-at i l,
@@ -144,7 +144,7 @@ module _ (h : Happened) where
       (hits-at 0 5 1 (h .kind) (omega arith) i i l (omega arith))
 
   by-number : (i q : ℕ) → i < 34 → q ≡ 5 + i → Hit q
-  unfolding marksOf
+  unfolding countMarks
   by-number i q l e =
       rw (
         e,
@@ -157,7 +157,7 @@ module _ (h : Happened) where
       (hits-at 5 34 0 (h .answer) (omega arith) i (5 + i) l refl)
 
   by-done : (i q : ℕ) → i < 5 → q ≡ 39 + i → Hit q
-  unfolding marksOf
+  unfolding countMarks
   by-done i q l e =
       rw (
         e,
@@ -170,7 +170,7 @@ module _ (h : Happened) where
       (done-hits (h .done) (h .op) i (39 + i) l refl)
 
   by-failed : (i q : ℕ) → i < 5 → q ≡ 44 + i → Hit q
-  unfolding marksOf
+  unfolding countMarks
   by-failed i q l e =
       rw (
         e,
@@ -183,7 +183,7 @@ module _ (h : Happened) where
       (failed-hits (h .done) (h .op) i (44 + i) l refl)
 
   by-drive : (i q : ℕ) → i < 2 → q ≡ 49 + i → counts (nameAt q) h ≡ eqb (h .drive) (1 + i) → Hit q
-  unfolding marksOf
+  unfolding countMarks
   by-drive i q l e n =
       rw (
         n,

@@ -16,7 +16,7 @@ use Rattle.bits.proofs.Least.{least-le, least-below, found-least}
 use Rattle.totals.specs.declared.Totals.{Totals}
 use Rattle.totals.specs.declared.Happened.{Happened}
 use Rattle.totals.specs.declared.Tally.{Tally}
-use Rattle.totals.specs.Totals.{Name, order, size, nameAt, counts, next, nexts, most, nothing, full, firstFull, countedIn, totalsOf, blank, countedAll}
+use Rattle.totals.specs.Totals.{Name, order, size, nameAt, counts, nextTotal, nexts, mostCounted, noneFull, full, firstFull, countedIn, totalsOf, blank, countedAll}
 use Rattle.totals.specs.Totals.Name.{MostCars}
 use Rattle.totals.specs.Promises.{OrderWhole, tally, largest, TotalsRight, MostCarsRight, NoneFullExactly, Stops, FullStops}
 use Rattle.totals.proofs.Order.{order-length, most-cars-at, nexts-length, after-at}
@@ -41,7 +41,7 @@ record Right (hs : List Happened) (t : Totals) : Type 0 where
   same : length (t .counts) ≡ size
   each : (p : ℕ) → p < 51 → getD (t .counts) p 0 ≡ tally (nameAt p) hs
   cars : getD (t .counts) 51 0 ≡ largest hs
-  low : (p : ℕ) → p < size → tally (nameAt p) hs ≤ most
+  low : (p : ℕ) → p < size → tally (nameAt p) hs ≤ mostCounted
 
 right-start : Right [] blank
 unfolding tally largest
@@ -62,27 +62,27 @@ no-tally [] = refl
 no-tally (h ∷ hs) = omega (arith, no-tally hs)
 
 -- one more passes the most exactly if it counts where the most is reached
-passing : (b : Bool) (v : ℕ) → v ≤ most → b && leb most v ≡ ltb most (v + digit b)
-passing true v l = split (leb most v)
-    (λ t. t ∙ sym (lt-ltb most (v + 1) (let z = leb-true most v t in omega arith)))
-    (λ t. t ∙ sym (le-ltb most (v + 1) (let z = leb-false most v t in omega arith)))
-passing false v l = sym (le-ltb most (v + 0) (omega arith))
+passing : (b : Bool) (v : ℕ) → v ≤ mostCounted → b && leb mostCounted v ≡ ltb mostCounted (v + digit b)
+passing true v l = split (leb mostCounted v)
+    (λ t. t ∙ sym (lt-ltb mostCounted (v + 1) (let z = leb-true mostCounted v t in omega arith)))
+    (λ t. t ∙ sym (le-ltb mostCounted (v + 1) (let z = leb-false mostCounted v t in omega arith)))
+passing false v l = sym (le-ltb mostCounted (v + 0) (omega arith))
 
 module _ (hs : List Happened) (t : Totals) (r : Right hs t) (h : Happened) where
   after-one : (p : ℕ) → tally (nameAt p) (hs ++ h ∷ []) ≡ tally (nameAt p) hs + digit (counts (nameAt p) h)
   after-one p = tally-append (nameAt p) hs (h ∷ []) ∙ ap (λ (n : ℕ). tally (nameAt p) hs + n) (tally-one (nameAt p) h)
 
   -- a total is full exactly if the number of those that count would pass the most
-  full-exactly : (p : ℕ) → p < size → full t h p ≡ ltb most (tally (nameAt p) (hs ++ h ∷ []))
+  full-exactly : (p : ℕ) → p < size → full t h p ≡ ltb mostCounted (tally (nameAt p) (hs ++ h ∷ []))
   full-exactly p l = go (lt-or-ge p 51)
     where
-      go : (p < 51) ⊎ (51 ≤ p) → full t h p ≡ ltb most (tally (nameAt p) (hs ++ h ∷ []))
+      go : (p < 51) ⊎ (51 ≤ p) → full t h p ≡ ltb mostCounted (tally (nameAt p) (hs ++ h ∷ []))
       go (inl b) =
-          ap (λ (v : ℕ). counts (nameAt p) h && leb most v) (r .each p b) ∙ passing (counts (nameAt p) h) (tally (nameAt p) hs) (r .low p l)
-          ∙ ap (ltb most) (sym (after-one p))
+          ap (λ (v : ℕ). counts (nameAt p) h && leb mostCounted v) (r .each p b) ∙ passing (counts (nameAt p) h) (tally (nameAt p) hs) (r .low p l)
+          ∙ ap (ltb mostCounted) (sym (after-one p))
       go (inr b) =
           let e : p ≡ 51 = omega arith in
-          rw (e, no-count h) (sym (le-ltb most (tally (nameAt 51) (hs ++ h ∷ [])) (rw most-cars-at (omega (arith, no-tally (hs ++ h ∷ []))))))
+          rw (e, no-count h) (sym (le-ltb mostCounted (tally (nameAt 51) (hs ++ h ∷ [])) (rw most-cars-at (omega (arith, no-tally (hs ++ h ∷ []))))))
 
   -- none is full: the totals after one more
   right-next : firstFull t h ≡ size → Right (hs ++ h ∷ []) (totalsOf (nexts order h (t .counts)))
@@ -90,13 +90,13 @@ module _ (hs : List Happened) (t : Totals) (r : Right hs t) (h : Happened) where
     same = nexts-length order h (t .counts) ∙ r .same;
     each = λ p l. after-at h (t .counts) p (omega arith) (omega (arith, r .same)) ∙ next-count h p (getD (t .counts) p 0) l
         ∙ ap (λ (v : ℕ). v + digit (counts (nameAt p) h)) (r .each p l) ∙ sym (after-one p);
-    cars = after-at h (t .counts) 51 (omega arith) (omega (arith, r .same)) ∙ ap (λ n. next n h (getD (t .counts) 51 0)) most-cars-at
+    cars = after-at h (t .counts) 51 (omega arith) (omega (arith, r .same)) ∙ ap (λ n. nextTotal n h (getD (t .counts) 51 0)) most-cars-at
         ∙ ap (λ (v : ℕ). max v (h .cars)) (r .cars) ∙ sym (largest-more hs h);
-    low = λ p l. ltb-false most (tally (nameAt p) (hs ++ h ∷ [])) (sym (full-exactly p l) ∙ least-below size (full t h) p (omega arith));
+    low = λ p l. ltb-false mostCounted (tally (nameAt p) (hs ++ h ∷ [])) (sym (full-exactly p l) ∙ least-below size (full t h) p (omega arith));
   }
 
   -- one is: the first whose number would pass the most
-  first-full : firstFull t h < size → IsLeast size (λ p. ltb most (tally (nameAt p) (hs ++ h ∷ []))) (firstFull t h)
+  first-full : firstFull t h < size → IsLeast size (λ p. ltb mostCounted (tally (nameAt p) (hs ++ h ∷ []))) (firstFull t h)
   first-full l =
       let found = found-least size (full t h) l in
       record {
@@ -107,10 +107,10 @@ module _ (hs : List Happened) (t : Totals) (r : Right hs t) (h : Happened) where
 
 -- how a run of happenings ends, after others: with all counted, or at one that makes a total full
 data Ends (gs : List Happened) (t : Totals) (hs : List Happened) (c : Tally) : Type 0 where
-  counted : c .full ≡ nothing → Right (gs ++ hs) (c .totals) → Ends gs t hs c
+  counted : c .full ≡ noneFull → Right (gs ++ hs) (c .totals) → Ends gs t hs c
   stopped : (before : List Happened) (last : Happened) (rest : List Happened) → hs ≡ before ++ last ∷ rest
-      → countedAll t before ≡ record { totals = c .totals; full = nothing }
-      → IsLeast size (λ p. ltb most (tally (nameAt p) ((gs ++ before) ++ last ∷ []))) (c .full) → Ends gs t hs c
+      → countedAll t before ≡ record { totals = c .totals; full = noneFull }
+      → IsLeast size (λ p. ltb mostCounted (tally (nameAt p) ((gs ++ before) ++ last ∷ []))) (c .full) → Ends gs t hs c
 
 module _ (t : Totals) (h : Happened) (hs : List Happened) where
   goes-on : ltb (firstFull t h) size ≡ false → countedAll t (h ∷ hs) ≡ countedAll (totalsOf (nexts order h (t .counts))) hs
@@ -119,7 +119,7 @@ module _ (t : Totals) (h : Happened) (hs : List Happened) where
 
   stops-here : ltb (firstFull t h) size ≡ true → countedAll t (h ∷ hs) ≡ record { totals = t; full = firstFull t h }
   unfolding countedAll countedIn
-  stops-here e = simp (e, ne-eqb (firstFull t h) nothing (λ q. let z = ltb-true (firstFull t h) size e in omega arith))
+  stops-here e = simp (e, ne-eqb (firstFull t h) noneFull (λ q. let z = ltb-true (firstFull t h) size e in omega arith))
 
 ends : (gs hs : List Happened) (t : Totals) → Right gs t → Ends gs t hs (countedAll t hs)
 unfolding countedAll
@@ -144,7 +144,7 @@ ends gs (h ∷ hs) t r =
 
 -- ---- the promises
 
-right-end : (hs : List Happened) → countedAll blank hs .full ≡ nothing → Right hs (countedAll blank hs .totals)
+right-end : (hs : List Happened) → countedAll blank hs .full ≡ noneFull → Right hs (countedAll blank hs .totals)
 right-end hs e = go (ends [] hs blank right-start)
   where
     go : Ends [] blank hs (countedAll blank hs) → Right hs (countedAll blank hs .totals)
@@ -163,12 +163,12 @@ most-cars-right hs e = right-end hs e .cars
 pub none-full-exactly : NoneFullExactly
 none-full-exactly hs = (λ e. right-end hs e .low, λ low. go low (ends [] hs blank right-start))
   where
-    go : ((p : ℕ) → p < size → tally (nameAt p) hs ≤ most) → Ends [] blank hs (countedAll blank hs) → countedAll blank hs .full ≡ nothing
+    go : ((p : ℕ) → p < size → tally (nameAt p) hs ≤ mostCounted) → Ends [] blank hs (countedAll blank hs) → countedAll blank hs .full ≡ noneFull
     go low (counted f r) = f
     go low (stopped before last rest a b l) =
         let p = countedAll blank hs .full in
         let n = nameAt p in
-        let passed = ltb-true most (tally n (before ++ last ∷ [])) (l .passes) in
+        let passed = ltb-true mostCounted (tally n (before ++ last ∷ [])) (l .passes) in
         let whole : tally n hs ≡ tally n (before ++ last ∷ []) + tally n rest = ap (tally n) (a ∙ sym (append-assoc before (last ∷ []) rest))
         ∙ tally-append n (before ++ last ∷ []) rest in
         absurd (omega (arith, low p (l .within)))

@@ -10,7 +10,7 @@ use Rattle.bits.specs.Bits.{digit}
 use Rattle.bits.specs.Search.{IsLeast}
 use Rattle.totals.specs.declared.Happened.{Happened}
 use Rattle.totals.specs.declared.Tally.{Tally}
-use Rattle.totals.specs.Totals.{Name, order, size, nameAt, counts, most, nothing, blank, countedAll}
+use Rattle.totals.specs.Totals.{Name, order, size, nameAt, counts, mostCounted, noneFull, blank, countedAll}
 
 -- the order has as many names as there are totals
 abbrev pub OrderWhole : Type 0
@@ -28,16 +28,16 @@ largest (h ∷ hs) = max (h .cars) (largest hs)
 
 -- where no total is full, each but the last is the number of happenings that count under its name
 abbrev pub TotalsRight : Type 0
-TotalsRight = (hs : List Happened) → countedAll blank hs .full ≡ nothing → (p : ℕ) → p < 51
+TotalsRight = (hs : List Happened) → countedAll blank hs .full ≡ noneFull → (p : ℕ) → p < 51
     → getD (countedAll blank hs .totals .counts) p 0 ≡ tally (nameAt p) hs
 
 -- where no total is full, the last one, the most cars, is the largest number of cars
 abbrev pub MostCarsRight : Type 0
-MostCarsRight = (hs : List Happened) → countedAll blank hs .full ≡ nothing → getD (countedAll blank hs .totals .counts) 51 0 ≡ largest hs
+MostCarsRight = (hs : List Happened) → countedAll blank hs .full ≡ noneFull → getD (countedAll blank hs .totals .counts) 51 0 ≡ largest hs
 
 -- no total is full exactly if under no name more happenings count than the most
 abbrev pub NoneFullExactly : Type 0
-NoneFullExactly = (hs : List Happened) → (countedAll blank hs .full ≡ nothing) ↔ ((p : ℕ) → p < size → tally (nameAt p) hs ≤ most)
+NoneFullExactly = (hs : List Happened) → (countedAll blank hs .full ≡ noneFull) ↔ ((p : ℕ) → p < size → tally (nameAt p) hs ≤ mostCounted)
 
 -- a run that stops: at the first that would make a number pass the most, with the totals of those before it, and the first such name told
 pub record Stops (hs : List Happened) (c : Tally) : Type 0 where
@@ -45,10 +45,10 @@ pub record Stops (hs : List Happened) (c : Tally) : Type 0 where
   pub last : Happened
   pub rest : List Happened
   pub all : hs ≡ before ++ last ∷ rest
-  pub none : countedAll blank before .full ≡ nothing
+  pub none : countedAll blank before .full ≡ noneFull
   pub totals : c .totals ≡ countedAll blank before .totals
-  pub first : IsLeast size (λ p. ltb most (tally (nameAt p) (before ++ last ∷ []))) (c .full)
+  pub first : IsLeast size (λ p. ltb mostCounted (tally (nameAt p) (before ++ last ∷ []))) (c .full)
 
 -- where a total is full, counting has stopped before the first happening that would make one pass the most, and the first such is named
 abbrev pub FullStops : Type 0
-FullStops = (hs : List Happened) → (countedAll blank hs .full ≡ nothing → ⊥) → Stops hs (countedAll blank hs)
+FullStops = (hs : List Happened) → (countedAll blank hs .full ≡ noneFull → ⊥) → Stops hs (countedAll blank hs)

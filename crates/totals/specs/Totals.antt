@@ -46,36 +46,36 @@ counts CarsOut h = eqb (h .drive) 2
 counts MostCars h = false
 
 -- a total after what happened, from what it was: one more where it counts; the most cars as many as there are now, if they are more
-abbrev pub next : Name → Happened → ℕ → ℕ
-next (Kind k) h v = v + digit (counts (Kind k) h)
-next (Number n) h v = v + digit (counts (Number n) h)
-next (Done op) h v = v + digit (counts (Done op) h)
-next (Failed op) h v = v + digit (counts (Failed op) h)
-next CarsIn h v = v + digit (counts CarsIn h)
-next CarsOut h v = v + digit (counts CarsOut h)
-next MostCars h v = max v (h .cars)
+abbrev pub nextTotal : Name → Happened → ℕ → ℕ
+nextTotal (Kind k) h v = v + digit (counts (Kind k) h)
+nextTotal (Number n) h v = v + digit (counts (Number n) h)
+nextTotal (Done op) h v = v + digit (counts (Done op) h)
+nextTotal (Failed op) h v = v + digit (counts (Failed op) h)
+nextTotal CarsIn h v = v + digit (counts CarsIn h)
+nextTotal CarsOut h v = v + digit (counts CarsOut h)
+nextTotal MostCars h v = max v (h .cars)
 
 -- all totals after what happened, each by its name
 unfoldable pub nexts : List Name → Happened → List ℕ → List ℕ
 nexts [] h vs = vs
 nexts (x ∷ xs) h [] = []
-nexts (x ∷ xs) h (v ∷ vs) = next x h v ∷ nexts xs h vs
+nexts (x ∷ xs) h (v ∷ vs) = nextTotal x h v ∷ nexts xs h vs
 
 -- the totals whose numbers are these
 abbrev pub totalsOf : List ℕ → Totals
 totalsOf c = record { counts = c }
 
 -- the most that a total holds
-abbrev pub most : ℕ
-most = 4294967295
+abbrev pub mostCounted : ℕ
+mostCounted = 4294967295
 
 -- the place where no total is full
-abbrev pub nothing : ℕ
-nothing = 255
+abbrev pub noneFull : ℕ
+noneFull = 255
 
 -- whether the total at a place is about to pass the most
 abbrev pub full : Totals → Happened → ℕ → Bool
-full t h p = counts (nameAt p) h && leb most (getD (t .counts) p 0)
+full t h p = counts (nameAt p) h && leb mostCounted (getD (t .counts) p 0)
 
 -- the first place in order at which one is; the number of totals where none is
 abbrev pub firstFull : Totals → Happened → ℕ
@@ -86,15 +86,15 @@ unfoldable pub countedIn : Totals → Happened → Tally
 countedIn t h =
     cond (ltb (firstFull t h) size)
     (record { totals = t; full = firstFull t h })
-    (record { totals = totalsOf (nexts order h (t .counts)); full = nothing })
+    (record { totals = totalsOf (nexts order h (t .counts)); full = noneFull })
 
 -- what a call that counts in lent totals leaves: the place that it tells, and the totals
-pub record Leaves (c : Tally) (place : ℕ) (after : Totals) : Type 0 where
+pub record LeavesTotals (c : Tally) (place : ℕ) (after : Totals) : Type 0 where
   pub full : place ≡ c .full
   pub totals : after ≡ c .totals
 
 -- the same where the numbers alone are lent
-pub record Holds (c : Tally) (place : ℕ) (after : List ℕ) : Type 0 where
+pub record LeavesCounts (c : Tally) (place : ℕ) (after : List ℕ) : Type 0 where
   pub full : place ≡ c .full
   pub counts : after ≡ c .totals .counts
 
@@ -104,7 +104,7 @@ blank = totalsOf (replicate size 0)
 
 -- all that happened counted, one after another, up to the first at which a total is full
 unfoldable pub countedAll : Totals → List Happened → Tally
-countedAll t [] = record { totals = t; full = nothing }
+countedAll t [] = record { totals = t; full = noneFull }
 countedAll t (h ∷ hs) =
     let c = countedIn t h in
-    cond (eqb (c .full) nothing) (countedAll (c .totals) hs) c
+    cond (eqb (c .full) noneFull) (countedAll (c .totals) hs) c

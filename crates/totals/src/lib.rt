@@ -3,8 +3,8 @@ ghost use mathlib.Core.Path.{_≡_};
 ghost use mathlib.Core.Bool.{false};
 ghost use Prim.Native.Nat.{_+_, _<_, _≤_, max};
 ghost use lib.ListN.{replicate};
-ghost use Rattle.totals.specs.Totals.{countedIn, nothing, totalsOf, blank, Leaves, Holds};
-ghost use Rattle.totals.specs.Private.{markOf, resultsFrom, marksOf, Within, filled, fills, fullAmong, raised, withCars, raisedAll};
+ghost use Rattle.totals.specs.Totals.{countedIn, noneFull, totalsOf, blank, LeavesTotals, LeavesCounts};
+ghost use Rattle.totals.specs.Private.{countMark, resultsFrom, countMarks, MarksWithin, aboutFull, fills, fullAmong, raised, withCars, raisedAll};
 
 // The most that a total holds.
 pub const MOST: u32 = 4294967295;
@@ -73,7 +73,7 @@ struct Marks {
 // Where x counts, if it is one of the n numbers from a on, whose totals stand from place p on.
 fn marked(p: usize, n: usize, a: usize, x: u8) -> Mark
     requires { ⌜ (p + n < 53) × (a < 2) ⌝ }
-    ensures { λ m. ⌜ m ≡ markOf p n a x ⌝ }
+    ensures { λ m. ⌜ m ≡ countMark p n a x ⌝ }
 {
     let x = x as usize;
     if (a <= x) & (x < a + n) {
@@ -92,7 +92,7 @@ fn results_from(done: bool) -> usize
 }
 
 fn marks_of(h: Happened) -> Marks
-    ensures { λ m. ⌜ m ≡ marksOf h ⌝ }
+    ensures { λ m. ⌜ m ≡ countMarks h ⌝ }
 {
     let kind = marked(0, 5, 1, h.kind);
     let answer = marked(5, 34, 0, h.answer);
@@ -117,7 +117,7 @@ fn fills_at(counts: &[u32; 52], m: Mark) -> bool
 
 // The first place at which one is. That none is, is told first and by one test.
 fn first_full(counts: &[u32; 52], m: Marks) -> u8
-    requires { ⌜ Within m ⌝ }
+    requires { ⌜ MarksWithin m ⌝ }
     ensures { λ p. ⌜ p ≡ fullAmong (now (counts .entry)) m ⌝ }
 {
     let kind = m.kind;
@@ -144,7 +144,7 @@ fn first_full(counts: &[u32; 52], m: Marks) -> u8
 }
 
 fn plus(n: u32, more: u32) -> u32
-    requires { ⌜ (more ≤ 1) × (filled n more ≡ false) ⌝ }
+    requires { ⌜ (more ≤ 1) × (aboutFull n more ≡ false) ⌝ }
     ensures { λ r. ⌜ r ≡ n + more ⌝ }
 {
     n + more
@@ -171,7 +171,7 @@ fn raise_cars(counts: &mut [u32; 52], cars: u8)
 }
 
 fn raise_all(counts: &mut [u32; 52], m: Marks, h: Happened)
-    requires { ⌜ (m ≡ marksOf h) × (fullAmong (now counts) m ≡ nothing) ⌝ }
+    requires { ⌜ (m ≡ countMarks h) × (fullAmong (now counts) m ≡ noneFull) ⌝ }
     ensures { λ _. ⌜ now (counts .exit) ≡ raisedAll (now (counts .entry)) h ⌝ }
 {
     let kind = m.kind;
@@ -187,7 +187,7 @@ fn raise_all(counts: &mut [u32; 52], m: Marks, h: Happened)
 
 // What happened counted where the totals stand, and NOTHING; or the place of the first that is full, and all stay as they were.
 pub fn count_at(counts: &mut [u32; 52], h: Happened) -> u8
-    ensures { λ p. ⌜ Holds (countedIn (totalsOf (now (counts .entry))) h) p (now (counts .exit)) ⌝ }
+    ensures { λ p. ⌜ LeavesCounts (countedIn (totalsOf (now (counts .entry))) h) p (now (counts .exit)) ⌝ }
 {
     let m = marks_of(h);
     let full = first_full(counts, m);
@@ -209,7 +209,7 @@ pub fn counted(t: Totals, h: Happened) -> Tally
 
 // What happened counted in totals that are lent, and NOTHING; or the place of the first that is full, and all stay as they were.
 pub fn count(t: &mut Totals, h: Happened) -> u8
-    ensures { λ p. ⌜ Leaves (countedIn (now (t .entry)) h) p (now (t .exit)) ⌝ }
+    ensures { λ p. ⌜ LeavesTotals (countedIn (now (t .entry)) h) p (now (t .exit)) ⌝ }
 {
     let c = counted(*t, h);
     *t = c.totals;

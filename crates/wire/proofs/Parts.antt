@@ -7,7 +7,8 @@ use lib.ListN.{getD, length, take, drop, replicate, length-drop}
 use lib.Seq.{take-all, take-length, length-take-le, drop-drop}
 use lib.Pow.{shr-shr}
 use native.Mathlib.Nat.{sub-zero, zero-sub, suc-sub-suc, div-one}
-use Rattle.wire.specs.Kinds.{littleEndian, fromLittleEndian, setOf}
+use Rattle.codec.specs.Bytes.{littleEndian, fromLittleEndian}
+use Rattle.wire.specs.Kinds.{setOf}
 
 -- what `&m[at..]` refers to
 pub from-on : (m : List ℕ) (at : ℕ) → take (length m - at) (drop at m) ≡ drop at m

@@ -17,20 +17,20 @@ use Rattle.answers.specs.Answers.{nowhere}
 use Rattle.wire.specs.declared.What.{What}
 use Rattle.wire.specs.declared.What.the-variants.{Request, Event, Result, Image, Ask, Answer, Held}
 use Rattle.wire.specs.declared.Message.{Message}
-use Rattle.wire.specs.Kinds.{kindOf, inRange, request, plain}
+use Rattle.wire.specs.Kinds.{kindOf, inRange, requestKind, plain}
 use Rattle.wire.specs.Reads.{badIn}
 use Rattle.wire.specs.declared.Written.{Written}
-use Rattle.wire.specs.Writes.{messageBytes, Writing, Leaves, kept, put, writing}
+use Rattle.wire.specs.Writes.{messageBytes, Writing, LeavesMessage, nothingWritten, put, writingMessage}
 use Rattle.wire.proofs.What as what
 
-pub put-short : (src room : List ℕ) → length room < length src → put src room ≡ kept NoRoom room
+pub put-short : (src room : List ℕ) → length room < length src → put src room ≡ nothingWritten NoRoom room
 put-short src room h = simp (lt-ltb _ _ h)
 
 pub put-all : (src room last : List ℕ) → length src ≤ length room → last ≡ take (length src) src ++ drop (length src) room → last ≡ put src room .leaves
 put-all src room last h e = e ∙ rw (take-length, le-ltb _ _ h)
 
 -- fields out of their ranges are not a request's
-not-request : (w : What) → inRange w ≡ false → eqb (kindOf w) request ≡ false
+not-request : (w : What) → inRange w ≡ false → eqb (kindOf w) requestKind ≡ false
 not-request Request e = clash refl e
 not-request (Event way) e = refl
 not-request (Result issue number ending) e = refl
@@ -39,19 +39,19 @@ not-request Ask e = refl
 not-request (Answer number place issue) e = refl
 not-request (Held bits apart) e = refl
 
-pub out-of-range : (m : Message) (room : List ℕ) → inRange (m .what) ≡ false → writing m room ≡ kept (BadField nowhere) room
-unfolding writing
+pub out-of-range : (m : Message) (room : List ℕ) → inRange (m .what) ≡ false → writingMessage m room ≡ nothingWritten (BadField nowhere) room
+unfolding writingMessage
 out-of-range m room e = rw (not-request (m .what) e, e)
 
 -- a message by what it says
 pub saying : (m : Message) (room : List ℕ) {w : What} → m .what ≡ w
-    → writing m room ≡ writing (record { what = w; count = m .count; set = m .set }) room
-saying m room e = ap (λ (w : What). writing (record { what = w; count = m .count; set = m .set }) room) e
+    → writingMessage m room ≡ writingMessage (record { what = w; count = m .count; set = m .set }) room
+saying m room e = ap (λ (w : What). writingMessage (record { what = w; count = m .count; set = m .set }) room) e
 
 -- one that isn't a request, its fields in their ranges
-pub ranged : (m : Message) (room : List ℕ) (w : What) → m .what ≡ w → eqb (kindOf w) request ≡ false → inRange w ≡ true
-    → writing m room ≡ put (messageBytes (record { what = w; count = m .count; set = m .set })) room
-unfolding writing
+pub ranged : (m : Message) (room : List ℕ) (w : What) → m .what ≡ w → eqb (kindOf w) requestKind ≡ false → inRange w ≡ true
+    → writingMessage m room ≡ put (messageBytes (record { what = w; count = m .count; set = m .set })) room
+unfolding writingMessage
 ranged m room w e r f = saying m room e ∙ rw (r, f)
 
 -- ---- messages that hold no instruction, in bytes
@@ -80,8 +80,8 @@ module _ (issue : ℕ) {l h : ℕ} (e : l ≡ issue % 256) (f : h ≡ issue / 25
 
 -- written in bytes, its fields in their ranges
 pub plain-written : (w : What) (room : List ℕ) {b : List ℕ} → inRange w ≡ true → b ≡ messageBytes (plain w)
-    → writing (plain w) room ≡ put b room
-unfolding writing least
+    → writingMessage (plain w) room ≡ put b room
+unfolding writingMessage least
 plain-written Request room f e = ap (λ (b : List ℕ). put b room) (sym e)
 plain-written (Event way) room f e = rw f (ap (λ (b : List ℕ). put b room) (sym e))
 plain-written (Result issue number ending) room f e = rw f (ap (λ (b : List ℕ). put b room) (sym e))
@@ -92,8 +92,8 @@ plain-written (Held bits apart) room f e = ap (λ (b : List ℕ). put b room) (s
 
 -- what is no request is written by what it says alone
 pub as-plain : (w : What) (n : ℕ) (set room : List ℕ) → OneOf (1 ∷ 2 ∷ 3 ∷ 4 ∷ 5 ∷ 6 ∷ []) (tagOf what.the-type w)
-    → writing (record { what = w; count = n; set = set }) room ≡ writing (plain w) room
-unfolding writing
+    → writingMessage (record { what = w; count = n; set = set }) room ≡ writingMessage (plain w) room
+unfolding writingMessage
 as-plain Request n set room h = absurd (miss (1 ∷ 2 ∷ 3 ∷ 4 ∷ 5 ∷ 6 ∷ []) 0 tt h)
 as-plain (Event way) n set room h = refl
 as-plain (Result issue number ending) n set room h = refl
@@ -113,7 +113,7 @@ unranged (Answer number place issue) h = absurd (miss (0 ∷ 3 ∷ 4 ∷ 6 ∷ [
 unranged (Held bits apart) h = refl
 
 -- what a call leaves, told by another name
-pub as-told : {v w : Writing} {r : Written} {last : List ℕ} → w ≡ v → Leaves v r last → Leaves w r last
+pub as-told : {v w : Writing} {r : Written} {last : List ℕ} → w ≡ v → LeavesMessage v r last → LeavesMessage w r last
 as-told e l = (l .0 ∙ ap (λ (w : Writing). w .says) (sym e), l .1 ∙ ap (λ (w : Writing). w .leaves) (sym e))
 
 -- ---- requests
@@ -123,12 +123,12 @@ abbrev pub asking : ℕ → List ℕ → Message
 asking n set = record { what = Request; count = n; set = set }
 
 module _ (n : ℕ) (set room : List ℕ) where
-  pub too-many : 8 < n → writing (asking n set) room ≡ kept TooMany room
-  unfolding writing
+  pub too-many : 8 < n → writingMessage (asking n set) room ≡ nothingWritten TooMany room
+  unfolding writingMessage
   too-many h = rw (lt-ltb 8 n h)
 
-  pub bad-one : {bad : ℕ} → n ≤ 8 → bad ≡ least n (badIn set) → bad < n → writing (asking n set) room ≡ kept (BadField bad) room
-  unfolding writing
+  pub bad-one : {bad : ℕ} → n ≤ 8 → bad ≡ least n (badIn set) → bad < n → writingMessage (asking n set) room ≡ nothingWritten (BadField bad) room
+  unfolding writingMessage
   bad-one {bad} h e b = rw (← e, le-ltb 8 n h, lt-ltb bad n b)
 
   request-form : n ≤ 8 → length set ≡ 40 → take (5 + 5 * n) ((3 + 5 * n) ∷ 0 ∷ 1 ∷ 0 ∷ n ∷ set) ≡ messageBytes (asking n set)
@@ -139,6 +139,6 @@ module _ (n : ℕ) (set room : List ℕ) where
       take-append-add ((3 + 5 * n) ∷ 0 ∷ 1 ∷ 0 ∷ n ∷ []) set (5 * n) ∙ rw (k, low, high)
 
   pub all-good : {bad : ℕ} {m : List ℕ} → n ≤ 8 → bad ≡ least n (badIn set) → n ≤ bad → length set ≡ 40
-      → m ≡ (3 + 5 * n) ∷ 0 ∷ 1 ∷ 0 ∷ n ∷ set → writing (asking n set) room ≡ put (take (5 + 5 * n) m) room
-  unfolding writing
+      → m ≡ (3 + 5 * n) ∷ 0 ∷ 1 ∷ 0 ∷ n ∷ set → writingMessage (asking n set) room ≡ put (take (5 + 5 * n) m) room
+  unfolding writingMessage
   all-good {bad} h e b l f = rw (← e, le-ltb 8 n h, le-ltb bad n b, f, request-form h l)

@@ -2,79 +2,70 @@
 -- Assumes nothing.
 use mathlib.Core.Bool.{Bool, true, _&&_, _||_}
 use mathlib.Core.List.{List, [], _∷_, _++_}
-use Prim.Native.Nat.{ℕ, zero, suc, _+_, _*_, _-_, _/_, _%_}
+use Prim.Native.Nat.{ℕ, _*_, _-_}
 use lib.Dec.{leb, eqb}
 use lib.ListN.{length, getD, take, replicate}
+use Rattle.codec.specs.Bytes.{littleEndian, fromLittleEndian}
 use Rattle.answers.specs.Answers.{inTable, nowhere}
 use Rattle.wire.specs.declared.What.{What}
 use Rattle.wire.specs.declared.What.the-variants.{Request, Event, Result, Image, Ask, Answer, Held}
 use Rattle.wire.specs.declared.Message.{Message}
 
--- n bytes that say a number, the lowest first
-abbrev pub littleEndian : ℕ → ℕ → List ℕ
-littleEndian zero x = []
-littleEndian (suc n) x = x % 256 ∷ littleEndian n (x / 256)
-
--- the number that n bytes say, from place i of a run on
-abbrev pub fromLittleEndian : ℕ → ℕ → List ℕ → ℕ
-fromLittleEndian zero i s = 0
-fromLittleEndian (suc n) i s = getD s i 0 + 256 * fromLittleEndian n (suc i) s
-
 -- the place of its first instruction
-abbrev pub first : ℕ
-first = 5
+abbrev pub firstInstruction : ℕ
+firstInstruction = 5
 
 -- a kind whose body has one size: its number, that size, and what a message of this kind says; its body starts at place 4
-pub record Kind : Type 0 where
+pub record SizedKind : Type 0 where
   pub number : ℕ
   pub size : ℕ
   pub says : List ℕ → What
 
 -- 1: a request; its body is a count, then five bytes for each instruction
-abbrev pub request : ℕ
-request = 1
+abbrev pub requestKind : ℕ
+requestKind = 1
 
 -- 2: an event: a drive begins, 1 in or 2 out, or ends, 3 done or 4 not done
-abbrev pub event : Kind
-event = record { number = 2; size = 1; says = λ m. Event (getD m 4 0) }
+abbrev pub eventKind : SizedKind
+eventKind = record { number = 2; size = 1; says = λ m. Event (getD m 4 0) }
 
 -- 3: a result, the issue of its set, the number of the instruction and its ending, 0 failed, 1 done or 2 stuck
-abbrev pub result : Kind
-result = record { number = 3; size = 4; says = λ m. Result (fromLittleEndian 2 4 m) (getD m 6 0) (getD m 7 0) }
+abbrev pub resultKind : SizedKind
+resultKind = record { number = 3; size = 4; says = λ m. Result (fromLittleEndian 2 4 m) (getD m 6 0) (getD m 7 0) }
 
 -- 4: an image to take, the record and what is set apart
-abbrev pub image : Kind
-image = record { number = 4; size = 16; says = λ m. Image (fromLittleEndian 8 4 m) (fromLittleEndian 8 12 m) }
+abbrev pub imageKind : SizedKind
+imageKind = record { number = 4; size = 16; says = λ m. Image (fromLittleEndian 8 4 m) (fromLittleEndian 8 12 m) }
 
 -- 5: the image is asked for
-abbrev pub ask : Kind
-ask = record { number = 5; size = 0; says = λ m. Ask }
+abbrev pub askKind : SizedKind
+askKind = record { number = 5; size = 0; says = λ m. Ask }
 
 -- 128: an answer, its number, its place and the issue of the set that it opens
-abbrev pub answer : Kind
-answer = record { number = 128; size = 4; says = λ m. Answer (getD m 4 0) (getD m 5 0) (fromLittleEndian 2 6 m) }
+abbrev pub answerKind : SizedKind
+answerKind = record { number = 128; size = 4; says = λ m. Answer (getD m 4 0) (getD m 5 0) (fromLittleEndian 2 6 m) }
 
 -- 129: the image that was asked for, the record and what is set apart
-abbrev pub held : Kind
-held = record { number = 129; size = 16; says = λ m. Held (fromLittleEndian 8 4 m) (fromLittleEndian 8 12 m) }
+abbrev pub heldKind : SizedKind
+heldKind = record { number = 129; size = 16; says = λ m. Held (fromLittleEndian 8 4 m) (fromLittleEndian 8 12 m) }
 
 -- the kinds that a station reads besides requests
-abbrev pub asked : List Kind
-asked = event ∷ result ∷ image ∷ ask ∷ []
+abbrev pub kindsAsked : List SizedKind
+kindsAsked = eventKind ∷ resultKind ∷ imageKind ∷ askKind ∷ []
 
 -- those that the library reads
-abbrev pub known : List Kind
-known = answer ∷ held ∷ asked
+abbrev pub kindsKnown : List SizedKind
+kindsKnown = answerKind ∷ heldKind ∷ kindsAsked
 
 -- the number of the kind that says this
 abbrev pub kindOf : What → ℕ
-kindOf Request = request
-kindOf (Event way) = event .number
-kindOf (Result issue number ending) = result .number
-kindOf (Image bits apart) = image .number
-kindOf Ask = ask .number
-kindOf (Answer number place issue) = answer .number
-kindOf (Held bits apart) = held .number
+kindOf Request = requestKind
+kindOf (Event way) = eventKind .number
+kindOf (Result issue number ending) = resultKind .number
+kindOf (Image bits apart) = imageKind .number
+kindOf Ask = askKind .number
+kindOf (Answer number place issue) = answerKind .number
+kindOf (Held bits apart) = heldKind .number
 
 -- the body that says this: of a request, a count and the bytes of so many instructions
 abbrev pub bodyOf : What → ℕ → List ℕ → List ℕ

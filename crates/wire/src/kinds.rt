@@ -14,7 +14,7 @@ ghost use mathlib.Core.Path.{_≡_};
 ghost use Prim.Native.Nat.{_≤_, _+_, _*_};
 ghost use lib.ListN.{length, drop};
 ghost use Rattle.bits.specs.Search.{least};
-ghost use Rattle.wire.specs.Kinds.{first, known, asked, inRange};
+ghost use Rattle.wire.specs.Kinds.{firstInstruction, kindsKnown, kindsAsked, inRange};
 ghost use Rattle.wire.specs.Reads.{sized, isBad, badIn, readRequest, readAmong, readWhole};
 
 // Whether the fields of a message are in their ranges, a request's instructions aside.
@@ -68,7 +68,7 @@ fn is_bad(one: Reading) -> bool
 // The least bad instruction of a request of n, or n where none is: each is read from its own five bytes.
 pub fn least_bad(m: &[u8], n: u8) -> u8
     requires { ⌜ (n ≤ 8) × (5 + 5 * n ≤ length (now m)) ⌝ }
-    ensures { λ r. ⌜ r ≡ least n (badIn (drop first (now (m .entry)))) ⌝ }
+    ensures { λ r. ⌜ r ≡ least n (badIn (drop firstInstruction (now (m .entry)))) ⌝ }
 {
     let mut i: u8 = 0;
     while i < n {
@@ -113,7 +113,7 @@ pub fn read_request(m: &[u8]) -> Received
 
 // A message whose bytes are exactly m, of a kind besides requests that a station reads.
 pub fn among(m: &[u8]) -> Received
-    ensures { λ r. ⌜ r ≡ readAmong asked (now (m .entry)) ⌝ }
+    ensures { λ r. ⌜ r ≡ readAmong kindsAsked (now (m .entry)) ⌝ }
 {
     let kind = word_at(m, 2);
     match kind {
@@ -139,7 +139,7 @@ pub fn among(m: &[u8]) -> Received
 
 // The same with requests.
 pub fn whole_asked(m: &[u8]) -> Received
-    ensures { λ r. ⌜ r ≡ readWhole asked (now (m .entry)) ⌝ }
+    ensures { λ r. ⌜ r ≡ readWhole kindsAsked (now (m .entry)) ⌝ }
 {
     let kind = word_at(m, 2);
     if kind == 1 {
@@ -150,7 +150,7 @@ pub fn whole_asked(m: &[u8]) -> Received
 
 // The same for any kind.
 pub fn whole(m: &[u8]) -> Received
-    ensures { λ r. ⌜ r ≡ readWhole known (now (m .entry)) ⌝ }
+    ensures { λ r. ⌜ r ≡ readWhole kindsKnown (now (m .entry)) ⌝ }
 {
     let kind = word_at(m, 2);
     match kind {

@@ -5,8 +5,9 @@ ghost use mathlib.Core.Path.{_≡_};
 ghost use mathlib.Core.List.{[], _∷_, _++_};
 ghost use Prim.Native.Nat.{_≤_, _<_, _-_, _*_};
 ghost use lib.ListN.{getD, length, replicate};
-ghost use Rattle.wire.specs.Kinds.{littleEndian, fromLittleEndian, asked, plain, setOf};
-ghost use Rattle.wire.specs.Reads.{kindAt, frameOf, refused, saidIn, readRequest, readAmong, readMessage, readAsked};
+ghost use Rattle.codec.specs.Bytes.{littleEndian, fromLittleEndian};
+ghost use Rattle.wire.specs.Kinds.{kindsAsked, plain, setOf};
+ghost use Rattle.wire.specs.Reads.{kindAt, frameOf, messageRefused, saidIn, readRequest, readAmong, readMessage, readAsked};
 
 mod kinds;
 pub mod writing;
@@ -196,7 +197,7 @@ pub fn plain(what: What) -> Message
 }
 
 fn refused(answer: Answer, used: usize) -> Received
-    ensures { λ r. ⌜ r ≡ refused answer used ⌝ }
+    ensures { λ r. ⌜ r ≡ messageRefused answer used ⌝ }
 {
     let message = plain(What::Ask);
     Received {
@@ -222,7 +223,7 @@ pub fn request_in(m: &[u8]) -> Received
 
 // What a message whose bytes are exactly m says to a station, if it is no request: no set is filled in.
 pub fn saying(m: &[u8]) -> Said
-    ensures { λ r. ⌜ r ≡ saidIn (readAmong asked (now (m .entry))) ⌝ }
+    ensures { λ r. ⌜ r ≡ saidIn (readAmong kindsAsked (now (m .entry))) ⌝ }
 {
     let r = kinds::among(m);
     let answer = r.answer;

@@ -11,12 +11,13 @@ ghost use mathlib.Core.List.{_∷_, _++_};
 ghost use Prim.Native.Nat.{_≤_, _+_, _*_};
 ghost use Rattle.wire.specs.declared.What.{What};
 ghost use lib.ListN.{getD, length, take};
-ghost use Rattle.wire.specs.Kinds.{littleEndian, plain};
-ghost use Rattle.wire.specs.Writes.{Leaves, messageBytes, put, writing};
+ghost use Rattle.codec.specs.Bytes.{littleEndian};
+ghost use Rattle.wire.specs.Kinds.{plain};
+ghost use Rattle.wire.specs.Writes.{LeavesMessage, messageBytes, put, writingMessage};
 
 // Puts all of src at the start of room, or refuses with 17 and writes nothing.
 fn put(src: &[u8], room: &mut [u8]) -> Written
-    ensures { λ r. ⌜ Leaves (put (now (src .entry)) (now (room .entry))) r (now (room .exit)) ⌝ }
+    ensures { λ r. ⌜ LeavesMessage (put (now (src .entry)) (now (room .entry))) r (now (room .exit)) ⌝ }
 {
     if room.len() < src.len() {
         return Written {
@@ -105,7 +106,7 @@ fn request_bytes(count: u8, set: [u8; 40]) -> [u8; 45]
 
 // Writes a request: 5, 4 at the least bad instruction, then 17, or all of it.
 fn write_request(count: u8, set: [u8; 40], room: &mut [u8]) -> Written
-    ensures { λ r. ⌜ Leaves (writing (record { what = What.Request; count = count; set = set }) (now (room .entry))) r (now (room .exit)) ⌝ }
+    ensures { λ r. ⌜ LeavesMessage (writingMessage (record { what = What.Request; count = count; set = set }) (now (room .entry))) r (now (room .exit)) ⌝ }
 {
     if 8 < count {
         return Written {
@@ -127,7 +128,7 @@ fn write_request(count: u8, set: [u8; 40], room: &mut [u8]) -> Written
 
 // Writes a message that holds no instruction at the start of room: 4, then 17, or all of it; bytes past it keep their values.
 pub fn write_plain(what: What, room: &mut [u8]) -> Written
-    ensures { λ r. ⌜ Leaves (writing (plain what) (now (room .entry))) r (now (room .exit)) ⌝ }
+    ensures { λ r. ⌜ LeavesMessage (writingMessage (plain what) (now (room .entry))) r (now (room .exit)) ⌝ }
 {
     if in_range(what) {
         let m = bytes_of(what);
@@ -142,7 +143,7 @@ pub fn write_plain(what: What, room: &mut [u8]) -> Written
 
 // The same of any message, a request's count and instructions first: 5, 4, then 17, or all of it.
 pub fn write(m: Message, room: &mut [u8]) -> Written
-    ensures { λ r. ⌜ Leaves (writing m (now (room .entry))) r (now (room .exit)) ⌝ }
+    ensures { λ r. ⌜ LeavesMessage (writingMessage m (now (room .entry))) r (now (room .exit)) ⌝ }
 {
     let what = m.what;
     match what {

@@ -10,6 +10,7 @@ use lib.ListN.{length, take, drop}
 use lib.Seq.{length-take-le, take-take}
 use Rattle.bits.specs.Search.{least}
 use Rattle.bits.proofs.Cases.{split, clash}
+use Rattle.codec.specs.Bytes.{littleEndian, fromLittleEndian}
 use Rattle.answers.specs.declared.Answer.{Answer}
 use Rattle.answers.specs.declared.Answer.the-variants.{Taken, TooMany, BadField, NoRoom}
 use Rattle.answers.specs.Answers.{numberOf, nowhere}
@@ -17,12 +18,12 @@ use Rattle.wire.specs.declared.What.{What}
 use Rattle.wire.specs.declared.What.the-variants.{Request, Event, Result, Image, Ask, Answer as AnswerOf, Held}
 use Rattle.wire.specs.declared.Message.{Message}
 use Rattle.wire.specs.declared.Received.{Received}
-use Rattle.wire.specs.Kinds.{littleEndian, fromLittleEndian, kindOf, request, inRange, plain, requesting}
-use Rattle.wire.specs.Reads.{badIn, taken, readRequest, readWhole, readMessage}
-use Rattle.wire.specs.Writes.{Writing, messageBytes, kept, isRequest, writing, oneForm}
+use Rattle.wire.specs.Kinds.{kindOf, requestKind, inRange, plain, requesting}
+use Rattle.wire.specs.Reads.{badIn, messageTaken, readRequest, readWhole, readMessage}
+use Rattle.wire.specs.Writes.{Writing, messageBytes, nothingWritten, isRequest, writingMessage, oneForm}
 use Rattle.wire.proofs.Room.{asking}
-use Rattle.wire_laws.specs.Statements.{Typed, ReadsBack}
-use Rattle.wire_laws.proofs.Numbers.{number-back, two-back, two-bytes}
+use Rattle.wire_laws.specs.Statements.{MessageTyped, ReadsBack}
+use Rattle.codec.proofs.Numbers.{number-back, two-back, two-bytes}
 use Rattle.wire_laws.proofs.Instructions.{bad-same}
 use Rattle.wire_laws.proofs.Messages.{read-back}
 
@@ -37,23 +38,23 @@ pub record Good (m : Message) : Type 0 where
 -- and it was: all of it stands at the start of the room
 pub record Wrote (m : Message) (room : List ℕ) : Type 0 where
   pub good : Good m
-  pub all : writing m room ≡ record { says = record { answer = Taken; size = length (messageBytes m) }; leaves = messageBytes m ++ drop (length (messageBytes m)) room }
+  pub all : writingMessage m room ≡ record { says = record { answer = Taken; size = length (messageBytes m) }; leaves = messageBytes m ++ drop (length (messageBytes m)) room }
 
 abbrev number-of : Writing → ℕ
 number-of w = numberOf (w .says .answer)
 
 -- the way of a chain of refusals to its end
-passed : {G : Type 0} (a : Answer) (room : List ℕ) → 0 < numberOf a → number-of (kept a room) ≡ 0 → G
+passed : {G : Type 0} (a : Answer) (room : List ℕ) → 0 < numberOf a → number-of (nothingWritten a room) ≡ 0 → G
 passed a room h e = absurd (omega arith)
 
 branch : {G : Type 0} (t : Bool) (x y : Writing) → number-of (cond t x y) ≡ 0 → (t ≡ true → number-of x ≡ 0 → G) → (t ≡ false → number-of y ≡ 0 → G) → G
 branch true x y e f g = f refl e
 branch false x y e f g = g refl e
 
-pub wrote : (m : Message) (room : List ℕ) → writing m room .says .answer ≡ Taken → Wrote m room
-unfolding writing
+pub wrote : (m : Message) (room : List ℕ) → writingMessage m room .says .answer ≡ Taken → Wrote m room
+unfolding writingMessage
 wrote m room e =
-    branch (isRequest m && ltb 8 (m .count)) (kept TooMany room) _ (ap numberOf e) (λ _ z. passed TooMany room (omega arith) z)
+    branch (isRequest m && ltb 8 (m .count)) (nothingWritten TooMany room) _ (ap numberOf e) (λ _ z. passed TooMany room (omega arith) z)
     (λ a z. branch (isRequest m && ltb (least (m .count) (badIn (m .set))) (m .count)) _ _ z (λ _ z. passed (BadField 0) room (omega arith) z)
     (λ b z. branch (inRange (m .what)) _ _ z
     (λ c z. branch (ltb (length room) (length (messageBytes m))) _ _ z (λ _ z. passed NoRoom room (omega arith) z)
@@ -67,26 +68,26 @@ image-back : (f : ℕ → ℕ → Received) (bits apart : ℕ) → bits < 2 ^ 64
     → f (fromLittleEndian 8 0 (littleEndian 8 bits ++ littleEndian 8 apart)) (fromLittleEndian 8 8 (littleEndian 8 bits ++ littleEndian 8 apart)) ≡ f bits apart
 image-back f bits apart h g = let e = two-back 8 8 bits apart [] h g in ap₂ f (e .0) (e .1)
 
-plain-back : (w : What) (count : ℕ) (set t : List ℕ) → Typed (record { what = w; count = count; set = set }) → Good (record { what = w; count = count; set = set })
-    → eqb (kindOf w) request ≡ false
+plain-back : (w : What) (count : ℕ) (set t : List ℕ) → MessageTyped (record { what = w; count = count; set = set }) → Good (record { what = w; count = count; set = set })
+    → eqb (kindOf w) requestKind ≡ false
     → readMessage (messageBytes (record { what = w; count = count; set = set }) ++ t)
-    ≡ taken (plain w) (length (messageBytes (record { what = w; count = count; set = set })))
+    ≡ messageTaken (plain w) (length (messageBytes (record { what = w; count = count; set = set })))
 unfolding readWhole
 plain-back Request count set t p g r = clash refl r
 plain-back (Event way) count set t p g r = read-back (3 ∷ 0 ∷ 2 ∷ 0 ∷ way ∷ []) t refl (omega arith) (omega arith) ∙ rw (g .ranged)
 plain-back (Result issue number ending) count set t p g r =
     read-back (6 ∷ 0 ∷ 3 ∷ 0 ∷ littleEndian 2 issue ++ number ∷ ending ∷ []) t refl (omega arith) (omega arith)
-    ∙ rw (g .ranged) (ap (λ (i : ℕ). taken (plain (Result i number ending)) 8) (number-back 2 issue [] (p .issue)))
+    ∙ rw (g .ranged) (ap (λ (i : ℕ). messageTaken (plain (Result i number ending)) 8) (number-back 2 issue [] (p .issue)))
 plain-back (Image bits apart) count set t p g r =
     read-back (18 ∷ 0 ∷ 4 ∷ 0 ∷ littleEndian 8 bits ++ littleEndian 8 apart) t refl (omega arith) (omega arith)
-    ∙ image-back (λ (b a : ℕ). taken (plain (Image b a)) 20) bits apart (p .image) (p .apart)
+    ∙ image-back (λ (b a : ℕ). messageTaken (plain (Image b a)) 20) bits apart (p .image) (p .apart)
 plain-back Ask count set t p g r = read-back (2 ∷ 0 ∷ 5 ∷ 0 ∷ []) t refl (omega arith) (omega arith)
 plain-back (AnswerOf number place issue) count set t p g r =
     read-back (6 ∷ 0 ∷ 128 ∷ 0 ∷ number ∷ place ∷ littleEndian 2 issue) t refl (omega arith) (omega arith)
-    ∙ rw (g .ranged) (ap (λ (i : ℕ). taken (plain (AnswerOf number place i)) 8) (number-back 2 issue [] (p .issue)))
+    ∙ rw (g .ranged) (ap (λ (i : ℕ). messageTaken (plain (AnswerOf number place i)) 8) (number-back 2 issue [] (p .issue)))
 plain-back (Held bits apart) count set t p g r =
     read-back (18 ∷ 0 ∷ 129 ∷ 0 ∷ littleEndian 8 bits ++ littleEndian 8 apart) t refl (omega arith) (omega arith)
-    ∙ image-back (λ (b a : ℕ). taken (plain (Held b a)) 20) bits apart (p .image) (p .apart)
+    ∙ image-back (λ (b a : ℕ). messageTaken (plain (Held b a)) 20) bits apart (p .image) (p .apart)
 
 -- ---- requests
 
@@ -104,7 +105,7 @@ module _ (n : ℕ) (set : List ℕ) (few : n ≤ 8) (places : length set ≡ 40)
       ap (λ (l : ℕ). littleEndian 2 l ++ (1 ∷ 0 ∷ n ∷ take (5 * n) set)) k
       ∙ ap (λ (l : List ℕ). l ++ (1 ∷ 0 ∷ n ∷ take (5 * n) set)) (two-bytes (3 + 5 * n) (omega arith))
 
-  request-back : (t : List ℕ) → n ≤ least n (badIn set) → readMessage (laid ++ t) ≡ taken (requesting n set) (length laid)
+  request-back : (t : List ℕ) → n ≤ least n (badIn set) → readMessage (laid ++ t) ≡ messageTaken (requesting n set) (length laid)
   unfolding readWhole readRequest
   request-back t fine =
       let l : length laid ≡ 5 + 5 * n = rw size (omega arith) in
@@ -114,7 +115,7 @@ module _ (n : ℕ) (set : List ℕ) (few : n ≤ 8) (places : length set ≡ 40)
       ∙ rw (b, take-take (5 * n) (5 * n) set (omega arith)) (simp (le-ltb (length laid) 5 (omega arith), le-ltb 8 n few, eq-eqb (length laid) (5 + 5 * n) l, le-ltb (least n (badIn set)) n fine))
 
 -- only a request has its kind
-pub only-request : (w : What) → eqb (kindOf w) request ≡ true → w ≡ Request
+pub only-request : (w : What) → eqb (kindOf w) requestKind ≡ true → w ≡ Request
 only-request Request e = refl
 only-request (Event way) e = clash e refl
 only-request (Result issue number ending) e = clash e refl
@@ -133,7 +134,7 @@ plain-form : (m : Message) → isRequest m ≡ false → oneForm m ≡ plain (m 
 unfolding oneForm
 plain-form m r = rw r
 
-bytes-back : (m : Message) (t : List ℕ) → Typed m → Good m → readMessage (messageBytes m ++ t) ≡ taken (oneForm m) (length (messageBytes m))
+bytes-back : (m : Message) (t : List ℕ) → MessageTyped m → Good m → readMessage (messageBytes m ++ t) ≡ messageTaken (oneForm m) (length (messageBytes m))
 bytes-back m t p g = split (isRequest m)
     (λ r.
     let few = ltb-false 8 (m .count) (rw r at (g .few)) in
@@ -143,8 +144,8 @@ bytes-back m t p g = split (isRequest m)
     ∙ request-bytes (m .count) (m .set) few (p .places) in
     ap (λ (b : List ℕ). readMessage (b ++ t)) same
     ∙ request-back (m .count) (m .set) few (p .places) t fine
-    ∙ ap₂ taken (sym (request-form m r)) (ap length (sym same)))
-    (λ r. plain-back (m .what) (m .count) (m .set) t p g r ∙ ap (λ (a : Message). taken a (length (messageBytes m))) (sym (plain-form m r)))
+    ∙ ap₂ messageTaken (sym (request-form m r)) (ap length (sym same)))
+    (λ r. plain-back (m .what) (m .count) (m .set) t p g r ∙ ap (λ (a : Message). messageTaken a (length (messageBytes m))) (sym (plain-form m r)))
 
 pub reads-back : ReadsBack
 reads-back m room p e =

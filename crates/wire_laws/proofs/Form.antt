@@ -9,16 +9,17 @@ use lib.Dec.{ltb, eqb}
 use lib.ListN.{getD, length, take, drop, replicate, length-append, length-drop, drop-of-length-le, take-append-drop}
 use lib.Seq.{length-take-le, take-all, take-at, drop-cons, getD-drop}
 use Rattle.bits.specs.Search.{least}
+use Rattle.codec.specs.Bytes.{littleEndian, fromLittleEndian, Bytes}
 use Rattle.answers.specs.declared.Answer.the-variants.{Taken, BadLength, BadField, TooMany, UnknownKind}
 use Rattle.answers.specs.Answers.{nowhere}
 use Rattle.wire.specs.declared.What.the-variants.{Request}
 use Rattle.wire.specs.declared.Message.{Message}
-use Rattle.wire.specs.Kinds.{littleEndian, fromLittleEndian, Kind, answer, known, kindOf, bodyOf, request, inRange, plain, requesting}
-use Rattle.wire.specs.Reads.{kindAt, badIn, taken, sized, readRequest, readAmong, readWhole}
-use Rattle.wire.specs.Writes.{messageBytes, put, isRequest, writing, oneForm}
+use Rattle.wire.specs.Kinds.{SizedKind, answerKind, kindsKnown, kindOf, bodyOf, requestKind, inRange, plain, requesting}
+use Rattle.wire.specs.Reads.{kindAt, badIn, messageTaken, sized, readRequest, readAmong, readWhole}
+use Rattle.wire.specs.Writes.{messageBytes, put, isRequest, writingMessage, oneForm}
 use Rattle.wire.proofs.Frames.{when}
-use Rattle.wire_laws.specs.Statements.{Bytes, Form, OneForm}
-use Rattle.wire_laws.proofs.Numbers.{bytes-take, bytes-drop, word-form, two-form}
+use Rattle.wire_laws.specs.Statements.{Form, OneForm}
+use Rattle.codec.proofs.Numbers.{bytes-take, bytes-drop, word-form, two-form}
 use Rattle.wire_laws.proofs.Instructions.{bad-same}
 use Rattle.wire_laws.proofs.Messages.{no, taken-message, taken-used, cut-out, read-whole, parts}
 use Rattle.wire_laws.proofs.Back.{Good}
@@ -34,12 +35,12 @@ record Meant (m : List ℕ) (msg : Message) (n : ℕ) : Type 0 where
 -- ---- kinds whose body has one size
 
 -- what such a message says is of its kind, and its body is the one that says it
-record Lawful (k : Kind) : Type 0 where
-  other : eqb (k .number) request ≡ false
+record Lawful (k : SizedKind) : Type 0 where
+  other : eqb (k .number) requestKind ≡ false
   kind : (m : List ℕ) → kindOf (k .says m) ≡ k .number
   body : (m : List ℕ) (count : ℕ) (set : List ℕ) → Bytes m → length m ≡ 4 + k .size → bodyOf (k .says m) count set ≡ drop 4 m
 
-abbrev Each : List Kind → Type 0
+abbrev Each : List SizedKind → Type 0
 Each [] = Unit {0}
 Each (k ∷ ks) = Lawful k × Each ks
 
@@ -72,7 +73,7 @@ sixteen m b l =
     ap₂ (λ (x y : ℕ). littleEndian 8 x ++ littleEndian 8 y) (sym record-at) (sym apart-at)
     ∙ two-form 8 8 (drop 4 m) (bytes-drop 4 m b) (length-drop 4 m ∙ omega arith)
 
-lawful : Each known
+lawful : Each kindsKnown
 lawful = (
   record { other = refl; kind = λ m. refl; body = λ m count set b l. issue-last m b l },
   (
@@ -94,11 +95,11 @@ lawful = (
 )
 
 module _ (m : List ℕ) (b : Bytes m) (msg : Message) (n : ℕ) where
-  sized-meant : (k : Kind) → Lawful k → kindAt m ≡ k .number → sized m (4 + k .size) (k .says m) ≡ taken msg n → Meant m msg n
+  sized-meant : (k : SizedKind) → Lawful k → kindAt m ≡ k .number → sized m (4 + k .size) (k .says m) ≡ messageTaken msg n → Meant m msg n
   unfolding oneForm
   sized-meant k law kind e =
       let w = k .says m in
-      let plainly : isRequest (plain w) ≡ false = ap (λ (x : ℕ). eqb x request) (law .kind m) ∙ law .other in
+      let plainly : isRequest (plain w) ≡ false = ap (λ (x : ℕ). eqb x requestKind) (law .kind m) ∙ law .other in
       when (eqb (length m) (4 + k .size)) _ _ _ e
       (λ l e. when (inRange w) _ _ _ e
       (λ r e. subst₂ (λ (x : Message) (y : ℕ). Meant m x y) (taken-message e) (taken-used e)
@@ -112,7 +113,7 @@ module _ (m : List ℕ) (b : Bytes m) (msg : Message) (n : ℕ) where
       (λ _ e. no {a = BadField nowhere} e (omega arith)))
       (λ _ e. no {a = BadLength} e (omega arith))
 
-  among-meant : (ks : List Kind) → Each ks → readAmong ks m ≡ taken msg n → Meant m msg n
+  among-meant : (ks : List SizedKind) → Each ks → readAmong ks m ≡ messageTaken msg n → Meant m msg n
   among-meant [] law e = no {a = UnknownKind} e (omega arith)
   among-meant (k ∷ ks) law e =
       when (eqb (kindAt m) (k .number)) _ _ _ e
@@ -141,7 +142,7 @@ module _ (n : ℕ) (s : List ℕ) (l : length s ≡ 5 * n) where
       ap (λ (r : List ℕ). record { what = Request; count = n; set = r ++ replicate (40 - 5 * n) 0 })
       (kept-bytes ∙ sym (take-all (5 * n) s (omega arith)))
 
-request-meant : (m : List ℕ) (msg : Message) (n : ℕ) → kindAt m ≡ request → readRequest m ≡ taken msg n → Meant m msg n
+request-meant : (m : List ℕ) (msg : Message) (n : ℕ) → kindAt m ≡ requestKind → readRequest m ≡ messageTaken msg n → Meant m msg n
 unfolding readRequest
 request-meant m msg n kind e =
     let c = getD m 4 0 in
@@ -170,16 +171,16 @@ put-over : (s bytes : List ℕ) (n : ℕ) → take n s ≡ bytes → n ≤ lengt
     → put bytes s ≡ record { says = record { answer = Taken; size = n }; leaves = s }
 put-over s bytes n e h l = rw (l, le-ltb (length s) n h) (ap (λ (r : List ℕ). record { says = record { answer = Taken; size = n }; leaves = r }) (ap (λ (x : List ℕ). x ++ drop n s) (sym e) ∙ take-append-drop n s))
 
-whole-meant : (m : List ℕ) (msg : Message) (n : ℕ) → Bytes m → readWhole known m ≡ taken msg n → Meant m msg n
+whole-meant : (m : List ℕ) (msg : Message) (n : ℕ) → Bytes m → readWhole kindsKnown m ≡ messageTaken msg n → Meant m msg n
 unfolding readWhole
 whole-meant m msg n b e =
-    when (eqb (kindAt m) request) _ _ _ e
+    when (eqb (kindAt m) requestKind) _ _ _ e
     (λ t e. request-meant m msg n (eqb-true _ _ t) e)
-    (λ _ e. among-meant m b msg n known lawful e)
+    (λ _ e. among-meant m b msg n kindsKnown lawful e)
 
 -- a message that can be written, over its own bytes
 formed : (s : List ℕ) (msg : Message) (n : ℕ) → Good msg → oneForm msg ≡ msg → take n s ≡ messageBytes msg → n ≤ length s → Form s msg n
-unfolding writing
+unfolding writingMessage
 formed s msg n g u e h =
     let l : length (messageBytes msg) ≡ n = ap length (sym e) ∙ length-take-le n s h in
     record {

@@ -1,4 +1,3 @@
-pub mod Numbers
 pub mod Instructions
 pub mod Messages
 pub mod Back

@@ -6,6 +6,7 @@ use native.Mathlib.Omega.{arith}
 use borrow.Author.Tests.{le-ltb}
 use lib.ListN.{length, take, drop, length-append, List·getD-append}
 use lib.Seq.{getD-take, length-take-le, take-append-seam}
+use Rattle.codec.specs.Bytes.{littleEndian, Bytes}
 use Rattle.answers.specs.declared.Answer.{Answer}
 use Rattle.answers.specs.declared.Answer.the-variants.{TooFewBytes, BadLength}
 use Rattle.answers.specs.Answers.{numberOf}
@@ -13,20 +14,19 @@ use Rattle.wire.specs.declared.Message.{Message}
 use Rattle.wire.specs.declared.Received.{Received}
 use Rattle.wire.specs.declared.Frame.{Frame}
 use Rattle.wire.specs.declared.Frame.the-variants.{Cut, Wrong, Whole}
-use Rattle.wire.specs.Kinds.{littleEndian, known}
-use Rattle.wire.specs.Reads.{lengthAt, kindAt, frameOf, refused, taken, readWhole, readFramed, readMessage}
+use Rattle.wire.specs.Kinds.{kindsKnown}
+use Rattle.wire.specs.Reads.{lengthAt, kindAt, frameOf, messageRefused, messageTaken, readWhole, readFramed, readMessage}
 use Rattle.wire.proofs.Frames.{Framed, whole-frame}
-use Rattle.wire_laws.specs.Statements.{Bytes}
-use Rattle.wire_laws.proofs.Numbers.{number-form}
+use Rattle.codec.proofs.Numbers.{number-form}
 
 -- a refusal isn't a message taken
-pub no : {G : Type 0} {a : Answer} {n k : ℕ} {m : Message} → refused a n ≡ taken m k → 0 < numberOf a → G
+pub no : {G : Type 0} {a : Answer} {n k : ℕ} {m : Message} → messageRefused a n ≡ messageTaken m k → 0 < numberOf a → G
 no {a = a} e h = let z : numberOf a ≡ 0 = ap (λ (r : Received). numberOf (r .answer)) e in absurd (omega arith)
 
-pub taken-message : {m m′ : Message} {n k : ℕ} → taken m n ≡ taken m′ k → m ≡ m′
+pub taken-message : {m m′ : Message} {n k : ℕ} → messageTaken m n ≡ messageTaken m′ k → m ≡ m′
 taken-message e = ap (λ (r : Received). r .message) e
 
-pub taken-used : {m m′ : Message} {n k : ℕ} → taken m n ≡ taken m′ k → n ≡ k
+pub taken-used : {m m′ : Message} {n k : ℕ} → messageTaken m n ≡ messageTaken m′ k → n ≡ k
 taken-used e = ap (λ (r : Received). r .used) e
 
 -- the bytes of the first message of s are exactly m
@@ -45,12 +45,12 @@ cut-out s n f =
     record { size = l; long = rw (a, b, l) (sym (f .long)); kind = rw (c, d) }
 
 -- a message that is taken was framed
-pub read-whole : (s : List ℕ) (m : Message) (n : ℕ) → readMessage s ≡ taken m n
-    → (k : ℕ) × Framed s k × (readWhole known (take k s) ≡ taken m n)
+pub read-whole : (s : List ℕ) (m : Message) (n : ℕ) → readMessage s ≡ messageTaken m n
+    → (k : ℕ) × Framed s k × (readWhole kindsKnown (take k s) ≡ messageTaken m n)
 unfolding readMessage
 read-whole s m n e = go (frameOf s) refl e
   where
-    go : (f : Frame) → frameOf s ≡ f → readFramed known f s ≡ taken m n → (k : ℕ) × Framed s k × (readWhole known (take k s) ≡ taken m n)
+    go : (f : Frame) → frameOf s ≡ f → readFramed kindsKnown f s ≡ messageTaken m n → (k : ℕ) × Framed s k × (readWhole kindsKnown (take k s) ≡ messageTaken m n)
     go Cut f e = no {a = TooFewBytes} e (omega arith)
     go Wrong f e = no {a = BadLength} e (omega arith)
     go (Whole k) f e = (k, whole-frame s k f, e)
@@ -66,14 +66,14 @@ framed-is s n f =
     (ap Whole (sym a))
 
 -- a message, whatever follows it, is read from exactly its own bytes
-pub read-back : (m t : List ℕ) → lengthAt m + 2 ≡ length m → 4 ≤ length m → length m ≤ 45 → readMessage (m ++ t) ≡ readWhole known m
+pub read-back : (m t : List ℕ) → lengthAt m + 2 ≡ length m → 4 ≤ length m → length m ≤ 45 → readMessage (m ++ t) ≡ readWhole kindsKnown m
 unfolding readMessage
 read-back m t e l h =
     let a = List·getD-append m t 0 0 (omega arith) in
     let b = List·getD-append m t 0 1 (omega arith) in
     let f : frameOf (m ++ t) ≡ Whole (length m) = framed-is (m ++ t) (length m)
     (record { long = rw (a, b) (sym e); low = l; high = h; within = rw (length-append m t) (omega arith) }) in
-    ap (λ (g : Frame). readFramed known g (m ++ t)) f ∙ ap (readWhole known) (take-append-seam m t)
+    ap (λ (g : Frame). readFramed kindsKnown g (m ++ t)) f ∙ ap (readWhole kindsKnown) (take-append-seam m t)
 
 -- a message's bytes by its length, its kind and its body
 pub parts : (m : List ℕ) → Bytes m → 4 ≤ length m → lengthAt m + 2 ≡ length m

@@ -17,19 +17,19 @@ use Rattle.wire.specs.declared.What.{What}
 use Rattle.wire.specs.declared.Received.{Received}
 use Rattle.wire.specs.declared.Frame.{Frame}
 use Rattle.wire.specs.declared.Frame.the-variants.{Cut, Wrong, Whole}
-use Rattle.wire.specs.Kinds.{first, Kind, request, known, asked, inRange}
-use Rattle.wire.specs.Reads.{frameOf, kindAt, badIn, refused, sized, readRequest, readAmong, readWhole, readFramed, readMessage, readAsked}
+use Rattle.wire.specs.Kinds.{firstInstruction, SizedKind, requestKind, kindsKnown, kindsAsked, inRange}
+use Rattle.wire.specs.Reads.{frameOf, kindAt, badIn, messageRefused, sized, readRequest, readAmong, readWhole, readFramed, readMessage, readAsked}
 use Rattle.wire.proofs.Frames.{Framed, when, whole-frame}
 use Rattle.wire_laws.specs.Statements.{PlaceRead, PlaceAsked}
 use Rattle.wire_laws.proofs.Instructions.{bad-same}
 use Rattle.wire_laws.proofs.Messages.{cut-out}
 
 -- what was received isn't a 4
-no : {G : Type 0} {p n : ℕ} (r : Received) → r ≡ refused (BadField p) n → (numberOf (r .answer) ≡ 4 → ⊥) → G
+no : {G : Type 0} {p n : ℕ} (r : Received) → r ≡ messageRefused (BadField p) n → (numberOf (r .answer) ≡ 4 → ⊥) → G
 no r e h = absurd (h (ap (λ (x : Received). numberOf (x .answer)) e))
 
 -- two refusals with 4 that are the same name the same place
-same-place : {q p m n : ℕ} → refused (BadField q) m ≡ refused (BadField p) n → q ≡ p
+same-place : {q p m n : ℕ} → messageRefused (BadField q) m ≡ messageRefused (BadField p) n → q ≡ p
 same-place e = ap (λ (r : Received). placeOf (r .answer)) e
 
 -- the instructions of a request are read from the bytes that it stands in as from the request alone
@@ -44,20 +44,20 @@ instructions-same s k c l =
 module _ (p n : ℕ) where
   -- ---- messages that hold no instruction
 
-  sized-place : (m : List ℕ) (k : ℕ) (w : What) → sized m k w ≡ refused (BadField p) n → p ≡ nowhere
+  sized-place : (m : List ℕ) (k : ℕ) (w : What) → sized m k w ≡ messageRefused (BadField p) n → p ≡ nowhere
   sized-place m k w e =
       when (eqb (length m) k) _ _ _ e
       (λ _ e. when (inRange w) _ _ _ e (λ _ e. no _ e (λ z. omega arith)) (λ _ e. sym (same-place e)))
       (λ _ e. no _ e (λ z. omega arith))
 
-  among-place : (ks : List Kind) (m : List ℕ) → readAmong ks m ≡ refused (BadField p) n → p ≡ nowhere
+  among-place : (ks : List SizedKind) (m : List ℕ) → readAmong ks m ≡ messageRefused (BadField p) n → p ≡ nowhere
   among-place [] m e = no _ e (λ z. omega arith)
   among-place (k ∷ ks) m e =
       when (eqb (kindAt m) (k .number)) _ _ _ e (λ _ e. sized-place m (4 + k .size) (k .says m) e) (λ _ e. among-place ks m e)
 
   -- ---- requests
 
-  request-place : (m : List ℕ) → readRequest m ≡ refused (BadField p) n
+  request-place : (m : List ℕ) → readRequest m ≡ messageRefused (BadField p) n
       → (length m ≡ 5 + 5 * getD m 4 0) × (p ≡ least (getD m 4 0) (badIn (drop 5 m))) × (ltb p (getD m 4 0) ≡ true)
   unfolding readRequest
   request-place m e =
@@ -73,7 +73,7 @@ module _ (p n : ℕ) where
 
   -- ---- the first message of some bytes
 
-  least-place : (s : List ℕ) (k : ℕ) → Framed s k → readRequest (take k s) ≡ refused (BadField p) n → IsLeast (getD s 4 0) (badIn (drop first s)) p
+  least-place : (s : List ℕ) (k : ℕ) → Framed s k → readRequest (take k s) ≡ messageRefused (BadField p) n → IsLeast (getD s 4 0) (badIn (drop firstInstruction s)) p
   least-place s k f e =
       let m = take k s in
       let c = getD s 4 0 in
@@ -85,33 +85,33 @@ module _ (p n : ℕ) where
       let within = ltb-true p (getD m 4 0) below in
       subst (IsLeast c (badIn (drop 5 s))) (sym least-is) (found-least c (badIn (drop 5 s)) (omega arith))
 
-  whole-place : (ks : List Kind) (s : List ℕ) (k : ℕ) → Framed s k → readWhole ks (take k s) ≡ refused (BadField p) n
-      → (kindAt s ≡ request → IsLeast (getD s 4 0) (badIn (drop first s)) p) × ((kindAt s ≡ request → ⊥) → p ≡ nowhere)
+  whole-place : (ks : List SizedKind) (s : List ℕ) (k : ℕ) → Framed s k → readWhole ks (take k s) ≡ messageRefused (BadField p) n
+      → (kindAt s ≡ requestKind → IsLeast (getD s 4 0) (badIn (drop firstInstruction s)) p) × ((kindAt s ≡ requestKind → ⊥) → p ≡ nowhere)
   unfolding readWhole
   whole-place ks s k f e =
       let kind = cut-out s k f .kind in
-      when (eqb (kindAt (take k s)) request) _ _ _ e
+      when (eqb (kindAt (take k s)) requestKind) _ _ _ e
       (λ t e.
-      let i = eqb-true (kindAt (take k s)) request t in
+      let i = eqb-true (kindAt (take k s)) requestKind t in
       (λ _. least-place s k f e, λ h. absurd (h (sym kind ∙ i))))
       (λ t e.
-      let h = eqb-false (kindAt (take k s)) request t in
+      let h = eqb-false (kindAt (take k s)) requestKind t in
       (λ i. absurd (h (kind ∙ i)), λ _. among-place ks (take k s) e))
 
-  framed-place : (ks : List Kind) (s : List ℕ) → readFramed ks (frameOf s) s ≡ refused (BadField p) n
-      → (kindAt s ≡ request → IsLeast (getD s 4 0) (badIn (drop first s)) p) × ((kindAt s ≡ request → ⊥) → p ≡ nowhere)
+  framed-place : (ks : List SizedKind) (s : List ℕ) → readFramed ks (frameOf s) s ≡ messageRefused (BadField p) n
+      → (kindAt s ≡ requestKind → IsLeast (getD s 4 0) (badIn (drop firstInstruction s)) p) × ((kindAt s ≡ requestKind → ⊥) → p ≡ nowhere)
   framed-place ks s e = go (frameOf s) refl e
     where
-      go : (f : Frame) → frameOf s ≡ f → readFramed ks f s ≡ refused (BadField p) n
-          → (kindAt s ≡ request → IsLeast (getD s 4 0) (badIn (drop first s)) p) × ((kindAt s ≡ request → ⊥) → p ≡ nowhere)
+      go : (f : Frame) → frameOf s ≡ f → readFramed ks f s ≡ messageRefused (BadField p) n
+          → (kindAt s ≡ requestKind → IsLeast (getD s 4 0) (badIn (drop firstInstruction s)) p) × ((kindAt s ≡ requestKind → ⊥) → p ≡ nowhere)
       go Cut f e = no _ e (λ z. omega arith)
       go Wrong f e = no _ e (λ z. omega arith)
       go (Whole k) f e = whole-place ks s k (whole-frame s k f) e
 
 pub place-read : PlaceRead
 unfolding readMessage
-place-read s p n e = framed-place p n known s e
+place-read s p n e = framed-place p n kindsKnown s e
 
 pub place-asked : PlaceAsked
 unfolding readAsked
-place-asked s p n e = framed-place p n asked s e
+place-asked s p n e = framed-place p n kindsAsked s e

@@ -2,7 +2,6 @@
 use mathlib.Core.Path.{ap, ap₂, _∙_}
 use Prim.Native.Nat.{_+_}
 use Rattle.bits.specs.Bits.{digit}
-use Rattle.cards.specs.Given.{carsIn}
 use Rattle.bits.proofs.Digits.{digit-lt}
 use Rattle.cards.proofs.Giving.{byte, few-in}
 use native.Mathlib.Omega.{arith}
@@ -12,6 +11,7 @@ use Rattle.cards.proofs.wanted.Tie as tie
 use Rattle.bits.proofs.bit.Reads as bit-reads
 use Rattle.cards.proofs.cars_in.Reads as cars-in-reads
 use Rattle.floor.proofs.cars.Reads as cars-reads
+use Rattle.floor.specs.Sound.{carsIn}
 
 cars-requires : tie.Need-cars-requires
 cars-requires c κs = search needs

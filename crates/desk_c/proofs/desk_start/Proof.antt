@@ -3,7 +3,7 @@ use mathlib.Core.Path.{refl, ap}
 use Rattle.answers.specs.declared.Answer.the-variants.{Taken}
 use Rattle.desk.specs.declared.Desk.{Desk}
 use Rattle.desk.specs.declared.Reply.the-variants.{Told}
-use Rattle.desk.specs.Calls.{refused}
+use Rattle.desk.specs.Calls.{deskRefused}
 use Rattle.desk_c.proofs.Rooms.{short, entered}
 use native.Mathlib.Omega.{arith}
 use borrow.Author.Needs.{needs}
@@ -26,7 +26,7 @@ same-length : tie.Need-same-length
 same-length c = search needs
 
 returns-2 : tie.Need-returns-2
-returns-2 c = entered _ _ (omega (arith, c .before .before .before .before .before .if1 .left)) refl (ap (λ (d : Desk). refused d (Told Taken)) (c .before .before .before .before .start .ensures)) (c .before .before .keep .ensures)
+returns-2 c = entered _ _ (omega (arith, c .before .before .before .before .before .if1 .left)) refl (ap (λ (d : Desk). deskRefused d (Told Taken)) (c .before .before .before .before .start .ensures)) (c .before .before .keep .ensures)
 
 pub desk-start-spec : {M : Type 1} → statement M
 desk-start-spec = tie.close (tie.spec say-requires returns start-requires keep-requires same-length returns-2)

@@ -1,7 +1,7 @@
 -- `desk_c::put_numbers` meets its contract: number by number. Assumes nothing.
 use Prim.Native.Nat.{_*_, _-_}
 use native.Mathlib.Omega.{arith}
-use Rattle.fours.proofs.Fours.{four-laid, Writing, writing-starts, writing-turns, writing-ends}
+use Rattle.codec.proofs.Fours.{four-laid, Writing, writing-starts, writing-turns, writing-ends}
 use borrow.Author.Needs.{needs}
 use Rattle.desk_c.proofs.put_numbers.Statement.{statement}
 use Rattle.desk_c.proofs.put_numbers.Tie as tie

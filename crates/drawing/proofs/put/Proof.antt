@@ -3,13 +3,13 @@ use mathlib.Core.Path.{ap, _∙_}
 use Prim.Native.Nat.{ℕ, _-_}
 use native.Mathlib.Omega.{arith}
 use Rattle.bits.specs.Bits.{bit}
-use Rattle.drawing.specs.Private.{grid, markOf, drawnAt}
+use Rattle.drawing.specs.Private.{grid, cellMark, drawnAt}
 use Rattle.drawing.proofs.Tables.{Filled, fill-starts, fills, fill-same, fill-ends}
 use Rattle.drawing.proofs.put.Statement.{statement}
 use Rattle.drawing.proofs.put.Tie as tie
 
 abbrev Inv-loop : tie.InvT-loop
-Inv-loop image lift size room₀ g t₀ room t = Filled (drawnAt (grid (markOf (bit image))) (bit image) lift) room₀ size room t
+Inv-loop image lift size room₀ g t₀ room t = Filled (drawnAt (grid (cellMark (bit image))) (bit image) lift) room₀ size room t
 
 abbrev μ-loop : tie.MeasureT-loop
 μ-loop image lift size room₀ g t₀ room t = size - t

@@ -1,7 +1,7 @@
 -- `engine::next` meets its contract: each variant by its row, the lift by itself. Assumes nothing.
 use Rattle.engine.proofs.Ruling.{belts-in, shuttles-in, belts-move, shuttles-move, tilt-move}
 use Rattle.engine.proofs.Answers.{rotated}
-use Rattle.rules.specs.Rules.{wellFormed, next}
+use Rattle.rules.specs.Rules.{wellFormed, nextRecord}
 use Rattle.bits.proofs.Cases.{true→T}
 use Rattle.bits.specs.Bits.{bit, image}
 use mathlib.Core.Path.{sym, ap, _∙_}
@@ -46,7 +46,7 @@ returns-3 : tie.Need-returns-3
 returns-3 c = tilt-move (c .before .before .before .before .args .i) (c .before .before .before .before .args .r) (c .before .before .before .before .args .a) (c .before .before .before .before .pre .0) (c .before .before .before .before .pre .2) (c .before .before .before .before .pre .1) (c .tilt-next .result) (search needs) (c .before .before .i3 .given .1) (c .tilt-next .ensures)
 
 returns-4 : tie.Need-returns-4
-returns-4 c = c .lift-next .ensures ∙ ap (λ i. image (next i (bit (c .before .before .before .before .args .r)))) (sym (c .before .before .i4 .given .1))
+returns-4 c = c .lift-next .ensures ∙ ap (λ i. image (nextRecord i (bit (c .before .before .before .before .args .r)))) (sym (c .before .before .i4 .given .1))
 
 returns-5 : tie.Need-returns-5
 returns-5 c = rotated (c .before .before .args .i) (c .enum-told .given .1) (c .before .before .args .r) (search needs)

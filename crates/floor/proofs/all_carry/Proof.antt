@@ -3,7 +3,7 @@ use borrow.Author.Needs.{needs}
 use Rattle.bits.specs.Bits.{bit}
 use Rattle.bits.specs.Places.{places}
 use Rattle.floor.specs.Floor.{left, right}
-use Rattle.floor.specs.Sound.{carried}
+use Rattle.floor.specs.Sound.{carriedByShuttle}
 use Rattle.floor.proofs.Judging.{one, _also_}
 use Rattle.floor.proofs.all_carry.Statement.{statement}
 use Rattle.floor.proofs.all_carry.Tie as tie
@@ -30,12 +30,12 @@ returns : tie.Need-returns
 unfolding places
 returns c =
     let f = bit (c .before .before .before .before .before .before .args .r) in
-    (one f (carried left 1) (c .before .before .before .before .before .carries .ensures)
-    also one f (carried left 2) (c .before .before .before .before .carries2 .ensures)
-    also one f (carried left 3) (c .before .before .before .carries3 .ensures)
-    also one f (carried right 1) (c .before .before .carries4 .ensures)
-    also one f (carried right 2) (c .before .carries5 .ensures)
-    also one f (carried right 3) (c .carries6 .ensures)) .same
+    (one f (carriedByShuttle left 1) (c .before .before .before .before .before .carries .ensures)
+    also one f (carriedByShuttle left 2) (c .before .before .before .before .carries2 .ensures)
+    also one f (carriedByShuttle left 3) (c .before .before .before .carries3 .ensures)
+    also one f (carriedByShuttle right 1) (c .before .before .carries4 .ensures)
+    also one f (carriedByShuttle right 2) (c .before .carries5 .ensures)
+    also one f (carriedByShuttle right 3) (c .carries6 .ensures)) .same
 
 pub all-carry-spec : {M : Type 1} → statement M
 all-carry-spec =

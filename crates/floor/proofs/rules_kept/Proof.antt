@@ -7,7 +7,7 @@ use Rattle.bits.specs.Bits.{bit}
 use Rattle.bits.specs.Places.{places}
 use Rattle.floor.specs.Floor.{left, right, drives, spare}
 use Rattle.floor.specs.Tests.{set, free, no, heightIs}
-use Rattle.floor.specs.Sound.{carried, onLift, onRaisedLift, threeShuttles, drivesAtStreet, drivesIntoEmpty, drivesOutOfFull}
+use Rattle.floor.specs.Sound.{carriedByShuttle, onLift, onRaisedLift, threeShuttles, drivesAtStreet, drivesIntoEmpty, drivesOutOfFull}
 use Rattle.floor.proofs.Judging.{one, many, _also_}
 use Rattle.floor.proofs.rules_kept.Statement.{statement}
 use Rattle.floor.proofs.rules_kept.Tie as tie
@@ -41,7 +41,7 @@ unfolding places
 returns c =
     let f = bit (c .before .before .before .before .before .before .before .before .args .r) in
     let high = ap₂ _&&_ (c .before .before .before .all .ensures) (c .before .before .all2 .ensures) in
-    (many f (carried left 1 ∷ carried left 2 ∷ carried left 3 ∷ carried right 1 ∷ carried right 2 ∷ carried right 3 ∷ [])
+    (many f (carriedByShuttle left 1 ∷ carriedByShuttle left 2 ∷ carriedByShuttle left 3 ∷ carriedByShuttle right 1 ∷ carriedByShuttle right 2 ∷ carriedByShuttle right 3 ∷ [])
     (c .before .before .before .before .before .before .before .all-carry .ensures)
     also many f (onLift ∷ onRaisedLift ∷ []) (c .before .before .before .before .before .before .lift-fits .ensures)
     also one f (threeShuttles left) (c .before .before .before .before .before .three .ensures)

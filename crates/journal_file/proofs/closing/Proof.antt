@@ -3,7 +3,7 @@ use Rattle.journal_file.proofs.closing.Statement.{statement}
 use Rattle.journal_file.proofs.closing.Tie as tie
 use Rattle.journal_file.proofs.closing.Reads as reads
 use Rattle.journal_file.proofs.closing.Lts as lts
-use Rattle.fours.proofs.four_bytes.Reads as four-bytes-reads
+use Rattle.codec.proofs.four_bytes.Reads as four-bytes-reads
 
 four-bytes-requires : tie.Need-four-bytes-requires
 four-bytes-requires c κs = search needs

@@ -7,7 +7,7 @@ use Rattle.journal_file.proofs.front_of.Statement.{statement}
 use Rattle.journal_file.proofs.front_of.Tie as tie
 use Rattle.journal_file.proofs.front_of.Reads as reads
 use Rattle.journal_file.proofs.front_of.Lts as lts
-use Rattle.fours.proofs.four_at.Reads as four-at-reads
+use Rattle.codec.proofs.four_at.Reads as four-at-reads
 use Rattle.journal_file.proofs.carried_of.Reads as carried-of-reads
 use Rattle.journal_file.proofs.is_carried.Reads as is-carried-reads
 use Rattle.journal_file.proofs.is_titled.Reads as is-titled-reads

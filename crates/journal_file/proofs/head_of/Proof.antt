@@ -5,7 +5,7 @@ use Rattle.journal_file.proofs.head_of.Statement.{statement}
 use Rattle.journal_file.proofs.head_of.Tie as tie
 use Rattle.journal_file.proofs.head_of.Reads as reads
 use Rattle.journal_file.proofs.head_of.Lts as lts
-use Rattle.fours.proofs.four_at.Reads as four-at-reads
+use Rattle.codec.proofs.four_at.Reads as four-at-reads
 use Rattle.journal_file.proofs.kind_of.Reads as kind-of-reads
 use Rattle.rooms.proofs.station_of.Reads as station-of-reads
 

@@ -6,7 +6,7 @@ use Rattle.journal_file.proofs.is_carried.Tie as tie
 use Rattle.journal_file.proofs.is_carried.Reads as reads
 use Rattle.journal_file.proofs.is_carried.Lts as lts
 use Rattle.checksum.proofs.continue_by.Reads as continue-by-reads
-use Rattle.fours.proofs.four_at.Reads as four-at-reads
+use Rattle.codec.proofs.four_at.Reads as four-at-reads
 
 four-at-requires : tie.Need-four-at-requires
 four-at-requires c κs = search needs

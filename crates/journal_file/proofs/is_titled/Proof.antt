@@ -10,7 +10,7 @@ use Rattle.journal_file.proofs.is_titled.Tie as tie
 use Rattle.journal_file.proofs.is_titled.Reads as reads
 use Rattle.journal_file.proofs.is_titled.Lts as lts
 use Rattle.checksum.proofs.continue_by.Reads as continue-by-reads
-use Rattle.fours.proofs.four_at.Reads as four-at-reads
+use Rattle.codec.proofs.four_at.Reads as four-at-reads
 use Rattle.journal_file.proofs.carried_of.Reads as carried-of-reads
 
 four-at-requires : tie.Need-four-at-requires

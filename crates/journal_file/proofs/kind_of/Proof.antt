@@ -10,8 +10,8 @@ use Rattle.journal_file.proofs.kind_of.Reads as reads
 use Rattle.journal_file.proofs.kind_of.Lts as lts
 use Rattle.checksum.proofs.continue_by.Reads as continue-by-reads
 use Rattle.commands.proofs.is_text.Reads as is-text-reads
-use Rattle.fours.proofs.four_at.Reads as four-at-reads
-use Rattle.garage.proofs.Station.fit.Reads as fit-reads
+use Rattle.codec.proofs.four_at.Reads as four-at-reads
+use Rattle.station.proofs.Station.fit.Reads as fit-reads
 
 slice-aggregate-is-text : tie.Need-slice-aggregate-is-text
 slice-aggregate-is-text c = sym (length-take-le 20 (c .before .before .before .args .m .now) (omega arith))

@@ -4,7 +4,7 @@ use Rattle.journal_file.proofs.opening.Tie as tie
 use Rattle.journal_file.proofs.opening.Reads as reads
 use Rattle.journal_file.proofs.opening.Lts as lts
 use Rattle.checksum.proofs.continue_by.Reads as continue-by-reads
-use Rattle.fours.proofs.four_bytes.Reads as four-bytes-reads
+use Rattle.codec.proofs.four_bytes.Reads as four-bytes-reads
 use Rattle.journal_file.proofs.title_of.Reads as title-of-reads
 
 title-of-requires : tie.Need-title-of-requires

@@ -2,7 +2,7 @@ use native.Mathlib.Omega.{arith}
 use borrow.Author.Needs.{needs}
 use mathlib.Core.Path.{refl}
 use Rattle.journal_reader.proofs.Filling.{kept-on}
-use Rattle.streams.specs.Input.{Kept}
+use Rattle.streams.specs.Input.{FrontKept}
 use lib.ListN.{length}
 use mathlib.Core.Path.{_≡_}
 use Prim.Native.Nat.{_≤_}
@@ -14,7 +14,7 @@ use Rattle.journal_reader.proofs.fill_up.Lts as lts
 use Rattle.journal_reader.proofs.fill_once.Reads as fill-once-reads
 
 abbrev Inv-loop : tie.InvT-loop
-Inv-loop fd buf₀ have name f₀ reads₀ buf f reads = (length buf ≡ length buf₀) × (have ≤ f .end) × (f .end ≤ length buf₀) × Kept buf₀ have buf
+Inv-loop fd buf₀ have name f₀ reads₀ buf f reads = (length buf ≡ length buf₀) × (have ≤ f .end) × (f .end ≤ length buf₀) × FrontKept buf₀ have buf
 
 abbrev μ-loop : tie.MeasureT-loop
 μ-loop fd buf₀ have name f₀ reads₀ buf f reads = reads

@@ -8,7 +8,7 @@ use Rattle.journal_reader.proofs.read_on.Tie as tie
 use Rattle.journal_reader.proofs.read_on.Reads as reads
 use Rattle.journal_reader.proofs.read_on.Lts as lts
 use Rattle.journal_reader.proofs.fill_up.Reads as fill-up-reads
-use Rattle.turns.proofs.hold.Reads as hold-reads
+use Rattle.service.proofs.buffer.hold.Reads as hold-reads
 
 hold-requires : tie.Need-hold-requires
 hold-requires c κs = search needs

@@ -1,7 +1,7 @@
 use Prim.Native.Nat.{_*_, _-_}
 use native.Mathlib.Omega.{arith}
 use Rattle.report_c.specs.Entries.{totalsBytes}
-use Rattle.fours.proofs.Fours.{four-laid, Writing, writing-starts, writing-turns, writing-ends}
+use Rattle.codec.proofs.Fours.{four-laid, Writing, writing-starts, writing-turns, writing-ends}
 use borrow.Author.Needs.{needs}
 use Rattle.report_c.proofs.keep.Statement.{statement}
 use Rattle.report_c.proofs.keep.Tie as tie

@@ -3,7 +3,7 @@ use native.Mathlib.Omega.{arith}
 use mathlib.Core.Path.{ap, _∙_}
 use Rattle.totals.specs.Totals.{totalsOf}
 use Rattle.report_c.specs.Entries.{totalsIn}
-use Rattle.fours.proofs.Fours.{four-there, Reading, reading-starts, reading-turns, reading-ends}
+use Rattle.codec.proofs.Fours.{four-there, Reading, reading-starts, reading-turns, reading-ends}
 use borrow.Author.Needs.{needs}
 use Rattle.report_c.proofs.load.Statement.{statement}
 use Rattle.report_c.proofs.load.Tie as tie

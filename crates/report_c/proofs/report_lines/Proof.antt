@@ -1,4 +1,4 @@
-use Rattle.lines.specs.Lines.{reportOf}
+use Rattle.report_text.specs.Lines.{reportOf}
 use Rattle.report_c.proofs.Rooms.{lines-unknown, lines-short, lines-written, text-fits}
 use borrow.Author.Needs.{needs}
 use Rattle.report_c.proofs.report_lines.Statement.{statement}

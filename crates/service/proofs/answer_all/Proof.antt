@@ -7,15 +7,15 @@ use denote.Ref.{now}
 use lib.ListN.{length, take, drop, length-drop}
 use lib.Seq.{length-take-le}
 use Rattle.answers.specs.declared.Answer.the-variants.{BadLength}
-use Rattle.garage.specs.Station.{fit}
-use Rattle.garage.specs.Turns.{turnOf, afterTurn}
+use Rattle.station.specs.Station.{fit}
+use Rattle.station.specs.Turns.{turnOf, afterTurn}
 use Rattle.wire.specs.Kinds.{setOf}
 use Rattle.wire.specs.Reads.{frameOf, kindAt}
 use Rattle.wire.proofs.Frames.{Framed, whole-frame}
 use Rattle.wire.proofs.Parts.{from-on}
 use Rattle.service.specs.declared.Reply.{Reply}
 use Rattle.service.specs.Service.{answerMessage}
-use Rattle.service.specs.Private.{heard, told}
+use Rattle.service.specs.Private.{messageCall, replySaid}
 use Rattle.service.proofs.Replies.{answer-bytes-length, eight-bytes}
 use Rattle.service.proofs.Called.{respond-fit}
 use Rattle.service.proofs.Hearing.{reply-new, reply-same}
@@ -44,11 +44,11 @@ whole c = whole-frame _ _ (seen (c .before .before) ∙ c .frame .given .1)
 
 -- the turn is that of the whole message, and so is the kind
 turned : (c : tie.After-kind-at Inv-loop μ-loop)
-    → c .before .heard .result ≡ turnOf (heard (c .before .before .before .before .before .before .before .before .before .fit .result) (c .before .before .before .before .before .before .before .before .loop .s)
+    → c .before .heard .result ≡ turnOf (messageCall (c .before .before .before .before .before .before .before .before .before .fit .result) (c .before .before .before .before .before .before .before .before .loop .s)
     (take (c .before .before .before .before .frame .given .0 .0) (drop (c .before .before .before .before .before .before .before .before .loop .at) (now (c .before .before .before .before .before .before .before .before .before .before .before .before .args .input)))))
 turned c =
     c .before .heard .ensures
-    ∙ ap (λ (x : List ℕ). turnOf (heard (c .before .before .before .before .before .before .before .before .before .fit .result) (c .before .before .before .before .before .before .before .before .loop .s) (take (c .before .before .before .before .frame .given .0 .0) x)))
+    ∙ ap (λ (x : List ℕ). turnOf (messageCall (c .before .before .before .before .before .before .before .before .before .fit .result) (c .before .before .before .before .before .before .before .before .loop .s) (take (c .before .before .before .before .frame .given .0 .0) x)))
     (from-on (now (c .before .before .before .before .before .before .before .before .before .before .before .before .args .input)) (c .before .before .before .before .before .before .before .before .loop .at))
 
 kinded : (c : tie.After-kind-at Inv-loop μ-loop)
@@ -133,7 +133,7 @@ tell-requires : tie.Need-tell-requires Inv-loop μ-loop
 tell-requires c κs = room-left (c .before .before .before .before .before .before .before .before .before .loop .inv .0) (c .before .before .before .before .before .before .before .before .before .before .before .before .before .pre) _ (c .before .before .before .before .before .frame .given .0 .0) (seen (c .before .before .before .before .before .before .before) ∙ c .before .before .before .before .before .frame .given .1)
 
 add-made : tie.Need-add-made Inv-loop μ-loop
-add-made c = omega (arith, c .before .before .tell .ensures .0, answer-bytes-length (told (c .before .before .before .before .kind-at .result) (c .before .before .before .before .before .heard .result)))
+add-made c = omega (arith, c .before .before .tell .ensures .0, answer-bytes-length (replySaid (c .before .before .before .before .kind-at .result) (c .before .before .before .before .before .heard .result)))
 
 add-at : tie.Need-add-at Inv-loop μ-loop
 add-at c = omega (arith, whole (c .before .before .before .before .before .before .before .before) .within, length-drop (c .before .before .before .before .before .before .before .before .before .before .before .before .loop .at) (now (c .before .before .before .before .before .before .before .before .before .before .before .before .before .before .before .before .args .input)))
@@ -149,7 +149,7 @@ loop-again c =
     let r = reply-new (c .before .before .before .before .before .before .before .before .before .before .before .before .before .before .before .before .loop .s) (drop (c .before .before .before .before .before .before .before .before .before .before .before .before .before .before .before .before .loop .at) (now (c .before .before .before .before .before .before .before .before .before .before .before .before .before .before .before .before .before .before .before .before .args .input))) (c .before .before .before .before .before .before .before .before .before .before .before .before .before .before .before .before .loop .inv .1) (c .before .before .before .before .before .before .before .before .before .before .before .before .frame .given .0 .0) (seen (c .before .before .before .before .before .before .before .before .before .before .before .before .before .before) ∙ c .before .before .before .before .before .before .before .before .before .before .before .before .frame .given .1) (turned (c .before .before .before .before .before .before .before .before)) (kinded (c .before .before .before .before .before .before .before .before)) 
     (c .left .ensures ∙ ap (λ (x : List ℕ). afterTurn (c .before .before .before .before .before .before .before .before .before .before .before .before .before .before .before .before .loop .s) (c .before .before .before .before .before .before .before .before .before .heard .result) (setOf (drop 5 (take (c .before .before .before .before .before .before .before .before .before .before .before .before .frame .given .0 .0) x))) .station) (from-on (now (c .before .before .before .before .before .before .before .before .before .before .before .before .before .before .before .before .before .before .before .before .args .input)) (c .before .before .before .before .before .before .before .before .before .before .before .before .before .before .before .before .loop .at))) in
     (
-      answered (c .before .before .before .before .before .before .before .before .before .before .before .before .before .before .before .before .loop .inv .0) (c .before .before .before .before .before .before .before .before .before .before .before .before .before .before .before .before .before .before .before .before .pre) (told (c .before .before .before .before .before .before .before .before .kind-at .result) (c .before .before .before .before .before .before .before .before .before .heard .result)) (c .before .before .before .before .before .before .tell .ensures .0) (c .before .before .before .before .before .before .tell .ensures .1) (c .before .before .before .before .before .before .before .before .before .before .before .before .frame .given .0 .0) _ (seen (c .before .before .before .before .before .before .before .before .before .before .before .before .before .before) ∙ c .before .before .before .before .before .before .before .before .before .before .before .before .frame .given .1) r refl,
+      answered (c .before .before .before .before .before .before .before .before .before .before .before .before .before .before .before .before .loop .inv .0) (c .before .before .before .before .before .before .before .before .before .before .before .before .before .before .before .before .before .before .before .before .pre) (replySaid (c .before .before .before .before .before .before .before .before .kind-at .result) (c .before .before .before .before .before .before .before .before .before .heard .result)) (c .before .before .before .before .before .before .tell .ensures .0) (c .before .before .before .before .before .before .tell .ensures .1) (c .before .before .before .before .before .before .before .before .before .before .before .before .frame .given .0 .0) _ (seen (c .before .before .before .before .before .before .before .before .before .before .before .before .before .before) ∙ c .before .before .before .before .before .before .before .before .before .before .before .before .frame .given .1) r refl,
       c .before .before .before .before .before .before .before .before .before .before .before .before .before .before .before .before .loop .inv .1 ∙ sym (ap (λ (r : Reply). fit (r .station)) r ∙ respond-fit _ _),
     )
 
@@ -160,7 +160,7 @@ loop-again-2 : tie.Need-loop-again-2 Inv-loop μ-loop
 loop-again-2 c = 
     let r = reply-same (c .before .before .before .before .before .before .before .before .before .before .before .before .before .before .before .loop .s) (drop (c .before .before .before .before .before .before .before .before .before .before .before .before .before .before .before .loop .at) (now (c .before .before .before .before .before .before .before .before .before .before .before .before .before .before .before .before .before .before .before .args .input))) (c .before .before .before .before .before .before .before .before .before .before .before .before .before .before .before .loop .inv .1) (c .before .before .before .before .before .before .before .before .before .before .before .frame .given .0 .0) (seen (c .before .before .before .before .before .before .before .before .before .before .before .before .before) ∙ c .before .before .before .before .before .before .before .before .before .before .before .frame .given .1) (turned (c .before .before .before .before .before .before .before)) (kinded (c .before .before .before .before .before .before .before)) (c .if1 .left) in
     (
-      answered (c .before .before .before .before .before .before .before .before .before .before .before .before .before .before .before .loop .inv .0) (c .before .before .before .before .before .before .before .before .before .before .before .before .before .before .before .before .before .before .before .pre) (told (c .before .before .before .before .before .before .before .kind-at .result) (c .before .before .before .before .before .before .before .before .heard .result)) (c .before .before .before .before .before .tell .ensures .0) (c .before .before .before .before .before .tell .ensures .1) (c .before .before .before .before .before .before .before .before .before .before .before .frame .given .0 .0) _ (seen (c .before .before .before .before .before .before .before .before .before .before .before .before .before) ∙ c .before .before .before .before .before .before .before .before .before .before .before .frame .given .1) r refl,
+      answered (c .before .before .before .before .before .before .before .before .before .before .before .before .before .before .before .loop .inv .0) (c .before .before .before .before .before .before .before .before .before .before .before .before .before .before .before .before .before .before .before .pre) (replySaid (c .before .before .before .before .before .before .before .kind-at .result) (c .before .before .before .before .before .before .before .before .heard .result)) (c .before .before .before .before .before .tell .ensures .0) (c .before .before .before .before .before .tell .ensures .1) (c .before .before .before .before .before .before .before .before .before .before .before .frame .given .0 .0) _ (seen (c .before .before .before .before .before .before .before .before .before .before .before .before .before) ∙ c .before .before .before .before .before .before .before .before .before .before .before .frame .given .1) r refl,
       c .before .before .before .before .before .before .before .before .before .before .before .before .before .before .before .loop .inv .1 ∙ sym (ap (λ (r : Reply). fit (r .station)) r ∙ respond-fit _ _),
     )
 

@@ -1,7 +1,7 @@
 -- `service::asked` meets its contract. Assumes nothing.
 use Rattle.service.proofs.Hearing.{request-refused, request-beside, request-unfit}
-use Rattle.service.specs.Private.{heard}
-use Rattle.garage.specs.Turns.{turnOf}
+use Rattle.service.specs.Private.{messageCall}
+use Rattle.station.specs.Turns.{turnOf}
 use Rattle.bits.proofs.Cases.{both}
 use denote.Ref.{now}
 use borrow.Author.Tests.{eqb-true}
@@ -16,7 +16,7 @@ opening-requires : tie.Need-opening-requires
 opening-requires c κs = (c .before .before .before .pre, eqb-true _ _ (both (c .before .before .before .args .known) (eqb (c .before .before .before .args .s .count) 0) (c .if1 .taken) .1))
 
 returns : tie.Need-returns
-returns c = c .opening .ensures ∙ ap (λ (b : Bool). turnOf (heard b (c .before .before .before .before .args .s) (now (c .before .before .before .before .args .m)))) (sym (both (c .before .before .before .before .args .known) (eqb (c .before .before .before .before .args .s .count) 0) (c .before .if1 .taken) .0))
+returns c = c .opening .ensures ∙ ap (λ (b : Bool). turnOf (messageCall b (c .before .before .before .before .args .s) (now (c .before .before .before .before .args .m)))) (sym (both (c .before .before .before .before .args .known) (eqb (c .before .before .before .before .args .s .count) 0) (c .before .if1 .taken) .0))
 
 request-in-requires : tie.Need-request-in-requires
 request-in-requires c κs = search needs

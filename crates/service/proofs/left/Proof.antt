@@ -1,7 +1,7 @@
 -- `service::left` meets its contract. Assumes nothing.
 use Rattle.service.proofs.Hearing.{whichever-set}
-use Rattle.garage.specs.Turns.{afterTurn}
-use Rattle.garage.specs.declared.Outcome.{Outcome}
+use Rattle.station.specs.Turns.{afterTurn}
+use Rattle.station.specs.declared.Outcome.{Outcome}
 use mathlib.Core.Path.{ap, _∙_}
 use borrow.Author.Needs.{needs}
 use Rattle.service.proofs.left.Statement.{statement}

@@ -1,6 +1,6 @@
 -- `service::opening` meets its contract. Assumes nothing.
 use Rattle.service.proofs.Hearing.{too-many, bad-length, opened}
-use Rattle.garage.specs.Turns.{turnOf}
+use Rattle.station.specs.Turns.{turnOf}
 use denote.Ref.{now}
 use mathlib.Core.Path.{ap, _∙_}
 use borrow.Author.Needs.{needs}

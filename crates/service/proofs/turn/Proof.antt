@@ -1,8 +1,8 @@
 -- `service::turn` meets its contract: by whether the station is known to be fit, and by what the message says. Assumes nothing.
 use mathlib.Core.Path.{ap, _∙_}
 use lib.ListN.{replicate}
-use Rattle.garage.specs.Calls.{taken, requested, evented, resulted, imaged}
-use Rattle.garage.specs.Turns.{turnOf}
+use Rattle.station.specs.Calls.{taken, requested, evented, resulted, imaged}
+use Rattle.station.specs.Turns.{turnOf}
 use Rattle.service.proofs.Called.{unfit-called, past-test}
 use Rattle.service.proofs.Hearing.{none-beside, none-asked}
 use borrow.Author.Needs.{needs}

@@ -2,7 +2,7 @@
 use mathlib.Core.Path.{ap, refl}
 use native.Mathlib.Omega.{arith}
 use borrow.Author.Needs.{needs}
-use Rattle.garage.specs.Calls.{taken}
+use Rattle.station.specs.Calls.{taken}
 use Rattle.rooms.proofs.Rooms.{short, entered}
 use Rattle.station_c.proofs.station_start.Statement.{statement}
 use Rattle.station_c.proofs.station_start.Tie as tie

@@ -1,5 +1,5 @@
 use borrow.Author.Needs.{needs}
-use Rattle.totals.specs.Private.{markOf}
+use Rattle.totals.specs.Private.{countMark}
 use Rattle.bits.proofs.Cases.{both}
 use lib.Dec.{leb}
 use native.Mathlib.Omega.{arith}
@@ -21,11 +21,11 @@ add-t11 : tie.Need-add-t11
 add-t11 c = search needs
 
 returns : tie.Need-returns
-unfolding markOf
+unfolding countMark
 returns c = rw (c .if1 .taken)
 
 returns-2 : tie.Need-returns-2
-unfolding markOf
+unfolding countMark
 returns-2 c = rw (c .if1 .left)
 
 pub marked-spec : {M : Type 1} → statement M

@@ -1,6 +1,6 @@
 use borrow.Author.Needs.{needs}
 use Rattle.totals.proofs.Placing.{from-results}
-use Rattle.totals.specs.Private.{marksOf}
+use Rattle.totals.specs.Private.{countMarks}
 use native.Mathlib.Omega.{arith}
 use Rattle.totals.proofs.marks_of.Statement.{statement}
 use Rattle.totals.proofs.marks_of.Tie as tie
@@ -21,7 +21,7 @@ marked-requires-4 : tie.Need-marked-requires-4
 marked-requires-4 c κs = search needs
 
 returns : tie.Need-returns
-unfolding marksOf
+unfolding countMarks
 returns c = rw (c .before .before .before .before .marked .ensures, c .before .before .before .marked2 .ensures, c .before .marked3 .ensures, c .before .before .results-from .ensures, c .marked4 .ensures)
 
 pub marks-of-spec : {M : Type 1} → statement M

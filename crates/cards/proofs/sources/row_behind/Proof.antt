@@ -1,7 +1,7 @@
 -- `cards::sources::row_behind` meets its contract: each return is one case of the definition. Assumes nothing.
-use Rattle.cards.specs.Private.{rowBehind}
 use borrow.Author.Tests.{eq-eqb, ne-eqb}
 use borrow.Author.Needs.{needs}
+use Rattle.rules.specs.Cells.{rowBehind}
 use Rattle.cards.proofs.sources.row_behind.Statement.{statement}
 use Rattle.cards.proofs.sources.row_behind.Tie as tie
 

@@ -1,8 +1,8 @@
 -- `cards::sources::row_named` meets its contract: each return is one case of the definition. Assumes nothing.
 use mathlib.Core.Path.{_∙_}
-use Rattle.cards.specs.Private.{rowNamed}
 use borrow.Author.Tests.{eq-eqb, ne-eqb}
 use borrow.Author.Needs.{needs}
+use Rattle.rules.specs.Cells.{rowNamed}
 use Rattle.cards.proofs.sources.row_named.Statement.{statement}
 use Rattle.cards.proofs.sources.row_named.Tie as tie
 

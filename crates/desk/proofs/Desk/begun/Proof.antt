@@ -1,7 +1,7 @@
 -- `desk::Desk::begun` meets its contract: zero, in the garage, or new. Assumes nothing.
 use mathlib.Core.Path.{ap, sym, _∙_}
 use borrow.Author.Needs.{needs}
-use Rattle.desk.specs.Calls.{holding}
+use Rattle.desk.specs.Calls.{deskHolding}
 use Rattle.desk.proofs.Taking.{begun-zero, begun-known, begun-new}
 use Rattle.desk.proofs.Desk.begun.Statement.{statement}
 use Rattle.desk.proofs.Desk.begun.Tie as tie
@@ -32,7 +32,7 @@ holding-requires c κs = search needs
 returns-3 : tie.Need-returns-3
 returns-3 c =
     c .holding .ensures
-    ∙ ap (holding _) (c .before .numbers-driven .ensures)
+    ∙ ap (deskHolding _) (c .before .numbers-driven .ensures)
     ∙ begun-new _ _ _ (c .before .before .before .before .before .if1 .left) (sym (c .before .before .before .known .ensures) ∙ c .before .before .if2 .left)
 
 pub begun-spec : {M : Type 1} → statement M

@@ -2,9 +2,9 @@
 use mathlib.Core.Path.{ap, _∙_}
 use borrow.Author.Needs.{needs}
 use Rattle.bits.proofs.Cases.{failed, passed}
-use Rattle.garage.specs.Calls as station
-use Rattle.garage.specs.declared.Outcome.{Outcome}
-use Rattle.desk.specs.Calls.{holding, event}
+use Rattle.station.specs.Calls as station
+use Rattle.station.specs.declared.Outcome.{Outcome}
+use Rattle.desk.specs.Calls.{deskHolding, deskEvent}
 use Rattle.desk.proofs.Taking.{misfit, turned-down, goes-on, occurs, occurs-begin, occurs-other}
 use Rattle.desk.proofs.Desk.event.Statement.{statement}
 use Rattle.desk.proofs.Desk.event.Tie as tie
@@ -16,7 +16,7 @@ refused-requires : tie.Need-refused-requires
 refused-requires c κs = search needs
 
 returns : tie.Need-returns
-unfolding event
+unfolding deskEvent
 returns c = c .refused .ensures ∙ misfit _ _ (failed (c .before .before .numbers-fit .ensures) (c .before .if1 .taken))
 
 event-requires : tie.Need-event-requires
@@ -29,7 +29,7 @@ refused-requires-2 : tie.Need-refused-requires-2
 refused-requires-2 c κs = search needs
 
 returns-2 : tie.Need-returns-2
-unfolding event station.event
+unfolding deskEvent station.event
 returns-2 c =
     let a = c .before .before .before .before .before .before .before .args in
     c .refused2 .ensures
@@ -39,7 +39,7 @@ begun-requires : tie.Need-begun-requires
 begun-requires c κs = search needs
 
 returns-3 : tie.Need-returns-3
-unfolding event station.event
+unfolding deskEvent station.event
 returns-3 c =
     let a = c .before .before .before .before .before .before .before .before .args in
     c .begun .ensures
@@ -53,11 +53,11 @@ holding-requires : tie.Need-holding-requires
 holding-requires c κs = search needs
 
 returns-4 : tie.Need-returns-4
-unfolding event station.event
+unfolding deskEvent station.event
 returns-4 c =
     let a = c .before .before .before .before .before .before .before .before .before .args in
     c .holding .ensures
-    ∙ ap (holding _) (c .before .passed .ensures)
+    ∙ ap (deskHolding _) (c .before .passed .ensures)
     ∙ occurs-other (a .self) _ (a .card) (a .way) (c .before .before .if3 .left)
     ∙ goes-on (a .self) _ (λ (x : Outcome). occurs (a .self) x (a .card) (a .way)) (c .before .before .before .before .before .event .ensures) (passed (c .before .before .before .before .before .before .before .before .numbers-fit .ensures) (c .before .before .before .before .before .before .before .if1 .left)) (passed (c .before .before .before .before .is-taken .ensures) (c .before .before .before .if2 .left))
 

@@ -1,7 +1,7 @@
 -- `desk::Desk::following` meets its contract: by what the station says. Assumes nothing.
 use mathlib.Core.Path.{sym, _∙_}
 use borrow.Author.Needs.{needs}
-use Rattle.desk.specs.Calls.{holding}
+use Rattle.desk.specs.Calls.{deskHolding}
 use Rattle.desk.proofs.Taking.{says-no, says-yes}
 use Rattle.desk.proofs.Desk.following.Statement.{statement}
 use Rattle.desk.proofs.Desk.following.Tie as tie
@@ -16,7 +16,7 @@ returns : tie.Need-returns
 returns c =
     let a = c .before .before .before .args in
     c .holding .ensures
-    ∙ says-yes (a .self) (a .o) (holding (a .o) (a .numbers)) (sym (c .before .before .is-taken .ensures) ∙ c .before .if1 .taken)
+    ∙ says-yes (a .self) (a .o) (deskHolding (a .o) (a .numbers)) (sym (c .before .before .is-taken .ensures) ∙ c .before .if1 .taken)
 
 refused-requires : tie.Need-refused-requires
 refused-requires c κs = search needs
@@ -25,7 +25,7 @@ returns-2 : tie.Need-returns-2
 returns-2 c =
     let a = c .before .before .before .args in
     c .refused .ensures
-    ∙ says-no (a .self) (a .o) (holding (a .o) (a .numbers)) (sym (c .before .before .is-taken .ensures) ∙ c .before .if1 .left)
+    ∙ says-no (a .self) (a .o) (deskHolding (a .o) (a .numbers)) (sym (c .before .before .is-taken .ensures) ∙ c .before .if1 .left)
 
 pub following-spec : {M : Type 1} → statement M
 following-spec =

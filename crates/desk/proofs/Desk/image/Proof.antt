@@ -2,11 +2,11 @@
 use mathlib.Core.Path.{_∙_}
 use borrow.Author.Needs.{needs}
 use Rattle.bits.proofs.Cases.{failed, passed}
-use Rattle.garage.specs.Calls as station
-use Rattle.garage.specs.declared.Outcome.{Outcome}
+use Rattle.station.specs.Calls as station
+use Rattle.station.specs.declared.Outcome.{Outcome}
 use Rattle.cards.specs.Held.{cardsGiven}
 use Rattle.cards.specs.Given.{givenAs}
-use Rattle.desk.specs.Calls.{offered, takeImage}
+use Rattle.desk.specs.Calls.{offered, deskTakeImage}
 use Rattle.desk.proofs.Taking.{misfit, turned-down, goes-on}
 use Rattle.desk.proofs.Desk.image.Statement.{statement}
 use Rattle.desk.proofs.Desk.image.Tie as tie
@@ -18,7 +18,7 @@ refused-requires : tie.Need-refused-requires
 refused-requires c κs = search needs
 
 returns : tie.Need-returns
-unfolding takeImage
+unfolding deskTakeImage
 returns c = c .refused .ensures ∙ misfit _ _ (failed (c .before .before .numbers-fit .ensures) (c .before .if1 .taken))
 
 image-requires : tie.Need-image-requires
@@ -31,7 +31,7 @@ refused-requires-2 : tie.Need-refused-requires-2
 refused-requires-2 c κs = search needs
 
 returns-2 : tie.Need-returns-2
-unfolding takeImage station.takeImage
+unfolding deskTakeImage station.takeImage
 returns-2 c =
     let a = c .before .before .before .before .before .before .before .args in
     c .refused2 .ensures
@@ -41,7 +41,7 @@ offered-requires : tie.Need-offered-requires
 offered-requires c κs = search needs
 
 returns-3 : tie.Need-returns-3
-unfolding takeImage station.takeImage
+unfolding deskTakeImage station.takeImage
 returns-3 c =
     let a = c .before .before .before .before .before .before .before .args in
     c .offered .ensures

@@ -2,7 +2,7 @@
 use mathlib.Core.Path.{sym, ap, _∙_}
 use borrow.Author.Needs.{needs}
 use Rattle.cards.specs.Held.{cardsGiven}
-use Rattle.desk.specs.Calls.{holding, offered}
+use Rattle.desk.specs.Calls.{deskHolding, offered}
 use Rattle.desk.proofs.Desk.offered.Statement.{statement}
 use Rattle.desk.proofs.Desk.offered.Tie as tie
 
@@ -39,7 +39,7 @@ refused-requires-3 c κs = search needs
 returns : tie.Need-returns
 returns c =
     c .holding .ensures
-    ∙ ap (holding _) (c .before .numbers-given .ensures)
+    ∙ ap (deskHolding _) (c .before .numbers-given .ensures)
     ∙ ap (offered _ _ _) (sym (c .before .before .enum-told .given .1) ∙ c .before .before .before .before .given-as .ensures)
 
 returns-2 : tie.Need-returns-2

@@ -2,9 +2,9 @@
 use mathlib.Core.Path.{ap, _∙_}
 use borrow.Author.Needs.{needs}
 use Rattle.bits.proofs.Cases.{failed, passed}
-use Rattle.garage.specs.Calls as station
-use Rattle.garage.specs.declared.Outcome.{Outcome}
-use Rattle.desk.specs.Calls.{holding, following, result}
+use Rattle.station.specs.Calls as station
+use Rattle.station.specs.declared.Outcome.{Outcome}
+use Rattle.desk.specs.Calls.{deskHolding, deskFollowing, deskResult}
 use Rattle.desk.proofs.Taking.{misfit, through, followed}
 use Rattle.desk.proofs.Desk.result.Statement.{statement}
 use Rattle.desk.proofs.Desk.result.Tie as tie
@@ -16,7 +16,7 @@ refused-requires : tie.Need-refused-requires
 refused-requires c κs = search needs
 
 returns : tie.Need-returns
-unfolding result
+unfolding deskResult
 returns c = c .refused .ensures ∙ misfit _ _ (failed (c .before .before .numbers-fit .ensures) (c .before .if1 .taken))
 
 result-requires : tie.Need-result-requires
@@ -29,12 +29,12 @@ following-requires : tie.Need-following-requires
 following-requires c κs = search needs
 
 returns-2 : tie.Need-returns-2
-unfolding result station.result
+unfolding deskResult station.result
 returns-2 c =
     let a = c .before .before .before .before .before .before .args in
     c .following .ensures
-    ∙ ap (following (a .self) (c .before .before .result .result)) (c .before .followed .ensures)
-    ∙ through (a .self) _ (λ (x : Outcome). holding x (followed (a .self) (a .report))) (c .before .before .result .ensures) (passed (c .before .before .before .before .before .numbers-fit .ensures) (c .before .before .before .before .if1 .left))
+    ∙ ap (deskFollowing (a .self) (c .before .before .result .result)) (c .before .followed .ensures)
+    ∙ through (a .self) _ (λ (x : Outcome). deskHolding x (followed (a .self) (a .report))) (c .before .before .result .ensures) (passed (c .before .before .before .before .before .numbers-fit .ensures) (c .before .before .before .before .if1 .left))
 
 pub result-spec : {M : Type 1} → statement M
 result-spec =

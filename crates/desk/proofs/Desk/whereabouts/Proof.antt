@@ -2,7 +2,7 @@
 use mathlib.Core.Path.{ap, _∙_}
 use borrow.Author.Needs.{needs}
 use Rattle.bits.proofs.Cases.{failed, passed}
-use Rattle.desk.specs.Questions.{placed}
+use Rattle.desk.specs.Questions.{placeKnown}
 use Rattle.desk.proofs.Asking.{where-unfit, where-fit}
 use Rattle.desk.proofs.Desk.whereabouts.Statement.{statement}
 use Rattle.desk.proofs.Desk.whereabouts.Tie as tie
@@ -23,7 +23,7 @@ returns-2 : tie.Need-returns-2
 returns-2 c =
     let a = c .before .before .before .before .before .before .args in
     c .placed .ensures
-    ∙ ap (placed (a .self .station .apart)) (c .before .where-is .ensures)
+    ∙ ap (placeKnown (a .self .station .apart)) (c .before .where-is .ensures)
     ∙ where-fit (a .self) (a .card) (passed (c .before .before .before .before .before .fit .ensures) (c .before .before .before .before .if1 .left))
 
 pub whereabouts-spec : {M : Type 1} → statement M

@@ -2,19 +2,19 @@ use mathlib.Core.Path.{ap, _∙_}
 use Prim.Native.Nat.{_-_}
 use native.Mathlib.Omega.{arith}
 use Rattle.bits.specs.Bits.{bit}
-use Rattle.drawing.specs.Private.{markOf}
+use Rattle.drawing.specs.Private.{cellMark}
 use Rattle.drawing.proofs.Tables.{Rows, Row, rows-start, row-starts, row-turns, row-ends, rows-end}
 use Rattle.drawing.proofs.grid.grid_of.Statement.{statement}
 use Rattle.drawing.proofs.grid.grid_of.Tie as tie
 
 abbrev Inv-loop2 : tie.InvT-loop2
-Inv-loop2 image g₀ i j₀ g j = Row (markOf (bit image)) g i j
+Inv-loop2 image g₀ i j₀ g j = Row (cellMark (bit image)) g i j
 
 abbrev μ-loop2 : tie.MeasureT-loop2
 μ-loop2 image g₀ i j₀ g j = 20 - j
 
 abbrev Inv-loop : tie.InvT-loop
-Inv-loop image g₀ i₀ g i = Rows (markOf (bit image)) g i
+Inv-loop image g₀ i₀ g i = Rows (cellMark (bit image)) g i
 
 abbrev μ-loop : tie.MeasureT-loop
 μ-loop image g₀ i₀ g i = 3 - i
@@ -47,7 +47,7 @@ loop2-less : tie.Need-loop2-less Inv-loop2 μ-loop2 Inv-loop μ-loop
 loop2-less c = omega arith
 
 loop2-again : tie.Need-loop2-again Inv-loop2 μ-loop2 Inv-loop μ-loop
-loop2-again c = row-turns (c .before .before .before .loop2 .inv) (c .before .before .loop2-test .taken) (c .mark .ensures ∙ ap (markOf (bit (c .before .before .before .before .before .before .args .image))) (c .before .cell .ensures))
+loop2-again c = row-turns (c .before .before .before .loop2 .inv) (c .before .before .loop2-test .taken) (c .mark .ensures ∙ ap (cellMark (bit (c .before .before .before .before .before .before .args .image))) (c .before .cell .ensures))
 
 add-i : tie.Need-add-i Inv-loop2 μ-loop2 Inv-loop μ-loop
 add-i c = omega arith

@@ -1,4 +1,4 @@
-use Rattle.lines.specs.Bytes.{ascii}
+use Rattle.codec.specs.Text.{ascii}
 use Rattle.drawing.proofs.lift_line.car_size.Statement.{statement}
 use Rattle.drawing.proofs.lift_line.car_size.Tie as tie
 

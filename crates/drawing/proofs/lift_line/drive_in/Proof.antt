@@ -1,5 +1,5 @@
 use borrow.Author.Needs.{needs}
-use Rattle.lines.specs.Bytes.{ascii}
+use Rattle.codec.specs.Text.{ascii}
 use Rattle.drawing.proofs.Telling.{is-ended, is-in, is-out, is-no-drive}
 use Rattle.drawing.proofs.lift_line.drive_in.Statement.{statement}
 use Rattle.drawing.proofs.lift_line.drive_in.Tie as tie

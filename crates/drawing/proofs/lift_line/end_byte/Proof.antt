@@ -3,7 +3,7 @@ use mathlib.Core.Path.{ap, sym, _∙_}
 use Prim.Native.Nat.{ℕ}
 use lib.ListN.{getD}
 use borrow.Author.Needs.{needs}
-use Rattle.lines.specs.Bytes.{ascii}
+use Rattle.codec.specs.Text.{ascii}
 use Rattle.drawing.proofs.Words.{end-none}
 use Rattle.drawing.proofs.lift_line.end_byte.Statement.{statement}
 use Rattle.drawing.proofs.lift_line.end_byte.Tie as tie

@@ -1,6 +1,6 @@
 use mathlib.Core.Path.{ap, sym}
 use lib.ListN.{length}
-use Rattle.lines.specs.Bytes.{ascii}
+use Rattle.codec.specs.Text.{ascii}
 use Rattle.drawing.proofs.Words.{end-none}
 use Rattle.drawing.proofs.lift_line.end_size.Statement.{statement}
 use Rattle.drawing.proofs.lift_line.end_size.Tie as tie

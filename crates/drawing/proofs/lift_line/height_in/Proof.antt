@@ -1,5 +1,5 @@
 use borrow.Author.Needs.{needs}
-use Rattle.lines.specs.Bytes.{ascii}
+use Rattle.codec.specs.Text.{ascii}
 use Rattle.drawing.proofs.Telling.{is-street, is-rotation, is-basement, is-no-height}
 use Rattle.drawing.proofs.lift_line.height_in.Statement.{statement}
 use Rattle.drawing.proofs.lift_line.height_in.Tie as tie

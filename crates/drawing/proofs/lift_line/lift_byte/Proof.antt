@@ -1,7 +1,7 @@
 use mathlib.Core.Path.{_∙_}
 use native.Mathlib.Omega.{arith}
 use borrow.Author.Needs.{needs}
-use Rattle.lines.specs.Bytes.{ascii}
+use Rattle.codec.specs.Text.{ascii}
 use Rattle.drawing.proofs.Words.{name-short, car-short, in-name, in-car, in-end}
 use Rattle.drawing.proofs.lift_line.lift_byte.Statement.{statement}
 use Rattle.drawing.proofs.lift_line.lift_byte.Tie as tie

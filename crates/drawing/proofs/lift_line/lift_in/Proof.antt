@@ -1,6 +1,6 @@
 use native.Mathlib.Omega.{arith}
 use borrow.Author.Needs.{needs}
-use Rattle.lines.specs.Bytes.{ascii}
+use Rattle.codec.specs.Text.{ascii}
 use Rattle.drawing.proofs.Telling.{lift-told}
 use Rattle.drawing.proofs.Words.{name-short, car-short}
 use Rattle.drawing.proofs.lift_line.lift_in.Statement.{statement}

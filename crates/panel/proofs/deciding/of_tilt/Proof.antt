@@ -1,7 +1,7 @@
 -- `panel::deciding::of_tilt` meets its contract: each condition is one case of the definition. Assumes nothing.
 use mathlib.Core.Path.{ap, _∙_}
 use borrow.Author.Tests.{eq-eqb, ne-eqb}
-use Rattle.panel.specs.Private.{slotsAlone, slotsIn, tiltRead}
+use Rattle.panel.specs.Private.{slotsAlone, slotsOfRows, tiltRead}
 use borrow.Author.Needs.{needs}
 use Rattle.panel.proofs.deciding.of_tilt.Statement.{statement}
 use Rattle.panel.proofs.deciding.of_tilt.Tie as tie
@@ -61,7 +61,7 @@ unfolding tiltRead
 returns-4 c =
     let x = c .before .before .before in
     let a = x .before .before .before .args in
-    let e = c .before .slots-in2 .ensures ∙ ap (slotsIn (a .side) 1) (c .before .before .row-alone .ensures) in
+    let e = c .before .slots-in2 .ensures ∙ ap (slotsOfRows (a .side) 1) (c .before .before .row-alone .ensures) in
     rw (ne-eqb _ _ (x .before .if1 .left), x .match2 .keys1) (c .slots-alone2 .ensures ∙ ap slotsAlone e)
 
 returns-5 : tie.Need-returns-5
@@ -69,7 +69,7 @@ unfolding tiltRead
 returns-5 c =
     let x = c .before .before .before in
     let a = x .before .before .before .args in
-    let e = c .before .slots-in3 .ensures ∙ ap (slotsIn (a .side) 0) (c .before .before .row-alone2 .ensures) in
+    let e = c .before .slots-in3 .ensures ∙ ap (slotsOfRows (a .side) 0) (c .before .before .row-alone2 .ensures) in
     rw (ne-eqb _ _ (x .before .if1 .left), x .match2 .keys2) (c .slots-alone3 .ensures ∙ ap slotsAlone e)
 
 returns-6 : tie.Need-returns-6

@@ -1,7 +1,7 @@
 -- `panel::shuttles::of_shuttles` meets its contract: each condition is one case of the definition. Assumes nothing.
 use mathlib.Core.Path.{ap, _∙_}
 use borrow.Author.Tests.{ne-eqb}
-use Rattle.panel.specs.Private.{cellsAlone, slotsAlone, slotsIn, shuttlesRead}
+use Rattle.panel.specs.Private.{cellsAlone, slotsAlone, slotsOfRows, shuttlesRead}
 use borrow.Author.Needs.{needs}
 use Rattle.panel.proofs.shuttles.of_shuttles.Statement.{statement}
 use Rattle.panel.proofs.shuttles.of_shuttles.Tie as tie
@@ -44,7 +44,7 @@ unfolding shuttlesRead
 returns c =
     let x = c .before .before in
     let a = x .before .before .args in
-    let e = c .before .slots-in .ensures ∙ ap (slotsIn (a .side) (a .orientation)) (x .rows-named .ensures) in
+    let e = c .before .slots-in .ensures ∙ ap (slotsOfRows (a .side) (a .orientation)) (x .rows-named .ensures) in
     rw (x .before .match .keys1) (c .slots-alone .ensures ∙ ap slotsAlone e)
 
 returns-2 : tie.Need-returns-2
@@ -65,7 +65,7 @@ unfolding shuttlesRead
 returns-4 c =
     let x = c .before .before in
     let a = x .before .before .args in
-    let e = c .before .slots-in2 .ensures ∙ ap (slotsIn (a .side) (a .orientation)) (x .rows-ahead .ensures) in
+    let e = c .before .slots-in2 .ensures ∙ ap (slotsOfRows (a .side) (a .orientation)) (x .rows-ahead .ensures) in
     rw (x .before .match .keys3) (c .slots-alone2 .ensures ∙ ap slotsAlone e)
 
 returns-5 : tie.Need-returns-5

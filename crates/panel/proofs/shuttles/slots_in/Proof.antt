@@ -1,6 +1,6 @@
 -- `panel::shuttles::slots_in` meets its contract: three stores. Assumes nothing.
 use mathlib.Core.Path.{refl}
-use Rattle.panel.specs.Private.{slotsIn}
+use Rattle.panel.specs.Private.{slotsOfRows}
 use borrow.Author.Needs.{needs}
 use Rattle.panel.proofs.shuttles.slots_in.Statement.{statement}
 use Rattle.panel.proofs.shuttles.slots_in.Tie as tie
@@ -48,7 +48,7 @@ array-write-slots-3 : tie.Need-array-write-slots-3
 array-write-slots-3 c = search needs
 
 returns : tie.Need-returns
-unfolding slotsIn
+unfolding slotsOfRows
 returns c = refl
 
 pub slots-in-spec : {M : Type 1} → statement M

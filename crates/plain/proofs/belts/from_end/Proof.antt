@@ -2,7 +2,7 @@
 use native.Mathlib.Omega.{arith}
 use borrow.Author.Tests.{ne-eqb}
 use borrow.Author.Needs.{needs}
-use Rattle.plain.specs.Private.{fromEnd}
+use Rattle.plain.specs.Private.{rowFromEnd}
 use Rattle.plain.proofs.Spans.{row-bounds}
 use Rattle.plain.proofs.belts.from_end.Statement.{statement}
 use Rattle.plain.proofs.belts.from_end.Tie as tie
@@ -23,14 +23,14 @@ sub-result-2 : tie.Need-sub-result-2
 sub-result-2 c = omega (arith, c .before .before .first-cell .ensures, c .width .ensures, row-bounds (c .before .before .before .args .row))
 
 returns : tie.Need-returns
-unfolding fromEnd
+unfolding rowFromEnd
 returns c = rw (c .before .if1 .taken, ← c .before .before .first-cell .ensures, ← c .width .ensures)
 
 add-result-2 : tie.Need-add-result-2
 add-result-2 c = omega (arith, c .before .first-cell .ensures, row-bounds (c .before .before .args .row))
 
 returns-2 : tie.Need-returns-2
-unfolding fromEnd
+unfolding rowFromEnd
 returns-2 c = rw (ne-eqb _ 1 (c .if1 .left), ← c .before .first-cell .ensures)
 
 pub from-end-spec : {M : Type 1} → statement M

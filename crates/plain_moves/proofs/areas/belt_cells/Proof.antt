@@ -2,7 +2,7 @@
 use Prim.Native.Nat.{_-_, _≤_}
 use native.Mathlib.Omega.{arith}
 use borrow.Author.Needs.{needs}
-use Rattle.plain.specs.Named.{cellNamed}
+use Rattle.rules.specs.Cells.{cellNamed}
 use Rattle.plain.proofs.Listing.{Filling, fill-starts, fills, fill-ends}
 use Rattle.plain_moves.proofs.areas.belt_cells.Statement.{statement}
 use Rattle.plain_moves.proofs.areas.belt_cells.Tie as tie

@@ -2,7 +2,7 @@
 use mathlib.Core.Path.{ap, _∙_}
 use native.Mathlib.Omega.{arith}
 use borrow.Author.Needs.{needs}
-use Rattle.plain.specs.Named.{cellNamed}
+use Rattle.rules.specs.Cells.{cellNamed}
 use Rattle.plain.proofs.Ranges.{belts-row}
 use Rattle.plain_moves.proofs.Marking.{belts-area}
 use Rattle.plain_moves.proofs.areas.of_belts.Statement.{statement}

@@ -2,7 +2,7 @@
 use mathlib.Core.Bool.{_||_}
 use mathlib.Core.Path.{ap, ap₂, _∙_}
 use borrow.Author.Needs.{needs}
-use Rattle.plain_moves.specs.Private.{rowNamed}
+use Rattle.rules.specs.Cells.{rowNamed}
 use Rattle.plain_moves.proofs.areas.touched.Statement.{statement}
 use Rattle.plain_moves.proofs.areas.touched.Tie as tie
 

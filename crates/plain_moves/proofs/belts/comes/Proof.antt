@@ -4,7 +4,7 @@ use native.Mathlib.Omega.{arith}
 use borrow.Author.Needs.{needs}
 use Rattle.bits.proofs.Cases.{passed, failed}
 use Rattle.plain.proofs.Ranges.{short-step}
-use Rattle.plain_moves.specs.Private.{cellsIn}
+use Rattle.plain_moves.specs.Private.{cellBits}
 use Rattle.plain_moves.proofs.Finding.{named-cell, stays, comes, none-comes}
 use Rattle.plain_moves.proofs.belts.comes.Statement.{statement}
 use Rattle.plain_moves.proofs.belts.comes.Tie as tie
@@ -20,7 +20,7 @@ returns c =
     let x = c .before .before in
     let y = x .before in
     let a = y .args in
-    stays (a .row) (a .mask) (a .toward) (a .size) (cellsIn (a .old .now)) (a .cell) (failed (x .named .ensures) (c .before .if1 .taken))
+    stays (a .row) (a .mask) (a .toward) (a .size) (cellBits (a .old .now)) (a .cell) (failed (x .named .ensures) (c .before .if1 .taken))
 
 step-requires : tie.Need-step-requires
 step-requires c κs = search needs
@@ -48,7 +48,7 @@ returns-2 c =
     let w = u .before in
     let t = w .before in
     let a = t .args in
-    comes (a .row) (a .mask) (a .toward) (a .size) (cellsIn (a .old .now)) (a .cell) (z .step .ensures) (y .behind .ensures)
+    comes (a .row) (a .mask) (a .toward) (a .size) (cellBits (a .old .now)) (a .cell) (z .step .ensures) (y .behind .ensures)
     (passed (w .named .ensures) (u .if1 .left))
     (sym (x .named2 .ensures) ∙ c .before .if2 .taken)
 
@@ -60,7 +60,7 @@ returns-3 c =
     let u = z .before in
     let w = u .before in
     let a = w .args in
-    none-comes (a .row) (a .mask) (a .toward) (a .size) (cellsIn (a .old .now)) (a .cell) (y .step .ensures) (x .behind .ensures)
+    none-comes (a .row) (a .mask) (a .toward) (a .size) (cellBits (a .old .now)) (a .cell) (y .step .ensures) (x .behind .ensures)
     (passed (u .named .ensures) (z .if1 .left))
     (sym (c .before .named2 .ensures) ∙ c .if2 .left)
 

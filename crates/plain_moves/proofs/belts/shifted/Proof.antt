@@ -3,12 +3,12 @@ use Prim.Native.Nat.{_-_, _≤_}
 use native.Mathlib.Omega.{arith}
 use borrow.Author.Needs.{needs}
 use Rattle.plain.proofs.Listing.{Filling, fill-starts, fills, fill-ends}
-use Rattle.plain_moves.specs.Private.{cellsIn, beltAfter}
+use Rattle.plain_moves.specs.Private.{cellBits, beltAfter}
 use Rattle.plain_moves.proofs.belts.shifted.Statement.{statement}
 use Rattle.plain_moves.proofs.belts.shifted.Tie as tie
 
 abbrev Inv-loop : tie.InvT-loop
-Inv-loop row mask toward size old new₀ cell₀ new cell = Filling (beltAfter row mask toward size (cellsIn old)) 40 new cell × (cell ≤ 40)
+Inv-loop row mask toward size old new₀ cell₀ new cell = Filling (beltAfter row mask toward size (cellBits old)) 40 new cell × (cell ≤ 40)
 
 abbrev μ-loop : tie.MeasureT-loop
 μ-loop row mask toward size old new₀ cell₀ new cell = 40 - cell

@@ -1,7 +1,7 @@
 -- `plain_moves::shuttles::behind` meets its contract: each return is one case of the definition. Assumes nothing.
 use borrow.Author.Tests.{eq-eqb, ne-eqb}
 use borrow.Author.Needs.{needs}
-use Rattle.plain_moves.specs.Private.{rowBehind}
+use Rattle.rules.specs.Cells.{rowBehind}
 use Rattle.plain_moves.proofs.shuttles.behind.Statement.{statement}
 use Rattle.plain_moves.proofs.shuttles.behind.Tie as tie
 

@@ -1,13 +1,13 @@
 -- `plain_moves::shuttles::car_at` meets its contract: none where no row is, two half cells in row 1, else one cell (proofs/Finding.antt). Assumes nothing.
 use native.Mathlib.Omega.{arith}
 use borrow.Author.Needs.{needs}
-use Rattle.plain_moves.specs.Private.{cellsIn}
+use Rattle.plain_moves.specs.Private.{cellBits}
 use Rattle.plain_moves.proofs.Finding.{first-small, half-small, no-car, car-halves, car-cell}
 use Rattle.plain_moves.proofs.shuttles.car_at.Statement.{statement}
 use Rattle.plain_moves.proofs.shuttles.car_at.Tie as tie
 
 returns : tie.Need-returns
-returns c = let a = c .before .args in no-car (a .side) (cellsIn (a .cells .now)) (c .if1 .taken)
+returns c = let a = c .before .args in no-car (a .side) (cellBits (a .cells .now)) (c .if1 .taken)
 
 first-cell-requires : tie.Need-first-cell-requires
 first-cell-requires c κs = search needs
@@ -45,7 +45,7 @@ returns-2 c =
     let z = y .before in
     let u = z .before in
     let a = u .args in
-    car-halves (a .side) (a .row) (y .first-cell .ensures) (cellsIn (a .cells .now)) (z .if1 .left) (x .if2 .taken)
+    car-halves (a .side) (a .row) (y .first-cell .ensures) (cellBits (a .cells .now)) (z .if1 .left) (x .if2 .taken)
 
 cast-result-3 : tie.Need-cast-result-3
 cast-result-3 c = search needs
@@ -62,7 +62,7 @@ returns-3 c =
     let y = x .before in
     let z = y .before in
     let a = z .args in
-    car-cell (a .side) (a .row) (x .first-cell .ensures) (cellsIn (a .cells .now)) (y .if1 .left) (c .before .if2 .left)
+    car-cell (a .side) (a .row) (x .first-cell .ensures) (cellBits (a .cells .now)) (y .if1 .left) (c .before .if2 .left)
 
 pub car-at-spec : {M : Type 1} → statement M
 car-at-spec =

@@ -2,7 +2,7 @@
 use native.Mathlib.Omega.{arith}
 use borrow.Author.Tests.{ne-eqb}
 use borrow.Author.Needs.{needs}
-use Rattle.plain_moves.specs.Private.{firstCell}
+use Rattle.plain_moves.specs.Private.{positionFirstCell}
 use Rattle.plain_moves.proofs.shuttles.first_cell.Statement.{statement}
 use Rattle.plain_moves.proofs.shuttles.first_cell.Tie as tie
 
@@ -22,15 +22,15 @@ add-result-2 : tie.Need-add-result-2
 add-result-2 c = search needs
 
 returns : tie.Need-returns
-unfolding firstCell
+unfolding positionFirstCell
 returns c = rw (c .match .keys1)
 
 returns-2 : tie.Need-returns-2
-unfolding firstCell
+unfolding positionFirstCell
 returns-2 c = rw (c .match .keys2)
 
 returns-3 : tie.Need-returns-3
-unfolding firstCell
+unfolding positionFirstCell
 returns-3 c = let row = c .before .args .row in simp (ne-eqb row 1 (λ e. omega arith), ne-eqb row 2 (λ e. omega arith))
 
 pub first-cell-spec : {M : Type 1} → statement M

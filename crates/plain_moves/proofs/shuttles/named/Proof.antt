@@ -2,7 +2,7 @@
 use mathlib.Core.Path.{_∙_}
 use borrow.Author.Tests.{eq-eqb, ne-eqb}
 use borrow.Author.Needs.{needs}
-use Rattle.plain_moves.specs.Private.{rowNamed}
+use Rattle.rules.specs.Cells.{rowNamed}
 use Rattle.plain_moves.proofs.shuttles.named.Statement.{statement}
 use Rattle.plain_moves.proofs.shuttles.named.Tie as tie
 

@@ -5,13 +5,13 @@ use Prim.Native.Nat.{ℕ}
 use native.Mathlib.Omega.{arith}
 use lib.ListN.{getD}
 use borrow.Author.Needs.{needs}
-use Rattle.plain_moves.specs.Private.{slotsIn}
+use Rattle.plain_moves.specs.Private.{slotBits}
 use Rattle.plain_moves.proofs.Finding.{no-slot, that-slot}
 use Rattle.plain_moves.proofs.shuttles.slot_from.Statement.{statement}
 use Rattle.plain_moves.proofs.shuttles.slot_from.Tie as tie
 
 returns : tie.Need-returns
-returns c = let a = c .before .args in no-slot (a .side) (a .orientation) (slotsIn (a .slots .now)) (c .if1 .taken)
+returns c = let a = c .before .args in no-slot (a .side) (a .orientation) (slotBits (a .slots .now)) (c .if1 .taken)
 
 slot-requires : tie.Need-slot-requires
 slot-requires c κs = let p = c .before .pre in (p .0, p .1, (omega (arith, c .if1 .left)), p .2)
@@ -27,7 +27,7 @@ returns-2 c =
     let x = c .before .before in
     let y = x .before in
     let a = y .args in
-    ap (λ (j : ℕ). getD (a .slots .now) j false) (c .before .slot .ensures) ∙ that-slot (a .side) (a .orientation) (slotsIn (a .slots .now))
+    ap (λ (j : ℕ). getD (a .slots .now) j false) (c .before .slot .ensures) ∙ that-slot (a .side) (a .orientation) (slotBits (a .slots .now))
     (x .if1 .left)
 
 pub slot-from-spec : {M : Type 1} → statement M

@@ -1,8 +1,8 @@
 -- `plain_station::Plain::accepted` meets its contract: by what the two searches have found. Assumes nothing.
 use Rattle.plain_station.proofs.Outcomes.{found, none-found}
 use Rattle.plain_station.specs.Plain.{packedOf, plainOutcome}
-use Rattle.garage.specs.Calls.{refused, accepted}
-use Rattle.garage.specs.Held.{overlapsEarlier, barred, whyNot}
+use Rattle.station.specs.Calls.{refused, accepted}
+use Rattle.station.specs.Held.{overlapsEarlier, barred, whyNot}
 use Rattle.rules.specs.Verdicts.{answerFor}
 use Rattle.rules.specs.declared.Verdict.{Verdict}
 use Rattle.answers.specs.declared.Answer.the-variants.{Overlap}

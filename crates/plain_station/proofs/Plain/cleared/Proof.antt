@@ -1,8 +1,8 @@
 -- `plain_station::Plain::cleared` meets its contract: the lift under a driver, then what is set apart. Assumes nothing.
 use Rattle.plain_station.proofs.Outcomes.{where-true, where-false, found, none-found, under-driver}
 use Rattle.plain_station.specs.Plain.{packedOf, plainOutcome}
-use Rattle.garage.specs.Calls.{refused, spared, cleared}
-use Rattle.garage.specs.Held.{touches, crossesDrive}
+use Rattle.station.specs.Calls.{refused, spared, cleared}
+use Rattle.station.specs.Held.{touches, crossesDrive}
 use Rattle.answers.specs.declared.Answer.the-variants.{OutOfTurn, SetApart}
 use mathlib.Core.Path.{sym, ap, _∙_}
 use borrow.Author.Needs.{needs}

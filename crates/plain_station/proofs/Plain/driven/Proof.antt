@@ -1,7 +1,7 @@
 -- `plain_station::Plain::driven` meets its contract: no set that holds the lift is outstanding, or one is. Assumes nothing.
 use Rattle.plain_station.proofs.Outcomes.{where-true, where-false}
 use Rattle.plain_station.specs.Plain.{refusedPlain, plainDriven}
-use Rattle.garage.specs.Held.{liftIn}
+use Rattle.station.specs.Held.{liftIn}
 use Rattle.answers.specs.declared.Answer.the-variants.{SetOutstanding}
 use mathlib.Core.Path.{sym, _∙_}
 use borrow.Author.Needs.{needs}

@@ -2,9 +2,9 @@
 use Rattle.plain_station.proofs.Outcomes.{where-true, where-false}
 use Rattle.plain_station.proofs.Standing.{mark-at}
 use Rattle.plain_station.specs.Plain.{packedOf, plainOutcome}
-use Rattle.garage.proofs.Marks.{in-set}
-use Rattle.garage.specs.Calls.{refused, numbered}
-use Rattle.garage.specs.Station.{inSet, marked}
+use Rattle.station.proofs.Marks.{in-set}
+use Rattle.station.specs.Calls.{refused, numbered}
+use Rattle.station.specs.Station.{inSet, marked}
 use Rattle.answers.specs.declared.Answer.the-variants.{NotInSet, AlreadyAnswered}
 use Rattle.bits.proofs.Cases.{passed}
 use native.Mathlib.Omega.{arith}

@@ -1,8 +1,8 @@
 -- `plain_station::Plain::requested` meets its contract: a chain of refusals in the order of the definition. Assumes nothing.
 use Rattle.plain_station.proofs.Outcomes.{where-true, where-false, found, none-found}
 use Rattle.plain_station.specs.Plain.{packedOf, plainOutcome}
-use Rattle.garage.specs.Calls.{refused, requested}
-use Rattle.garage.specs.Held.{bad}
+use Rattle.station.specs.Calls.{refused, requested}
+use Rattle.station.specs.Held.{bad}
 use Rattle.answers.specs.declared.Answer.the-variants.{SetOutstanding, TooMany, EmptySet, BadField}
 use borrow.Author.Tests.{eq-eqb, ne-eqb, lt-ltb, le-ltb}
 use lib.Dec.{eqb, ltb}

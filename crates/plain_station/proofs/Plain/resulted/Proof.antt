@@ -1,7 +1,7 @@
 -- `plain_station::Plain::resulted` meets its contract: a chain of refusals in the order of the definition. Assumes nothing.
 use Rattle.plain_station.proofs.Outcomes.{where-true, where-false}
 use Rattle.plain_station.specs.Plain.{packedOf, plainOutcome}
-use Rattle.garage.specs.Calls.{refused, resulted}
+use Rattle.station.specs.Calls.{refused, resulted}
 use Rattle.answers.specs.Answers.{nowhere}
 use Rattle.answers.specs.declared.Answer.the-variants.{BadField, NoSet}
 use borrow.Author.Tests.{eq-eqb, ne-eqb, lt-ltb, le-ltb}

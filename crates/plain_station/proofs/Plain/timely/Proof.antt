@@ -1,6 +1,6 @@
 -- `plain_station::Plain::timely` meets its contract: present, late or not issued. Assumes nothing.
 use Rattle.plain_station.specs.Plain.{plainOutcome}
-use Rattle.garage.proofs.Issues.{is-present, is-late, not-issued}
+use Rattle.station.proofs.Issues.{is-present, is-late, not-issued}
 use native.Mathlib.Omega.{arith}
 use mathlib.Core.Path.{sym, ap, _∙_}
 use borrow.Author.Needs.{needs}

@@ -1,5 +1,5 @@
 -- `plain_station::sets::least_bad` meets its contract: none of those passed is bad. Assumes nothing.
-use Rattle.garage.specs.Held.{bad}
+use Rattle.station.specs.Held.{bad}
 use Rattle.bits.proofs.Least.{Passed, start, turn, here, past}
 use mathlib.Core.Path.{sym, _∙_}
 use Prim.Native.Nat.{_-_}

@@ -1,7 +1,7 @@
 -- `plain_station::sets::least_barred` meets its contract: each of those passed is allowed. Assumes nothing.
 use Rattle.plain_station.proofs.Searching.{verdict-seen}
 use Rattle.plain.specs.Plain.{plainBits}
-use Rattle.garage.specs.Held.{barred}
+use Rattle.station.specs.Held.{barred}
 use Rattle.bits.proofs.Least.{Passed, start, turn, here, past}
 use Rattle.bits.specs.Bits.{image}
 use Prim.Native.Nat.{_-_}

@@ -1,5 +1,5 @@
 -- `plain_station::sets::least_overlapping` meets its contract: none of those passed overlaps an earlier one. Assumes nothing.
-use Rattle.garage.specs.Held.{overlapsEarlier}
+use Rattle.station.specs.Held.{overlapsEarlier}
 use Rattle.bits.proofs.Least.{Passed, start, turn, here, past}
 use mathlib.Core.Path.{sym, _∙_}
 use Prim.Native.Nat.{_-_}

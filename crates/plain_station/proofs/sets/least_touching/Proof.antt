@@ -1,7 +1,7 @@
 -- `plain_station::sets::least_touching` meets its contract: none of those passed touches what is set apart. Assumes nothing.
 use Rattle.plain_station.proofs.Searching.{touch-seen}
 use Rattle.plain_moves.specs.Moves.{partsBits}
-use Rattle.garage.specs.Held.{touches}
+use Rattle.station.specs.Held.{touches}
 use Rattle.bits.proofs.Least.{Passed, start, turn, here, past}
 use Rattle.bits.specs.Bits.{image}
 use Prim.Native.Nat.{_-_}

@@ -1,5 +1,5 @@
 -- `plain_station::sets::only` meets its contract: the places passed are copied, the rest zero. Assumes nothing.
-use Rattle.garage.proofs.Loops.{Copied, copy-start, copy-turn, copy-end, all-used}
+use Rattle.station.proofs.Loops.{Copied, copy-start, copy-turn, copy-end, all-used}
 use native.Mathlib.Omega.{arith}
 use Prim.Native.Nat.{_-_}
 use borrow.Author.Needs.{needs}

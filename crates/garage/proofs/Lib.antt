@@ -1,7 +1,0 @@
-pub mod Areas
-pub mod Padding
-pub mod Loops
-pub mod Marks
-pub mod Moves
-pub mod Issues
-pub mod Turns

@@ -1,0 +1,31 @@
+-- `station::Station::image` meets its contract: an unfit station is refused before all else. Assumes nothing.
+use mathlib.Core.Path.{_∙_}
+use borrow.Author.Needs.{needs}
+use Rattle.station.specs.Calls.{takeImage}
+use Rattle.bits.proofs.Cases.{failed, passed}
+use Rattle.station.proofs.Turns.{rebuilt, kept-imaged}
+use Rattle.station.proofs.Station.image.Statement.{statement}
+use Rattle.station.proofs.Station.image.Tie as tie
+
+fit-requires : tie.Need-fit-requires
+fit-requires c κs = search needs
+
+refused-requires : tie.Need-refused-requires
+refused-requires c κs = search needs
+
+returns : tie.Need-returns
+unfolding takeImage
+returns c = c .refused .ensures ∙ rw (failed (c .before .before .fit .ensures) (c .before .if1 .taken))
+
+imaged-requires : tie.Need-imaged-requires
+imaged-requires c κs = search needs
+
+after-requires : tie.Need-after-requires
+after-requires c κs = search needs
+
+returns-2 : tie.Need-returns-2
+unfolding takeImage
+returns-2 c = c .after .ensures ∙ rw (passed (c .before .before .before .before .fit .ensures) (c .before .before .before .if1 .left)) (rebuilt _ _ (c .before .before .imaged .ensures) (kept-imaged _ _ _))
+
+pub image-spec : {M : Type 1} → statement M
+image-spec = tie.close (tie.spec fit-requires refused-requires returns imaged-requires after-requires returns-2)

@@ -1,0 +1,33 @@
+-- A call past its test of fitness is told as a turn: its answer, and all that it leaves of the station but the set. How many
+-- instructions there were and are says what becomes of the set. Assumes nothing.
+use mathlib.Core.Bool.{cond}
+use mathlib.Core.List.{List}
+use Prim.Native.Nat.{ℕ}
+use lib.Dec.{ltb}
+use lib.ListN.{replicate}
+use Rattle.station.specs.declared.Station.{Station}
+use Rattle.station.specs.declared.Outcome.{Outcome}
+use Rattle.station.specs.declared.Turn.{Turn}
+
+-- the turn of an outcome
+abbrev pub turnOf : Outcome → Turn
+turnOf o = record { answer = o .answer; bits = o .station .bits; count = o .station .count; answered = o .station .answered; next = o .station .next; apart = o .station .apart }
+
+-- the set after a call: where instructions came, the new one; where the last was answered, none; else the one that was held
+unfoldable pub keptSet : List ℕ → ℕ → ℕ → List ℕ → List ℕ
+keptSet held before after fresh = cond (ltb before after) fresh (cond (ltb after before) (replicate 40 0) held)
+
+-- the outcome of a turn, with the set that would be new
+abbrev pub afterTurn : Station → Turn → List ℕ → Outcome
+afterTurn s t fresh =
+    record {
+      station = record {
+        bits = t .bits;
+        count = t .count;
+        answered = t .answered;
+        set = keptSet (s .set) (s .count) (t .count) fresh;
+        next = t .next;
+        apart = t .apart;
+      };
+      answer = t .answer;
+    }

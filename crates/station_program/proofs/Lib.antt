@@ -1,0 +1,3 @@
+mod Turning
+mod Adding
+mod OpeningStands

@@ -1,0 +1,279 @@
+// The journal that a session keeps: the whole messages of each read are appended to it, and waited for until they are on the disk, before
+// any of them is answered; so is what ends a session. What a journal is stands in the crate journal_file; no contract can say what a file
+// holds.
+ghost use mathlib.Core.Path.{_≡_};
+ghost use mathlib.Core.Bool.{true, false};
+ghost use Prim.Native.Nat.{_≤_};
+ghost use lib.ListN.{length};
+ghost use Rattle.checksum.specs.Slices.{slices};
+ghost use Rattle.station.specs.Station.{startOf};
+ghost use Rattle.journal.specs.Journal.{Follows};
+ghost use Rattle.journal_file.specs.Appends.{mostCarried};
+ghost use Rattle.journal_file.specs.Replaying.{FileJournaled};
+ghost use Rattle.libc.specs.Io.{Ended};
+ghost use Rattle.station_program.specs.Keeping.{filePlace, JournalMakes, JournalKept, KeptIfSafe, EndKind, Adds, Noted};
+use station::Station;
+
+// The station, and the journal that makes it: whether one is kept, its descriptor, under which name the system has the file, how many bytes
+// it has, the checksum of its last append, whether that is the mark of a session's end, and whether its bytes are safe, which is to say all
+// on the disk and nothing else with them. Where none is kept nothing is asked of a disk.
+pub struct Journal {
+    pub station: Station,
+    pub sum: u32,
+    pub length: usize,
+    pub kept: bool,
+    pub fd: i32,
+    pub called: u32,
+    pub ended: bool,
+    pub safe: bool,
+}
+
+// No journal is kept: the station is the start's.
+pub fn unkept() -> Journal
+    ensures { λ j. ⌜ (j .station ≡ startOf) × (j .kept ≡ false) ⌝ }
+{
+    let station = Station::start();
+    Journal {
+        station,
+        sum: 0,
+        length: 0,
+        kept: false,
+        fd: 0,
+        called: 0,
+        ended: false,
+        safe: true,
+    }
+}
+
+// There is no journal that could be gone on with: why not was told.
+pub fn lost() -> Journal
+    ensures { λ j. ⌜ j .safe ≡ false ⌝ }
+{
+    let mut j = unkept();
+    j.safe = false;
+    j
+}
+
+// A number of bytes as a place in a file; no file goes further than 2^63.
+pub fn place(n: usize) -> i64
+    ensures { λ r. ⌜ r ≡ filePlace n ⌝ }
+{
+    if n < 9223372036854775808 {
+        return n as i64;
+    }
+    -1
+}
+
+// Whether the file is so long; where it isn't, that is told.
+pub fn has_length(fd: i32, n: usize) -> bool {
+    let end = libc::lseek(fd, 0, libc::SEEK_END);
+    if end < 0 {
+        os::fail(b"station: the journal's length can't be told");
+        return false;
+    }
+    if end != place(n) {
+        io::write_all(
+            libc::STDERR_FILENO,
+            b"station: the journal has another length than it should: is another station running on it?\n",
+        );
+        return false;
+    }
+    true
+}
+
+// The digits of a number below 10,000, and zeros behind them.
+fn digits_of(n: usize) -> [u8; 4] {
+    if n < 10 {
+        return [(48 + n) as u8, 0, 0, 0];
+    }
+    if n < 100 {
+        return [(48 + n / 10) as u8, (48 + n % 10) as u8, 0, 0];
+    }
+    if n < 1000 {
+        return [
+            (48 + n / 100) as u8,
+            (48 + n / 10 % 10) as u8,
+            (48 + n % 10) as u8,
+            0,
+        ];
+    }
+    [
+        (48 + n / 1000 % 10) as u8,
+        (48 + n / 100 % 10) as u8,
+        (48 + n / 10 % 10) as u8,
+        (48 + n % 10) as u8,
+    ]
+}
+
+// A descriptor as a number of more bits.
+fn widened(fd: i32) -> isize {
+    fd as isize
+}
+
+// The path by which the system tells what a descriptor's file is called.
+fn link_of(fd: i32) -> [u8; 4096]
+    ensures { λ r. ⌜ Ended r ⌝ }
+{
+    let mut path = [0u8; 4096];
+    let d = digits_of(io::count(widened(fd), &path));
+    path[0] = b'/';
+    path[1] = b'p';
+    path[2] = b'r';
+    path[3] = b'o';
+    path[4] = b'c';
+    path[5] = b'/';
+    path[6] = b's';
+    path[7] = b'e';
+    path[8] = b'l';
+    path[9] = b'f';
+    path[10] = b'/';
+    path[11] = b'f';
+    path[12] = b'd';
+    path[13] = b'/';
+    path[14] = d[0];
+    path[15] = d[1];
+    path[16] = d[2];
+    path[17] = d[3];
+    path[4095] = 0;
+    path
+}
+
+// What the system calls a descriptor's file, as a checksum: another one once the file was renamed, replaced or removed.
+pub fn called_now(fd: i32) -> u32 {
+    let path = link_of(fd);
+    let mut text = io::buffer();
+    let got = libc::readlink(&path, &mut text);
+    let n = io::count(got, &text);
+    checksum::continue_over(0, &text[..n])
+}
+
+// Whether the file still has the name that it was opened under; where it hasn't, that is told.
+fn still_called(fd: i32, called: u32) -> bool {
+    if called_now(fd) != called {
+        io::write_all(
+            libc::STDERR_FILENO,
+            b"station: the journal was renamed, replaced or removed\n",
+        );
+        return false;
+    }
+    true
+}
+
+// Writes bytes to the journal's end.
+pub fn write(fd: i32, bytes: &[u8]) -> bool {
+    streams::send(
+        fd,
+        bytes,
+        bytes.len(),
+        b"station: the journal can't be written",
+    )
+}
+
+// Writes an append in its three parts.
+fn write_append(fd: i32, opening: &[u8], bytes: &[u8], closing: &[u8]) -> bool {
+    if !write(fd, opening) {
+        return false;
+    }
+    if !write(fd, bytes) {
+        return false;
+    }
+    write(fd, closing)
+}
+
+// Whether what was written is at the end of a file that is so long now, alone, on the disk and under its name; where it isn't, that is
+// told. Name and length are looked at after the write: of two stations that append at once, neither answers, or only the one whose bytes
+// come first.
+fn is_there(fd: i32, called: u32, after: usize) -> bool {
+    if libc::fdatasync(fd) != 0 {
+        os::fail(b"station: the journal can't be synced");
+        return false;
+    }
+    if !still_called(fd, called) {
+        return false;
+    }
+    has_length(fd, after)
+}
+
+// Puts an append of this kind behind the journal, whose last one has the checksum `was`; it has this station then.
+fn add(
+    t: &[u32],
+    j: Journal,
+    was: u32,
+    kind: u8,
+    bytes: &[u8],
+    next: Station,
+    ended: bool,
+) -> Journal
+    requires { ⌜ (now t ≡ slices) × FileJournaled (record { station = j .station; sum = was; closed = false }) (j .length) × Adds (j .station) kind (now bytes) next ⌝ }
+    ensures { λ r. ⌜ (r .safe ≡ true → (r .station ≡ next) × (r .ended ≡ ended) × JournalMakes r) ⌝ }
+{
+    let opening = journal_file::opening(t, was, kind, bytes.len());
+    let sum = journal_file::sum_after(t, was, kind, bytes);
+    let closing = journal_file::closing(sum);
+    let length = std::num::wrapping_add_usize(
+        j.length,
+        std::num::wrapping_add_usize(bytes.len(), 13),
+    );
+    if !has_length(j.fd, j.length) {
+        return lost();
+    }
+    if !write_append(j.fd, &opening, bytes, &closing) {
+        return lost();
+    }
+    if !is_there(j.fd, j.called, length) {
+        return lost();
+    }
+    Journal {
+        station: next,
+        sum,
+        length,
+        kept: true,
+        fd: j.fd,
+        called: j.called,
+        ended,
+        safe: true,
+    }
+}
+
+// Appends the messages that take the journal's station to the next.
+pub fn append(t: &[u32], j: Journal, next: Station, bytes: &[u8]) -> Journal
+    requires { ⌜ (now t ≡ slices) × JournalKept j × Follows (j .station) (now bytes) next × (length (now bytes) ≤ mostCarried) ⌝ }
+    ensures { λ r. ⌜ (r .safe ≡ true → (r .station ≡ next) × JournalMakes r) ⌝ }
+{
+    if j.kept & (0 < bytes.len()) {
+        return add(t, j, j.sum, 1, bytes, next, false);
+    }
+    Journal {
+        station: next,
+        sum: j.sum,
+        length: j.length,
+        kept: j.kept,
+        fd: j.fd,
+        called: j.called,
+        ended: j.ended,
+        safe: j.safe,
+    }
+}
+
+// How many bytes of those that were left a mark carries.
+fn carried(n: usize) -> usize
+    ensures { λ r. ⌜ (r ≤ n) × (r ≤ 44) ⌝ }
+{
+    if n < 44 { n } else { 44 }
+}
+
+// Notes what ended the session, with what was left of the input.
+pub fn note(t: &[u32], j: Journal, kind: u8, left: &[u8]) -> Journal
+    requires { ⌜ (now t ≡ slices) × KeptIfSafe j × EndKind kind ⌝ }
+    ensures { λ r. ⌜ (r .safe ≡ true → (r .station ≡ j .station) × (j .safe ≡ true) × Noted true r × JournalMakes r) ⌝ }
+{
+    let station = j.station;
+    if !j.safe {
+        return lost();
+    }
+    if j.kept {
+        let n = carried(left.len());
+        return add(t, j, j.sum, kind, &left[..n], station, true);
+    }
+    j
+}

@@ -1,5 +1,0 @@
-mod Shifting
-mod Holding
-mod Turning
-pub mod Statements
-pub mod Determined
