@@ -69,7 +69,7 @@ enum { PLAN_GROUNDS = 18, PLAN_RECORD = 0, PLAN_PARTS = 8, PLAN_PLACE = 16, PLAN
 enum { PLAN_NO_INSTRUCTION = 255 };
 
 /* The bytes of stack that a call may take on x86-64, below the frame that makes it. No theorem says so: it is added up over the archive's
- * instructions for every path, which comes to 504, and measured on calls; the C library's memcpy and the like are left out. */
+ * instructions for every path, which comes to 632, and measured on calls; the C library's memcpy and the like are left out. */
 enum { PLAN_STACK_MOST = 1024 };
 
 /* What the plan of these bytes is told: PLAN_NUMBER and PLAN_SET take the answer apart. */

@@ -61,7 +61,7 @@ LiftNamed =
     → (groundsOf s .parts ≡ 2 ^ raisedCar) × (holds underWay (bit (groundsOf s .bits)) ≡ true)
     × (liftIn (setOf (setOfPlan (planIn s) k .bytes)) (setOfPlan (planIn s) k .count) ≡ true)
 
--- with another number no earlier instruction and no part is named
+-- with another number than 8 no earlier instruction is named, and with neither 8 nor 31 a part
 abbrev pub NoneElse : Type 0
 NoneElse =
     (s : List ℕ) (number k : ℕ) → (number ≡ 8 → ⊥) → RefusedAt s number k

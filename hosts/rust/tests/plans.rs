@@ -68,7 +68,12 @@ fn a_refusal_is_what_the_station_says_there() {
     let mut told = Vec::new();
     for last in [
         &["belts row 2 middle lower full", "belts row 1 left lift lower full", "lift street"][..],
-        &["belts row 2 middle lower full", "belts row 1 left lower full", "belts row 1 left lift lower full", "belts row 1 lift higher full"],
+        &[
+            "belts row 2 middle lower full",
+            "belts row 1 left lower full",
+            "belts row 1 left lift lower full",
+            "belts row 1 lift higher full",
+        ],
         &["rotate"],
         &["belts row 2 middle lower full", "lift basement"],
         &["belts row 1 left right lower full"],

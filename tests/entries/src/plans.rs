@@ -7,10 +7,11 @@
 mod examples;
 
 use examples::{examples, ways, WAYS};
-use reference::plan::{explain, judge, Grounds, Plan, Verdict, NO_SET};
+use reference::plan::{explain, judge, Grounds, Plan, Verdict, NO_SET, UNSOUND, WISH_NOT_MET};
 use reference::{NO_PLACE, START};
 use shared::pipes;
 use shared::plan_traffic::any_plan;
+use shared::texts::words;
 use shared::traffic::Numbers;
 use station::raw::plan as raw;
 use std::collections::{BTreeMap, BTreeSet};
@@ -83,6 +84,31 @@ fn line(Verdict { number, set }: Verdict) -> String {
     }
 }
 
+/// Whether the lines below the program's are those of the grounds: where no set is at fault, the last record or none; else the instruction, the
+/// first earlier one that it overlaps, and the record before that set.
+fn told_why(grounds: &Grounds, plan: &[u8], below: &str) -> bool {
+    let Grounds { verdict: Verdict { number, set }, place, earlier, record, .. } = *grounds;
+    let image = record.to_le_bytes().map(|byte| format!("{byte:02X}")).join(" ");
+    match number {
+        0 | WISH_NOT_MET => return below.starts_with(&format!("at the end: image {image}\n")),
+        UNSOUND => return below.contains("  to do: mend the image"),
+        _ if set == NO_SET => return below == "no set was tried\n",
+        _ => {}
+    }
+    let bare = |words: &str| words.replace(',', "").split_whitespace().map(str::to_string).collect::<Vec<_>>();
+    let fives = Plan::read(plan).expect("a plan").sets[usize::from(set)].1;
+    let instruction = match fives.chunks_exact(5).nth(usize::from(place)).filter(|_| place != NO_PLACE) {
+        Some(five) => words(*five.first_chunk().expect("five")).map(|words| bare(&format!("instruction {place}: {words}"))),
+        None => None,
+    };
+    let first = below.lines().next().unwrap_or_default();
+    let overlapped = below.lines().find_map(|line| line.strip_prefix("  it overlaps ")?.split(':').next());
+    first.starts_with("instruction ") == (place != NO_PLACE)
+        && instruction.is_none_or(|words| words == bare(first))
+        && overlapped == (earlier != NO_PLACE).then_some(&*earlier.to_string())
+        && below.contains(&format!("\nbefore set {set}: image {image}\n"))
+}
+
 /// What came so far, and where something was wrong.
 #[derive(Default)]
 struct Run {
@@ -153,28 +179,12 @@ impl Run {
 
     /// The program with `--why`: its line, then of a refused set the instruction and the first earlier one that it overlaps; then the record.
     fn by_why(&mut self, program: &str, name: &str, plan: &[u8], seed: u64) {
-        let Grounds { verdict, place, earlier, record, .. } = explain(plan);
+        let grounds = explain(plan);
         let got = pipes::answers(&format!("{program} --why"), plan, seed);
         let wrote = String::from_utf8_lossy(&got);
-        let below = wrote.strip_prefix(&line(verdict)).unwrap_or("another line\n");
-        let overlapped = below.lines().find_map(|line| line.strip_prefix("  it overlaps "));
-        let image = record.to_le_bytes().map(|byte| format!("{byte:02X}")).join(" ");
-        let set = Plan::read(plan).ok().and_then(|plan| plan.sets.get(usize::from(verdict.set)).map(|set| set.1.to_vec()));
-        let first = match (verdict.number, verdict.set) {
-            (0 | 36, _) => format!("at the end: image {image}"),
-            (15, _) => "  to do: mend the image".to_string(),
-            (_, NO_SET) => "no set was tried".to_string(),
-            _ if place == NO_PLACE => String::new(),
-            _ => format!("instruction {place}: "),
-        };
-        let words = set.filter(|_| place != NO_PLACE).and_then(|set| shared::texts::words(*set[5 * usize::from(place)..].first_chunk()?));
-        let right = (verdict.number == 15 || below.starts_with(&first))
-            && (verdict.number != 15 || below.contains(&first))
-            && words.is_none_or(|words| below.lines().next() == Some(&format!("{first}{words}")))
-            && overlapped.map(|told| told.split(':').next()) == (earlier != NO_PLACE).then_some(Some(&earlier.to_string()))
-            && (verdict.set == NO_SET || below.contains(&format!("\nbefore set {}: image {image}\n", verdict.set)));
+        let right = wrote.strip_prefix(&line(grounds.verdict)).is_some_and(|below| told_why(&grounds, plan, below));
         if !right {
-            self.fault(name, plan, &format!("with --why it wrote {wrote:?}"), verdict);
+            self.fault(name, plan, &format!("with --why it wrote {wrote:?}"), grounds.verdict);
         }
     }
 
