@@ -30,6 +30,7 @@ export const ENTRIES = {
   desk_where: { room: BYTES, card: U32 },
   desk_leaving: { room: BYTES, card: ROOM },
   plan_judge: { plan: BYTES },
+  plan_explain: { plan: BYTES, room: ROOM },
   drawing_write: { image: U64, text: ROOM },
   drawing_read: { text: BYTES, room: ROOM },
   plain_request: { room: ROOM, count: U8, set: BYTES },

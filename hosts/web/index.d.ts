@@ -42,6 +42,7 @@ export interface RawEntries {
   desk_where(room: Address, room_length: bigint, card: number): number;
   desk_leaving(room: Address, room_length: bigint, card: Address, card_length: bigint): number;
   plan_judge(plan: Address, plan_length: bigint): number;
+  plan_explain(plan: Address, plan_length: bigint, room: Address, room_length: bigint): number;
   drawing_write(image: bigint, text: Address, text_length: bigint): number;
   drawing_read(text: Address, text_length: bigint, room: Address, room_length: bigint): number;
   plain_request(room: Address, room_length: bigint, count: number, set: Address, set_length: bigint): number;
@@ -85,7 +86,18 @@ export class Library {
   drawing(record: bigint): { answer: Answer; text: string };
   drawn(text: string): { answer: Answer; record: bigint | null };
   judge(plan: Uint8Array): Answer;
+  explain(plan: Uint8Array): Grounds;
   bytes(record: bigint): Uint8Array;
+}
+
+/** On what grounds a plan is judged: in the set at fault the instruction's place and the first earlier one that it overlaps, the parts that
+ * both have, and the record before that set, or the last one, or none where no set was tried. */
+export interface Grounds {
+  answer: Answer;
+  place: number | null;
+  earlier: number | null;
+  parts: bigint;
+  record: bigint | null;
 }
 
 /** A condition of an instruction: whether it holds, what is told where it is the first to fail, and the parts that decide it. */

@@ -113,6 +113,14 @@ export class Library {
     return Answer.of(this.entries.call('plan_judge', plan) & 0xffff);
   }
 
+  /** The same, and on what grounds: the instruction at fault and the first earlier one that it overlaps, the parts of both, the record. */
+  explain(plan) {
+    const room = new Uint8Array(Size.PLAN_GROUNDS), answer = Answer.of(this.entries.call('plan_explain', plan, room) & 0xffff);
+    const at = (byte) => (byte === Size.PLAN_NO_INSTRUCTION ? null : byte);
+    const [place, earlier] = [at(room[Size.PLAN_PLACE]), at(room[Size.PLAN_EARLIER])];
+    return { answer, place, earlier, parts: numberAt(room, Size.PLAN_PARTS), record: numberAt(room) || null };
+  }
+
   /** The eight bytes of a record. */
   bytes(record) {
     return bytesOf(record);

@@ -1,4 +1,4 @@
--- The judgement of a plan, case by case. Assumes nothing.
+-- The grounds of a plan, case by case. Assumes nothing.
 use mathlib.Core.Path.{_≡_}
 use mathlib.Core.List.{List}
 use Prim.Native.Nat.{ℕ, _≤_, _<_}
@@ -10,7 +10,7 @@ use Rattle.answers.specs.Answers.{numberOf}
 use Rattle.station.specs.declared.Station.{Station}
 use Rattle.station.specs.Station.{startOf}
 use Rattle.station.specs.Calls.{imaged}
-use Rattle.plan.specs.Plans.{Plan, planSize, planIn, plainly, mostSets, tried, imagedAt, weighed, judgement}
+use Rattle.plan.specs.Plans.{Plan, planSize, planIn, wholly, mostSets, tried, imagedAt, weighed, groundsOf}
 
 -- ---- a plan
 
@@ -20,11 +20,11 @@ pub imaged-so : (s : List ℕ) {t : Station} {b a : ℕ} → t ≡ startOf → b
 imaged-so s e f g = rw (e, f, g)
 
 module _ (p : Plan) (number : ℕ) (e : number ≡ numberOf (imagedAt p .answer)) where
-  pub image-refused : (number ≡ 0 → ⊥) → plainly number ≡ weighed p
+  pub image-refused : (number ≡ 0 → ⊥) → wholly number 0 ≡ weighed p
   unfolding weighed
   image-refused h = rw (← e, ne-eqb number 0 h)
 
-  pub too-many : number ≡ 0 → mostSets < length (p .sets) → plainly 35 ≡ weighed p
+  pub too-many : number ≡ 0 → mostSets < length (p .sets) → wholly 35 0 ≡ weighed p
   unfolding weighed
   too-many h l = rw (← e, eq-eqb number 0 h, lt-ltb mostSets (length (p .sets)) l)
 
@@ -35,18 +35,18 @@ module _ (p : Plan) (number : ℕ) (e : number ≡ numberOf (imagedAt p .answer)
 -- ---- its bytes
 
 module _ (s : List ℕ) (n : ℕ) (e : n ≡ planSize (planIn s)) where
-  pub cut-short : length s < n → plainly 1 ≡ judgement s
-  unfolding judgement
+  pub cut-short : length s < n → wholly 1 0 ≡ groundsOf s
+  unfolding groundsOf
   cut-short h = rw (← e, lt-ltb (length s) n h)
 
-  pub bad-wish : n ≤ length s → 1 < getD s 16 0 → plainly 4 ≡ judgement s
-  unfolding judgement
+  pub bad-wish : n ≤ length s → 1 < getD s 16 0 → wholly 4 0 ≡ groundsOf s
+  unfolding groundsOf
   bad-wish h w = rw (← e, le-ltb (length s) n h, lt-ltb 1 (getD s 16 0) w)
 
-  pub left-over : getD s 16 0 ≤ 1 → n < length s → plainly 4 ≡ judgement s
-  unfolding judgement
+  pub left-over : getD s 16 0 ≤ 1 → n < length s → wholly 4 0 ≡ groundsOf s
+  unfolding groundsOf
   left-over w h = rw (← e, le-ltb (length s) n (omega arith), le-ltb 1 (getD s 16 0) w, lt-ltb n (length s) h)
 
-  pub as-weighed : getD s 16 0 ≤ 1 → n ≡ length s → weighed (planIn s) ≡ judgement s
-  unfolding judgement
+  pub as-weighed : getD s 16 0 ≤ 1 → n ≡ length s → weighed (planIn s) ≡ groundsOf s
+  unfolding groundsOf
   as-weighed w h = rw (← e, le-ltb (length s) n (omega arith), le-ltb 1 (getD s 16 0) w, le-ltb n (length s) (omega arith))

@@ -1,5 +1,5 @@
 -- A plan walked set by set: what the loops keep, where they start, one turn, and what they say at the end. Assumes nothing.
-use mathlib.Core.Path.{_≡_, refl, sym, ap, _∙_}
+use mathlib.Core.Path.{_≡_, refl, sym, ap, ap₂, _∙_}
 use mathlib.Core.Bool.{Bool, cond}
 use mathlib.Core.List.{List, [], _∷_, _++_, append-nil}
 use Prim.Native.Nat.{ℕ, zero, suc, _+_, _*_, _-_, _≤_, _<_}
@@ -18,7 +18,8 @@ use Rattle.wire.specs.Kinds.{setOf}
 use Rattle.station.specs.declared.Station.{Station}
 use Rattle.station.specs.declared.Outcome.{Outcome}
 use Rattle.station.specs.Calls.{requested}
-use Rattle.plan.specs.Plans.{PlanSet, sizes, head, planSize, setsIn, planIn, plainly, wished, setAsked, afterSuccess, succeeded, tried}
+use Rattle.plan.specs.declared.Grounds.{Grounds}
+use Rattle.plan.specs.Plans.{PlanSet, sizes, head, planSize, setsIn, planIn, wholly, refusedSet, wished, setAsked, afterSuccess, succeeded, tried}
 
 -- ---- bytes
 
@@ -118,9 +119,14 @@ module _ (s : List ℕ) (wish n : ℕ) (first : Station) where
       here : tried wish 0 first (planIn s .sets) ≡ tried wish k t (setAt at count ∷ setsIn (n - (k + 1)) (drop (at + 1 + 5 * count) s))
       here = I .same ∙ ap (tried wish k t) (next-set s n k at count h e)
 
-      pub trying-refused : (number ≡ 0 → ⊥) → record { number = number; set = k } ≡ tried wish 0 first (planIn s .sets)
+      pub trying-refused : {held : List ℕ} {g : Grounds} → (number ≡ 0 → ⊥) → held ≡ setOf (take (at + 1 + 5 * count - (at + 1)) (drop (at + 1) s))
+          → g ≡ refusedSet k (t .bits) held (o .answer) → g ≡ tried wish 0 first (planIn s .sets)
       unfolding tried
-      trying-refused x = sym (here ∙ rw (← number-so, ne-eqb number 0 x))
+      trying-refused x d g =
+          let z : at + 1 + 5 * count - (at + 1) ≡ 5 * count = omega arith in
+          let e : _ ≡ setOf (setAt at count .bytes) = d ∙ rw z in
+          g ∙ ap₂ (λ (b : List ℕ) (y : Outcome). refusedSet k (t .bits) b (y .answer)) e asked-so
+          ∙ sym (here ∙ rw (← number-so, ne-eqb number 0 x))
 
       pub trying-turn : {u : Station} → number ≡ 0 → u ≡ succeeded count (o .station) → Trying u (at + 1 + 5 * count) (k + 1)
       unfolding tried
@@ -133,7 +139,7 @@ module _ (s : List ℕ) (wish n : ℕ) (first : Station) where
           }
 
   pub trying-end : {t : Station} {at k : ℕ} → Trying t at k → n ≤ k
-      → plainly (cond (holds (wished wish) (bit (t .bits))) 0 36) ≡ tried wish 0 first (planIn s .sets)
+      → wholly (cond (holds (wished wish) (bit (t .bits))) 0 36) (t .bits) ≡ tried wish 0 first (planIn s .sets)
   unfolding tried
   trying-end {t} {at} {k} I h = let z : n - k ≡ 0 = omega arith in sym (I .same ∙ rw z)
 

@@ -1,21 +1,27 @@
 -- Document 02's plans: a starting image, sets of instructions one after the other, and a wish of the last record. What the bytes of a plan
--- say, and how it is judged: by the station's own calls, from its start. Assumes nothing.
-use mathlib.Core.Bool.{cond}
+-- say, how it is judged and on what grounds: by the station's own calls, from its start. Assumes nothing.
+use mathlib.Core.Bool.{Bool, cond}
 use mathlib.Core.List.{List, [], _∷_}
-use Prim.Native.Nat.{ℕ, zero, suc, _+_, _*_}
+use Prim.Native.Nat.{ℕ, zero, suc, _+_, _*_, _^_}
+use lib.Bits.{bitAnd}
 use lib.Dec.{eqb, ltb}
 use lib.ListN.{length, getD, take, drop}
 use Rattle.bits.specs.Bits.{bit}
+use Rattle.bits.specs.Places.{share}
+use Rattle.bits.specs.Search.{least}
 use Rattle.floor.specs.Floor.{raisedCar, street}
 use Rattle.floor.specs.Tests.{Test, set, free, both, holds, heightIs}
 use Rattle.codec.specs.Bytes.{fromLittleEndian}
-use Rattle.answers.specs.Answers.{numberOf}
+use Rattle.answers.specs.declared.Answer.{Answer}
+use Rattle.answers.specs.Answers.{numberOf, placeOf, nowhere}
 use Rattle.wire.specs.Kinds.{setOf}
 use Rattle.station.specs.declared.Station.{Station}
 use Rattle.station.specs.declared.Outcome.{Outcome}
+use Rattle.station.specs.Held.{codeAt, heldArea, heldParts}
 use Rattle.station.specs.Station.{startOf, presentIssue}
 use Rattle.station.specs.Calls.{requested, resulted, imaged}
 use Rattle.plan.specs.declared.Judged.{Judged}
+use Rattle.plan.specs.declared.Grounds.{Grounds}
 
 -- ---- a plan, and its bytes
 
@@ -66,11 +72,40 @@ planIn s =
       sets = setsIn (getD s 17 0) (drop head s);
     }
 
--- ---- its judgement
+-- ---- its judgement, and the grounds of it
 
 -- a number, and no set
 abbrev pub plainly : ℕ → Judged
 plainly number = record { number = number; set = 255 }
+
+-- a whole plan's grounds: a number and a record; no set, no instruction, no part
+abbrev pub wholly : ℕ → ℕ → Grounds
+wholly number bits = record { number = number; set = 255; place = nowhere; earlier = nowhere; parts = 0; bits = bits }
+
+-- instruction i of a set overlaps instruction j; the first before i that it overlaps, i where there is none; the parts that both take
+abbrev pub overlapsThat : List ℕ → ℕ → ℕ → Bool
+overlapsThat held i j = share (heldArea (codeAt held i)) (heldArea (codeAt held j))
+
+abbrev pub firstOverlapped : List ℕ → ℕ → ℕ
+firstOverlapped held i = least i (overlapsThat held i)
+
+abbrev pub sharedParts : List ℕ → ℕ → ℕ → ℕ
+sharedParts held i j = bitAnd (heldParts (codeAt held i)) (heldParts (codeAt held j))
+
+-- set k is refused so on a record: its instruction's place; of an overlap the first earlier one, and the parts that both take; of an
+-- instruction out of turn the lift
+unfoldable pub refusedSet : ℕ → ℕ → List ℕ → Answer → Grounds
+refusedSet k bits held a =
+    let overlapping = eqb (numberOf a) 8 in
+    let earlier = firstOverlapped held (placeOf a) in
+    record {
+      number = numberOf a;
+      set = k;
+      place = placeOf a;
+      earlier = cond overlapping earlier nowhere;
+      parts = cond overlapping (sharedParts held (placeOf a) earlier) (cond (eqb (numberOf a) 31) (2 ^ raisedCar) 0);
+      bits = bits;
+    }
 
 -- what is wished of the last record: the lift is at street, 0 without a car, 1 with one
 abbrev pub wished : ℕ → Test
@@ -92,32 +127,40 @@ unfoldable pub succeeded : ℕ → Station → Station
 succeeded zero s = s
 succeeded (suc n) s = afterSuccess (succeeded n s) n
 
--- the sets from number k on, on the station that those before it left: the first that is refused, with its own number; else the wish
-unfoldable pub tried : ℕ → ℕ → Station → List PlanSet → Judged
-tried wish k s [] = plainly (cond (holds (wished wish) (bit (s .bits))) 0 36)
+-- the sets from number k on, on the station that those before it left: the first that is refused, on the record before it; else the wish, on
+-- the last record
+unfoldable pub tried : ℕ → ℕ → Station → List PlanSet → Grounds
+tried wish k s [] = wholly (cond (holds (wished wish) (bit (s .bits))) 0 36) (s .bits)
 tried wish k s (x ∷ xs) =
     let o = setAsked s x in
-    let number = numberOf (o .answer) in
-    cond (eqb number 0) (tried wish (suc k) (succeeded (x .count) (o .station)) xs) (record { number = number; set = k })
+    cond (eqb (numberOf (o .answer)) 0) (tried wish (suc k) (succeeded (x .count) (o .station)) xs)
+    (refusedSet k (s .bits) (setOf (x .bytes)) (o .answer))
 
 -- the image on the start station
 abbrev pub imagedAt : Plan → Outcome
 imagedAt p = imaged startOf (record { bits = p .bits; apart = p .apart })
 
--- a plan: 15 by its image, 35 for more than 64 sets, then its sets and its wish
-unfoldable pub weighed : Plan → Judged
+-- a plan: 15 by its image, 35 for more than 64 sets, then its sets and its wish; where no set is tried there is no record
+unfoldable pub weighed : Plan → Grounds
 weighed p =
     let o = imagedAt p in
     let number = numberOf (o .answer) in
     cond (eqb number 0)
-    (cond (ltb mostSets (length (p .sets))) (plainly 35) (tried (p .wish) 0 (o .station) (p .sets)))
-    (plainly number)
+    (cond (ltb mostSets (length (p .sets))) (wholly 35 0) (tried (p .wish) 0 (o .station) (p .sets)))
+    (wholly number 0)
 
 -- the bytes of a plan: 1 where they are cut short, 4 for a wish that is neither or for bytes left over, then the plan
-unfoldable pub judgement : List ℕ → Judged
-judgement s =
+unfoldable pub groundsOf : List ℕ → Grounds
+groundsOf s =
     let p = planIn s in
-    cond (ltb (length s) (planSize p)) (plainly 1)
-    (cond (ltb 1 (p .wish)) (plainly 4)
-    (cond (ltb (planSize p) (length s)) (plainly 4)
+    cond (ltb (length s) (planSize p)) (wholly 1 0)
+    (cond (ltb 1 (p .wish)) (wholly 4 0)
+    (cond (ltb (planSize p) (length s)) (wholly 4 0)
     (weighed p)))
+
+-- the judgement is their number, and their set
+abbrev pub judgedBy : Grounds → Judged
+judgedBy g = record { number = g .number; set = g .set }
+
+unfoldable pub judgement : List ℕ → Judged
+judgement s = judgedBy (groundsOf s)

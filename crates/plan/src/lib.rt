@@ -1,5 +1,5 @@
-// Plans tried before the day: a starting image and sets of instructions as bytes, judged by the station's own calls. What the bytes say and
-// what the judgement is stands in specs/Plans.antt.
+// Plans tried before the day: a starting image and sets of instructions as bytes, judged by the station's own calls. What the bytes say, what
+// the judgement is and on what grounds stands in specs/Plans.antt.
 ghost use mathlib.Core.Path.{_≡_};
 ghost use mathlib.Core.Bool.{cond};
 ghost use Prim.Native.Nat.{_*_};
@@ -8,7 +8,8 @@ ghost use Rattle.bits.specs.Bits.{bit};
 ghost use Rattle.floor.specs.Tests.{holds};
 ghost use Rattle.station.specs.Calls.{requested};
 ghost use Rattle.wire.specs.Kinds.{setOf};
-ghost use Rattle.plan.specs.Plans.{planSize, planIn, plainly, wished, afterSuccess, succeeded, tried, imagedAt, weighed, judgement};
+ghost use Rattle.plan.specs.Plans.{planSize, planIn, wholly, wished, afterSuccess, succeeded, tried, imagedAt, weighed, groundsOf, judgement};
+use answers::NOWHERE;
 use floor::masks::HEIGHT_HIGH;
 use floor::masks::HEIGHT_LOW;
 use floor::masks::RAISED_CAR;
@@ -18,10 +19,24 @@ use station::Report;
 use station::Station;
 use std::num::wrapping_sub_u16;
 
+mod sets;
+
 // The judgement of a plan: 0 accepted, or why not; and the first set refused, from 0, or 255.
 pub struct Judged {
     pub number: u8,
     pub set: u8,
+}
+
+// The same, and on what grounds: the place of the instruction at fault, and the earlier one that it overlaps, each from 0 or 255; the parts
+// that both take, or the lift where it is out of turn, as what is set apart has them; and the record before that set, or the last one, or 0
+// where no set was tried.
+pub struct Grounds {
+    pub number: u8,
+    pub set: u8,
+    pub place: u8,
+    pub earlier: u8,
+    pub parts: u64,
+    pub bits: u64,
 }
 
 // The set that is told where none is refused.
@@ -48,12 +63,17 @@ const SETS: usize = 17;
 
 const HEAD: usize = 18;
 
-fn plainly(number: u8) -> Judged
-    ensures { λ j. ⌜ j ≡ plainly number ⌝ }
+// A number, and the record where there is one.
+fn wholly(number: u8, bits: u64) -> Grounds
+    ensures { λ g. ⌜ g ≡ wholly number bits ⌝ }
 {
-    Judged {
+    Grounds {
         number,
         set: NO_SET,
+        place: NOWHERE,
+        earlier: NOWHERE,
+        parts: 0,
+        bits,
     }
 }
 
@@ -121,19 +141,19 @@ fn meets(wish: u8, r: u64) -> bool
 }
 
 // The end of a plan, whose sets are all taken.
-fn ended(wish: u8, r: u64) -> Judged
-    ensures { λ j. ⌜ j ≡ plainly (cond (holds (wished wish) (bit r)) 0 36) ⌝ }
+fn ended(wish: u8, r: u64) -> Grounds
+    ensures { λ g. ⌜ g ≡ wholly (cond (holds (wished wish) (bit r)) 0 36) r ⌝ }
 {
     if meets(wish, r) {
-        return plainly(0);
+        return wholly(0, r);
     }
-    plainly(WISH_NOT_MET)
+    wholly(WISH_NOT_MET, r)
 }
 
 // The sets of a plan, one after the other, on the station that its image left; then the wish.
-fn tried(s: Station, plan: &[u8]) -> Judged
+fn tried(s: Station, plan: &[u8]) -> Grounds
     requires { ⌜ length (now plan) ≡ planSize (planIn (now plan)) ⌝ }
-    ensures { λ j. ⌜ j ≡ tried (planIn (now (plan .entry)) .wish) 0 s (planIn (now (plan .entry)) .sets) ⌝ }
+    ensures { λ g. ⌜ g ≡ tried (planIn (now (plan .entry)) .wish) 0 s (planIn (now (plan .entry)) .sets) ⌝ }
 {
     let n = wire::byte(plan, SETS);
     let mut s = s;
@@ -147,7 +167,7 @@ fn tried(s: Station, plan: &[u8]) -> Judged
         let answer = o.answer;
         let number = answer.number();
         if number != 0 {
-            return Judged { number, set: k };
+            return sets::refused(k, s.bits, wire::set_of(&plan[from..to]), answer);
         }
         let opened = o.station;
         s = succeeded(opened, count);
@@ -173,36 +193,47 @@ fn imaged(plan: &[u8]) -> Outcome
 }
 
 // A plan that is whole: its image, how many sets it has, then the sets and the wish.
-fn weighed(plan: &[u8]) -> Judged
+fn weighed(plan: &[u8]) -> Grounds
     requires { ⌜ length (now plan) ≡ planSize (planIn (now plan)) ⌝ }
-    ensures { λ j. ⌜ j ≡ weighed (planIn (now (plan .entry))) ⌝ }
+    ensures { λ g. ⌜ g ≡ weighed (planIn (now (plan .entry))) ⌝ }
 {
     let o = imaged(plan);
     let answer = o.answer;
     let number = answer.number();
     if number != 0 {
-        return plainly(number);
+        return wholly(number, 0);
     }
     if SETS_MOST < wire::byte(plan, SETS) {
-        return plainly(TOO_MANY_SETS);
+        return wholly(TOO_MANY_SETS, 0);
     }
     let s = o.station;
     tried(s, plan)
+}
+
+// The grounds on which a plan's bytes are judged.
+pub fn explain(plan: &[u8]) -> Grounds
+    ensures { λ g. ⌜ g ≡ groundsOf (now (plan .entry)) ⌝ }
+{
+    let n = size(plan);
+    if plan.len() < n {
+        return wholly(CUT_SHORT, 0);
+    }
+    if 1 < wire::byte(plan, WISH) {
+        return wholly(NOT_A_PLAN, 0);
+    }
+    if n < plan.len() {
+        return wholly(NOT_A_PLAN, 0);
+    }
+    weighed(plan)
 }
 
 // The judgement of a plan's bytes.
 pub fn judge(plan: &[u8]) -> Judged
     ensures { λ j. ⌜ j ≡ judgement (now (plan .entry)) ⌝ }
 {
-    let n = size(plan);
-    if plan.len() < n {
-        return plainly(CUT_SHORT);
+    let g = explain(plan);
+    Judged {
+        number: g.number,
+        set: g.set,
     }
-    if 1 < wire::byte(plan, WISH) {
-        return plainly(NOT_A_PLAN);
-    }
-    if n < plan.len() {
-        return plainly(NOT_A_PLAN);
-    }
-    weighed(plan)
 }

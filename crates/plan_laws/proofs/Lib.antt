@@ -3,3 +3,4 @@ pub mod Orders
 pub mod Numbers
 pub mod Bytes
 pub mod Promises
+pub mod Reasons

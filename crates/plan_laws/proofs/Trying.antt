@@ -22,8 +22,10 @@ use Rattle.station_laws.specs.Runs.{Call, call, answerNumber, stationAfter, cal
 use Rattle.station_laws.proofs.Fits.{fit-start}
 use Rattle.station_laws.proofs.Always.{fit-kept, fit-always}
 use Rattle.station_laws.proofs.Issues.{in-turn}
-use Rattle.plan.specs.Plans.{PlanSet, Plan, plainly, wished, setAsked, afterSuccess, succeeded, tried, imagedAt}
-use Rattle.plan_laws.specs.Trials.{planImage, requestOfSet, success, successes, setOpened, afterSet, afterSets, EachTaken, started}
+use Rattle.wire.specs.Kinds.{setOf}
+use Rattle.plan.specs.declared.Grounds.{Grounds}
+use Rattle.plan.specs.Plans.{PlanSet, Plan, wholly, refusedSet, wished, setAsked, afterSuccess, succeeded, tried, imagedAt}
+use Rattle.plan_laws.specs.Trials.{planImage, requestOfSet, success, successes, setOpened, afterSet, afterSets, EachTaken, setRefused, started}
 
 -- ---- past the test of fitness
 
@@ -94,15 +96,17 @@ module _ (wish k : ℕ) (s : Station) (f : fit s ≡ true) (x : PlanSet) (xs : L
   unfolding tried
   tried-taken e = rw (number-is ∙ e) (ap (λ (t : Station). tried wish (suc k) t xs) (after-is s x f))
 
-  tried-refused : (answerNumber s (requestOfSet x) ≡ 0 → ⊥) → tried wish k s (x ∷ xs) ≡ record { number = answerNumber s (requestOfSet x); set = k }
+  tried-refused : (answerNumber s (requestOfSet x) ≡ 0 → ⊥) → tried wish k s (x ∷ xs) ≡ setRefused k s x
   unfolding tried
-  tried-refused e = rw (number-is, ne-eqb (answerNumber s (requestOfSet x)) 0 e)
+  tried-refused e =
+      rw (number-is, ne-eqb (answerNumber s (requestOfSet x)) 0 e)
+      (ap (λ (o : Outcome). refusedSet k (s .bits) (setOf (x .bytes)) (o .answer)) (asked-is s x f))
 
 -- ---- all sets
 
 -- the wish, where all are taken
 pub all-tried : (xs : List PlanSet) (wish k : ℕ) (s : Station) → fit s ≡ true → EachTaken s xs
-    → tried wish k s xs ≡ plainly (cond (holds (wished wish) (bit (afterSets s xs .bits))) 0 36)
+    → tried wish k s xs ≡ wholly (cond (holds (wished wish) (bit (afterSets s xs .bits))) 0 36) (afterSets s xs .bits)
 unfolding tried
 all-tried [] wish k s f e = refl
 all-tried (x ∷ xs) wish k s f e = tried-taken wish k s f x xs (e .0) ∙ all-tried xs wish (suc k) (afterSet s x) (fit-after s x f) (e .1)
@@ -117,8 +121,12 @@ pub record Stops (s : Station) (xs : List PlanSet) (i : ℕ) : Type 0 where
 abbrev pub toldAt : Station → List PlanSet → ℕ → ℕ
 toldAt s xs i = answerNumber (afterSets s (take i xs)) (requestOfSet (getD xs i (record { count = 0; bytes = [] })))
 
+-- and on what grounds
+abbrev pub groundsAt : Station → List PlanSet → ℕ → ℕ → Grounds
+groundsAt s xs i k = setRefused k (afterSets s (take i xs)) (getD xs i (record { count = 0; bytes = [] }))
+
 pub stop-tried : (xs : List PlanSet) (wish k i : ℕ) (s : Station) → fit s ≡ true → Stops s xs i
-    → tried wish k s xs ≡ record { number = toldAt s xs i; set = k + i }
+    → tried wish k s xs ≡ groundsAt s xs i (k + i)
 stop-tried [] wish k i s f S = absurd (let l = S .within in omega arith)
 stop-tried (x ∷ xs) wish k zero s f S =
     let z : k + 0 ≡ k = omega arith in

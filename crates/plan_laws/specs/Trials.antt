@@ -12,8 +12,9 @@ use Rattle.wire.specs.Kinds.{setOf}
 use Rattle.station.specs.declared.Station.{Station}
 use Rattle.station.specs.Station.{startOf, presentIssue}
 use Rattle.station_laws.specs.Runs as run
-use Rattle.station_laws.specs.Runs.{Call, answerNumber, stationAfter, calls}
-use Rattle.plan.specs.Plans.{PlanSet, Plan, planSize, planIn, wished}
+use Rattle.station_laws.specs.Runs.{Call, call, answerNumber, stationAfter, calls}
+use Rattle.plan.specs.declared.Grounds.{Grounds}
+use Rattle.plan.specs.Plans.{PlanSet, Plan, planSize, planIn, refusedSet, wished}
 
 -- ---- its calls
 
@@ -49,6 +50,10 @@ afterSets s (x ∷ xs) = afterSets (afterSet s x) xs
 abbrev pub EachTaken : Station → List PlanSet → Type 0
 EachTaken s [] = Unit {0}
 EachTaken s (x ∷ xs) = (answerNumber s (requestOfSet x) ≡ 0) × EachTaken (afterSet s x) xs
+
+-- set k is refused on a station: the grounds by that station's own answer to a request of it
+abbrev pub setRefused : ℕ → Station → PlanSet → Grounds
+setRefused k s x = refusedSet k (s .bits) (setOf (x .bytes)) (call s (requestOfSet x) .answer)
 
 -- the station that the image of a plan leaves; that set k meets; set k itself; the last record
 abbrev pub started : Plan → Station

@@ -8,7 +8,7 @@ from .answers import Answer, Event, Number, Outcome, Refused
 from .calls import Desk, Station, Whereabouts
 from .entries import version
 from .messages import Held
-from .plans import Plan, Verdict, judge
+from .plans import Grounds, Plan, Verdict, explain, judge
 from .parts import parts_in_words, parts_of
 from .program import Ended, Program
 from .record import RAISED, START, Condition, Record
@@ -16,7 +16,7 @@ from .report import Totals
 from .words import Instruction, belts, instruction, lift, rotate, shuttles, tilt
 
 __all__ = [
-    "Answer", "Condition", "Desk", "Ended", "Event", "Held", "Instruction", "Number", "Outcome", "Plan", "Program", "RAISED", "Record",
-    "Refused", "START", "Station", "Totals", "Verdict", "Whereabouts", "belts", "instruction", "journals", "judge", "lift", "messages",
-    "parts_in_words", "parts_of", "rotate", "shuttles", "tilt", "version",
+    "Answer", "Condition", "Desk", "Ended", "Event", "Grounds", "Held", "Instruction", "Number", "Outcome", "Plan", "Program", "RAISED",
+    "Record", "Refused", "START", "Station", "Totals", "Verdict", "Whereabouts", "belts", "explain", "instruction", "journals", "judge",
+    "lift", "messages", "parts_in_words", "parts_of", "rotate", "shuttles", "tilt", "version",
 ]

@@ -37,6 +37,7 @@ ENTRIES = {
     "desk_where": (U32, {"room": BYTES, "card": U32}),
     "desk_leaving": (U32, {"room": BYTES, "card": ROOM}),
     "plan_judge": (U32, {"plan": BYTES}),
+    "plan_explain": (U32, {"plan": BYTES, "room": ROOM}),
     "drawing_write": (U32, {"image": U64, "text": ROOM}),
     "drawing_read": (U32, {"text": BYTES, "room": ROOM}),
     "panel_condition": (U32, {"image": U64, "five": BYTES, "c": U8, "room": ROOM}),

@@ -14,7 +14,7 @@ from pathlib import Path
 from unittest import mock
 
 import station
-from station import calls, entries, messages, record, report
+from station import calls, entries, messages, plans, record, report
 from tree import HEADERS, ROOT, text
 
 TYPES = {
@@ -96,7 +96,7 @@ class Declarations(unittest.TestCase):
             "PANEL_LIFT": record.RAISED, "PANEL_CARS_SIZE": record.CARS_SIZE, "PANEL_CONDITION_SIZE": record.CONDITION_SIZE,
             "PANEL_CONDITIONS_MOST": record.CONDITIONS_MOST, "DRAWING_MOST": record.DRAWING_MOST, "REPORT_TOTALS": report.TOTALS,
             "REPORT_TEXT_MOST": report.TEXT_MOST, "STATION_NOWHERE": station.answers.NOWHERE, "REPORT_NONE": station.answers.NOWHERE,
-            "DESK_NOT_HERE": station.answers.NOWHERE, "PLAN_NO_SET": station.answers.NOWHERE, "STATION_MOST": messages.SET_MOST,
+            "DESK_NOT_HERE": station.answers.NOWHERE, "PLAN_NO_SET": station.answers.NOWHERE, "PLAN_NO_INSTRUCTION": station.answers.NOWHERE, "PLAN_GROUNDS": plans.GROUNDS_SIZE, "STATION_MOST": messages.SET_MOST,
             "STATION_MESSAGE_MOST": 2 + messages.LENGTH_MOST, "STATION_KIND_ANSWER": messages.ANSWER, "STATION_KIND_HELD": messages.HELD,
         }
         self.assertEqual({name: sizes[name] for name in ours}, ours)

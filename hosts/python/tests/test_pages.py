@@ -7,7 +7,7 @@ import tempfile
 import unittest
 
 import station
-from station import Desk, Event, Number, Program, Record, Refused, Station, Totals, judge, messages
+from station import Desk, Event, Grounds, Number, Program, Record, Refused, Station, Totals, explain, judge, messages
 from tree import HEADERS, ROOT, blocks, run, text
 
 
@@ -128,20 +128,30 @@ class Desks(unittest.TestCase):
 
 class Plans(unittest.TestCase):
     def test_the_examples(self):
-        found, tried = of_mark("docs/PLANS.md", "plan", "bytes", "verdict"), 0
+        found, tried = of_mark("docs/PLANS.md", "plan", "bytes", "verdict", "why"), 0
+        explained = 0
         for at, (mark, body) in enumerate(found):
             if mark != "plan" or found[at + 1][0] == "plan":
                 continue
             made = run("tools/plan-text", given=body.encode()).stdout
             if found[at + 1][0] == "bytes":
                 self.assertEqual(made, bytes.fromhex(found[at + 1][1]))
-            expected = next(body for mark, body in found[at:] if mark == "verdict").strip()
-            verdict = judge(made)
+            expected, *below = next(body for mark, body in found[at:] if mark in ("verdict", "why")).splitlines()
+            verdict, grounds = judge(made), explain(made)
+            self.assertEqual((grounds.number, grounds.set), tuple(verdict))
+            if below:
+                told = "\n".join(below)
+                where = "at the end" if grounds.set is None else f"before set {grounds.set}"
+                self.assertIn(f"{where}: image {grounds.record}\n", told)
+                self.assertEqual(re.findall(r"^instruction (\d+): ", told), [] if grounds.place is None else [str(grounds.place)])
+                self.assertEqual(re.findall(r"^  it overlaps (\d+): ", told, re.M)[:1], [] if grounds.earlier is None else [str(grounds.earlier)])
+                explained += 1
             number, set = re.match(r"(\d+|accepted)", expected)[0], re.search(r", set (\d+)$", expected)
             self.assertEqual("accepted" if verdict.accepted else str(verdict.number.value), number)
             self.assertEqual(verdict.set, int(set[1]) if set else None)
             tried += 1
         self.assertGreater(tried, 5)
+        self.assertGreater(explained, 2)
 
     def test_a_plan_made_here_has_the_bytes_of_its_text(self):
         given = text("docs/plans/park-and-fetch.plan")
@@ -154,6 +164,9 @@ class Plans(unittest.TestCase):
         longer = station.Plan(plan.record, True, [*plan.sets, ["rotate"]])
         self.assertEqual(str(judge(longer)), f"27 (not at rotation height), set {len(sets)}")
         self.assertEqual(judge(bytes(plan)[:-1]).number, Number.TOO_FEW_BYTES)
+        self.assertEqual(explain(bytes(plan)[:-1]), Grounds(Number.TOO_FEW_BYTES))
+        self.assertEqual(str(explain(longer)), f"set {len(sets)}: 27 (not at rotation height) at 0: the lift")
+        self.assertEqual((str(explain(plan)), explain(plan).record), ("accepted", explain(longer).record))
         with self.assertRaises(ValueError):
             bytes(station.Plan(plan.record, True, [["rotate"]] * 256))
 

@@ -140,6 +140,11 @@ pub fn plan_judge(plan: &[u8]) -> Answer {
     Answer::of(unsafe { plan::plan_judge(plan.as_ptr(), plan.len()) })
 }
 
+/// The same, and writes on what grounds: eighteen bytes.
+pub fn plan_explain(plan: &[u8], room: &mut [u8]) -> Answer {
+    Answer::of(unsafe { plan::plan_explain(plan.as_ptr(), plan.len(), room.as_mut_ptr(), room.len()) })
+}
+
 // ---- include/drawing.h
 
 /// Writes the drawing of a record, and tells how long it is.

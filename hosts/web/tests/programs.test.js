@@ -54,7 +54,7 @@ test('a run in the module answers the same, and can be put back', () => {
 
 test('the plans of the pages have the same bytes and verdicts', () => {
   const plans = [text('docs/plans/park-and-fetch.plan'), text('docs/plans/row-three.plan')];
-  let last = null, verdicts = 0, wrong = 0;
+  let last = null, verdicts = 0, whys = 0, wrong = 0;
   for (const block of blocks('docs/PLANS.md')) {
     if (block.word === 'plan') plans.push((last = block.text));
     if (block.word === 'bytes') assert.equal(hexOf(planBytes(planIn(last))), block.text.trim().split(/\s+/).join(' '));
@@ -68,8 +68,16 @@ test('the plans of the pages have the same bytes and verdicts', () => {
       if (answer.place !== null) assert.ok(block.text.endsWith(`, set ${answer.place}\n`), block.text);
       verdicts++;
     }
+    if (block.word === 'why') {
+      const { answer, place, earlier, record } = garage.explain(planBytes(planIn(last))), hex = hexOf(garage.bytes(record));
+      assert.deepEqual(answer, garage.judge(planBytes(planIn(last))));
+      assert.ok(block.text.includes(`${answer.place === null ? 'at the end' : `before set ${answer.place}`}: image ${hex}\n`), block.text);
+      assert.equal(place === null, !block.text.includes(`\ninstruction ${place}: `), block.text);
+      assert.equal(earlier === null, !block.text.includes(`\n  it overlaps ${earlier}: `), block.text);
+      whys++;
+    }
   }
-  assert.ok(verdicts > 4 && wrong > 0);
+  assert.ok(verdicts > 4 && whys > 2 && wrong > 0);
   for (const plan of plans.filter((one) => planIn(one).wrong.length === 0)) {
     const bytes = planBytes(planIn(plan)), told = new TextDecoder().decode(wrote('bin/plan', bytes));
     assert.equal(garage.judge(bytes).taken, told === 'accepted\n');

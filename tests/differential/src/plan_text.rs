@@ -1,7 +1,7 @@
 //! The text form of plans: `plan_text WRITER JUDGE PAGE`. Every well-formed instruction in words becomes its own five bytes; texts that
 //! mean the same become the same bytes; each wrong line is told with its number, and then nothing is written. And the page's examples: a
 //! block marked `plan` is a text, and of the blocks behind it one marked `bytes` has the bytes that it becomes, one marked `wrong` what is
-//! told of it, and one marked `verdict` what the judge writes.
+//! told of it, one marked `verdict` what the judge writes, and one marked `why` what it writes with `--why`.
 
 use shared::child::run_on as run;
 use shared::hex;
@@ -132,8 +132,8 @@ pub fn main(given: &[String]) {
         held(&format!("{text:?}"), format!("{:02X?}", run(writer, text.as_bytes())), format!("{:02X?}", (Vec::<u8>::new(), told, false)));
     }
     let content = std::fs::read_to_string(page).expect("the page is there");
-    let (mut written, mut examples) = ((Vec::new(), String::new(), false), [0; 4]);
-    let marks = ["plan", "bytes", "wrong", "verdict"];
+    let (mut written, mut examples) = ((Vec::new(), String::new(), false), [0; 5]);
+    let marks = ["plan", "bytes", "wrong", "verdict", "why"];
     for (line, mark, text) in blocks(&content, &marks) {
         examples[marks.iter().position(|name| *name == mark).expect("one of them")] += 1;
         let place = format!("{page}:{line}");
@@ -141,13 +141,16 @@ pub fn main(given: &[String]) {
             "plan" => written = run(writer, text.as_bytes()),
             "bytes" => held(&place, format!("{:02X?}", written.0), format!("{:02X?}", hex::read(&text))),
             "wrong" => held(&place, written.1.clone(), text),
-            _ => held(&place, format!("{:?}", run(judge, &written.0)), format!("{:?}", (text.into_bytes(), "", true))),
+            _ => {
+                let judge = if mark == "why" { format!("{judge} --why") } else { judge.to_string() };
+                held(&place, format!("{:?}", run(&judge, &written.0)), format!("{:?}", (text.into_bytes(), "", true)))
+            }
         }
     }
-    let [plans, bytes, wrong, verdicts] = examples;
-    if plans == 0 || verdicts == 0 || wrong == 0 || failed > 0 {
+    let [plans, bytes, wrong, verdicts, whys] = examples;
+    if plans == 0 || verdicts == 0 || whys == 0 || wrong == 0 || failed > 0 {
         exit(1);
     }
     println!("plan_text: {} texts with 272 instructions and {} wrong ones, each as it must be", texts.len(), wrong_texts.len());
-    println!("plan_text: {plans} plans of {page}, {bytes} with their bytes, {verdicts} with the judge's word, {wrong} with wrong lines");
+    println!("plan_text: {plans} plans of {page}, {bytes} with their bytes, {verdicts} with the judge's word, {whys} with why, {wrong} with wrong lines");
 }

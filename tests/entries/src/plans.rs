@@ -1,15 +1,17 @@
 //! Plans tried before the day, against the reference: `plans PROGRAM PLANS SHARE STACK HOST..`. Examples and so many plans, good ones and
-//! ones with faults, are judged by the entry, and one in SHARE of them by the host in C, whose calls must take no more stack than STACK; of
-//! each number some by the program, and most examples, in pieces of many sizes. Every number that can come must have come by the entry
-//! and by the program, no other may, and every way to come by one. Each wrong reference must be found out by a plan of the run.
+//! ones with faults, are judged and explained by the entries, and one in SHARE of them by the host in C, whose calls must take no more stack
+//! than STACK; of each number some by the program, and most examples, in pieces of many sizes, and some of these with `--why`. Every number
+//! that can come must have come by the entries and by the program, no other may, and every way to come by one. Each wrong reference must be
+//! found out by a plan of the run.
 
 mod examples;
 
 use examples::{examples, ways, WAYS};
-use reference::plan::{judge, Verdict, NO_SET};
-use reference::START;
+use reference::plan::{explain, judge, Grounds, Plan, Verdict, NO_SET, UNSOUND, WISH_NOT_MET};
+use reference::{NO_PLACE, START};
 use shared::pipes;
 use shared::plan_traffic::any_plan;
+use shared::texts::words;
 use shared::traffic::Numbers;
 use station::raw::plan as raw;
 use std::collections::{BTreeMap, BTreeSet};
@@ -18,6 +20,26 @@ use wrong::fault::{all_of, Fault};
 
 fn plan_judge(plan: &[u8]) -> u32 {
     unsafe { raw::plan_judge(plan.as_ptr(), plan.len()) }
+}
+
+/// The bytes of the grounds, of a room with some more, and what stands in it before.
+const GROUNDS: usize = 18;
+const ROOM: usize = GROUNDS + 3;
+const STOOD: u8 = 0xA5;
+/// What a room that is too short is told.
+const NO_ROOM: u32 = 17 + 256 * 255;
+
+/// What the entry returns, and the room that it leaves, of which so many bytes are lent.
+fn plan_explain(plan: &[u8], lent: usize) -> (u32, [u8; ROOM]) {
+    let mut room = [STOOD; ROOM];
+    (unsafe { raw::plan_explain(plan.as_ptr(), plan.len(), room.as_mut_ptr(), lent) }, room)
+}
+
+/// The bytes that the entry writes.
+fn written(grounds: &Grounds) -> [u8; GROUNDS] {
+    let numbers = [grounds.record.to_le_bytes(), grounds.parts.to_le_bytes()].concat();
+    let all = [&numbers[..], &[grounds.place, grounds.earlier]].concat();
+    *all.first_chunk().expect("eighteen")
 }
 
 /// What the entry returns: the number, and 256 times the set.
@@ -62,6 +84,31 @@ fn line(Verdict { number, set }: Verdict) -> String {
     }
 }
 
+/// Whether the lines below the program's are those of the grounds: where no set is at fault, the last record or none; else the instruction, the
+/// first earlier one that it overlaps, and the record before that set.
+fn told_why(grounds: &Grounds, plan: &[u8], below: &str) -> bool {
+    let Grounds { verdict: Verdict { number, set }, place, earlier, record, .. } = *grounds;
+    let image = record.to_le_bytes().map(|byte| format!("{byte:02X}")).join(" ");
+    match number {
+        0 | WISH_NOT_MET => return below.starts_with(&format!("at the end: image {image}\n")),
+        UNSOUND => return below.contains("  to do: mend the image"),
+        _ if set == NO_SET => return below == "no set was tried\n",
+        _ => {}
+    }
+    let bare = |words: &str| words.replace(',', "").split_whitespace().map(str::to_string).collect::<Vec<_>>();
+    let fives = Plan::read(plan).expect("a plan").sets[usize::from(set)].1;
+    let instruction = match fives.chunks_exact(5).nth(usize::from(place)).filter(|_| place != NO_PLACE) {
+        Some(five) => words(*five.first_chunk().expect("five")).map(|words| bare(&format!("instruction {place}: {words}"))),
+        None => None,
+    };
+    let first = below.lines().next().unwrap_or_default();
+    let overlapped = below.lines().find_map(|line| line.strip_prefix("  it overlaps ")?.split(':').next());
+    first.starts_with("instruction ") == (place != NO_PLACE)
+        && instruction.is_none_or(|words| words == bare(first))
+        && overlapped == (earlier != NO_PLACE).then_some(&*earlier.to_string())
+        && below.contains(&format!("\nbefore set {set}: image {image}\n"))
+}
+
 /// What came so far, and where something was wrong.
 #[derive(Default)]
 struct Run {
@@ -86,20 +133,35 @@ impl Run {
         *self.came[by].entry((verdict.number, verdict.set != NO_SET)).or_default() += 1;
     }
 
-    /// Judged by the entry, and by each wrong reference.
+    /// Judged and explained by the entries, and by each wrong reference.
     fn by_entry(&mut self, name: &str, plan: &[u8]) -> Verdict {
-        let expected = judge(plan);
+        let grounds = explain(plan);
+        let expected = grounds.verdict;
         let got = plan_judge(plan);
         if got != returned(expected) {
             self.fault(name, plan, &format!("the entry returned {got}"), expected);
         }
+        let (said, room) = plan_explain(plan, ROOM);
+        if said != got || room[..GROUNDS] != written(&grounds) || room[GROUNDS..] != [STOOD; ROOM - GROUNDS] {
+            self.fault(name, plan, &format!("it was explained by {said} and {room:02X?}, and not by {grounds:?}"), expected);
+        }
+        let short = plan.len() % GROUNDS;
+        if plan_explain(plan, short) != (NO_ROOM, [STOOD; ROOM]) {
+            self.fault(name, plan, &format!("a room of {short} bytes was not too short"), expected);
+        }
         self.count(0, expected);
         self.ways.extend(ways(plan, expected));
-        let told = (got as u8, (got >> 8) as u8);
         self.unfound.retain(|fault| {
             fault.with(|| {
-                let wrong = wrong::plan::judge(plan);
-                (wrong.number, wrong.set) == told
+                let wrong = wrong::plan::explain(plan);
+                let grounds = Grounds {
+                    verdict: Verdict { number: wrong.verdict.number, set: wrong.verdict.set },
+                    place: wrong.place,
+                    earlier: wrong.earlier,
+                    parts: wrong.parts,
+                    record: wrong.record,
+                };
+                (returned(grounds.verdict), &written(&grounds)[..]) == (said, &room[..GROUNDS])
             })
         });
         expected
@@ -115,21 +177,36 @@ impl Run {
         self.count(1, expected);
     }
 
+    /// The program with `--why`: its line, then of a refused set the instruction and the first earlier one that it overlaps; then the record.
+    fn by_why(&mut self, program: &str, name: &str, plan: &[u8], seed: u64) {
+        let grounds = explain(plan);
+        let got = pipes::answers(&format!("{program} --why"), plan, seed);
+        let wrote = String::from_utf8_lossy(&got);
+        let right = wrote.strip_prefix(&line(grounds.verdict)).is_some_and(|below| told_why(&grounds, plan, below));
+        if !right {
+            self.fault(name, plan, &format!("with --why it wrote {wrote:?}"), grounds.verdict);
+        }
+    }
+
     /// Judged by the host in C, all in one run; gives the most stack that a call took.
     fn by_host(&mut self, host: &str, plans: &[Vec<u8>]) -> u32 {
         let input: Vec<u8> = plans.iter().flat_map(|plan| [&(plan.len() as u32).to_le_bytes(), &plan[..]].concat()).collect();
         let output = pipes::answers(host, &input, 1);
-        let numbers: Vec<u32> = output.chunks_exact(4).map(|four| u32::from_le_bytes(*four.first_chunk().expect("four"))).collect();
-        if numbers.len() != 2 * plans.len() {
+        const TOLD: usize = 12 + GROUNDS;
+        if output.len() != TOLD * plans.len() {
             self.fault("the host in C", &[], "another number of answers", judge(&[]));
         }
-        for (plan, told) in plans.iter().zip(numbers.chunks_exact(2)) {
-            let expected = judge(plan);
-            if told[0] != returned(expected) {
-                self.fault("the host in C", plan, &format!("it was returned {}", told[0]), expected);
+        let mut most = 0;
+        for (plan, told) in plans.iter().zip(output.chunks_exact(TOLD)) {
+            let number = |at: usize| u32::from_le_bytes(*told[at..].first_chunk().expect("four"));
+            let grounds = explain(plan);
+            let expected = returned(grounds.verdict);
+            if (number(0), number(4), &told[12..]) != (expected, expected, &written(&grounds)[..]) {
+                self.fault("the host in C", plan, &format!("it was told {told:02X?}, and not {grounds:?}"), grounds.verdict);
             }
+            most = most.max(number(8));
         }
-        numbers.iter().skip(1).step_by(2).copied().max().unwrap_or(0)
+        most
     }
 
     /// Whether all came that can, and nothing else; if not, says what is amiss.
@@ -142,7 +219,7 @@ impl Run {
             }
         };
         let wanted: BTreeSet<_> = OF_THE_PLAN.map(|row| (row.0, false)).into_iter().chain(OF_A_SET.map(|row| (row.0, true))).collect();
-        for (came, by) in self.came.iter().zip(["the entry", "the program"]) {
+        for (came, by) in self.came.iter().zip(["the entries", "the program"]) {
             let came: BTreeSet<_> = came.keys().copied().collect();
             let told = |(number, set): &(u8, bool)| format!("{number}{}", if *set { " of a set" } else { "" });
             let amiss = came.symmetric_difference(&wanted).map(told);
@@ -190,13 +267,17 @@ pub fn main(words: &[String]) {
     }
     for ((name, plan), seed) in to_program.iter().zip(1..) {
         run.by_program(program, name, plan, seed);
+        // the examples, and of each number one that was made
+        if *name != "made" || seed % 3 == 0 {
+            run.by_why(program, name, plan, seed);
+        }
     }
     if !run.complete() {
         exit(1);
     }
     let accepted = run.came[0][&(0, false)];
     println!(
-        "plans: {} judged by the entry ({accepted} accepted), {} by the host in C, {} by the program, each as the reference says",
+        "plans: {} judged and explained by the entries ({accepted} accepted), {} by the host in C, {} by the program, each as the reference says",
         run.came[0].values().sum::<usize>(),
         kept.len(),
         to_program.len()

@@ -1,52 +1,16 @@
--- `plan::judge` meets its contract: cut short, a wish that is neither, bytes left over, then the plan. Assumes nothing.
-use mathlib.Core.Path.{_∙_}
-use native.Mathlib.Omega.{arith}
+-- `plan::judge` meets its contract: the number and the set of the grounds. Assumes nothing.
+use mathlib.Core.Path.{ap}
 use borrow.Author.Needs.{needs}
-use Rattle.plan.proofs.Cases.{cut-short, bad-wish, left-over, as-weighed}
+use Rattle.plan.specs.Plans.{judgedBy, judgement}
 use Rattle.plan.proofs.judge.Statement.{statement}
 use Rattle.plan.proofs.judge.Tie as tie
 
-size-requires : tie.Need-size-requires
-size-requires c κs = search needs
-
-plainly-requires : tie.Need-plainly-requires
-plainly-requires c κs = search needs
+explain-requires : tie.Need-explain-requires
+explain-requires c κs = search needs
 
 returns : tie.Need-returns
-returns c = c .plainly .ensures ∙ cut-short _ _ (c .before .before .size .ensures) (c .before .if1 .taken)
-
-byte-requires : tie.Need-byte-requires
-byte-requires c κs = search needs
-
-plainly-requires-2 : tie.Need-plainly-requires-2
-plainly-requires-2 c κs = search needs
-
-returns-2 : tie.Need-returns-2
-returns-2 c = c .plainly2 .ensures ∙ bad-wish _ _ (c .before .before .before .before .size .ensures) (c .before .before .before .if1 .left) (omega (arith, c .before .before .byte .ensures, c .before .if2 .taken))
-
-plainly-requires-3 : tie.Need-plainly-requires-3
-plainly-requires-3 c κs = search needs
-
-returns-3 : tie.Need-returns-3
-returns-3 c = c .plainly3 .ensures ∙ left-over _ _ (c .before .before .before .before .before .size .ensures) (omega (arith, c .before .before .before .byte .ensures, c .before .before .if2 .left)) (c .before .if3 .taken)
-
-weighed-requires : tie.Need-weighed-requires
-weighed-requires c κs = omega (arith, c .before .before .before .before .size .ensures, c .before .before .before .if1 .left, c .if3 .left)
-
-returns-4 : tie.Need-returns-4
-returns-4 c = c .weighed .ensures ∙ as-weighed _ _ (c .before .before .before .before .before .size .ensures) (omega (arith, c .before .before .before .byte .ensures, c .before .before .if2 .left)) (omega (arith, c .before .before .before .before .if1 .left, c .before .if3 .left))
+unfolding judgement
+returns c = ap judgedBy (c .explain .ensures)
 
 pub judge-spec : {M : Type 1} → statement M
-judge-spec =
-    tie.close
-    (tie.spec
-    size-requires
-    plainly-requires
-    returns
-    byte-requires
-    plainly-requires-2
-    returns-2
-    plainly-requires-3
-    returns-3
-    weighed-requires
-    returns-4)
+judge-spec = tie.close (tie.spec explain-requires returns)

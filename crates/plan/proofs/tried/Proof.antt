@@ -8,7 +8,7 @@ use denote.Ref.{now}
 use lib.ListN.{length, getD}
 use Rattle.bits.specs.Bits.{bit}
 use Rattle.floor.specs.Tests.{holds}
-use Rattle.plan.specs.Plans.{plainly, wished}
+use Rattle.plan.specs.Plans.{wholly, wished}
 use Rattle.plan.proofs.Walking.{Trying, part-length, trying-start, trying-within, trying-refused, trying-turn, trying-end}
 use Rattle.plan.proofs.tried.Statement.{statement}
 use Rattle.plan.proofs.tried.Tie as tie
@@ -61,8 +61,25 @@ asked-requires c κs = part-length _ _ _ (within (c .before))
 number-requires : tie.Need-number-requires Inv-loop μ-loop
 number-requires c κs = search needs
 
+sub-set-of : tie.Need-sub-set-of Inv-loop μ-loop
+sub-set-of c = search needs
+
+part-set-of-start : tie.Need-part-set-of-start Inv-loop μ-loop
+part-set-of-start c = search needs
+
+part-set-of-end : tie.Need-part-set-of-end Inv-loop μ-loop
+part-set-of-end c = within (c .before .before .before .before)
+
+set-of-requires : tie.Need-set-of-requires Inv-loop μ-loop
+set-of-requires c κs = search needs
+
+refused-requires : tie.Need-refused-requires Inv-loop μ-loop
+refused-requires c κs = search needs
+
 returns : tie.Need-returns Inv-loop μ-loop
-returns c = trying-refused _ _ _ _ _ (c .before .before .before .before .before .before .loop .inv) (omega arith) refl _ _ (c .before .before .asked .ensures) (c .before .number .ensures) (c .if1 .taken)
+returns c =
+    let a = c .before .before .before .before in
+    trying-refused _ _ _ _ _ (a .before .before .before .before .before .loop .inv) (omega arith) refl _ _ (a .before .asked .ensures) (a .number .ensures) (c .before .before .before .if1 .taken) (c .before .set-of .ensures) (c .refused .ensures)
 
 succeeded-requires : tie.Need-succeeded-requires Inv-loop μ-loop
 succeeded-requires c κs = search needs
@@ -83,7 +100,7 @@ ended-requires : tie.Need-ended-requires Inv-loop μ-loop
 ended-requires c κs = search needs
 
 returns-2 : tie.Need-returns-2 Inv-loop μ-loop
-returns-2 c = c .ended .ensures ∙ ap (λ (w : ℕ). plainly (cond (holds (wished w) (bit (c .before .before .before .loop .s .bits))) 0 36)) (c .before .byte2 .ensures) ∙ trying-end _ _ _ _ (c .before .before .before .loop .inv) (omega arith)
+returns-2 c = c .ended .ensures ∙ ap (λ (w : ℕ). wholly (cond (holds (wished w) (bit (c .before .before .before .loop .s .bits))) 0 36) (c .before .before .before .loop .s .bits)) (c .before .byte2 .ensures) ∙ trying-end _ _ _ _ (c .before .before .before .loop .inv) (omega arith)
 
 pub tried-spec : {M : Type 1} → statement M
 tried-spec =
@@ -103,6 +120,11 @@ tried-spec =
     part-asked-end
     asked-requires
     number-requires
+    sub-set-of
+    part-set-of-start
+    part-set-of-end
+    set-of-requires
+    refused-requires
     returns
     succeeded-requires
     add-k

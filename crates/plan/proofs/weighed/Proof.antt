@@ -21,20 +21,20 @@ imaged-requires c κs = search needs
 number-requires : tie.Need-number-requires
 number-requires c κs = search needs
 
-plainly-requires : tie.Need-plainly-requires
-plainly-requires c κs = search needs
+wholly-requires : tie.Need-wholly-requires
+wholly-requires c κs = search needs
 
 returns : tie.Need-returns
-returns c = c .plainly .ensures ∙ image-refused _ _ (numbered (c .before .before)) (c .before .if1 .taken)
+returns c = c .wholly .ensures ∙ image-refused _ _ (numbered (c .before .before)) (c .before .if1 .taken)
 
 byte-requires : tie.Need-byte-requires
 byte-requires c κs = search needs
 
-plainly-requires-2 : tie.Need-plainly-requires-2
-plainly-requires-2 c κs = search needs
+wholly-requires-2 : tie.Need-wholly-requires-2
+wholly-requires-2 c κs = search needs
 
 returns-2 : tie.Need-returns-2
-returns-2 c = c .plainly2 .ensures ∙ too-many (planIn (now (c .before .before .before .before .before .before .before .args .plan))) _ (numbered (c .before .before .before .before)) (c .before .before .before .if1 .left) (omega (arith, c .before .before .byte .ensures, c .before .if2 .taken, plan-sets (now (c .before .before .before .before .before .before .before .args .plan))))
+returns-2 c = c .wholly2 .ensures ∙ too-many (planIn (now (c .before .before .before .before .before .before .before .args .plan))) _ (numbered (c .before .before .before .before)) (c .before .before .before .if1 .left) (omega (arith, c .before .before .byte .ensures, c .before .if2 .taken, plan-sets (now (c .before .before .before .before .before .before .before .args .plan))))
 
 tried-requires : tie.Need-tried-requires
 tried-requires c κs = search needs
@@ -48,10 +48,10 @@ weighed-spec =
     (tie.spec
     imaged-requires
     number-requires
-    plainly-requires
+    wholly-requires
     returns
     byte-requires
-    plainly-requires-2
+    wholly-requires-2
     returns-2
     tried-requires
     returns-3)
