@@ -54,9 +54,8 @@ pub fn of_recording(mut input: impl Read) -> Result<Counted, Wrong> {
     let mut counted = Counted { totals: Totals::new(), station: Station::new(), garage: None };
     loop {
         let mut bytes = Vec::new();
-        let mut more = |bytes: &mut Vec<u8>, count: usize| {
-            (&mut input).take(count as u64).read_to_end(bytes).map_err(|why| failed("input", why))
-        };
+        let mut more =
+            |bytes: &mut Vec<u8>, count: usize| (&mut input).take(count as u64).read_to_end(bytes).map_err(|why| failed("input", why));
         let size = if more(&mut bytes, 2)? == 2 { length(&bytes) } else { 0 };
         let goes_on = LENGTHS.contains(&size) && more(&mut bytes, size)? == size;
         if !bytes.is_empty() {

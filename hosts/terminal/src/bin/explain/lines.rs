@@ -62,8 +62,13 @@ fn fields(message: &Message, station: Option<&Moment>) -> (Option<&'static str>,
         Message::Result { issue, number, ending } => {
             let of = station.and_then(|station| named(&station.facts, issue, number)).map(one);
             let outcome = in_words(&ENDINGS, ending, 0);
-            let all =
-                [("issue", issue.into()), ("instruction", number.into()), ("ending", ending.into()), ("outcome", outcome), ("of", of.into())];
+            let all = [
+                ("issue", issue.into()),
+                ("instruction", number.into()),
+                ("ending", ending.into()),
+                ("outcome", outcome),
+                ("of", of.into()),
+            ];
             (Some("result"), all.into())
         }
         Message::Image { record, apart } => (Some("image"), image(record, apart)),

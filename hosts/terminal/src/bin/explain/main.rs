@@ -16,12 +16,12 @@ use station::words::Wrong;
 use station::{Parts, Record};
 use std::io::{self, Write};
 use std::process::ExitCode;
+use step::{Log, Told};
 use terminal::conditions::LIFT;
 use terminal::journal::is_journal;
 use terminal::message::{bytes_in, two_numbers};
 use terminal::sound::hints;
 use terminal::told::{failed, told_version};
-use step::{Log, Told};
 use text::{Shows, Text};
 
 const USAGE: &str = "usage: explain [--json] [--quiet] [--floor] [--from IMAGE] [--issue N] [--cards LIST] [--hex < LOG | HEX.. | < LOG]";
@@ -59,7 +59,8 @@ fn given(mut words: impl Iterator<Item = String>) -> Option<Given> {
         }
     }
     // a list of cards is that of a record's cars, digits are all of the input, and objects have no floors to be shown
-    let fits = !(given.json && given.shows.floors) && (given.cards.is_none() || given.from.is_some()) && (!given.hex || given.digits.is_empty());
+    let fits =
+        !(given.json && given.shows.floors) && (given.cards.is_none() || given.from.is_some()) && (!given.hex || given.digits.is_empty());
     fits.then_some(given)
 }
 
