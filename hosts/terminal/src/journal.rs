@@ -8,6 +8,7 @@ use std::io::{BufRead, Read};
 const MAGIC: &[u8] = b"Vargsnida, journal.\n";
 const FORMAT: u8 = 2;
 const HEAD: usize = 128;
+const NAME: std::ops::Range<usize> = 24..64;
 const BEGINNING: usize = 64;
 const MOST: usize = 65_536;
 /// What stands around what an append carries, and what a disk writes at once.
@@ -49,12 +50,13 @@ pub struct Journal<R> {
     input: R,
     at: usize,
     sum: u32,
+    garage: String,
 }
 
 impl<R: Read> Journal<R> {
     /// Reads the head: the station that the journal begins with.
     pub fn opened(input: R) -> Result<(Self, [u8; Station::SIZE]), Wrong> {
-        let mut journal = Journal { input, at: HEAD, sum: 0 };
+        let mut journal = Journal { input, at: HEAD, sum: 0, garage: String::new() };
         let head = journal.bytes(HEAD)?;
         if head.len() > MAGIC.len() && head[MAGIC.len()] != FORMAT {
             return Err(format!("the journal has format {}, and this reads {FORMAT}", head[MAGIC.len()]));
@@ -63,7 +65,14 @@ impl<R: Read> Journal<R> {
             return Err("the journal's head is damaged".to_string());
         }
         journal.sum = four(&head[HEAD - 4..]);
+        // the name is filled up with zeros
+        journal.garage = String::from_utf8_lossy(&head[NAME]).trim_end_matches('\0').to_string();
         Ok((journal, std::array::from_fn(|at| head[BEGINNING + at])))
+    }
+
+    /// The name of the garage, as the head has it.
+    pub fn garage(&self) -> String {
+        self.garage.clone()
     }
 
     /// So many bytes, or fewer at the end.

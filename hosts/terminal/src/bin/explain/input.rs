@@ -3,6 +3,7 @@
 use crate::follow::Cards;
 use station::words::Wrong;
 use std::collections::VecDeque;
+use std::fmt;
 use std::io::{BufRead, Read};
 use terminal::message::{bytes_in, is_answer, length, LENGTHS};
 use terminal::told::failed;
@@ -23,9 +24,31 @@ pub enum Item {
     Damaged { bytes: Vec<u8>, answered: bool, why: Wrong },
 }
 
-/// An item with its place in words: `byte 16`, `line 3`.
+/// Where a log has something: a byte of a recording, or a line of a text, with the time that the line tells.
+#[derive(Clone)]
+pub struct At {
+    pub unit: &'static str,
+    pub place: usize,
+    pub time: Option<String>,
+}
+
+impl At {
+    pub fn byte(place: usize) -> Self {
+        At { unit: "byte", place, time: None }
+    }
+}
+
+/// In words: `byte 16`, `line 3`.
+impl fmt::Display for At {
+    fn fmt(&self, f: &mut fmt::Formatter) -> fmt::Result {
+        write!(f, "{} {}", self.unit, self.place)?;
+        self.time.as_ref().map_or(Ok(()), |time| write!(f, " ({time})"))
+    }
+}
+
+/// An item with its place.
 pub struct Placed {
-    pub at: String,
+    pub at: At,
     pub item: Item,
 }
 
@@ -66,7 +89,7 @@ impl<R: Read> Bytes<R> {
     }
 
     pub fn next(&mut self) -> Result<Option<Placed>, Wrong> {
-        let (at, mut bytes) = (format!("byte {}", self.at), Vec::new());
+        let (at, mut bytes) = (At::byte(self.at), Vec::new());
         let answered = self.answers.unwrap_or(false);
         if !self.more(&mut bytes, 2)? {
             if bytes.is_empty() {
@@ -133,8 +156,8 @@ impl<R: BufRead> Hex<R> {
     }
 
     fn place(&mut self, line: usize, item: Item) {
-        let time = self.time.as_ref().filter(|_| line == self.line).map_or(String::new(), |time| format!(" ({time})"));
-        self.read.push_back(Placed { at: format!("line {line}{time}"), item });
+        let time = self.time.clone().filter(|_| line == self.line);
+        self.read.push_back(Placed { at: At { unit: "line", place: line, time }, item });
     }
 
     fn damaged(&mut self, line: usize, bytes: Vec<u8>, why: Wrong) {

@@ -1,6 +1,6 @@
 //! A journal as a log: the messages of its appends, and what ended its sessions.
 
-use crate::input::{Item, Placed};
+use crate::input::{At, Item, Placed};
 use station::words::Wrong;
 use std::collections::VecDeque;
 use std::io::Read;
@@ -19,7 +19,7 @@ impl<R: Read> Journal<R> {
     }
 
     fn place(&mut self, at: usize, item: Item) {
-        self.read.push_back(Placed { at: format!("byte {at}"), item });
+        self.read.push_back(Placed { at: At::byte(at), item });
     }
 
     /// Nothing can be read from here on.

@@ -5,6 +5,8 @@ mod floor;
 mod follow;
 mod input;
 mod journal;
+mod lines;
+mod step;
 mod text;
 
 use follow::{named_cars, Cards, Follower};
@@ -14,19 +16,21 @@ use station::words::Wrong;
 use station::{Parts, Record};
 use std::io::{self, Write};
 use std::process::ExitCode;
+use step::{Log, Told};
 use terminal::conditions::LIFT;
 use terminal::journal::is_journal;
 use terminal::message::{bytes_in, two_numbers};
 use terminal::sound::hints;
 use terminal::told::{failed, told_version};
-use text::{Explainer, Said, Shows};
+use text::{Shows, Text};
 
-const USAGE: &str = "usage: explain [--quiet] [--floor] [--from IMAGE] [--issue N] [--cards LIST] [--hex < LOG | HEX.. | < LOG]";
+const USAGE: &str = "usage: explain [--json] [--quiet] [--floor] [--from IMAGE] [--issue N] [--cards LIST] [--hex < LOG | HEX.. | < LOG]";
 
 /// The words of the command.
 #[derive(Default)]
 struct Given {
     shows: Shows,
+    json: bool,
     hex: bool,
     from: Option<(Record, Parts)>,
     issue: u16,
@@ -44,6 +48,7 @@ fn given(mut words: impl Iterator<Item = String>) -> Option<Given> {
     let mut given = Given::default();
     while let Some(word) = words.next() {
         match word.as_str() {
+            "--json" => given.json = true,
             "--quiet" => given.shows.quiet = true,
             "--floor" => given.shows.floors = true,
             "--hex" => given.hex = true,
@@ -53,8 +58,9 @@ fn given(mut words: impl Iterator<Item = String>) -> Option<Given> {
             digits => given.digits.extend(bytes_in(digits).ok().filter(|bytes| !bytes.is_empty())?),
         }
     }
-    // a list of cards is that of a record's cars, and digits are all of the input
-    let fits = (given.cards.is_none() || given.from.is_some()) && (!given.hex || given.digits.is_empty());
+    // a list of cards is that of a record's cars, digits are all of the input, and objects have no floors to be shown
+    let fits =
+        !(given.json && given.shows.floors) && (given.cards.is_none() || given.from.is_some()) && (!given.hex || given.digits.is_empty());
     fits.then_some(given)
 }
 
@@ -77,13 +83,28 @@ fn begin(given: &Given) -> Result<Follower, Wrong> {
 /// The next item of a log, nothing at its end, or why the input failed.
 type Read = Result<Option<Placed>, Wrong>;
 
+/// How steps are written: in words, or as objects.
+enum Writer {
+    Words(Text),
+    Lines { quiet: bool },
+}
+
+impl Writer {
+    fn new(given: &Given) -> Self {
+        if given.json {
+            Writer::Lines { quiet: given.shows.quiet }
+        } else {
+            Writer::Words(Text::new(given.shows))
+        }
+    }
+}
+
 /// The whole log, or what comes before the first that can't be read; gives whether all of it was read and agrees, or why a stream failed.
-fn explained(mut next: impl FnMut() -> Read, mut explainer: Explainer, out: &mut impl Write) -> Result<bool, Wrong> {
-    let unwritten = |why| failed("output", why);
+fn explained(mut next: impl FnMut() -> Read, mut log: Log, mut writer: Writer, out: &mut impl Write) -> Result<bool, Wrong> {
     let mut right = true;
-    let mut tell = |said: Said| -> Result<(), Wrong> {
-        out.write_all(said.text.as_bytes()).and_then(|()| out.flush()).map_err(unwritten)?;
-        if let Some(why) = said.wrong {
+    let mut tell = |text: String, wrong: Option<Wrong>| -> Result<(), Wrong> {
+        out.write_all(text.as_bytes()).and_then(|()| out.flush()).map_err(|why| failed("output", why))?;
+        if let Some(why) = wrong {
             eprintln!("explain: {why}");
             right = false;
         }
@@ -91,33 +112,43 @@ fn explained(mut next: impl FnMut() -> Read, mut explainer: Explainer, out: &mut
     };
     while let Some(placed) = next()? {
         let last = matches!(placed.item, Item::Damaged { .. });
-        tell(explainer.item(placed))?;
+        let Told { step, wrong } = log.step(placed);
+        let text = match &mut writer {
+            Writer::Words(text) => text.step(&step),
+            Writer::Lines { quiet } => lines::line(&step, *quiet),
+        };
+        tell(text, wrong)?;
         if last {
             break;
         }
     }
-    tell(explainer.end())?;
+    let wrong = log.unused_cards();
+    let text = match writer {
+        Writer::Words(text) => text.end(&log.moment(), log.counts()),
+        Writer::Lines { .. } => String::new(),
+    };
+    tell(text, wrong)?;
     Ok(right)
 }
 
 /// A journal, which begins with its own station, or other recorded bytes; or text, which is told.
-fn recorded(from: bool, follower: Follower, explainer: impl Fn(Follower, bool) -> Explainer, out: &mut impl Write) -> Result<bool, Wrong> {
-    let mut input = io::BufReader::new(io::stdin().lock());
+fn recorded(given: &Given, follower: Follower, out: &mut impl Write) -> Result<bool, Wrong> {
+    let (mut input, writer) = (io::BufReader::new(io::stdin().lock()), Writer::new(given));
     if !is_journal(&mut input)? {
         if is_text(&mut input)? {
             eprintln!("explain: note: this is hexadecimal text, and is read as with --hex");
             let mut input = Hex::new(input);
-            return explained(|| input.next(), explainer(follower, true), out);
+            return explained(|| input.next(), Log::new(follower, true), writer, out);
         }
         let mut input = Bytes::recorded(input);
-        return explained(|| input.next(), explainer(follower, false), out);
+        return explained(|| input.next(), Log::new(follower, false), writer, out);
     }
-    if from {
+    if given.from.is_some() {
         return Err("--from: a journal has its own beginning".to_string());
     }
     let (appends, station) = terminal::journal::Journal::opened(input)?;
     let mut journal = Journal::new(appends);
-    explained(|| journal.next(), explainer(Follower::from_station(&station), false), out)
+    explained(|| journal.next(), Log::new(Follower::from_station(&station), false), writer, out)
 }
 
 fn main() -> ExitCode {
@@ -134,16 +165,15 @@ fn main() -> ExitCode {
         Ok(follower) => follower,
         Err(why) => return told(&why, 2),
     };
-    let explainer = |follower, both_ways| Explainer::new(follower, given.shows, both_ways);
     let out = &mut io::BufWriter::new(io::stdout().lock());
     let done = if !given.digits.is_empty() {
         let mut input = Bytes::mixed(io::Cursor::new(&given.digits));
-        explained(|| input.next(), explainer(follower, true), out)
+        explained(|| input.next(), Log::new(follower, true), Writer::new(&given), out)
     } else if given.hex {
         let mut input = Hex::new(io::stdin().lock());
-        explained(|| input.next(), explainer(follower, true), out)
+        explained(|| input.next(), Log::new(follower, true), Writer::new(&given), out)
     } else {
-        recorded(given.from.is_some(), follower, explainer, out)
+        recorded(&given, follower, out)
     };
     match done {
         Ok(true) => ExitCode::SUCCESS,
