@@ -1,8 +1,8 @@
 //! Places of the floor, and parts of it.
 
-use crate::answers::Refusal;
-use crate::lent;
 use crate::words::{word, ORIENTATIONS, ROWS, SIDES};
+#[cfg(feature = "entries")]
+use crate::{answers::Refusal, lent};
 use std::fmt;
 use std::ops::BitAnd;
 
@@ -11,6 +11,7 @@ const SLOT_FIRST: u8 = 40;
 /// The bit of the lift, and of a car on it while it is raised.
 const LIFT: u8 = 52;
 /// The longest drawing of parts, in bytes.
+#[cfg(feature = "entries")]
 const DRAWING_MOST: usize = 56;
 
 /// Where a car is: over a cell, in row 1 over this one and the next; or on the raised lift.
@@ -92,7 +93,10 @@ impl Parts {
     pub fn bits(self) -> impl Iterator<Item = u8> {
         (0..64).filter(move |&bit| self.has(bit))
     }
+}
 
+#[cfg(feature = "entries")]
+impl Parts {
     /// Their drawing, as that of what is set apart: six lines of text (docs/DRAWING.md). Refused with 15 where a bit is no part's.
     ///
     /// ```

@@ -24,7 +24,7 @@ shared-slice-read-if2-2 : tie.Need-shared-slice-read-if2-2
 shared-slice-read-if2-2 c = search needs
 
 slice-aggregate-read-both : tie.Need-slice-aggregate-read-both
-slice-aggregate-read-both c = sym (length-take-le _ _ (c .before .before .before .before .sixth-end .ensures))
+slice-aggregate-read-both c = sym (length-take-le _ _ (c .before .before .before .before .before .before .sixth-end .ensures))
 
 read-both-requires : tie.Need-read-both-requires
 read-both-requires c κs = search needs
