@@ -15,7 +15,7 @@ use Rattle.drawing.specs.declared.Written.{Written}
 use Rattle.drawing.specs.declared.Found.{Found}
 use Rattle.drawing.specs.Drawing.{floorLine, shuttleLine, liftLine, lastLine, drawn, LeavesDrawing, hasDrawing, writingDrawing}
 use Rattle.drawing.specs.Reading.{firstBad, bitsIn, unread, reading}
-use Rattle.drawing.specs.Private.{table, cellAt, grid, cellMark, markIn, upperAt, liftOf, lastOf, wordsOf, drawnAt, lastTold, badAt, bitsAt}
+use Rattle.drawing.specs.Private.{table, cellAt, grid, cellMark, markIn, upperAt, liftOf, lastShown, wordsOf, drawnAt, lastTold, badAt, bitsAt}
 use Rattle.drawing.proofs.Tables.{length-table, table-same, list-table}
 use Rattle.drawing.proofs.Cells.{upper-at, lift-at}
 use Rattle.drawing.proofs.Finding.{sought, image-there}
@@ -42,15 +42,15 @@ drawn-parts : (w : Bool) (f : Bits) → drawn w f ≡ upper w f ++ lastLine w f
 unfolding drawn floorLine shuttleLine
 drawn-parts w f = ap (λ (l : List ℕ). upper w f ++ l) (append-nil (lastLine w f))
 
-last-is : (w : Bool) (f : Bits) → wordsOf w (lastOf w f) ≡ lastLine w f
-unfolding wordsOf lastOf lastLine liftOf liftLine
+last-is : (w : Bool) (f : Bits) → wordsOf w (lastShown w f) ≡ lastLine w f
+unfolding wordsOf lastShown lastLine liftOf liftLine
 last-is true f = refl
 last-is false f = refl
 
-pub drawn-is : (w : Bool) (f : Bits) → table (51 + length (wordsOf w (lastOf w f))) (drawnAt w (grid (cellMark w f)) f (lastOf w f)) ≡ drawn w f
+pub drawn-is : (w : Bool) (f : Bits) → table (51 + length (wordsOf w (lastShown w f))) (drawnAt w (grid (cellMark w f)) f (lastShown w f)) ≡ drawn w f
 drawn-is w f =
     let g = grid (cellMark w f) in
-    let l = lastOf w f in
+    let l = lastShown w f in
     let n = length (wordsOf w l) in
     table-parts (drawnAt w g f l) 51 n
     ∙ ap₂ (λ (x y : List ℕ). x ++ y)
@@ -60,8 +60,8 @@ drawn-is w f =
     ∙ list-table (wordsOf w l) ∙ last-is w f)
     ∙ sym (drawn-parts w f)
 
-pub drawn-length : (w : Bool) (f : Bits) → length (drawn w f) ≡ 51 + length (wordsOf w (lastOf w f))
-drawn-length w f = ap length (sym (drawn-is w f)) ∙ length-table (drawnAt w (grid (cellMark w f)) f (lastOf w f)) (51 + length (wordsOf w (lastOf w f)))
+pub drawn-length : (w : Bool) (f : Bits) → length (drawn w f) ≡ 51 + length (wordsOf w (lastShown w f))
+drawn-length w f = ap length (sym (drawn-is w f)) ∙ length-table (drawnAt w (grid (cellMark w f)) f (lastShown w f)) (51 + length (wordsOf w (lastShown w f)))
 
 -- ---- what writing says and leaves
 
@@ -70,7 +70,7 @@ module _ (w : Bool) (r : ℕ) (room : List ℕ) {b : Bool} (p : b ≡ hasDrawing
   unfolding writingDrawing
   not-sound e q = rw (failed p e) (q, refl)
 
-  module _ (e : not b ≡ false) {lift : Lift} (q : lift ≡ lastOf w (bit r)) {n : ℕ} (m : n ≡ length (wordsOf w lift)) where
+  module _ (e : not b ≡ false) {lift : Lift} (q : lift ≡ lastShown w (bit r)) {n : ℕ} (m : n ≡ length (wordsOf w lift)) where
     size-is : 51 + n ≡ length (drawn w (bit r))
     size-is = ap (λ (x : ℕ). 51 + x) (m ∙ ap (λ (l : Lift). length (wordsOf w l)) q) ∙ sym (drawn-length w (bit r))
 

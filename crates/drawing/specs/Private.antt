@@ -72,8 +72,8 @@ liftOf f = record { height = drawnHeight f; car = f raisedCar; drive = driveOf f
 abbrev pub apartLift : Bool → Lift
 apartLift b = record { height = 0; car = b; drive = 0 }
 
-unfoldable pub lastOf : Bool → Bits → Lift
-lastOf w f = cond w (apartLift (f raisedCar)) (liftOf f)
+unfoldable pub lastShown : Bool → Bits → Lift
+lastShown w f = cond w (apartLift (f raisedCar)) (liftOf f)
 
 -- the words of the lift's line, and of the last line
 abbrev pub liftsWords : Lift → List ℕ

@@ -9,7 +9,7 @@ ghost use lib.ListN.{length, getD, drop};
 ghost use Rattle.bits.specs.Bits.{bit};
 ghost use Rattle.drawing.specs.Drawing.{endedLine, heightName, carWord, driveWord, driveOf, apartWords};
 ghost use Rattle.drawing.specs.Reading.{begins, heightTold};
-ghost use Rattle.drawing.specs.Private.{liftOf, apartLift, lastOf, liftsWords, wordsOf, driveBegun, liftTold, apartTold, lastTold, liftBit};
+ghost use Rattle.drawing.specs.Private.{liftOf, apartLift, lastShown, liftsWords, wordsOf, driveBegun, liftTold, apartTold, lastTold, liftBit};
 
 // The digits of the height and the drives, as numbers of bits.
 const HEIGHT_LOW: u64 = 53;
@@ -65,7 +65,7 @@ fn apart_lift(car: bool) -> Lift
 }
 
 pub fn last_of(apart: bool, image: u64) -> Lift
-    ensures { λ l. ⌜ l ≡ lastOf apart (bit image) ⌝ }
+    ensures { λ l. ⌜ l ≡ lastShown apart (bit image) ⌝ }
 {
     if apart {
         return apart_lift(bits::bit(image, RAISED));

@@ -21,7 +21,7 @@ use Rattle.floor.proofs.Reading.{nth-holds}
 use Rattle.codec.specs.Text.{ascii}
 use Rattle.drawing.specs.Drawing.{liftWords, apartWords, drawn, hasDrawing}
 use Rattle.drawing.specs.Reading.{lineAt, heightTold, driveTold, isLast, isLine, liftDrawn, apartDrawn, bitsIn}
-use Rattle.drawing.specs.Private.{liftOf, lastOf, liftsWords, wordsOf}
+use Rattle.drawing.specs.Private.{liftOf, lastShown, liftsWords, wordsOf}
 use Rattle.drawing.proofs.LiftLines.{told-both}
 use Rattle.drawing.proofs.Drawn as drawing
 use Rattle.drawing_laws.specs.Promises.{Drawable, Shown, Formed, DrawnLength, ApartLength}
@@ -144,7 +144,7 @@ fits low high coming going =
     (each-at (λ l. each (λ h. each (λ c. each (λ g. each (fitting l h c g))))) all-fit low) high) coming) going)
 
 pub drawn-length : DrawnLength
-unfolding liftOf lastOf wordsOf
+unfolding liftOf lastShown wordsOf
 drawn-length r s =
     let f = bit r in
     let n = length (liftsWords (liftOf f)) in
@@ -158,7 +158,7 @@ drawn-length r s =
     (omega arith, omega arith)
 
 pub apart-length : ApartLength
-unfolding lastOf wordsOf ascii
+unfolding lastShown wordsOf ascii
 apart-length a = drawing.drawn-length true (bit a) ∙ words (bit a raisedCar)
   where
     words : (b : Bool) → 51 + length (apartWords b) ≡ cond b 56 53

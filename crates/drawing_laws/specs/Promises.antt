@@ -53,10 +53,11 @@ abbrev pub Shown : Bool → Bits → Type 0
 Shown true f = (k : ℕ) → 53 ≤ k → f k ≡ false
 Shown false f = Drawable f
 
--- 15 is told exactly of the drawings of records that can be shown and are not sound; of what is set apart, never
+-- 15 is told exactly of the drawings of records that can be shown and are not sound, or of parts that there are not
 abbrev pub UnsoundExactly : Type 0
 UnsoundExactly = (w : Bool) (s : List ℕ) → (reading w s ≡ unread 15 255) ↔ ((f : Bits) × Shown w f × (s ≡ drawn w f) × (hasDrawing w (image f) ≡ false))
 
+-- of what is set apart no drawing is told 15
 abbrev pub ApartNeverUnsound : Type 0
 ApartNeverUnsound = (s : List ℕ) → reading true s ≡ unread 15 255 → ⊥
 
