@@ -33,6 +33,8 @@ export const ENTRIES = {
   plan_explain: { plan: BYTES, room: ROOM },
   drawing_write: { image: U64, text: ROOM },
   drawing_read: { text: BYTES, room: ROOM },
+  drawing_write_apart: { apart: U64, text: ROOM },
+  drawing_read_apart: { text: BYTES, room: ROOM },
   plain_request: { room: ROOM, count: U8, set: BYTES },
   plain_event: { room: ROOM, way: U8 },
   plain_result: { room: ROOM, issue: U16, number: U8, ending: U8 },

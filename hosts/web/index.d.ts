@@ -45,6 +45,8 @@ export interface RawEntries {
   plan_explain(plan: Address, plan_length: bigint, room: Address, room_length: bigint): number;
   drawing_write(image: bigint, text: Address, text_length: bigint): number;
   drawing_read(text: Address, text_length: bigint, room: Address, room_length: bigint): number;
+  drawing_write_apart(apart: bigint, text: Address, text_length: bigint): number;
+  drawing_read_apart(text: Address, text_length: bigint, room: Address, room_length: bigint): number;
   plain_request(room: Address, room_length: bigint, count: number, set: Address, set_length: bigint): number;
   plain_event(room: Address, room_length: bigint, way: number): number;
   plain_result(room: Address, room_length: bigint, issue: number, number: number, ending: number): number;
@@ -85,6 +87,8 @@ export class Library {
   conditions(record: bigint, five: Five): Condition[];
   drawing(record: bigint): { answer: Answer; text: string };
   drawn(text: string): { answer: Answer; record: bigint | null };
+  drawingApart(apart: bigint): { answer: Answer; text: string };
+  drawnApart(text: string): { answer: Answer; apart: bigint | null };
   judge(plan: Uint8Array): Answer;
   explain(plan: Uint8Array): Grounds;
   bytes(record: bigint): Uint8Array;

@@ -108,6 +108,19 @@ export class Library {
     return { answer, record: answer.taken ? numberAt(room) : null };
   }
 
+  /** The drawing of what is set apart. */
+  drawingApart(apart) {
+    const room = new Uint8Array(Size.DRAWING_APART_MOST), answer = Answer.of(this.entries.call('drawing_write_apart', apart, room));
+    return { answer, text: answer.taken ? new TextDecoder().decode(room.slice(0, answer.issue)) : '' };
+  }
+
+  /** What a drawing shows as set apart; its place is the first bad line. */
+  drawnApart(text) {
+    const room = new Uint8Array(Size.DRAWING_IMAGE_SIZE), bytes = new TextEncoder().encode(text);
+    const answer = Answer.of(this.entries.call('drawing_read_apart', bytes, room));
+    return { answer, apart: answer.taken ? numberAt(room) : null };
+  }
+
   /** What a plan's bytes are told; its place is the first set that is refused. */
   judge(plan) {
     return Answer.of(this.entries.call('plan_judge', plan) & 0xffff);

@@ -1,5 +1,5 @@
 /* The entries of drawing.h under a coverage-guided fuzzer, against the reference, as harness.c has those of station.h. An input is a call and
- * what follows it: its first byte picks which, and behind it stands the text that is read or the record that is written. What is taken goes
+ * what follows it: its first byte picks which, and behind it stands the text that is read or the record, or what is set apart, that is written. What is taken goes
  * back: the record of a text that was read is written, and a drawing that was written is read, with the changes that stand behind the
  * record. `drawing_seeds` has inputs, and how they are written. */
 #define _GNU_SOURCE /* memfd_create */
@@ -8,7 +8,7 @@
 #include "drawing.h"
 
 /* The text to read is the run to read; what is written, a drawing or a record, goes into the room. */
-enum { WRITE, READ, DRAWING_ENTRIES };
+enum { WRITE, READ, WRITE_APART, READ_APART, DRAWING_ENTRIES };
 enum { NUMBERS = DRAWING_BAD_LINE + 1, PLACES = DRAWING_PAST_THE_LAST + 1 };
 
 /* ---- what was reached */
@@ -62,7 +62,12 @@ static void summary(void) {
 /* ---- what compare.h asks for */
 
 static uint32_t call_any(const struct command *c) {
-    return c->entry == READ ? drawing_read(LENT(c->in), LENT(c->room)) : drawing_write(c->image, LENT(c->room));
+    switch (c->entry) {
+    case WRITE: return drawing_write(c->image, LENT(c->room));
+    case READ: return drawing_read(LENT(c->in), LENT(c->room));
+    case WRITE_APART: return drawing_write_apart(c->image, LENT(c->room));
+    default: return drawing_read_apart(LENT(c->in), LENT(c->room));
+    }
 }
 
 /* A call that isn't taken writes nothing. */
@@ -81,7 +86,7 @@ static bool taken(struct command *command, unsigned places) {
 
 /* A change of a text: where, then a byte that says how and, but for its highest bit, which byte of those that drawings have. */
 static void change(struct lent *text) {
-    static const char known[] = "#.LTB-\n\r\t streocainubm";
+    static const char known[] = "#.LTB-\n\r\t streocainubmxlf";
     size_t at = take() % (text->size + 1), rest = text->size - at;
     uint8_t pick = take(), byte = pick & 128 ? take() : (uint8_t)known[(pick & 31) % (sizeof known - 1)], *here = text->bytes + at;
     switch (pick >> 5 & 3) {
@@ -108,8 +113,9 @@ int LLVMFuzzerTestOneInput(const uint8_t *data, size_t size) {
     input = data, input_left = size;
     uint8_t pick = take();
     unsigned places = pick >> 1;
-    struct command write = {.entry = WRITE, .room = {room, DRAWING_MOST}, .in = {none, 0}, .out = {none, 0}};
-    struct command read = {.entry = READ, .room = {room, DRAWING_IMAGE_SIZE}, .in = {in, 0}, .out = {none, 0}};
+    bool apart = !(pick & 32);
+    struct command write = {.entry = apart ? WRITE_APART : WRITE, .room = {room, DRAWING_MOST}, .in = {none, 0}, .out = {none, 0}};
+    struct command read = {.entry = apart ? READ_APART : READ, .room = {room, DRAWING_IMAGE_SIZE}, .in = {in, 0}, .out = {none, 0}};
     struct lent *given = pick & 1 ? &write.room : &read.room;
     if (pick & 8)
         given->size = take() % (given->size + 8);

@@ -1,6 +1,6 @@
 -- The place of a cell in the grid, and what the grid holds there; the bits that a text draws, place by place. Assumes nothing.
 use mathlib.Core.Path.{_≡_, refl, ap, _∙_}
-use mathlib.Core.Bool.{_||_}
+use mathlib.Core.Bool.{Bool, _||_}
 use mathlib.Core.List.{List, []}
 use Prim.Native.Nat.{ℕ, _+_, _*_, _-_, _/_, _%_, _≤_, _<_}
 use native.Mathlib.Omega.{arith}
@@ -52,26 +52,26 @@ module _ (s : List ℕ) (n : ℕ) {b : ℕ} (p : b ≡ getD s (43 + 4 * (n / 3 %
   unfolding slotRead
   slot-tilted l = rw (le-ltb n 6 l) (ap (λ (x : ℕ). eqb x 66 || eqb x 84) p)
 
-module _ (g : List (List ℕ)) (s : List ℕ) (lift : Lift) (k : ℕ) where
-  pub cell-bit : k < 40 → occupied g k ≡ bitsAt g s lift k
+module _ (w : Bool) (g : List (List ℕ)) (s : List ℕ) (lift : Lift) (k : ℕ) where
+  pub cell-bit : k < 40 → occupied w g k ≡ bitsAt w g s lift k
   unfolding bitsAt
   cell-bit l = rw (lt-ltb k 40 l)
 
-  pub slot-bit : 40 ≤ k → k < 52 → slotRead s (k - 40) ≡ bitsAt g s lift k
+  pub slot-bit : 40 ≤ k → k < 52 → slotRead s (k - 40) ≡ bitsAt w g s lift k
   unfolding bitsAt
   slot-bit l h = rw (le-ltb k 40 l, lt-ltb k 52 h)
 
-  pub lift-bit : 52 ≤ k → liftBit lift k ≡ bitsAt g s lift k
+  pub lift-bit : 52 ≤ k → liftBit lift k ≡ bitsAt w g s lift k
   unfolding bitsAt
   lift-bit l = rw (le-ltb k 40 (omega arith), le-ltb k 52 l)
 
 -- ---- the bytes of a drawing, place by place
 
-module _ (g : List (List ℕ)) (f : Bits) (lift : Lift) (t : ℕ) where
-  pub upper-at : t < 51 → upperAt g f t ≡ drawnAt g f lift t
+module _ (w : Bool) (g : List (List ℕ)) (f : Bits) (lift : Lift) (t : ℕ) where
+  pub upper-at : t < 51 → upperAt g f t ≡ drawnAt w g f lift t
   unfolding drawnAt
   upper-at l = rw (lt-ltb t 51 l)
 
-  pub lift-at : 51 ≤ t → getD (wordsOf lift) (t - 51) 0 ≡ drawnAt g f lift t
+  pub lift-at : 51 ≤ t → getD (wordsOf w lift) (t - 51) 0 ≡ drawnAt w g f lift t
   unfolding drawnAt
   lift-at l = rw (le-ltb t 51 l)

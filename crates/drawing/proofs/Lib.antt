@@ -7,5 +7,6 @@ pub mod Standing
 pub mod Sixteen
 pub mod FirstLines
 pub mod LiftLines
+pub mod LastLines
 pub mod Finding
 pub mod Drawn

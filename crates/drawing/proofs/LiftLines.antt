@@ -11,8 +11,8 @@ use Rattle.bits.proofs.Cases.{split, both}
 use Rattle.codec.specs.Text.{ascii}
 use Rattle.drawing.specs.declared.Lift.{Lift}
 use Rattle.drawing.specs.Drawing.{endedLine, heightName, carWord, driveWord, liftWords}
-use Rattle.drawing.specs.Reading.{firstLine, same, begins, textAfter, heightTold, carTold, driveTold, isLine, liftDrawn}
-use Rattle.drawing.specs.Private.{driveBegun, liftTold, wordsOf, liftBit}
+use Rattle.drawing.specs.Reading.{firstLine, same, begins, textAfter, heightTold, carTold, driveTold, isLast, liftDrawn}
+use Rattle.drawing.specs.Private.{driveBegun, liftTold, liftsWords, liftBit}
 use Rattle.drawing.proofs.Words.{words-parts, lift-alike}
 use Rattle.drawing.proofs.Begun.{same-eq, begins-eq}
 use Rattle.drawing.proofs.Telling.{ofThree}
@@ -64,13 +64,13 @@ drive-ends l =
     of-three (λ d. y ≡ endedLine (driveWord d)) (same y (endedLine (driveWord 0))) (same y (endedLine (driveWord 1))) (same y (endedLine (driveWord 2)))
     (same-eq y (endedLine (driveWord 0))) (same-eq y (endedLine (driveWord 1))) (same-eq y (endedLine (driveWord 2)))
 
-pub told-both : (l : List ℕ) → isLine 5 l ≡ true → (heightTold l < 3) × (driveTold l < 3)
-unfolding isLine
+pub told-both : (l : List ℕ) → isLast false l ≡ true → (heightTold l < 3) × (driveTold l < 3)
+unfolding isLast
 told-both l e =
     let (p, q) = both (ltb (heightTold l) 3) (ltb (driveTold l) 3) e in
     (ltb-true (heightTold l) 3 p, ltb-true (driveTold l) 3 q)
 
-pub words-told : (l : List ℕ) → isLine 5 l ≡ true → l ≡ liftWords (heightTold l) (carTold l) (driveTold l)
+pub words-told : (l : List ℕ) → isLast false l ≡ true → l ≡ liftWords (heightTold l) (carTold l) (driveTold l)
 unfolding carTold
 words-told l e =
     let (p, q) = told-both l e in
@@ -115,19 +115,19 @@ module _ (r : List ℕ) where
     told-line = lift-alike (sym height-line) (sym car-line) (sym drive-line)
 
   -- it is of the form of the last exactly if a height and a drive are told
-  pub last-line : isLine 5 (firstLine r) ≡ ltb (liftTold r .height) 3 && ltb (liftTold r .drive) 3
-  unfolding isLine liftTold
-  last-line = split (ltb (heightTold r) 3)
+  pub lift-line : isLast false (firstLine r) ≡ ltb (liftTold r .height) 3 && ltb (liftTold r .drive) 3
+  unfolding isLast liftTold
+  lift-line = split (ltb (heightTold r) 3)
       (λ e. ap₂ (λ (m n : ℕ). ltb m 3 && ltb n 3) height-line (drive-line (ltb-true (heightTold r) 3 e)))
       (λ e. rw (height-line, e))
 
-  module _ (e : isLine 5 (firstLine r) ≡ true) where
+  module _ (e : isLast false (firstLine r) ≡ true) where
     height-told : heightTold r < 3
     height-told = let h = told-both (firstLine r) e .0 in omega (arith, height-line)
 
-    pub last-words : firstLine r ≡ wordsOf (liftTold r)
-    last-words = words-told (firstLine r) e ∙ ap wordsOf (sym (told-line height-told))
+    pub lift-words : firstLine r ≡ liftsWords (liftTold r)
+    lift-words = words-told (firstLine r) e ∙ ap liftsWords (sym (told-line height-told))
 
-    pub last-bits : (k : ℕ) → liftDrawn (firstLine r) k ≡ liftBit (liftTold r) k
+    pub lift-bits : (k : ℕ) → liftDrawn (firstLine r) k ≡ liftBit (liftTold r) k
     unfolding liftDrawn liftBit
-    last-bits k = ap (λ (x : Lift). liftBit x k) (sym (told-line height-told))
+    lift-bits k = ap (λ (x : Lift). liftBit x k) (sym (told-line height-told))

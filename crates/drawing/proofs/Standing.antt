@@ -71,45 +71,45 @@ three-stand good s at {b₀} {b₁} {b₂} {b₃} {t₀} {t₁} {t₂} p q r u v
 
 -- ---- the first bad line, test by test as the code makes them
 
-module _ (s : List ℕ) (lift : Lift) where
-  pub bad-lift : ltb (lift .height) 3 && ltb (lift .drive) 3 ≡ false → 5 ≡ badAtEnd s lift
+module _ (w : Bool) (s : List ℕ) (lift : Lift) where
+  pub bad-lift : ltb (lift .height) 3 && ltb (lift .drive) 3 ≡ false → 5 ≡ badAtEnd w s lift
   unfolding badAtEnd
   bad-lift e = rw e
 
-  module _ (e : ltb (lift .height) 3 && ltb (lift .drive) 3 ≡ true) {n : ℕ} (p : n ≡ length (wordsOf lift)) where
-    pub bad-past : 51 + n < length s → 6 ≡ badAtEnd s lift
+  module _ (e : ltb (lift .height) 3 && ltb (lift .drive) 3 ≡ true) {n : ℕ} (p : n ≡ length (wordsOf w lift)) where
+    pub bad-past : 51 + n < length s → 6 ≡ badAtEnd w s lift
     unfolding badAtEnd
-    bad-past l = rw (e, lt-ltb (51 + length (wordsOf lift)) (length s) (omega arith))
+    bad-past l = rw (e, lt-ltb (51 + length (wordsOf w lift)) (length s) (omega arith))
 
-    pub none-bad : length s ≤ 51 + n → 7 ≡ badAtEnd s lift
+    pub none-bad : length s ≤ 51 + n → 7 ≡ badAtEnd w s lift
     unfolding badAtEnd
-    none-bad l = rw (e, le-ltb (51 + length (wordsOf lift)) (length s) (omega arith))
+    none-bad l = rw (e, le-ltb (51 + length (wordsOf w lift)) (length s) (omega arith))
 
-  module _ {a : Bool} (p : a ≡ stands 20 isMark s) where
-    pub bad-0 : not a ≡ true → 0 ≡ badAt s lift
+  module _ {a : Bool} (p : a ≡ stands 20 (isMark w) s) where
+    pub bad-0 : not a ≡ true → 0 ≡ badAt w s lift
     unfolding badAt
     bad-0 e = rw (failed p e)
 
-    module _ (x : not a ≡ false) {b : Bool} (q : b ≡ stands 10 isMark (drop 21 s)) where
-      pub bad-1 : not b ≡ true → 1 ≡ badAt s lift
+    module _ (x : not a ≡ false) {b : Bool} (q : b ≡ stands 10 (isMark w) (drop 21 s)) where
+      pub bad-1 : not b ≡ true → 1 ≡ badAt w s lift
       unfolding badAt
       bad-1 e = rw (passed p x, failed q e)
 
-      module _ (y : not b ≡ false) {c : Bool} (r : c ≡ stands 10 isMark (drop 32 s)) where
-        pub bad-2 : not c ≡ true → 2 ≡ badAt s lift
+      module _ (y : not b ≡ false) {c : Bool} (r : c ≡ stands 10 (isMark w) (drop 32 s)) where
+        pub bad-2 : not c ≡ true → 2 ≡ badAt w s lift
         unfolding badAt
         bad-2 e = rw (passed p x, passed q y, failed r e)
 
         module _ (z : not c ≡ false) {d : Bool} (t : d ≡ stands 3 isLetter (drop 43 s)) where
-          pub bad-3 : not d ≡ true → 3 ≡ badAt s lift
+          pub bad-3 : not d ≡ true → 3 ≡ badAt w s lift
           unfolding badAt
           bad-3 e = rw (passed p x, passed q y, passed r z, failed t e)
 
           module _ (u : not d ≡ false) {f : Bool} (v : f ≡ stands 3 isLetter (drop 47 s)) where
-            pub bad-4 : not f ≡ true → 4 ≡ badAt s lift
+            pub bad-4 : not f ≡ true → 4 ≡ badAt w s lift
             unfolding badAt
             bad-4 e = rw (passed p x, passed q y, passed r z, passed t u, failed v e)
 
-            pub bad-later : not f ≡ false → badAtEnd s lift ≡ badAt s lift
+            pub bad-later : not f ≡ false → badAtEnd w s lift ≡ badAt w s lift
             unfolding badAt
             bad-later e = rw (passed p x, passed q y, passed r z, passed t u, passed v e)

@@ -1,14 +1,14 @@
 -- What a text tells of the lift, test by test as the code makes them. Assumes nothing.
-use mathlib.Core.Path.{_≡_, sym, ap, _∙_}
-use mathlib.Core.Bool.{Bool, true, false, cond}
+use mathlib.Core.Path.{_≡_, refl, sym, ap, ap₂, _∙_}
+use mathlib.Core.Bool.{Bool, true, false, cond, _||_}
 use mathlib.Core.List.{List}
 use Prim.Native.Nat.{ℕ, _+_}
 use lib.ListN.{length, drop}
 use lib.Seq.{drop-drop}
 use Rattle.drawing.specs.declared.Lift.{Lift}
-use Rattle.drawing.specs.Drawing.{endedLine, heightName, carWord, driveWord}
+use Rattle.drawing.specs.Drawing.{endedLine, heightName, carWord, driveWord, apartWords}
 use Rattle.drawing.specs.Reading.{begins, textAfter, heightTold, carTold}
-use Rattle.drawing.specs.Private.{driveBegun, liftTold}
+use Rattle.drawing.specs.Private.{driveBegun, liftTold, apartLift, apartTold}
 use Rattle.drawing.proofs.Words.{lift-alike}
 
 -- the number of the first of three tests that passes, 3 where none does
@@ -69,6 +69,19 @@ module _ (s : List ℕ) {a : Bool} (p : a ≡ begins (endedLine (driveWord 0)) s
       pub is-no-drive : d ≡ false → 3 ≡ driveBegun s
       unfolding driveBegun
       is-no-drive = none _ _ _ p x q y r
+
+-- whether the lift is set apart
+module _ (s : List ℕ) {a b : Bool} (p : a ≡ begins (apartWords true) s) (q : b ≡ begins (apartWords false) s) where
+  either : a || b ≡ begins (apartWords true) s || begins (apartWords false) s
+  either = ap₂ (λ (x y : Bool). x || y) p q
+
+  pub apart-is : {l : Lift} → a || b ≡ true → l ≡ apartLift a → l ≡ apartTold s
+  unfolding apartTold
+  apart-is e x = x ∙ rw (sym either ∙ e) (lift-alike refl p refl)
+
+  pub apart-none : a || b ≡ false → _≡_ {A = Lift} (record { height = 3; car = a; drive = 0 }) (apartTold s)
+  unfolding apartTold
+  apart-none e = rw (sym either ∙ e) (lift-alike refl p refl)
 
 -- the text from the place after a word on
 pub after-word : (s : List ℕ) (at n : ℕ) (word : List ℕ) → n ≡ length word → drop (at + n) s ≡ textAfter word (drop at s)

@@ -11,7 +11,8 @@ use borrow.Author.Tests.{ne-eqb}
 use Rattle.bits.proofs.Cases.{split}
 use Rattle.codec.specs.Text.{ascii}
 use Rattle.drawing.specs.declared.Lift.{Lift}
-use Rattle.drawing.specs.Drawing.{endedLine, heightName, carWord, driveWord, liftWords}
+use Rattle.drawing.specs.Drawing.{endedLine, heightName, carWord, driveWord, liftWords, apartWords}
+use Rattle.drawing.specs.Private.{wordsOf}
 
 -- ---- lengths
 
@@ -75,6 +76,17 @@ module _ (h : ℕ) (car : Bool) (d : ℕ) where
           let k : i - n ≡ length (carWord car) + (i - (n + m)) = omega arith in
           sym (ap (λ (j : ℕ). getD (carWord car ++ endedLine (driveWord d)) j 0) k ∙ getD-append-add (carWord car) (endedLine (driveWord d)) (i - (n + m)) 0)
           ∙ past-name (omega arith)
+
+-- the words of the last line are short too
+pub apart-short : (b : Bool) → length (apartWords b) ≤ 5
+unfolding ascii
+apart-short true = omega arith
+apart-short false = omega arith
+
+pub last-short : (w : Bool) (lift : Lift) → length (wordsOf w lift) ≤ 17
+unfolding wordsOf
+last-short true lift = omega (arith, apart-short (lift .car))
+last-short false lift = words-short (lift .height) (lift .car) (lift .drive)
 
 -- what is told of the lift, part by part
 pub lift-alike : {h k : ℕ} {a b : Bool} {d e : ℕ} → h ≡ k → a ≡ b → d ≡ e

@@ -1,8 +1,9 @@
--- Document 02's floor on paper: a record as six lines of text. What is set apart is not drawn. Assumes nothing.
+-- Document 02's floor on paper: a record as six lines of text; and what is set apart, in a second drawing of six such lines. What is given
+-- `w` is of both: `false` of a record, `true` of what is set apart. Assumes nothing.
 use mathlib.Core.Path.{_≡_}
 use mathlib.Core.Bool.{Bool, true, false, cond}
 use mathlib.Core.List.{List, [], _∷_, _++_, map}
-use Prim.Native.Nat.{ℕ, _+_, _*_}
+use Prim.Native.Nat.{ℕ, _+_, _*_, _^_}
 use lib.Dec.{eqb, ltb}
 use lib.ListN.{length, drop}
 use Rattle.bits.specs.Bits.{Bits, bit, digit}
@@ -14,12 +15,12 @@ use Rattle.drawing.specs.declared.Written.{Written}
 
 -- ---- the lines
 
--- the mark of a cell: `#` occupied, `.` free
-abbrev pub mark : Bool → ℕ
-mark true = 35
-mark false = 46
+-- the mark of a cell: `#` occupied, or `x` set apart; `.` where it isn't
+abbrev pub mark : Bool → Bool → ℕ
+mark w true = cond w 120 35
+mark w false = 46
 
--- the letter of a shuttle's position, by what is there, lowered and tilted: `L`, `T`, `B` for both, `-` for none
+-- the letter of a shuttle's position, by which of its slots are occupied or set apart, lowered and tilted: `L`, `T`, `B` for both, `-` for none
 abbrev pub letter : Bool → Bool → ℕ
 letter true true = 66
 letter true false = 76
@@ -34,8 +35,8 @@ abbrev pub endedLine : List ℕ → List ℕ
 endedLine s = s ++ (lineFeed ∷ [])
 
 -- a row's line: the marks of its cells
-unfoldable pub floorLine : ℕ → Bits → List ℕ
-floorLine row f = endedLine (map (λ k. mark (f k)) (rowCells row))
+unfoldable pub floorLine : Bool → ℕ → Bits → List ℕ
+floorLine w row f = endedLine (map (λ k. mark w (f k)) (rowCells row))
 
 -- a side's line: the letter of each row
 unfoldable pub shuttleLine : ℕ → Bits → List ℕ
@@ -66,17 +67,29 @@ liftWords h car drive = endedLine (heightName h ++ (carWord car ++ driveWord dri
 unfoldable pub liftLine : Bits → List ℕ
 liftLine f = liftWords (drawnHeight f) (f raisedCar) (driveOf f)
 
+-- where it is set apart, `lift`, else `-`
+abbrev pub apartWords : Bool → List ℕ
+apartWords b = endedLine (cond b (ascii "lift") (ascii "-"))
+
+-- the last line
+unfoldable pub lastLine : Bool → Bits → List ℕ
+lastLine w f = cond w (apartWords (f raisedCar)) (liftLine f)
+
 -- ---- the drawing
 
 -- its six lines: three of the floor, the shuttles of the left and of the right, the lift
-abbrev pub drawingLines : Bits → List (List ℕ)
-drawingLines f = floorLine 1 f ∷ floorLine 2 f ∷ floorLine 3 f ∷ shuttleLine left f ∷ shuttleLine right f ∷ liftLine f ∷ []
+abbrev pub drawingLines : Bool → Bits → List (List ℕ)
+drawingLines w f = floorLine w 1 f ∷ floorLine w 2 f ∷ floorLine w 3 f ∷ shuttleLine left f ∷ shuttleLine right f ∷ lastLine w f ∷ []
 
 -- one after the other
-unfoldable pub drawn : Bits → List ℕ
-drawn f = join (drawingLines f)
+unfoldable pub drawn : Bool → Bits → List ℕ
+drawn w f = join (drawingLines w f)
 
--- ---- a record written as its drawing
+-- which numbers have one: sound records, and of what is set apart those of the 53 parts
+abbrev pub hasDrawing : Bool → ℕ → Bool
+hasDrawing w r = cond w (ltb r (2 ^ 53)) (sound r)
+
+-- ---- a number written as its drawing
 
 -- what a call that writes says, and what it leaves in the room
 pub record DrawingWriting : Type 0 where
@@ -91,11 +104,11 @@ LeavesDrawing w r room = (r ≡ w .says) × (room ≡ w .leaves)
 abbrev pub unwritten : ℕ → List ℕ → DrawingWriting
 unwritten number room = record { says = record { number = number; size = 0 }; leaves = room }
 
--- 15 for a record that isn't sound; then 17 exactly if the room is shorter than the text; bytes past the text keep their values
-unfoldable pub writingDrawing : ℕ → List ℕ → DrawingWriting
-writingDrawing r room =
-    let text = drawn (bit r) in
-    cond (sound r)
+-- 15 for a number that has none; then 17 exactly if the room is shorter than the text; bytes past the text keep their values
+unfoldable pub writingDrawing : Bool → ℕ → List ℕ → DrawingWriting
+writingDrawing w r room =
+    let text = drawn w (bit r) in
+    cond (hasDrawing w r)
     (cond (ltb (length room) (length text)) (unwritten 17 room)
     (record { says = record { number = 0; size = length text }; leaves = text ++ drop (length text) room }))
     (unwritten 15 room)

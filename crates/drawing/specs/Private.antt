@@ -3,7 +3,7 @@
 use mathlib.Core.Path.{_≡_}
 use mathlib.Core.Bool.{Bool, true, false, cond, _&&_, _||_}
 use mathlib.Core.List.{List, [], _∷_, _++_}
-use Prim.Native.Nat.{ℕ, zero, suc, _+_, _*_, _-_, _/_, _%_, _^_, min}
+use Prim.Native.Nat.{ℕ, zero, suc, _+_, _*_, _-_, _/_, _%_, _^_, _≤_, _<_, min}
 use lib.Dec.{eqb, ltb}
 use lib.ListN.{length, getD, drop}
 use Rattle.bits.specs.Bits.{Bits, bit}
@@ -11,9 +11,9 @@ use Rattle.bits.specs.Search.{every}
 use Rattle.floor.specs.Floor.{raisedCar, heightLow, heightHigh, driveIn, driveOut}
 use Rattle.drawing.specs.declared.Lift.{Lift}
 use Rattle.drawing.specs.declared.Gathered.{Gathered}
-use Rattle.drawing.specs.Drawing.{mark, letter, lineFeed, endedLine, heightName, carWord, driveWord, drawnHeight, driveOf, liftWords}
+use Rattle.drawing.specs.Drawing.{mark, letter, lineFeed, endedLine, heightName, carWord, driveWord, drawnHeight, driveOf, liftWords, apartWords}
 use Rattle.drawing.specs.Reading.{begins, textAfter, heightTold, carTold, isMark, isLetter}
-use Rattle.drawing.specs.Hex.{digitOf, unblanked, hexDigit}
+use Rattle.drawing.specs.Hex.{unblanked, hexDigit}
 
 -- the list f 0, f 1, .. of n elements
 unfoldable pub table : {A : Type 0} → ℕ → (ℕ → A) → List A
@@ -31,8 +31,8 @@ unfoldable pub grid : (ℕ → ℕ) → List (List ℕ)
 grid f = table 3 (λ i. table 20 (λ j. f (cellAt i j)))
 
 -- the mark of cell k on a record, and in a text; 0 where there is no cell
-unfoldable pub cellMark : Bits → ℕ → ℕ
-cellMark f k = cond (ltb k 40) (mark (f k)) 0
+unfoldable pub cellMark : Bool → Bits → ℕ → ℕ
+cellMark w f k = cond (ltb k 40) (mark w (f k)) 0
 
 unfoldable pub markIn : List ℕ → ℕ → ℕ
 markIn s k = cond (ltb k 20) (getD s k 0) (cond (ltb k 30) (getD s (k + 1) 0) (cond (ltb k 40) (getD s (k + 2) 0) 0))
@@ -44,9 +44,9 @@ rowOfCell k = cond (ltb k 20) 0 (cond (ltb k 30) 1 2)
 unfoldable pub placeInRow : ℕ → ℕ
 placeInRow k = cond (ltb k 20) k (cond (ltb k 30) (k - 20) (cond (ltb k 40) (k - 30) 0))
 
--- cell k of a grid is marked as occupied
-abbrev pub occupied : List (List ℕ) → Bits
-occupied g k = eqb (getD (getD g (rowOfCell k) []) (placeInRow k) 0) (mark true)
+-- cell k of a grid is marked
+abbrev pub occupied : Bool → List (List ℕ) → Bits
+occupied w g k = eqb (getD (getD g (rowOfCell k) []) (placeInRow k) 0) (mark w true)
 
 -- ---- a drawing byte by byte
 
@@ -64,16 +64,27 @@ upperAt g f t =
     (cond (ltb t 50) (letter (f (t - 4)) (f (t - 4 + 6)))
     lineFeed))))))))
 
--- what a record shows of the lift, and its line
+-- what a record shows of the lift
 unfoldable pub liftOf : Bits → Lift
 liftOf f = record { height = drawnHeight f; car = f raisedCar; drive = driveOf f }
 
-abbrev pub wordsOf : Lift → List ℕ
-wordsOf lift = liftWords (lift .height) (lift .car) (lift .drive)
+-- where it is set apart, that stands for a car
+abbrev pub apartLift : Bool → Lift
+apartLift b = record { height = 0; car = b; drive = 0 }
+
+unfoldable pub lastShown : Bool → Bits → Lift
+lastShown w f = cond w (apartLift (f raisedCar)) (liftOf f)
+
+-- the words of the lift's line, and of the last line
+abbrev pub liftsWords : Lift → List ℕ
+liftsWords lift = liftWords (lift .height) (lift .car) (lift .drive)
+
+unfoldable pub wordsOf : Bool → Lift → List ℕ
+wordsOf w lift = cond w (apartWords (lift .car)) (liftsWords lift)
 
 -- byte t of the whole
-unfoldable pub drawnAt : List (List ℕ) → Bits → Lift → ℕ → ℕ
-drawnAt g f lift t = cond (ltb t 51) (upperAt g f t) (getD (wordsOf lift) (t - 51) 0)
+unfoldable pub drawnAt : Bool → List (List ℕ) → Bits → Lift → ℕ → ℕ
+drawnAt w g f lift t = cond (ltb t 51) (upperAt g f t) (getD (wordsOf w lift) (t - 51) 0)
 
 -- ---- a text at its fixed places
 
@@ -94,18 +105,27 @@ liftTold s =
       drive = driveBegun (textAfter (carWord (carTold s)) (textAfter (heightName (heightTold s)) s));
     }
 
--- the first bad line, where the last tells this of the lift: of the last two, and of all
-unfoldable pub badAtEnd : List ℕ → Lift → ℕ
-badAtEnd s lift = cond (ltb (lift .height) 3 && ltb (lift .drive) 3) (cond (ltb (51 + length (wordsOf lift)) (length s)) 6 7) 5
+-- what a text that begins with the other last line tells
+unfoldable pub apartTold : List ℕ → Lift
+apartTold s =
+    let lift = begins (apartWords true) s in
+    record { height = cond (lift || begins (apartWords false) s) 0 3; car = lift; drive = 0 }
 
-unfoldable pub badAt : List ℕ → Lift → ℕ
-badAt s lift =
-    cond (stands 20 isMark s)
-    (cond (stands 10 isMark (drop 21 s))
-    (cond (stands 10 isMark (drop 32 s))
+unfoldable pub lastTold : Bool → List ℕ → Lift
+lastTold w s = cond w (apartTold s) (liftTold s)
+
+-- the first bad line, where the last tells this of the lift: of the last two, and of all
+unfoldable pub badAtEnd : Bool → List ℕ → Lift → ℕ
+badAtEnd w s lift = cond (ltb (lift .height) 3 && ltb (lift .drive) 3) (cond (ltb (51 + length (wordsOf w lift)) (length s)) 6 7) 5
+
+unfoldable pub badAt : Bool → List ℕ → Lift → ℕ
+badAt w s lift =
+    cond (stands 20 (isMark w) s)
+    (cond (stands 10 (isMark w) (drop 21 s))
+    (cond (stands 10 (isMark w) (drop 32 s))
     (cond (stands 3 isLetter (drop 43 s))
     (cond (stands 3 isLetter (drop 47 s))
-    (badAtEnd s lift)
+    (badAtEnd w s lift)
     4) 3) 2) 1) 0
 
 -- slot n of twelve
@@ -125,8 +145,8 @@ liftBit lift k =
     false))))
 
 -- the bits of a grid, a text and its lift
-unfoldable pub bitsAt : List (List ℕ) → List ℕ → Lift → Bits
-bitsAt g s lift k = cond (ltb k 40) (occupied g k) (cond (ltb k 52) (slotRead s (k - 40)) (liftBit lift k))
+unfoldable pub bitsAt : Bool → List (List ℕ) → List ℕ → Lift → Bits
+bitsAt w g s lift k = cond (ltb k 40) (occupied w g k) (cond (ltb k 52) (slotRead s (k - 40)) (liftBit lift k))
 
 -- ---- images in hex
 
@@ -136,11 +156,7 @@ hexAt r t =
     let b = r / 2 ^ (8 * (t / 3)) % 256 in
     cond (eqb (t % 3) 0) (hexDigit (b / 16)) (cond (eqb (t % 3) 1) (hexDigit (b % 16)) (cond (eqb t 23) lineFeed 32))
 
--- what is gathered of a text: how many bytes are no blanks, up to seventeen, and, where they are sixteen, these
+-- what is gathered of a text: how many bytes are no blanks, up to 33, and, where they are no more than 32, these
 pub record Gathers (s : List ℕ) (r : Gathered) : Type 0 where
-  pub many : r .count ≡ min 17 (length (unblanked s))
-  pub held : r .count ≡ 16 → r .bytes ≡ unblanked s
-
--- sixteen bytes are digits
-abbrev pub areDigits : List ℕ → Bool
-areDigits d = every 16 (λ j. ltb (digitOf (getD d j 0)) 16)
+  pub many : r .count ≡ min 33 (length (unblanked s))
+  pub held : r .count ≤ 32 → (j : ℕ) → j < r .count → getD (r .bytes) j 0 ≡ getD (unblanked s) j 0

@@ -1,4 +1,5 @@
--- A drawing read: which of its lines is the first that isn't of its form, and the record that a text of this form draws. Assumes nothing.
+-- A drawing read: which of its lines is the first that isn't of its form, and the number that a text of this form draws. What is given `w`
+-- is of both drawings, as in Drawing. Assumes nothing.
 use mathlib.Core.Bool.{Bool, true, false, not, cond, _&&_, _||_}
 use mathlib.Core.List.{List, [], _∷_}
 use Prim.Native.Nat.{ℕ, zero, suc, _+_, _-_, _/_, _%_}
@@ -8,9 +9,8 @@ use Rattle.bits.specs.Bits.{Bits, bit, image}
 use Rattle.bits.specs.Search.{every, least}
 use Rattle.floor.specs.Floor as floor
 use Rattle.floor.specs.Floor.{raisedCar, heightLow, heightHigh}
-use Rattle.floor.specs.Sound.{sound}
 use Rattle.drawing.specs.declared.Found.{Found}
-use Rattle.drawing.specs.Drawing.{mark, letter, lineFeed, endedLine, heightName, carWord, driveWord}
+use Rattle.drawing.specs.Drawing.{mark, letter, lineFeed, endedLine, heightName, carWord, driveWord, apartWords, hasDrawing}
 
 -- ---- lines
 
@@ -37,8 +37,8 @@ byteAt j l = getD l j 0
 unfoldable pub each : ℕ → (ℕ → Bool) → List ℕ → Bool
 each n good l = eqb (length l) (suc n) && every n (λ j. good (byteAt j l)) && eqb (byteAt n l) lineFeed
 
-abbrev pub isMark : ℕ → Bool
-isMark b = eqb b (mark true) || eqb b (mark false)
+abbrev pub isMark : Bool → ℕ → Bool
+isMark w b = eqb b (mark w true) || eqb b (mark w false)
 
 abbrev pub isLetter : ℕ → Bool
 isLetter b = eqb b (letter true true) || eqb b (letter true false) || eqb b (letter false true) || eqb b (letter false false)
@@ -71,36 +71,40 @@ driveTold l =
     let rest = textAfter (carWord (carTold l)) (textAfter (heightName (heightTold l)) l) in
     cond (same rest (endedLine (driveWord 0))) 0 (cond (same rest (endedLine (driveWord 1))) 1 (cond (same rest (endedLine (driveWord 2))) 2 3))
 
--- twenty marks, ten, ten; three letters, and three; a height, then a car or none, then a drive or none
-unfoldable pub isLine : ℕ → List ℕ → Bool
-isLine j l =
-    cond (eqb j 0) (each 20 isMark l)
-    (cond (ltb j 3) (each 10 isMark l)
+-- the form of the last line: a height, then a car or none, then a drive or none; or whether the lift is set apart
+unfoldable pub isLast : Bool → List ℕ → Bool
+isLast w l = cond w (same l (apartWords true) || same l (apartWords false)) (ltb (heightTold l) 3 && ltb (driveTold l) 3)
+
+-- twenty marks, ten, ten; three letters, and three; the last line
+unfoldable pub isLine : Bool → ℕ → List ℕ → Bool
+isLine w j l =
+    cond (eqb j 0) (each 20 (isMark w) l)
+    (cond (ltb j 3) (each 10 (isMark w) l)
     (cond (ltb j 5) (each 3 isLetter l)
-    (ltb (heightTold l) 3 && ltb (driveTold l) 3)))
+    (isLast w l)))
 
 -- line j is bad; past the last line, 6, any text is
-unfoldable pub badLine : List ℕ → ℕ → Bool
-badLine s j = cond (ltb j 6) (not (isLine j (lineAt j s))) (ltb 0 (length (fromLine 6 s)))
+unfoldable pub badLine : Bool → List ℕ → ℕ → Bool
+badLine w s j = cond (ltb j 6) (not (isLine w j (lineAt j s))) (ltb 0 (length (fromLine 6 s)))
 
 -- the first bad line, or 7 where there is none
-abbrev pub firstBad : List ℕ → ℕ
-firstBad s = least 7 (badLine s)
+abbrev pub firstBad : Bool → List ℕ → ℕ
+firstBad w s = least 7 (badLine w s)
 
--- ---- the record of a text of this form
+-- ---- the number of a text of this form
 
--- cell k is marked as occupied: in row 1 twenty, in rows 2 and 3 ten each
-unfoldable pub cellIn : List ℕ → Bits
-cellIn s k =
-    cond (ltb k 20) (eqb (byteAt k (lineAt 0 s)) (mark true))
-    (cond (ltb k 30) (eqb (byteAt (k - 20) (lineAt 1 s)) (mark true))
-    (eqb (byteAt (k - 30) (lineAt 2 s)) (mark true)))
+-- cell k is marked as occupied or set apart: in row 1 twenty, in rows 2 and 3 ten each
+unfoldable pub cellIn : Bool → List ℕ → Bits
+cellIn w s k =
+    cond (ltb k 20) (eqb (byteAt k (lineAt 0 s)) (mark w true))
+    (cond (ltb k 30) (eqb (byteAt (k - 20) (lineAt 1 s)) (mark w true))
+    (eqb (byteAt (k - 30) (lineAt 2 s)) (mark w true)))
 
 -- the letter of slot n of twelve: of the six of either orientation three are the left side's
 abbrev pub letterIn : List ℕ → ℕ → ℕ
 letterIn s n = byteAt (n % 3) (lineAt (3 + n / 3 % 2) s)
 
--- a shuttle is drawn in slot n: the first six are lowered, the others tilted
+-- slot n is drawn as occupied or set apart: the first six are lowered, the others tilted
 unfoldable pub slotIn : List ℕ → Bits
 slotIn s n =
     eqb (letterIn s n) (letter true true)
@@ -116,9 +120,16 @@ liftDrawn l k =
     (cond (eqb k floor.driveOut) (eqb (driveTold l) 2)
     false))))
 
+-- the lift's bit, where it is set apart
+unfoldable pub apartDrawn : List ℕ → Bits
+apartDrawn l k = eqb k raisedCar && same l (apartWords true)
+
+abbrev pub lastDrawn : Bool → List ℕ → Bits
+lastDrawn w l k = cond w (apartDrawn l k) (liftDrawn l k)
+
 -- the bits that a text draws
-unfoldable pub bitsIn : List ℕ → Bits
-bitsIn s k = cond (ltb k 40) (cellIn s k) (cond (ltb k 52) (slotIn s (k - 40)) (liftDrawn (lineAt 5 s) k))
+unfoldable pub bitsIn : Bool → List ℕ → Bits
+bitsIn w s k = cond (ltb k 40) (cellIn w s k) (cond (ltb k 52) (slotIn s (k - 40)) (lastDrawn w (lineAt 5 s) k))
 
 -- ---- a drawing read
 
@@ -126,9 +137,9 @@ bitsIn s k = cond (ltb k 40) (cellIn s k) (cond (ltb k 52) (slotIn s (k - 40)) (
 abbrev pub unread : ℕ → ℕ → Found
 unread number place = record { number = number; place = place; bits = 0 }
 
--- 41 with the first bad line where the text isn't of this form; then 15 where the record that it draws isn't sound
-unfoldable pub reading : List ℕ → Found
-reading s =
-    let r = image (bitsIn s) in
-    cond (ltb (firstBad s) 7) (unread 41 (firstBad s))
-    (cond (sound r) (record { number = 0; place = 255; bits = r }) (unread 15 255))
+-- 41 with the first bad line where the text isn't of this form; then 15 where the number that it draws has no drawing
+unfoldable pub reading : Bool → List ℕ → Found
+reading w s =
+    let r = image (bitsIn w s) in
+    cond (ltb (firstBad w s) 7) (unread 41 (firstBad w s))
+    (cond (hasDrawing w r) (record { number = 0; place = 255; bits = r }) (unread 15 255))

@@ -3,12 +3,12 @@ use super::Gathered;
 use super::LINE_FEED;
 ghost use mathlib.Core.Path.{_≡_};
 ghost use mathlib.Core.Bool.{true};
-ghost use Prim.Native.Nat.{_<_};
+ghost use Prim.Native.Nat.{_+_, _*_, _<_, _≤_};
 ghost use lib.Dec.{ltb};
 ghost use lib.ListN.{getD};
 ghost use Rattle.bits.specs.Search.{every};
-ghost use Rattle.drawing.specs.Hex.{digitOf, isBlank, hexNumber, hexDigit};
-ghost use Rattle.drawing.specs.Private.{hexAt, Gathers, areDigits};
+ghost use Rattle.drawing.specs.Hex.{digitOf, allDigits, isBlank, hexNumber, hexDigit};
+ghost use Rattle.drawing.specs.Private.{hexAt, Gathers};
 
 // The digit of a value.
 fn hex_digit(v: u8) -> u8
@@ -57,11 +57,11 @@ fn is_blank(b: u8) -> bool
     (b == b' ') | (b == b'\t') | (b == b'\r') | (b == LINE_FEED)
 }
 
-// The bytes of a text that are no blanks: no more than sixteen are held, and past these it is enough that there is one more.
+// The bytes of a text that are no blanks: no more than 32 are held, and past these it is enough that there is one more.
 pub fn gather(text: &[u8]) -> Gathered
     ensures { λ r. ⌜ Gathers (now (text .entry)) r ⌝ }
 {
-    let mut bytes = [0u8; 16];
+    let mut bytes = [0u8; 32];
     let mut count: usize = 0;
     let mut i: usize = 0;
     while i < text.len() {
@@ -70,8 +70,8 @@ pub fn gather(text: &[u8]) -> Gathered
         if is_blank(b) {
             continue;
         }
-        if count == 16 {
-            return Gathered { count: 17, bytes };
+        if count == 32 {
+            return Gathered { count: 33, bytes };
         }
         bytes[count] = b;
         count += 1;
@@ -79,13 +79,14 @@ pub fn gather(text: &[u8]) -> Gathered
     Gathered { count, bytes }
 }
 
-// Each of sixteen bytes is a digit.
-pub fn all_digits(sixteen: [u8; 16]) -> bool
-    ensures { λ b. ⌜ b ≡ areDigits sixteen ⌝ }
+// Each of the first n bytes is a digit.
+pub fn all_digits(n: usize, bytes: [u8; 32]) -> bool
+    requires { ⌜ n ≤ 32 ⌝ }
+    ensures { λ b. ⌜ b ≡ allDigits n bytes ⌝ }
 {
     let mut j: usize = 0;
-    while j < 16 {
-        if 16 <= digit_of(sixteen[j]) {
+    while j < n {
+        if 16 <= digit_of(bytes[j]) {
             return false;
         }
         j += 1;
@@ -93,17 +94,17 @@ pub fn all_digits(sixteen: [u8; 16]) -> bool
     true
 }
 
-// The number that sixteen digits say: two a byte, the lowest byte first.
-pub fn number_in(sixteen: [u8; 16]) -> u64
-    requires { ⌜ areDigits sixteen ≡ true ⌝ }
-    ensures { λ r. ⌜ r ≡ hexNumber 8 0 sixteen ⌝ }
+// The number that sixteen digits say, from those of some byte on: two a byte, the lowest byte first.
+pub fn number_in(first: usize, bytes: [u8; 32]) -> u64
+    requires { ⌜ (first ≤ 8) × (allDigits (2 * first + 16) bytes ≡ true) ⌝ }
+    ensures { λ r. ⌜ r ≡ hexNumber 8 first bytes ⌝ }
 {
     let mut number: u64 = 0;
     let mut k: usize = 8;
     while 0 < k {
         k -= 1;
-        let high = digit_of(sixteen[2 * k]);
-        let low = digit_of(sixteen[2 * k + 1]);
+        let high = digit_of(bytes[2 * (first + k)]);
+        let low = digit_of(bytes[2 * (first + k) + 1]);
         number = number * 256 + 16 * (high as u64) + low as u64;
     }
     number

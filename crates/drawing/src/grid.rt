@@ -1,14 +1,23 @@
 // The floor as a grid of three rows of twenty places: the first row's are half cells, of each other row's the first ten are cells. It is
-// filled from a record or from a text, and read back cell by cell.
+// filled from a number or from a text, and read back cell by cell; `apart` where the number is what is set apart.
 use super::byte;
 ghost use mathlib.Core.Path.{_≡_};
 ghost use Prim.Native.Nat.{_<_};
 ghost use lib.Dec.{eqb};
+ghost use mathlib.Core.Bool.{true};
 ghost use Rattle.bits.specs.Bits.{bit};
+ghost use Rattle.drawing.specs.Drawing.{mark};
 ghost use Rattle.drawing.specs.Private.{cellAt, grid, cellMark, markIn, rowOfCell, placeInRow, occupied};
 
-// The marks of a cell.
-pub const OCCUPIED: u8 = b'#';
+// The marks of a cell: of one that is occupied, or set apart, and of any other.
+pub fn occupied(apart: bool) -> u8
+    ensures { λ r. ⌜ r ≡ mark apart true ⌝ }
+{
+    if apart {
+        return b'x';
+    }
+    b'#'
+}
 
 pub const FREE: u8 = b'.';
 
@@ -26,13 +35,13 @@ fn cell(i: usize, j: usize) -> usize
     40
 }
 
-// The mark of a record's cell.
-fn mark(image: u64, k: usize) -> u8
-    ensures { λ r. ⌜ r ≡ cellMark (bit image) k ⌝ }
+// The mark of a number's cell.
+fn mark(apart: bool, image: u64, k: usize) -> u8
+    ensures { λ r. ⌜ r ≡ cellMark apart (bit image) k ⌝ }
 {
     if k < 40 {
         if bits::bit(image, k as u64) {
-            return OCCUPIED;
+            return occupied(apart);
         }
         return FREE;
     }
@@ -51,16 +60,16 @@ fn mark_in(text: &[u8], k: usize) -> u8
     }
 }
 
-// The grid of a record.
-pub fn grid_of(image: u64) -> [[u8; 20]; 3]
-    ensures { λ g. ⌜ g ≡ grid (cellMark (bit image)) ⌝ }
+// The grid of a number.
+pub fn grid_of(apart: bool, image: u64) -> [[u8; 20]; 3]
+    ensures { λ g. ⌜ g ≡ grid (cellMark apart (bit image)) ⌝ }
 {
     let mut g = [[0u8; 20]; 3];
     let mut i: usize = 0;
     while i < 3 {
         let mut j: usize = 0;
         while j < 20 {
-            g[i][j] = mark(image, cell(i, j));
+            g[i][j] = mark(apart, image, cell(i, j));
             j += 1;
         }
         i += 1;
@@ -107,11 +116,12 @@ fn place_of(k: usize) -> usize
     }
 }
 
-// The cell is marked as occupied.
-pub fn marked(g: [[u8; 20]; 3], k: usize) -> bool
-    ensures { λ b. ⌜ b ≡ occupied g k ⌝ }
+// The cell is marked.
+pub fn marked(apart: bool, g: [[u8; 20]; 3], k: usize) -> bool
+    ensures { λ b. ⌜ b ≡ occupied apart g k ⌝ }
 {
     let i = row_of(k);
     let j = place_of(k);
-    g[i][j] == OCCUPIED
+    let mark = occupied(apart);
+    g[i][j] == mark
 }

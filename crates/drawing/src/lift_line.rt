@@ -1,4 +1,5 @@
-// The lift's line: a height, then a car if there is one, then the drive that is under way; written byte by byte, and read.
+// The last line, written byte by byte, and read. The lift's: a height, then a car if there is one, then the drive that is under way. Of what
+// is set apart: whether the lift is, which stands where the car of a record does.
 use super::Lift;
 use super::byte;
 use floor::masks::RAISED;
@@ -6,9 +7,9 @@ ghost use mathlib.Core.Path.{_≡_};
 ghost use Prim.Native.Nat.{_≤_};
 ghost use lib.ListN.{length, getD, drop};
 ghost use Rattle.bits.specs.Bits.{bit};
-ghost use Rattle.drawing.specs.Drawing.{endedLine, heightName, carWord, driveWord, driveOf};
+ghost use Rattle.drawing.specs.Drawing.{endedLine, heightName, carWord, driveWord, driveOf, apartWords};
 ghost use Rattle.drawing.specs.Reading.{begins, heightTold};
-ghost use Rattle.drawing.specs.Private.{liftOf, wordsOf, driveBegun, liftTold, liftBit};
+ghost use Rattle.drawing.specs.Private.{liftOf, apartLift, lastShown, liftsWords, wordsOf, driveBegun, liftTold, apartTold, lastTold, liftBit};
 
 // The digits of the height and the drives, as numbers of bits.
 const HEIGHT_LOW: u64 = 53;
@@ -38,7 +39,7 @@ fn drive_of(image: u64) -> u8
 }
 
 // What a record shows of the lift.
-pub fn lift_of(image: u64) -> Lift
+fn lift_of(image: u64) -> Lift
     ensures { λ l. ⌜ l ≡ liftOf (bit image) ⌝ }
 {
     let car = bits::bit(image, RAISED);
@@ -50,6 +51,26 @@ pub fn lift_of(image: u64) -> Lift
         car,
         drive,
     }
+}
+
+// What a number shows in the last line.
+fn apart_lift(car: bool) -> Lift
+    ensures { λ l. ⌜ l ≡ apartLift car ⌝ }
+{
+    Lift {
+        height: 0,
+        car,
+        drive: 0,
+    }
+}
+
+pub fn last_of(apart: bool, image: u64) -> Lift
+    ensures { λ l. ⌜ l ≡ lastShown apart (bit image) ⌝ }
+{
+    if apart {
+        return apart_lift(bits::bit(image, RAISED));
+    }
+    lift_of(image)
 }
 
 // How long the words are.
@@ -82,10 +103,28 @@ fn end_size(drive: u8) -> usize
 }
 
 // How long the line is.
-pub fn lift_size(lift: Lift) -> usize
-    ensures { λ n. ⌜ n ≡ length (wordsOf lift) ⌝ }
+fn lift_size(lift: Lift) -> usize
+    ensures { λ n. ⌜ n ≡ length (liftsWords lift) ⌝ }
 {
     name_size(lift.height) + car_size(lift.car) + end_size(lift.drive)
+}
+
+fn apart_size(car: bool) -> usize
+    ensures { λ n. ⌜ n ≡ length (apartWords car) ⌝ }
+{
+    if car {
+        return 5;
+    }
+    2
+}
+
+pub fn last_size(apart: bool, lift: Lift) -> usize
+    ensures { λ n. ⌜ n ≡ length (wordsOf apart lift) ⌝ }
+{
+    if apart {
+        return apart_size(lift.car);
+    }
+    lift_size(lift)
 }
 
 // A byte of a height's name, and of the drive with the line's end.
@@ -110,8 +149,8 @@ fn end_byte(drive: u8, i: usize) -> u8
 }
 
 // A byte of the line.
-pub fn lift_byte(lift: Lift, i: usize) -> u8
-    ensures { λ b. ⌜ b ≡ getD (wordsOf lift) i 0 ⌝ }
+fn lift_byte(lift: Lift, i: usize) -> u8
+    ensures { λ b. ⌜ b ≡ getD (liftsWords lift) i 0 ⌝ }
 {
     let name = name_size(lift.height);
     if i < name {
@@ -122,6 +161,24 @@ pub fn lift_byte(lift: Lift, i: usize) -> u8
         return byte(b" car", i - name);
     }
     end_byte(lift.drive, i - told)
+}
+
+fn apart_byte(car: bool, i: usize) -> u8
+    ensures { λ b. ⌜ b ≡ getD (apartWords car) i 0 ⌝ }
+{
+    if car {
+        return byte(b"lift\n", i);
+    }
+    byte(b"-\n", i)
+}
+
+pub fn last_byte(apart: bool, lift: Lift, i: usize) -> u8
+    ensures { λ b. ⌜ b ≡ getD (wordsOf apart lift) i 0 ⌝ }
+{
+    if apart {
+        return apart_byte(lift.car, i);
+    }
+    lift_byte(lift, i)
 }
 
 // ---- read
@@ -178,7 +235,7 @@ fn drive_in(text: &[u8], at: usize) -> u8
 }
 
 // What a text tells of the lift.
-pub fn lift_in(text: &[u8]) -> Lift
+fn lift_in(text: &[u8]) -> Lift
     ensures { λ l. ⌜ l ≡ liftTold (drop 51 (now (text .entry))) ⌝ }
 {
     let height = height_in(text);
@@ -188,7 +245,33 @@ pub fn lift_in(text: &[u8]) -> Lift
     Lift { height, car, drive }
 }
 
-// A bit of the record that shows this of the lift.
+// Whether it tells that the lift is set apart; the height is 3 where the line tells neither.
+fn apart_in(text: &[u8]) -> Lift
+    ensures { λ l. ⌜ l ≡ apartTold (drop 51 (now (text .entry))) ⌝ }
+{
+    let car = begins(text, LIFT_LINE, b"lift\n");
+    let none = begins(text, LIFT_LINE, b"-\n");
+    if car | none {
+        return apart_lift(car);
+    }
+    Lift {
+        height: 3,
+        car,
+        drive: 0,
+    }
+}
+
+// What it tells in its last line.
+pub fn last_in(apart: bool, text: &[u8]) -> Lift
+    ensures { λ l. ⌜ l ≡ lastTold apart (drop 51 (now (text .entry))) ⌝ }
+{
+    if apart {
+        return apart_in(text);
+    }
+    lift_in(text)
+}
+
+// A bit of the number that shows this in its last line.
 pub fn lift_bit(lift: Lift, k: u64) -> bool
     ensures { λ b. ⌜ b ≡ liftBit lift k ⌝ }
 {

@@ -1,6 +1,6 @@
 -- What the entries leave, case by case. Assumes nothing.
 use mathlib.Core.Path.{_≡_, refl, ap, _∙_}
-use mathlib.Core.Bool.{false, cond}
+use mathlib.Core.Bool.{Bool, false, cond}
 use mathlib.Core.List.{List, _++_}
 use Prim.Native.Nat.{ℕ, _%_, _≤_, _<_}
 use lib.Dec.{eqb, ltb}
@@ -17,11 +17,11 @@ use Rattle.drawing.specs.Drawing.{writingDrawing}
 use Rattle.drawing.specs.Reading.{reading}
 use Rattle.drawing_c.specs.Entries.{writtenSaid, drawnInto, foundSaid, recordKept, readInto}
 
--- a record that is drawn
-pub written : (r : ℕ) (room : List ℕ) (w : Written) {last : List ℕ} {n : ℕ} → drawing.LeavesDrawing (writingDrawing r room) w last → n ≡ writtenSaid w
-    → LeavesRoom (drawnInto r room) n last
+-- a number that is drawn
+pub written : (w : Bool) (r : ℕ) (room : List ℕ) (d : Written) {last : List ℕ} {n : ℕ} → drawing.LeavesDrawing (writingDrawing w r room) d last → n ≡ writtenSaid d
+    → LeavesRoom (drawnInto w r room) n last
 unfolding drawnInto
-written r room w l e = (e ∙ ap writtenSaid (l .0), l .1)
+written w r room d l e = (e ∙ ap writtenSaid (l .0), l .1)
 
 -- what reading found, as it is told
 pub is-kept : (f : Found) (room : List ℕ) {b : List ℕ} {n r : ℕ} {last : List ℕ} → f .number < 256 → n ≡ foundSaid f → b ≡ littleEndian 8 (f .bits)
@@ -36,11 +36,11 @@ is-kept f room {b} h e d l w =
     (t .0, t .1 ∙ ap (λ (x : List ℕ). cond (eqb (f .number) 0) (x ++ drop 8 room) room) d)
 
 -- a drawing that is read
-module _ (text room : List ℕ) {n : ℕ} where
-  pub no-room : length room < 8 → n ≡ returned NoRoom → LeavesRoom (readInto text room) n room
+module _ (w : Bool) (text room : List ℕ) {n : ℕ} where
+  pub no-room : length room < 8 → n ≡ returned NoRoom → LeavesRoom (readInto w text room) n room
   unfolding readInto
   no-room h e = rw (lt-ltb (length room) 8 h) (e, refl)
 
-  pub is-read : {f : Found} {last : List ℕ} → 8 ≤ length room → f ≡ reading text → LeavesRoom (recordKept f room) n last → LeavesRoom (readInto text room) n last
+  pub is-read : {f : Found} {last : List ℕ} → 8 ≤ length room → f ≡ reading w text → LeavesRoom (recordKept f room) n last → LeavesRoom (readInto w text room) n last
   unfolding readInto
   is-read h e l = rw (le-ltb (length room) 8 h, ← e) l

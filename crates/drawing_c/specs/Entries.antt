@@ -1,5 +1,6 @@
--- What the entries for drawings answer a host in C, and what they leave in the room that is lent to them. Assumes nothing.
-use mathlib.Core.Bool.{cond}
+-- What the entries for drawings answer a host in C, and what they leave in the room that is lent to them; `w` says of which drawing, as in
+-- drawing. Assumes nothing.
+use mathlib.Core.Bool.{Bool, cond}
 use mathlib.Core.List.{List, _++_}
 use Prim.Native.Nat.{ℕ, _+_, _*_}
 use lib.Dec.{eqb, ltb}
@@ -16,18 +17,18 @@ use Rattle.drawing.specs.Reading.{reading}
 abbrev pub writtenSaid : Written → ℕ
 writtenSaid w = w .number + 256 * nowhere + 65536 * w .size
 
--- a record is drawn: 15, then 17; the room is left as writing leaves it
-unfoldable pub drawnInto : ℕ → List ℕ → Entry
-drawnInto r room = let w = writingDrawing r room in record { says = writtenSaid (w .says); leaves = w .leaves }
+-- a number is drawn: 15, then 17; the room is left as writing leaves it
+unfoldable pub drawnInto : Bool → ℕ → List ℕ → Entry
+drawnInto w r room = let d = writingDrawing w r room in record { says = writtenSaid (d .says); leaves = d .leaves }
 
 -- what reading says as one number: its number, and 256 times its place
 abbrev pub foundSaid : Found → ℕ
 foundSaid f = f .number + 256 * f .place
 
--- what reading found is kept: the record's eight bytes, the lowest first, at the start of the room; refused, nothing is written
+-- what reading found is kept: the number's eight bytes, the lowest first, at the start of the room; refused, nothing is written
 unfoldable pub recordKept : Found → List ℕ → Entry
 recordKept f room = record { says = foundSaid f; leaves = cond (eqb (f .number) 0) (littleEndian 8 (f .bits) ++ drop 8 room) room }
 
--- a drawing is read: 17 where the room has fewer bytes than a record; then 41 with the first bad line, then 15
-unfoldable pub readInto : List ℕ → List ℕ → Entry
-readInto text room = cond (ltb (length room) 8) (noRoom room) (recordKept (reading text) room)
+-- a drawing is read: 17 where the room has fewer bytes than a number; then 41 with the first bad line, then 15
+unfoldable pub readInto : Bool → List ℕ → List ℕ → Entry
+readInto w text room = cond (ltb (length room) 8) (noRoom room) (recordKept (reading w text) room)

@@ -72,23 +72,29 @@ module _ (g : ℕ → ℕ) where
 
 -- ---- marks
 
-pub mark-word : (b : Bool) → eqb (mark b) 10 ≡ false
-mark-word true = refl
-mark-word false = refl
+pub mark-word : (w b : Bool) → eqb (mark w b) 10 ≡ false
+mark-word true true = refl
+mark-word true false = refl
+mark-word false true = refl
+mark-word false false = refl
 
-pub mark-good : (b : Bool) → isMark (mark b) ≡ true
-mark-good true = refl
-mark-good false = refl
+pub mark-good : (w b : Bool) → isMark w (mark w b) ≡ true
+mark-good true true = refl
+mark-good true false = refl
+mark-good false true = refl
+mark-good false false = refl
 
-pub mark-tells : (b : Bool) → eqb (mark b) 35 ≡ b
-mark-tells true = refl
-mark-tells false = refl
+pub mark-tells : (w b : Bool) → eqb (mark w b) (mark w true) ≡ b
+mark-tells true true = refl
+mark-tells true false = refl
+mark-tells false true = refl
+mark-tells false false = refl
 
 -- a byte that is a mark is that of what it tells
-pub mark-told : (b : ℕ) (x : Bool) → isMark b ≡ true → x ≡ eqb b 35 → b ≡ mark x
-mark-told b x h e = split (eqb b 35)
-    (λ t. eqb-true b 35 t ∙ ap mark (sym (e ∙ t)))
-    (λ t. eqb-true b 46 (rw t at h) ∙ ap mark (sym (e ∙ t)))
+pub mark-told : (w : Bool) (b : ℕ) (x : Bool) → isMark w b ≡ true → x ≡ eqb b (mark w true) → b ≡ mark w x
+mark-told w b x h e = split (eqb b (mark w true))
+    (λ t. eqb-true b (mark w true) t ∙ ap (mark w) (sym (e ∙ t)))
+    (λ t. eqb-true b 46 (rw t at h) ∙ ap (mark w) (sym (e ∙ t)))
 
 -- ---- letters
 

@@ -19,14 +19,13 @@ use Rattle.floor.specs.Sound.{soundRules, sound}
 use Rattle.floor.proofs.Promises.{sound-exactly}
 use Rattle.floor.proofs.Reading.{nth-holds}
 use Rattle.codec.specs.Text.{ascii}
-use Rattle.drawing.specs.Drawing.{liftWords, drawn}
-use Rattle.drawing.specs.Reading.{lineAt, heightTold, driveTold, isLine, liftDrawn, bitsIn}
-use Rattle.drawing.specs.Private.{liftOf, wordsOf}
+use Rattle.drawing.specs.Drawing.{liftWords, apartWords, drawn, hasDrawing}
+use Rattle.drawing.specs.Reading.{lineAt, heightTold, driveTold, isLast, isLine, liftDrawn, apartDrawn, bitsIn}
+use Rattle.drawing.specs.Private.{liftOf, lastShown, liftsWords, wordsOf}
 use Rattle.drawing.proofs.LiftLines.{told-both}
 use Rattle.drawing.proofs.Drawn as drawing
-use Rattle.drawing_laws.specs.Promises.{Drawable, Formed, DrawnLength}
-use Rattle.drawing_laws.proofs.Forms.{upper-line, last-line}
-use Rattle.drawing_laws.proofs.Texts.{last-of}
+use Rattle.drawing_laws.specs.Promises.{Drawable, Shown, Formed, DrawnLength, ApartLength}
+use Rattle.drawing_laws.proofs.Forms.{upper-line, last-of, last-line}
 
 -- ---- sound records
 
@@ -34,7 +33,7 @@ use Rattle.drawing_laws.proofs.Texts.{last-of}
 sound-rule : (r : ℕ) → sound r ≡ true → (j : ℕ) → T (holds (getD soundRules j (fact true)) (bit r))
 sound-rule r s = nth-holds (bit r) soundRules (true→T (sound-exactly r .0 s .rules))
 
-pub sound-drawable : (r : ℕ) → r < 2 ^ 64 → sound r ≡ true → Drawable (bit r)
+sound-drawable : (r : ℕ) → r < 2 ^ 64 → sound r ≡ true → Drawable (bit r)
 sound-drawable r h s = record {
   height = T→true _ (sound-rule r s 10);
   drive = T→true _ (sound-rule r s 12);
@@ -42,6 +41,11 @@ sound-drawable r h s = record {
       (λ (u : k < 64). count-zero spare (bit r) (eqb→eq (count spare (bit r)) 0 (sound-rule r s 11)) k (elem-from k 57 7 l (omega arith)))
       (λ (u : 64 ≤ k). bit-past r 64 k h u) (lt-or-ge k 64);
 }
+
+-- whatever has a drawing can be shown
+pub has-shown : (w : Bool) (r : ℕ) → r < 2 ^ 64 → hasDrawing w r ≡ true → Shown w (bit r)
+has-shown true r h s = λ k l. bit-past r 53 k (ltb-true r (2 ^ 53) s) l
+has-shown false r h s = sound-drawable r h s
 
 -- ---- what a text of this form tells
 
@@ -63,30 +67,41 @@ unfolding liftDrawn
 nothing-past l k h =
     rw (ne-eqb k 52 (λ z. omega arith), ne-eqb k 53 (λ z. omega arith), ne-eqb k 54 (λ z. omega arith), ne-eqb k 55 (λ z. omega arith), ne-eqb k 56 (λ z. omega arith)) refl
 
-module _ (s : List ℕ) where
-  pub told-drawable : isLine 5 (lineAt 5 s) ≡ true → Drawable (bitsIn s)
-  unfolding bitsIn liftDrawn
-  told-drawable e = record {
-    height = one-height (heightTold (lineAt 5 s)) (told-both (lineAt 5 s) e .0);
-    drive = one-drive (driveTold (lineAt 5 s)) (told-both (lineAt 5 s) e .1);
-    rest = λ k h. last-of s k (le-ltb k 40 (omega arith)) (le-ltb k 52 (omega arith)) ∙ nothing-past (lineAt 5 s) k h;
-  }
+nothing-apart : (l : List ℕ) (k : ℕ) → 53 ≤ k → apartDrawn l k ≡ false
+unfolding apartDrawn
+nothing-apart l k h = rw (ne-eqb k 52 (λ z. omega arith)) refl
+
+told-drawable : (s : List ℕ) → isLast false (lineAt 5 s) ≡ true → Drawable (bitsIn false s)
+unfolding bitsIn liftDrawn
+told-drawable s e = record {
+  height = one-height (heightTold (lineAt 5 s)) (told-both (lineAt 5 s) e .0);
+  drive = one-drive (driveTold (lineAt 5 s)) (told-both (lineAt 5 s) e .1);
+  rest = λ k h. last-of false s k (le-ltb k 40 (omega arith)) (le-ltb k 52 (omega arith)) ∙ nothing-past (lineAt 5 s) k h;
+}
+
+pub told-shown : (w : Bool) (s : List ℕ) → isLine w 5 (lineAt 5 s) ≡ true → Shown w (bitsIn w s)
+unfolding isLine
+told-shown true s e = λ k h. last-of true s k (le-ltb k 40 (omega arith)) (le-ltb k 52 (omega arith)) ∙ nothing-apart (lineAt 5 s) k h
+told-shown false s e = told-drawable s e
+
+module _ (w : Bool) (s : List ℕ) where
 
   -- what the first five lines tell, with the lift at street and empty
   abbrev upper : Bits
-  upper k = cond (ltb k 52) (bitsIn s k) false
+  upper k = cond (ltb k 52) (bitsIn w s k) false
 
-  upper-drawable : Drawable upper
-  upper-drawable = record { height = refl; drive = refl; rest = λ k h. rw (le-ltb k 52 (omega arith)) refl }
+  upper-shown : (v : Bool) → Shown v upper
+  upper-shown true = λ k h. rw (le-ltb k 52 (omega arith)) refl
+  upper-shown false = record { height = refl; drive = refl; rest = λ k h. rw (le-ltb k 52 (omega arith)) refl }
 
-  -- a line that is of its form is some record's
-  pub line-formed : (j : ℕ) → j < 6 → isLine j (lineAt j s) ≡ true → Formed j (lineAt j s)
+  -- a line that is of its form is something's
+  pub line-formed : (j : ℕ) → j < 6 → isLine w j (lineAt j s) ≡ true → Formed w j (lineAt j s)
   line-formed j h e = split (ltb j 5)
-      (λ t. (upper, upper-drawable, upper-line s upper (λ k l. rw (lt-ltb k 52 l) refl) j (ltb-true j 5 t) e))
+      (λ t. (upper, upper-shown w, upper-line w s upper (λ k l. rw (lt-ltb k 52 l) refl) j (ltb-true j 5 t) e))
       (λ t.
       let z : j ≡ 5 = omega (arith, ltb-false j 5 t) in
-      let g : isLine 5 (lineAt 5 s) ≡ true = subst (λ (n : ℕ). isLine n (lineAt n s) ≡ true) z e in
-      subst (λ (n : ℕ). Formed n (lineAt n s)) (sym z) (bitsIn s, told-drawable g, last-line s (bitsIn s) (λ k p q. refl) g))
+      let g : isLine w 5 (lineAt 5 s) ≡ true = subst (λ (n : ℕ). isLine w n (lineAt n s) ≡ true) z e in
+      subst (λ (n : ℕ). Formed w n (lineAt n s)) (sym z) (bitsIn w s, told-shown w s g, last-line w s (bitsIn w s) (λ k p q. refl) g))
 
 -- ---- how long a sound record's drawing is
 
@@ -129,15 +144,23 @@ fits low high coming going =
     (each-at (λ l. each (λ h. each (λ c. each (λ g. each (fitting l h c g))))) all-fit low) high) coming) going)
 
 pub drawn-length : DrawnLength
-unfolding liftOf
+unfolding liftOf lastShown wordsOf
 drawn-length r s =
     let f = bit r in
-    let n = length (wordsOf (liftOf f)) in
+    let n = length (liftsWords (liftOf f)) in
     let rules : T (kept (f heightLow) (f heightHigh) (f driveIn) (f driveOut) (f raisedCar)) =
     and-T (heightKept (f heightLow) (f heightHigh)) (drivesKept (f heightLow) (f heightHigh) (f driveIn) (f driveOut) && carKept (f heightLow) (f heightHigh) (f raisedCar)) (sound-rule r s 10)
     (and-T (drivesKept (f heightLow) (f heightHigh) (f driveIn) (f driveOut)) (carKept (f heightLow) (f heightHigh) (f raisedCar)) (sound-rule r s 13) (sound-rule r s 7)) in
     let t : T (short n) = under (kept (f heightLow) (f heightHigh) (f driveIn) (f driveOut) (f raisedCar)) (short n) (T→true (kept (f heightLow) (f heightHigh) (f driveIn) (f driveOut) (f raisedCar)) rules) (fits (f heightLow) (f heightHigh) (f driveIn) (f driveOut) (f raisedCar)) in
     let a : 7 ≤ n = leb→le 7 n (and-l (leb 7 n) (leb n 15) t) in
     let b : n ≤ 15 = leb→le n 15 (and-r (leb 7 n) (leb n 15) t) in
-    let e : length (drawn f) ≡ 51 + n = drawing.drawn-length f in
+    let e : length (drawn false f) ≡ 51 + n = drawing.drawn-length false f in
     (omega arith, omega arith)
+
+pub apart-length : ApartLength
+unfolding lastShown wordsOf ascii
+apart-length a = drawing.drawn-length true (bit a) ∙ words (bit a raisedCar)
+  where
+    words : (b : Bool) → 51 + length (apartWords b) ≡ cond b 56 53
+    words true = refl
+    words false = refl

@@ -11,12 +11,13 @@ from .messages import Held
 from .plans import Grounds, Plan, Verdict, explain, judge
 from .parts import parts_in_words, parts_of
 from .program import Ended, Program
-from .record import RAISED, START, Condition, Record
+from .record import RAISED, START, Condition, Record, apart_drawing, apart_from_drawing
 from .report import Totals
 from .words import Instruction, belts, instruction, lift, rotate, shuttles, tilt
 
 __all__ = [
     "Answer", "Condition", "Desk", "Ended", "Event", "Grounds", "Held", "Instruction", "Number", "Outcome", "Plan", "Program", "RAISED",
-    "Record", "Refused", "START", "Station", "Totals", "Verdict", "Whereabouts", "belts", "explain", "instruction", "journals", "judge",
-    "lift", "messages", "parts_in_words", "parts_of", "rotate", "shuttles", "tilt", "version",
+    "Record", "Refused", "START", "Station", "Totals", "Verdict", "Whereabouts", "apart_drawing", "apart_from_drawing", "belts",
+    "explain", "instruction", "journals", "judge", "lift", "messages", "parts_in_words", "parts_of", "rotate", "shuttles", "tilt",
+    "version",
 ]

@@ -40,6 +40,8 @@ ENTRIES = {
     "plan_explain": (U32, {"plan": BYTES, "room": ROOM}),
     "drawing_write": (U32, {"image": U64, "text": ROOM}),
     "drawing_read": (U32, {"text": BYTES, "room": ROOM}),
+    "drawing_write_apart": (U32, {"apart": U64, "text": ROOM}),
+    "drawing_read_apart": (U32, {"text": BYTES, "room": ROOM}),
     "panel_condition": (U32, {"image": U64, "five": BYTES, "c": U8, "room": ROOM}),
     "panel_cars": (U32, {"image": U64, "room": ROOM}),
     "report_start": (U32, {"totals": ROOM}),

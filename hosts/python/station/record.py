@@ -13,6 +13,19 @@ RAISED = LIFT
 CARS_SIZE, CONDITION_SIZE, CONDITIONS_MOST, DRAWING_MOST, NOT_SOUND = 31, 11, 6, 66, 255
 
 
+def apart_drawing(apart: int) -> str:
+    """What is set apart, the number, as six lines of text; refused with 15 where it has a bit above 52."""
+    room = bytearray(DRAWING_MOST)
+    return room[:taken("drawing_write_apart", apart, room)].decode("ascii")
+
+
+def apart_from_drawing(text: str) -> int:
+    """What a drawing shows as set apart. Refused with 41 and the first line that isn't of its form, from 0."""
+    room = bytearray(8)
+    taken("drawing_read_apart", text.encode(), room)
+    return int.from_bytes(room, "little")
+
+
 class Condition(NamedTuple):
     """A condition of an instruction: what is told where it is the first to fail, whether it holds, and the parts that decide it."""
 

@@ -173,8 +173,10 @@ class Plans(unittest.TestCase):
 
 class Drawings(unittest.TestCase):
     def test_the_examples(self):
-        found, read, refused = of_mark("docs/DRAWING.md", "drawing", "image", "text", "refused"), 0, 0
+        found, read, refused = of_mark("docs/DRAWING.md", "drawing", "image", "drawings", "asked", "text", "refused"), 0, 0
         for (mark, body), (then, also) in zip(found[::2], found[1::2]):
+            if mark in ("drawings", "asked"):
+                continue
             if then != "refused":
                 drawing, image = (body, also) if mark == "drawing" else (also, body)
                 record = Record.from_bytes(bytes.fromhex(image))
@@ -193,6 +195,19 @@ class Drawings(unittest.TestCase):
                 refused += 1
         self.assertGreaterEqual(read, 4)
         self.assertGreater(refused, 8)
+
+    def test_what_is_set_apart(self):
+        (_, asked), (_, drawings) = of_mark("docs/DRAWING.md", "drawings", "asked")[:2]
+        both = bytes.fromhex(asked)
+        record, apart = Record.from_bytes(both[:8]), int.from_bytes(both[8:], "little")
+        self.assertEqual(record.drawing() + station.apart_drawing(apart), drawings)
+        self.assertEqual(station.apart_from_drawing(station.apart_drawing(apart)), apart)
+        with self.assertRaises(Refused) as caught:
+            station.apart_from_drawing(record.drawing())
+        self.assertEqual((caught.exception.number, caught.exception.place), (41, 0))
+        with self.assertRaises(Refused) as caught:
+            station.apart_drawing(1 << 53)
+        self.assertEqual(caught.exception.number, 15)
 
     def test_a_record_that_is_not_sound_has_none(self):
         half = Record(1)

@@ -157,6 +157,16 @@ pub fn drawing_read(text: &[u8], room: &mut [u8]) -> Answer {
     Answer::of(unsafe { drawing::drawing_read(text.as_ptr(), text.len(), room.as_mut_ptr(), room.len()) })
 }
 
+/// Writes the drawing of what is set apart, and tells how long it is.
+pub fn drawing_write_apart(apart: u64, text: &mut [u8]) -> Result<usize, Refusal> {
+    length(unsafe { drawing::drawing_write_apart(apart, text.as_mut_ptr(), text.len()) })
+}
+
+/// Reads a drawing of what is set apart, and writes it: eight bytes. The place is that of the first line that isn't of its form.
+pub fn drawing_read_apart(text: &[u8], room: &mut [u8]) -> Answer {
+    Answer::of(unsafe { drawing::drawing_read_apart(text.as_ptr(), text.len(), room.as_mut_ptr(), room.len()) })
+}
+
 // ---- include/report.h
 
 /// Writes zeros as the totals of a new report.

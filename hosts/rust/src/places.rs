@@ -1,6 +1,8 @@
 //! Places of the floor, and parts of it.
 
 use crate::words::{word, ORIENTATIONS, ROWS, SIDES};
+#[cfg(feature = "entries")]
+use crate::{answers::Refusal, lent};
 use std::fmt;
 use std::ops::BitAnd;
 
@@ -8,6 +10,9 @@ use std::ops::BitAnd;
 const SLOT_FIRST: u8 = 40;
 /// The bit of the lift, and of a car on it while it is raised.
 const LIFT: u8 = 52;
+/// The longest drawing of parts, in bytes.
+#[cfg(feature = "entries")]
+const DRAWING_MOST: usize = 56;
 
 /// Where a car is: over a cell, in row 1 over this one and the next; or on the raised lift.
 #[derive(Clone, Copy, Debug, PartialEq, Eq, Hash)]
@@ -87,6 +92,33 @@ impl Parts {
     /// The bits of all of them, from the lowest.
     pub fn bits(self) -> impl Iterator<Item = u8> {
         (0..64).filter(move |&bit| self.has(bit))
+    }
+}
+
+#[cfg(feature = "entries")]
+impl Parts {
+    /// Their drawing, as that of what is set apart: six lines of text (docs/DRAWING.md). Refused with 15 where a bit is no part's.
+    ///
+    /// ```
+    /// use station::Parts;
+    /// let apart = Parts(3 << 11 | 1 << 52);
+    /// let drawing = apart.drawing()?;
+    /// assert_eq!(drawing, "...........xx.......\n..........\n..........\n---\n---\nlift\n");
+    /// assert_eq!(Parts::from_drawing(&drawing), Ok(apart));
+    /// # Ok::<(), station::Refusal>(())
+    /// ```
+    pub fn drawing(self) -> Result<String, Refusal> {
+        let mut text = vec![0; DRAWING_MOST];
+        let length = lent::drawing_write_apart(self.0, &mut text)?;
+        text.truncate(length);
+        Ok(String::from_utf8(text).expect("a drawing is ASCII"))
+    }
+
+    /// The parts of a drawing: 41 with the first line that isn't of its form as the place, from 0, and 6 where text follows the last.
+    pub fn from_drawing(text: &str) -> Result<Parts, Refusal> {
+        let mut room = [0; 8];
+        lent::drawing_read_apart(text.as_bytes(), &mut room).into_result()?;
+        Ok(Parts(u64::from_le_bytes(room)))
     }
 }
 

@@ -1,6 +1,6 @@
 //! Drawings: a record as text, and text as a record.
 
-use station::{lent, Number, Record, Refusal};
+use station::{lent, Number, Parts, Record, Refusal};
 
 const START: u64 = Record::START.0;
 const DRAWN: &str = "....................\n..........\n..........\nLLT\nLLT\nstreet\n";
@@ -50,4 +50,23 @@ fn short_rooms() {
     assert_eq!((lent::drawing_write(START, &mut text[..DRAWN.len()]), &text[..DRAWN.len()]), (Ok(DRAWN.len()), DRAWN.as_bytes()));
     let mut image = [0xEE; 8];
     assert_eq!((lent::drawing_read(b"", &mut image[..7]).number, image), (Number::NoRoom, [0xEE; 8]));
+}
+
+#[test]
+fn what_is_set_apart_is_drawn_and_read_back() {
+    let drawn = "..xxxxxxxxxxx.......\n..........\nx.........\n--L\nT-B\nlift\n";
+    let apart = Parts(0x1FFC | 1 << 30 | 1 << 42 | 1 << 49 | 1 << 45 | 1 << 51 | 1 << 52);
+    assert_eq!(apart.drawing().as_deref(), Ok(drawn));
+    assert_eq!(Parts::from_drawing(drawn), Ok(apart));
+    assert_eq!(Parts::NONE.drawing().map(|text| text.len()), Ok(53));
+    assert_eq!(Parts::ALL.drawing().map(|text| Parts::from_drawing(&text)), Ok(Ok(Parts::ALL)));
+    assert_eq!(Parts(1 << 53).drawing(), Err(Number::Unsound.into()));
+}
+
+#[test]
+fn neither_drawing_is_read_as_the_other() {
+    assert_eq!(Parts::NONE.drawing().map(|text| text.parse()), Ok(bad_line(5)));
+    assert_eq!(Parts::ALL.drawing().map(|text| text.parse()), Ok(bad_line(0)));
+    assert_eq!(Parts::from_drawing(DRAWN), Err(Refusal::at(Number::BadLine, 5)));
+    assert_eq!(Parts::from_drawing(&DRAWN.replacen("..", "##", 1)), Err(Refusal::at(Number::BadLine, 0)));
 }

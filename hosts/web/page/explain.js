@@ -6,10 +6,12 @@ import { readMessage } from '../messages.js';
 import { HEIGHTS, lineOf } from '../words.js';
 import { explained } from './conditions.js';
 import { some } from './dom.js';
+import { causes } from './jams.js';
 import { heightOf, hints, partsIn } from './record-words.js';
 
 const EVENTS = { 1: 'a drive-in begins', 2: 'a drive-out begins', 3: 'the drive has ended, and is done', 4: 'the drive has ended, not done' };
 export const OUTCOMES = ['failed', 'done', 'stuck'];
+const LIFT = 52n; // its bit among the parts
 
 /** What a message says: a line, and lines below it. */
 export function says(bytes) {
@@ -43,8 +45,8 @@ export function told(answer, fives = []) {
   return `${answer.number}: ${wordsOf(answer.number)}${at}`;
 }
 
-/** What stands against a message that was refused, on the station as it is. */
-export function against(library, station, bytes, answer) {
+/** What stands against a message that was refused, on the station as it is; `stuck` are the results that have set apart what is. */
+export function against(library, station, bytes, answer, stuck = []) {
   const message = readMessage(bytes), { record, apart } = station, five = message.fives?.[answer.place];
   const waits = ({ answered }) => (answered ? 'answered' : 'waits for its result');
   const set = () => station.set.map((held, at) => `set ${station.issue}, ${at}: ${lineOf(held.five)}: ${waits(held)}`);
@@ -66,8 +68,10 @@ export function against(library, station, bytes, answer) {
           : 'a drive-out begins at street, with a car on the lift'];
     case Numbers.OutOfTurn:
       return [(record >> 55n) & 1n ? 'a drive-in is under way' : (record >> 56n) & 1n ? 'a drive-out is under way' : 'no drive is under way'];
-    case Numbers.SetApart:
-      return [`set apart: ${partsIn(apart)}`, five ? `of that it touches: ${partsIn(library.area(five) & apart)}` : ''].filter(Boolean);
+    case Numbers.SetApart: {
+      const touched = five ? library.area(five) & apart : 1n << LIFT;
+      return [`set apart: ${partsIn(apart)}`, ...(five ? [`of that it touches: ${partsIn(touched)}`] : []), ...causes(library, stuck, touched)];
+    }
     case Numbers.KeptOpen:
       return [`the record has ${library.cars(record)} cars, and a drive-in begins with fewer than 27`];
     case Numbers.Unsound:

@@ -11,6 +11,7 @@ import { whereabouts } from './cards.js';
 import { Composer } from './compose.js';
 import { button, byId, copyText, download, fill, html } from './dom.js';
 import { OUTCOMES, says } from './explain.js';
+import { Jams } from './jams.js';
 import { drawFloor } from './floor.js';
 import { cardsOf, stationLink } from './link.js';
 import { played, Ticker, twoOrders, waitingIn } from './motors.js';
@@ -165,12 +166,19 @@ export class Live {
       html('div', { class: 'row' }, event(Event.EndDone, 'Ended, done'), event(Event.EndNotDone, 'Ended, not done')));
   }
 
+  /** The stuck results of what was sent that have set apart what is. */
+  stuck() {
+    const { history: sent, begun } = this, jams = new Jams(begun.set);
+    sent.forEach(({ bytes, answer }, at) => { if (answer.taken) jams.note(at, bytes); });
+    return jams.before(sent.length, (at) => sent[at].bytes);
+  }
+
   showAnswer() {
     const { last, library, note } = this, node = byId('answer');
     if (note) return fill(node, html('p', { class: 'told no' }, note));
     if (!last) return fill(node, html('p', { class: 'quiet' }, 'Nothing was sent yet.'));
     return fill(node, html('p', { class: 'sent' }, says(last.bytes).title), messageNodes(last.bytes),
-      answerNodes(library, last.before, last.bytes, last.answer, last.reply));
+      answerNodes(library, last.before, last.bytes, last.answer, last.reply, this.stuck()));
   }
 
   /** All messages that were sent, as a journal: from the station that the session began with. */

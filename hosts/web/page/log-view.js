@@ -156,7 +156,7 @@ export class LogView {
     }
     const bytes = log.message(at), { answer, reply } = answered, cars = log.numbers[at] === Numbers.Taken ? carsBrought(library, bytes) : 0;
     return fill(node, html('h3', {}, `Message ${(at + 1).toLocaleString('en')}: ${says(bytes).title}`), messageNodes(bytes),
-      this.cardsNodes(at, cars), this.oldAnswer(at, reply), answerNodes(library, before, bytes, answer, reply), ended);
+      this.cardsNodes(at, cars), this.oldAnswer(at, reply), answerNodes(library, before, bytes, answer, reply, log.stuckBefore(at)), ended);
   }
 
   /** The cards of so many cars that a message brings: those that are known, to be told by hand. */

@@ -6,6 +6,7 @@ import { Numbers, Size } from '../numbers.js';
 import { imageOf, readMessage, resultOf } from '../messages.js';
 import { Run } from '../totals.js';
 import { cardOf, cardsText, DeskRun, FOLLOWED_MOST, whereabouts } from './cards.js';
+import { Jams } from './jams.js';
 
 const EVERY = 256; // messages between two stations that are kept
 const LENT = 1 << 22; // bytes of messages that are lent at a time
@@ -21,6 +22,7 @@ export class Log {
     Object.assign(this, { library, file, desks: null, numbers: new Uint8Array(file.count), refused: [], differ: [], twice: [] });
     this.start = file.start ?? library.station().bytes;
     this.kept = this.room(this.start);
+    this.jams = new Jams(library.station(this.start).set);
   }
 
   /** Room for what is kept every so many messages, with the first in it. */
@@ -62,12 +64,13 @@ export class Log {
 
   /** Answers all messages; `breathe` is called with how many are answered. */
   async answer(breathe) {
-    const { numbers, refused, kept } = this;
+    const { numbers, refused, kept, jams } = this, { starts, bytes } = this.file;
     const ended = await this.over(breathe, (at, place, length) => {
       if (at % EVERY === 0) kept.set(whole.station(), (Size.STATION_SIZE * at) / EVERY);
       const number = whole.answer(place, length) & 255;
       numbers[at] = number;
       if (number !== Numbers.Taken) refused.push(at);
+      else jams.note(at, bytes, starts[at], starts[at + 1]);
     });
     if (!ended || (this.file.cards.size && !(await this.follow(breathe)))) return false;
     this.compare();
@@ -161,6 +164,11 @@ export class Log {
     if (cards.length && this.inside(at, cards, this.deskAt(Math.max(0, at)))) return false;
     if (cards.length) this.file.cards.set(at, cards);
     return true;
+  }
+
+  /** The stuck results that had set something apart before a message. */
+  stuckBefore(at) {
+    return this.jams.before(at, (one) => this.message(one));
   }
 
   replyTo(at) {

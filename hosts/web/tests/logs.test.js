@@ -1,9 +1,10 @@
 // Logs that begin anywhere, their cards, and links: beside desks that are followed slowly, message by message.
 import assert from 'node:assert/strict';
 import { test } from 'node:test';
-import { Append, bytesOf, Event, eventOf, hexOf, imageOf, JournalBytes, Outcome, readMessage, requestOf, resultOf, Size, START } from '../index.js';
+import { Append, bytesOf, Event, eventOf, hexOf, imageOf, instruction, JournalBytes, Outcome, readMessage, requestOf, resultOf, Size, START } from '../index.js';
 import { cardsIn, cardsText, WrongCards } from '../page/cards.js';
 import { BadFile, carsBrought, readFile, startIn } from '../page/files.js';
+import { against } from '../page/explain.js';
 import { cardsOf, garageLink, linkedIn, stationLink } from '../page/link.js';
 import { Log } from '../page/log.js';
 import { allowedSet, Seeded, traffic } from '../traffic.js';
@@ -166,4 +167,32 @@ test('links hold stations with their sets and cards, and a changed one is none',
   }
   assert.deepEqual(linkedIn(garage, garageLink(IN_USE)), { garage: IN_USE });
   for (const other of ['', '#main', '#garage=12', '#stations=00']) assert.deepEqual(linkedIn(garage, other), {});
+});
+
+test('under a 32 each stuck result is named that set apart what is touched', async () => {
+  const request = (...lines) => requestOf(lines.map(instruction)), low = 'belts row 1 left lift, lower, full', lowers = 'tilt right row 3 tilted';
+  const messages = [
+    eventOf(Event.BeginIn), eventOf(Event.EndDone), request('lift basement'), resultOf(0, 0, Outcome.Done),
+    request(low, lowers), resultOf(1, 1, Outcome.Stuck), resultOf(1, 0, Outcome.Stuck),
+    request('tilt left row 3 tilted', low), eventOf(Event.BeginIn), request(lowers),
+    imageOf(0x00491B0000001800n), request(low), resultOf(2, 0, Outcome.Stuck), request('lift street'),
+  ];
+  const why = async (all, from = 0) => {
+    const start = garage.station();
+    all.slice(0, from).forEach((message) => start.message(message));
+    const journal = new JournalBytes('jam', garage.version, start.bytes);
+    for (const message of all.slice(from)) journal.append(Append.Messages, message);
+    const log = new Log(garage, readFile(garage, 'jam.journal', journal.bytes()));
+    await log.answer(still);
+    return log.refused.map((at) => {
+      const before = log.stationAt(at), bytes = log.message(at), { answer } = before.copy().message(bytes);
+      assert.equal(answer.number, 32);
+      return against(garage, before, bytes, answer, log.stuckBefore(at)).filter((line) => line.startsWith('set apart b'));
+    });
+  };
+  const by = (at, number, set, line) => `set apart by message ${at}: instruction ${number} of set ${set}, ${line}, was stuck`;
+  assert.deepEqual(await why(messages), [[by(7, 0, 1, low)], [by(7, 0, 1, low)], [by(6, 1, 1, lowers)], [by(13, 0, 2, low)]]);
+  // a log that begins with the set outstanding, and one that begins after the jam
+  assert.deepEqual((await why(messages, 5))[0], [by(2, 0, 1, low)]);
+  assert.deepEqual((await why(messages, 7))[2], ['set apart before the first message: right row 3 lowered, right row 3 tilted']);
 });

@@ -95,6 +95,11 @@ test('drawings are read and written', () => {
   assert.ok(both >= 3);
   assert.equal(garage.drawn('....\n').answer.place, 0);
   assert.equal(garage.drawing(1n).answer.number, Numbers.Unsound);
+  const second = '..xxxxxxxxxxx.......\n..........\n..........\n---\n---\nlift\n', apart = 0x10000000001FFCn;
+  assert.equal(garage.drawingApart(apart).text, second);
+  assert.equal(garage.drawnApart(second).apart, apart);
+  assert.equal(garage.drawn(second).answer.place, 0);
+  assert.equal(garage.drawingApart(1n << 53n).answer.number, Numbers.Unsound);
 });
 
 test('messages read back', () => {

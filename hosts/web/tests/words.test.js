@@ -12,7 +12,7 @@ import { hints } from '../page/record-words.js';
 import { allowedSet, anyFive, Seeded, traffic } from '../traffic.js';
 import { blocks, garage, wrote } from './tree.js';
 
-/** A floor as docs/PANEL.md has it, a drawing or an image, and the lines behind it; undefined where it has more than a record. */
+/** A floor as the panel's pages have it, a drawing or an image, and the lines behind it; undefined where it has more than a record. */
 function floorAndLines(text) {
   const lines = text.trimEnd().split('\n').filter((line) => line !== '');
   if (/^[0-9A-Fa-f]/.test(lines[0]) && lines[0].length > 23) return undefined;
@@ -21,7 +21,7 @@ function floorAndLines(text) {
 }
 
 test('conditions are told as the panel tells them', () => {
-  const panel = blocks('docs/PANEL.md');
+  const panel = ['docs/PANEL.md', 'docs/REASONS.md'].flatMap(blocks);
   let conditions = 0;
   panel.forEach(({ word, text }, at) => {
     if (word !== 'panel' || floorAndLines(text) === undefined) return;

@@ -9,7 +9,7 @@ mod examples;
 
 use entries::drawer::{Drawer, ENTRIES, REFERENCE, WRONG};
 use examples::{drawn_ones, refused_ones, spelled_ones};
-use reference::drawing::{begins_hex, drawn, hex_line, image_in, record_in, LINES, NOT_A_DRAWING, NO_ROOM, UNSOUND};
+use reference::drawing::{apart, begins_hex, drawn, hex_line, image_in, record_in, LINES, NOT_A_DRAWING, NO_ROOM, UNSOUND};
 use reference::{sound, NO_PLACE, START};
 use shared::drawing_traffic::{any_record, changed_text, drawable_record, faulty_text, lift_settings, lines_of, sound_record, DAMAGES};
 use shared::pipes;
@@ -18,10 +18,12 @@ use std::collections::{BTreeMap, BTreeSet};
 use std::process::exit;
 use wrong::fault::{all_of, Fault};
 
-/// What a call is given: a record to be written or a text to be read.
+/// What a call is given: a record to be written or a text to be read; and the same of what is set apart.
 enum Given {
     Record(u64),
     Text(Vec<u8>),
+    Apart(u64),
+    ApartText(Vec<u8>),
 }
 
 /// A call, and the room that is lent for what comes of it.
@@ -37,19 +39,23 @@ impl Call {
         let said = match &self.given {
             Given::Record(image) => (drawer.write)(*image, &mut room),
             Given::Text(text) => (drawer.read)(text, &mut room),
+            Given::Apart(parts) => (drawer.write_apart)(*parts, &mut room),
+            Given::ApartText(text) => (drawer.read_apart)(text, &mut room),
         };
         (said, room)
     }
 
     /// As the host in C takes it; a call that is refused may write nothing.
     fn told(&self) -> Vec<u8> {
-        let (reads, image, text) = match &self.given {
+        let (entry, image, text) = match &self.given {
             Given::Record(image) => (0, *image, &[][..]),
             Given::Text(text) => (1, 0, &text[..]),
+            Given::Apart(parts) => (2, *parts, &[][..]),
+            Given::ApartText(text) => (3, 0, &text[..]),
         };
         let sizes = [text.len() as u32, self.room.len() as u32].map(u32::to_le_bytes).concat();
         let taken = u8::from(self.by(&REFERENCE).0 as u8 == 0);
-        [&[reads, taken], &image.to_le_bytes()[..], &sizes, text, &self.room].concat()
+        [&[entry, taken], &image.to_le_bytes()[..], &sizes, text, &self.room].concat()
     }
 }
 
@@ -58,32 +64,37 @@ type Told = (&'static str, u8, u8);
 
 /// All that can be told by a call.
 fn all_told() -> BTreeSet<Told> {
-    let whole = |what, numbers: [u8; 3]| numbers.map(|number| (what, number, NO_PLACE));
-    let lines = (0..=LINES as u8).map(|place| ("a text", NOT_A_DRAWING, place));
-    whole("a record", [0, UNSOUND, NO_ROOM]).into_iter().chain(whole("a text", [0, UNSOUND, NO_ROOM])).chain(lines).collect()
+    let whole = |what, numbers: &'static [u8]| numbers.iter().map(move |&number| (what, number, NO_PLACE));
+    let lines = |what| (0..=LINES as u8).map(move |place| (what, NOT_A_DRAWING, place));
+    let floor = whole("a record", &[0, UNSOUND, NO_ROOM]).chain(whole("a text", &[0, UNSOUND, NO_ROOM])).chain(lines("a text"));
+    let apart = whole("parts", &[0, UNSOUND, NO_ROOM]).chain(whole("a text of parts", &[0, NO_ROOM])).chain(lines("a text of parts"));
+    floor.chain(apart).collect()
 }
 
 /// What the program tells where it refuses something.
-const NOT_HEX: &str = "draw: not an image in hex: sixteen digits are wanted\n";
+const NOT_HEX: &str = "draw: not an image in hex: sixteen or thirty-two digits are wanted\n";
 const TOO_LONG: &str = "draw: not an image in hex: more than 65536 bytes\n";
 const NOT_SOUND: &str = "draw: 15: the record is not sound\n";
+const NO_PART: &str = "draw: 15: what is set apart has a bit above 52\n";
 
-/// So many bytes may have the sixteen digits and the blanks between them.
+/// So many bytes may have the digits and the blanks between them.
 const LONGEST_HEX: usize = 65536;
 
-fn bad_line(place: u8) -> String {
+/// The place, where the drawing's own lines come after so many.
+fn bad_line(place: u8, before: usize) -> String {
     if usize::from(place) == LINES {
         return "draw: 41, place 6: text after the last line\n".to_string();
     }
-    format!("draw: 41, place {place}: not a drawing; line {} is the first bad one\n", place + 1)
+    format!("draw: 41, place {place}: not a drawing; line {} is the first bad one\n", usize::from(place) + before + 1)
 }
 
 /// All that it can tell, of an image in hex or of a drawing; nothing where it is taken.
 fn all_lines() -> BTreeSet<(bool, String)> {
     let either = ["", NOT_SOUND].into_iter().flat_map(|line| [(true, line.to_string()), (false, line.to_string())]);
     either
-        .chain([NOT_HEX, TOO_LONG].map(|line| (true, line.to_string())))
-        .chain((0..=LINES as u8).map(|place| (false, bad_line(place))))
+        .chain([NOT_HEX, TOO_LONG, NO_PART].map(|line| (true, line.to_string())))
+        .chain((0..=LINES as u8).map(|place| (false, bad_line(place, 0))))
+        .chain((0..LINES as u8).map(|place| (false, bad_line(place, LINES))))
         .collect()
 }
 
@@ -91,16 +102,41 @@ fn is_hex(input: &[u8]) -> bool {
     input.first().is_some_and(|&first| begins_hex(first))
 }
 
+/// What it writes for hex: a drawing, or two.
+fn of_hex(input: &[u8]) -> Result<String, String> {
+    let (image, parts) = image_in(input).ok_or(NOT_HEX.to_string())?;
+    if !sound(image) {
+        return Err(NOT_SOUND.to_string());
+    }
+    match parts {
+        Some(parts) if parts >> 53 != 0 => Err(NO_PART.to_string()),
+        Some(parts) => Ok(drawn(image) + &apart::drawn(parts)),
+        None => Ok(drawn(image)),
+    }
+}
+
+/// What it writes for a drawing, or for two: what follows the sixth line is one if it begins with one of its marks.
+fn of_text(input: &[u8]) -> Result<String, String> {
+    let end = input.iter().enumerate().filter(|(_, &byte)| byte == b'\n').nth(LINES - 1).map_or(input.len(), |(at, _)| at + 1);
+    let (first, second) = input.split_at(end);
+    let two = second.first().is_some_and(|&first| apart::begins(first));
+    let line = record_in(if two { first } else { input })
+        .map(hex_line)
+        .map_err(|said| if said.number == UNSOUND { NOT_SOUND.to_string() } else { bad_line(said.place, 0) })?;
+    if !two {
+        return Ok(line);
+    }
+    apart::parts_in(second).map(|parts| line + &hex_line(parts)).map_err(|said| bad_line(said.place, LINES))
+}
+
 /// What the program writes, what it tells, and whether its status is 0.
 fn of_program(input: &[u8]) -> (Vec<u8>, String, bool) {
     let written = if is_hex(input) && input.len() > LONGEST_HEX {
         Err(TOO_LONG.to_string())
     } else if is_hex(input) {
-        image_in(input)
-            .ok_or(NOT_HEX.to_string())
-            .and_then(|image| if sound(image) { Ok(drawn(image)) } else { Err(NOT_SOUND.to_string()) })
+        of_hex(input)
     } else {
-        record_in(input).map(hex_line).map_err(|said| if said.number == UNSOUND { NOT_SOUND.to_string() } else { bad_line(said.place) })
+        of_text(input)
     };
     match written {
         Ok(text) => (text.into_bytes(), String::new(), true),
@@ -136,8 +172,8 @@ impl Run {
             return;
         }
         match given {
-            Given::Record(image) => eprintln!("drawings: {who}, record {image:#018X}: {got}, expected {expected}"),
-            Given::Text(text) => eprintln!("drawings: {who}, {:?}: {got}, expected {expected}", String::from_utf8_lossy(text)),
+            Given::Record(image) | Given::Apart(image) => eprintln!("drawings: {who}, {image:#018X}: {got}, expected {expected}"),
+            Given::Text(text) | Given::ApartText(text) => eprintln!("drawings: {who}, {:?}: {got}, expected {expected}", String::from_utf8_lossy(text)),
         }
     }
 
@@ -152,6 +188,8 @@ impl Run {
         let what = match call.given {
             Given::Record(_) => "a record",
             Given::Text(_) => "a text",
+            Given::Apart(_) => "parts",
+            Given::ApartText(_) => "a text of parts",
         };
         *self.came[by].entry((what, number, place)).or_default() += 1;
         expected.0
@@ -221,6 +259,26 @@ impl Run {
         self.read(&text, all_rooms);
         for room in if all_rooms { 0..8 } else { 0..0 } {
             self.made(Given::Text(text.clone()), room, true);
+        }
+    }
+
+    /// What is set apart, drawn into rooms that fit, just fit and don't, and read back, also by the entry for records, which takes none; and
+    /// its drawing cut, with a byte changed, and with text behind it.
+    fn parts(&mut self, parts: u64, keep: bool) {
+        for room in [0, 52, 53, 55, 56, 66] {
+            self.made(Given::Apart(parts), room, keep);
+        }
+        let text = apart::drawn(parts).into_bytes();
+        for room in [0, 7, 8, 20] {
+            self.made(Given::ApartText(text.clone()), room, keep);
+        }
+        self.made(Given::Text(text.clone()), 8, keep);
+        let (at, byte) = (self.numbers.below(text.len() as u64) as usize, self.numbers.byte());
+        let mut changed = text.clone();
+        changed[at] = [byte, b'#', b'x', b'.', b'-', b'L'][self.numbers.below(6) as usize];
+        let behind = [&text[..], &[byte]].concat();
+        for other in [changed, behind, text[..at].to_vec(), drawn(START | parts & 0xFF_FFFF_FFFF).into_bytes()] {
+            self.made(Given::ApartText(other), 8, keep);
         }
     }
 
@@ -354,6 +412,30 @@ fn cut_anywhere(run: &mut Run) {
     }
 }
 
+/// A record with what is set apart, for the program: in hex, as two drawings, and with a fault in the second.
+fn with_parts(numbers: &mut Numbers, image: u64, other: u64, parts: u64) -> Vec<Vec<u8>> {
+    let known = parts & ((1 << 53) - 1);
+    let texts = [apart::drawn(known), apart::drawn(!known & ((1 << 53) - 1))];
+    let mut inputs: Vec<Vec<u8>> =
+        [[image, parts], [image, known], [other, known]].iter().map(|two| two.map(hex_line).concat().into_bytes()).collect();
+    inputs.push((hex_line(image) + &hex_line(known) + &hex_line(0)).into_bytes());
+    for second in &texts {
+        let mut changed = second.clone().into_bytes();
+        let at = 1 + numbers.below(changed.len() as u64 - 1) as usize;
+        changed[at] = b'*';
+        inputs.extend([[drawn(image).as_bytes(), second.as_bytes()].concat(), [drawn(image).as_bytes(), &changed].concat()]);
+        for line in 0..LINES {
+            let mut lines = lines_of(second);
+            lines[line].insert(1, b'*');
+            inputs.push([drawn(image).into_bytes(), lines.concat()].concat());
+        }
+        inputs.push([drawn(image).as_bytes(), second.as_bytes(), b"."].concat());
+        inputs.push([drawn(other & !(3 << 57) | 1 << 4).as_bytes(), second.as_bytes()].concat());
+        inputs.push([drawn(image).as_bytes(), &second.as_bytes()[..at]].concat());
+    }
+    inputs
+}
+
 pub fn main(words: &[String]) {
     let [_, program, records, share, stack, host @ ..] = words else { panic!("usage: drawings PROGRAM RECORDS SHARE STACK HOST..") };
     let number = |word: &str| word.parse::<u32>().expect("a number");
@@ -365,6 +447,8 @@ pub fn main(words: &[String]) {
         let [other, drawable] = [any_record, drawable_record].map(|made| made(&mut run.numbers, image));
         run.both_ways(image, at % 100 == 0);
         run.both_ways(other, false);
+        let parts = run.numbers.next() >> [0, 11, 11, 12][run.numbers.below(4) as usize] & run.numbers.next();
+        run.parts(parts, at % 100 == 0);
         run.read(drawn(drawable).as_bytes(), false);
         let texts = [faulty_text, changed_text].map(|made| made(&mut run.numbers, image));
         texts.iter().for_each(|text| {
@@ -375,6 +459,7 @@ pub fn main(words: &[String]) {
         }
         if at % 400 == 0 {
             inputs.extend(texts.into_iter().chain([image, other].map(|image| hex_line(image).into_bytes())));
+            inputs.extend(with_parts(&mut run.numbers, image, other, parts));
         }
     }
     let most = run.by_host(&host.join(" "));

@@ -1,7 +1,7 @@
 //! The side of drawing_harness.c. Nothing is handed in that has sorts.
 
 use crate::judged::command::Command;
-use crate::judged::drawing::{read, write, NOT_A_DRAWING, NO_ROOM, UNSOUND};
+use crate::judged::drawing::{apart, read, write, NOT_A_DRAWING, NO_ROOM, UNSOUND};
 use crate::Side;
 
 /// The entries for drawings, as drawing_harness.c numbers them.
@@ -9,6 +9,8 @@ pub struct Drawing;
 
 const WRITE: u8 = 0;
 const READ: u8 = 1;
+const WRITE_APART: u8 = 2;
+const READ_APART: u8 = 3;
 
 impl Side for Drawing {
     #[cfg(feature = "wrong")]
@@ -18,9 +20,12 @@ impl Side for Drawing {
 
     fn call(&self, lent: &mut Command) -> u32 {
         match lent.entry {
-            READ => read(lent.input, lent.room).returned(),
-            _ => write(lent.image, lent.room).returned(),
+            WRITE => write(lent.image, lent.room),
+            READ => read(lent.input, lent.room),
+            WRITE_APART => apart::write(lent.image, lent.room),
+            _ => apart::read(lent.input, lent.room),
         }
+        .returned()
     }
 
     fn handed(&self, _: &Command) -> u8 {
@@ -37,8 +42,9 @@ impl Side for Drawing {
 
     fn gives(&self, entry: u8, number: u8) -> bool {
         match entry {
-            WRITE => matches!(number, 0 | UNSOUND | NO_ROOM),
+            WRITE | WRITE_APART => matches!(number, 0 | UNSOUND | NO_ROOM),
             READ => matches!(number, 0 | UNSOUND | NO_ROOM | NOT_A_DRAWING),
+            READ_APART => matches!(number, 0 | NO_ROOM | NOT_A_DRAWING),
             _ => false,
         }
     }

@@ -1,5 +1,5 @@
 //! Runs the examples of pages on drawings: `drawing_page PROGRAM PAGE..`. Their blocks come in pairs. One marked `drawing` and one marked
-//! `image` are each what the program writes for the other. One marked `refused` is what it tells of the block before it, with nothing
+//! `image` are each what the program writes for the other, and so are `drawings` and `asked`, with what is set apart. One marked `refused` is what it tells of the block before it, with nothing
 //! written and another status than 0; that may also be marked `text`: in one line and as printf takes it, with `\n`, `\r` and `\t`.
 
 use shared::child;
@@ -18,15 +18,15 @@ fn examples(program: &str, page: &str) -> [usize; 3] {
             eprintln!("{page}:{line}: expected {expected:?}, got {got:?}");
         }
     };
-    for pair in blocks(&content, &["drawing", "image", "text", "refused"]).chunks(2) {
+    for pair in blocks(&content, &["drawing", "image", "drawings", "asked", "text", "refused"]).chunks(2) {
         let [(_, first, input), (line, second, outcome)] = pair else { panic!("{page}: a block without its outcome") };
         match (*first, *second) {
-            ("drawing", "image") | ("image", "drawing") => {
+            ("drawing", "image") | ("image", "drawing") | ("drawings", "asked") | ("asked", "drawings") => {
                 both_ways += 1;
                 held(*line, input, (outcome, "", true));
                 held(*line, outcome, (input, "", true));
             }
-            ("drawing" | "image" | "text", "refused") => {
+            ("drawing" | "image" | "drawings" | "asked" | "text", "refused") => {
                 refused += 1;
                 let escaped = input.trim_end().replace("\\n", "\n").replace("\\r", "\r").replace("\\t", "\t");
                 held(*line, if *first == "text" { &escaped } else { input }, ("", outcome, false));

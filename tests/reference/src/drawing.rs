@@ -4,6 +4,8 @@
 use crate::{bit, sound, DRIVE_IN, DRIVE_OUT, LIFT_CAR, NO_PLACE};
 use std::ops::Range;
 
+pub mod apart;
+
 // Why a record isn't written, or a text not read.
 pub const UNSOUND: u8 = 15;
 pub const NO_ROOM: u8 = 17;
@@ -212,14 +214,26 @@ pub fn begins_hex(first: u8) -> bool {
     first.is_ascii_hexdigit() || BLANKS.contains(&first)
 }
 
-/// The image of sixteen digits with blanks anywhere: two digits a byte, the lowest byte first.
-pub fn image_in(text: &[u8]) -> Option<u64> {
+/// The numbers of digits with blanks anywhere: sixteen for each, two digits a byte, the lowest byte first.
+fn numbers_in(text: &[u8]) -> Option<Vec<u64>> {
     let digits: Vec<u8> = text.iter().copied().filter(|byte| !BLANKS.contains(byte)).collect();
-    if digits.len() != 16 {
+    if digits.len() % 16 != 0 {
         return None;
     }
     let value = |digit: u8| char::from(digit).to_digit(16).map(u64::from);
-    digits.chunks(2).rev().try_fold(0, |image, two| Some(image << 8 | value(two[0])? << 4 | value(two[1])?))
+    let number = |sixteen: &[u8]| {
+        sixteen.chunks(2).rev().try_fold(0, |image, two| Some(image << 8 | value(two[0])? << 4 | value(two[1])?))
+    };
+    digits.chunks(16).map(number).collect()
+}
+
+/// A record, or a record and what is set apart, as an ask returns them.
+pub fn image_in(text: &[u8]) -> Option<(u64, Option<u64>)> {
+    match numbers_in(text)?[..] {
+        [image] => Some((image, None)),
+        [image, apart] => Some((image, Some(apart))),
+        _ => None,
+    }
 }
 
 /// An image as the program writes it.

@@ -11,7 +11,7 @@ marked-requires : tie.Need-marked-requires
 marked-requires c κs = search needs
 
 returns : tie.Need-returns
-returns c = let x = c .before .before .before .args in c .marked .ensures ∙ cell-bit (x .g) (x .text .now) (x .lift) (x .k) (c .before .if1 .taken)
+returns c = let x = c .before .before .before .args in c .marked .ensures ∙ cell-bit (x .apart) (x .g) (x .text .now) (x .lift) (x .k) (c .before .if1 .taken)
 
 cast-slot-in : tie.Need-cast-slot-in
 cast-slot-in c = search needs
@@ -23,13 +23,13 @@ slot-in-requires : tie.Need-slot-in-requires
 slot-in-requires c κs = search needs
 
 returns-2 : tie.Need-returns-2
-returns-2 c = let x = c .before .before .before .before .args in c .slot-in .ensures ∙ slot-bit (x .g) (x .text .now) (x .lift) (x .k) (c .before .before .if1 .left) (c .before .if2 .taken)
+returns-2 c = let x = c .before .before .before .before .args in c .slot-in .ensures ∙ slot-bit (x .apart) (x .g) (x .text .now) (x .lift) (x .k) (c .before .before .if1 .left) (c .before .if2 .taken)
 
 lift-bit-requires : tie.Need-lift-bit-requires
 lift-bit-requires c κs = search needs
 
 returns-3 : tie.Need-returns-3
-returns-3 c = let x = c .before .before .before .before .args in c .lift-bit .ensures ∙ lift-bit (x .g) (x .text .now) (x .lift) (x .k) (c .before .if2 .left)
+returns-3 c = let x = c .before .before .before .before .args in c .lift-bit .ensures ∙ lift-bit (x .apart) (x .g) (x .text .now) (x .lift) (x .k) (c .before .if2 .left)
 
 pub bit-in-spec : {M : Type 1} → statement M
 bit-in-spec =

@@ -9,13 +9,13 @@ upper-byte-requires : tie.Need-upper-byte-requires
 upper-byte-requires c κs = search needs
 
 returns : tie.Need-returns
-returns c = let x = c .before .before .args in c .upper-byte .ensures ∙ upper-at (x .g) (bit (x .image)) (x .lift) (x .t) (c .before .if1 .taken)
+returns c = let x = c .before .before .args in c .upper-byte .ensures ∙ upper-at (x .apart) (x .g) (bit (x .image)) (x .lift) (x .t) (c .before .if1 .taken)
 
-lift-byte-requires : tie.Need-lift-byte-requires
-lift-byte-requires c κs = search needs
+last-byte-requires : tie.Need-last-byte-requires
+last-byte-requires c κs = search needs
 
 returns-2 : tie.Need-returns-2
-returns-2 c = let x = c .before .before .args in c .lift-byte .ensures ∙ lift-at (x .g) (bit (x .image)) (x .lift) (x .t) (c .before .if1 .left)
+returns-2 c = let x = c .before .before .args in c .last-byte .ensures ∙ lift-at (x .apart) (x .g) (bit (x .image)) (x .lift) (x .t) (c .before .if1 .left)
 
 pub drawn-byte-spec : {M : Type 1} → statement M
-drawn-byte-spec = tie.close (tie.spec upper-byte-requires returns lift-byte-requires returns-2)
+drawn-byte-spec = tie.close (tie.spec upper-byte-requires returns last-byte-requires returns-2)

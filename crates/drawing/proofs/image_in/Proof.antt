@@ -16,10 +16,10 @@ ends : {f : Bits} {k acc : ℕ} → Packing f k acc → k ≤ 0 → acc ≡ imag
 ends {f} {k} inv h = let z : k ≡ 0 = omega arith in inv .held ∙ ap (λ (j : ℕ). packed (64 - j) j f) z
 
 abbrev Inv-loop : tie.InvT-loop
-Inv-loop g text lift acc₀ k₀ acc k = Packing (bitsAt g text lift) k acc
+Inv-loop apart g text lift acc₀ k₀ acc k = Packing (bitsAt apart g text lift) k acc
 
 abbrev μ-loop : tie.MeasureT-loop
-μ-loop g text lift acc₀ k₀ acc k = k
+μ-loop apart g text lift acc₀ k₀ acc k = k
 
 turned : tie.Need-loop-again Inv-loop μ-loop
 turned c = packs (c .before .before .loop .inv) (c .before .loop-test .taken) (c .bit-in .ensures)

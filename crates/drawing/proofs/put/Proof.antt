@@ -9,10 +9,10 @@ use Rattle.drawing.proofs.put.Statement.{statement}
 use Rattle.drawing.proofs.put.Tie as tie
 
 abbrev Inv-loop : tie.InvT-loop
-Inv-loop image lift size room₀ g t₀ room t = Filled (drawnAt (grid (cellMark (bit image))) (bit image) lift) room₀ size room t
+Inv-loop apart image lift size room₀ g t₀ room t = Filled (drawnAt apart (grid (cellMark apart (bit image))) (bit image) lift) room₀ size room t
 
 abbrev μ-loop : tie.MeasureT-loop
-μ-loop image lift size room₀ g t₀ room t = size - t
+μ-loop apart image lift size room₀ g t₀ room t = size - t
 
 grid-of-requires : tie.Need-grid-of-requires Inv-loop μ-loop
 grid-of-requires c κs = tt
@@ -33,7 +33,7 @@ loop-less : tie.Need-loop-less Inv-loop μ-loop
 loop-less c = omega arith
 
 loop-again : tie.Need-loop-again Inv-loop μ-loop
-loop-again c = fills 0 (c .before .before .loop .inv) (c .before .loop-test .taken) (c .before .before .before .before .before .pre) (c .drawn-byte .ensures ∙ ap (λ (g : List (List ℕ)). drawnAt g (bit (c .before .before .before .before .before .args .image)) (c .before .before .before .before .before .args .lift) (c .before .before .loop .t)) (c .before .before .before .grid-of .ensures))
+loop-again c = fills 0 (c .before .before .loop .inv) (c .before .loop-test .taken) (c .before .before .before .before .before .pre) (c .drawn-byte .ensures ∙ ap (λ (g : List (List ℕ)). drawnAt (c .before .before .before .before .before .args .apart) g (bit (c .before .before .before .before .before .args .image)) (c .before .before .before .before .before .args .lift) (c .before .before .loop .t)) (c .before .before .before .grid-of .ensures))
 
 same-length : tie.Need-same-length Inv-loop μ-loop
 same-length c = fill-same (c .before .loop .inv) (c .before .before .before .before .pre)

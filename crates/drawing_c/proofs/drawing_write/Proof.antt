@@ -1,4 +1,5 @@
 -- `drawing_c::drawing_write` meets its contract: what writing leaves, and what it says. Assumes nothing.
+use mathlib.Core.Bool.{false}
 use borrow.Author.Needs.{needs}
 use Rattle.drawing_c.proofs.Rooms.{written}
 use Rattle.drawing_c.proofs.drawing_write.Statement.{statement}
@@ -14,7 +15,7 @@ same-length : tie.Need-same-length
 same-length c = search needs
 
 returns : tie.Need-returns
-returns c = written (c .before .before .before .before .before .before .args .image) (c .before .before .before .before .before .before .args .text .now) (c .before .before .before .write .result) (c .before .before .before .write .ensures) (c .said .ensures)
+returns c = written false (c .before .before .before .before .before .before .args .image) (c .before .before .before .before .before .before .args .text .now) (c .before .before .before .write .result) (c .before .before .before .write .ensures) (c .said .ensures)
 
 pub drawing-write-spec : {M : Type 1} → statement M
 drawing-write-spec = tie.close (tie.spec write-requires said-requires same-length returns)

@@ -8,16 +8,16 @@ use Rattle.drawing.proofs.grid.grid_of.Statement.{statement}
 use Rattle.drawing.proofs.grid.grid_of.Tie as tie
 
 abbrev Inv-loop2 : tie.InvT-loop2
-Inv-loop2 image g₀ i j₀ g j = Row (cellMark (bit image)) g i j
+Inv-loop2 apart image g₀ i j₀ g j = Row (cellMark apart (bit image)) g i j
 
 abbrev μ-loop2 : tie.MeasureT-loop2
-μ-loop2 image g₀ i j₀ g j = 20 - j
+μ-loop2 apart image g₀ i j₀ g j = 20 - j
 
 abbrev Inv-loop : tie.InvT-loop
-Inv-loop image g₀ i₀ g i = Rows (cellMark (bit image)) g i
+Inv-loop apart image g₀ i₀ g i = Rows (cellMark apart (bit image)) g i
 
 abbrev μ-loop : tie.MeasureT-loop
-μ-loop image g₀ i₀ g i = 3 - i
+μ-loop apart image g₀ i₀ g i = 3 - i
 
 loop-holds : tie.Need-loop-holds Inv-loop2 μ-loop2 Inv-loop μ-loop
 loop-holds c = rows-start
@@ -47,7 +47,7 @@ loop2-less : tie.Need-loop2-less Inv-loop2 μ-loop2 Inv-loop μ-loop
 loop2-less c = omega arith
 
 loop2-again : tie.Need-loop2-again Inv-loop2 μ-loop2 Inv-loop μ-loop
-loop2-again c = row-turns (c .before .before .before .loop2 .inv) (c .before .before .loop2-test .taken) (c .mark .ensures ∙ ap (cellMark (bit (c .before .before .before .before .before .before .args .image))) (c .before .cell .ensures))
+loop2-again c = row-turns (c .before .before .before .loop2 .inv) (c .before .before .loop2-test .taken) (c .mark .ensures ∙ ap (cellMark (c .before .before .before .before .before .before .args .apart) (bit (c .before .before .before .before .before .before .args .image))) (c .before .cell .ensures))
 
 add-i : tie.Need-add-i Inv-loop2 μ-loop2 Inv-loop μ-loop
 add-i c = omega arith
