@@ -1,1 +1,2 @@
-
+pub mod Names
+mod Written

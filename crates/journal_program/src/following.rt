@@ -88,22 +88,13 @@ fn cut_mark(fd: i32, place: usize, left: usize, first: u8) -> usize {
     0
 }
 
-fn is_synced(fd: i32) -> bool {
-    if libc::fsync(fd) != 0 {
-        os::fail(b"station: the journal can't be synced");
-        return false;
-    }
-    true
-}
-
 // Puts the mark that closes it behind the old journal.
 fn add_mark(t: &[u32], fd: i32, e: End) -> bool {
-    let opening = journal_file::opening(t, e.sum, 4, 0);
-    let closing = journal_file::closing(journal_file::sum_after(t, e.sum, 4, &[]));
     if !journal_files::has_length(fd, e.place) {
         return false;
     }
-    journal_files::write_append(fd, &opening, &[], &closing)
+    let a = journal_files::write_append(t, fd, e.sum, 4, &[]);
+    a.well
 }
 
 // Closes the old journal, and waits until that is on the disk.
@@ -112,12 +103,12 @@ fn close_old(t: &[u32], fd: i32, e: End) -> bool {
         if !older::close(fd, e.place) {
             return false;
         }
-        return is_synced(fd);
+        return journal_files::is_synced(fd);
     }
     if !add_mark(t, fd, e) {
         return false;
     }
-    is_synced(fd)
+    journal_files::is_synced(fd)
 }
 
 // ---- the new one
@@ -149,7 +140,7 @@ fn write_part(t: &[u32], part: &[u8], garage: &[u8], e: End) -> bool
     if !journal_files::write_head(t, fd, garage, station) {
         return false;
     }
-    if !is_synced(fd) {
+    if !journal_files::is_synced(fd) {
         return false;
     }
     libc::close(fd);
@@ -241,20 +232,6 @@ fn go_on(t: &[u32], fd: i32, new: &[u8], part: &[u8], garage: &[u8], e: End)
 
 // ---- both
 
-// Opens the old journal to read it and to close it.
-fn to_read(name: &[u8]) -> i32 {
-    let fd = os::open_update(name);
-    if fd < 0 {
-        os::fail(b"station: the journal can't be opened");
-        return -1;
-    }
-    if libc::lseek(fd, 0, libc::SEEK_SET) != 0 {
-        os::fail(b"station: the journal is no plain file");
-        return -1;
-    }
-    fd
-}
-
 // Whether a file begins as a journal does.
 fn is_journal(fd: i32) -> bool {
     let mut words = [0u8; 20];
@@ -317,7 +294,7 @@ fn follow_open(t: &[u32], fd: i32, asked: &[u8], named: bool, new: &[u8], part: 
 
 // Follows the old journal by the new one, which is made under the name of its part.
 pub fn follow(old: &[u8], new: &[u8], part: &[u8], asked: &[u8], named: bool) {
-    let fd = to_read(old);
+    let fd = journal_files::open_update(old);
     if fd < 0 {
         return;
     }

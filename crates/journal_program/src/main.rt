@@ -1,7 +1,6 @@
 // What is done with a journal while no station runs on it: it is described, the messages that it recorded are written, or a new journal that
 // follows it is made. bin/station starts this program for the words --describe, --recorded and --follow. No contract can say what a file
 // holds; what a journal's bytes are stands in journal_file, and how one is read in journal_reader.
-ghost use Rattle.io.specs.Counts.{Counts};
 
 mod describing;
 mod following;
@@ -50,30 +49,6 @@ fn read_named(tell: bool) {
     describing::describe(&name[..n]);
 }
 
-fn put(name: &mut [u8], i: usize, b: u8) {
-    if i < name.len() {
-        name[i] = b;
-    }
-}
-
-// Puts .part behind a name of n bytes, and says how many there are then; 0 where there is no room.
-fn part_name(name: &mut [u8], n: usize) -> usize
-    ensures { λ r. ⌜ Counts r (now (name .exit)) ⌝ }
-{
-    if name.len() < 5 {
-        return 0;
-    }
-    if name.len() - 5 < n {
-        return 0;
-    }
-    put(name, n, b'.');
-    put(name, n + 1, b'p');
-    put(name, n + 2, b'a');
-    put(name, n + 3, b'r');
-    put(name, n + 4, b't');
-    n + 5
-}
-
 // The journal that argument 2 names is followed by the one that argument 3 names.
 fn follow_named(garage: &[u8], named: bool) {
     let mut old = io::buffer();
@@ -87,7 +62,7 @@ fn follow_named(garage: &[u8], named: bool) {
         return;
     }
     let mut part = new;
-    let m = part_name(&mut part, k);
+    let m = journal_files::beside(&mut part, k, b".part");
     following::follow(&old[..n], &new[..k], &part[..m], garage, named);
 }
 

@@ -120,7 +120,7 @@ pub fn rest(t: &[u32], q: Reading, buf: &[u8]) -> Rest {
 pub fn is_sound(q: Reading, rest: Rest) -> bool {
     match rest {
         Rest::Damaged => {
-            journal_files::tell_damage(q);
+            journal_files::tell_damage(q.place, q.appends, q.messages);
             false
         }
         _ => true,

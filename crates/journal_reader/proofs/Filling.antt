@@ -35,7 +35,7 @@ kept-on before now after {have} {end} h a b =
 
 -- ---- bytes that are held at the front
 
-cut-inside : (k n e : ℕ) (l : List ℕ) → k + n ≤ e → take n (drop k (take e l)) ≡ take n (drop k l)
+pub cut-inside : (k n e : ℕ) (l : List ℕ) → k + n ≤ e → take n (drop k (take e l)) ≡ take n (drop k l)
 cut-inside zero n e l h = take-take n e l (omega (arith, h))
 cut-inside (suc k) n zero l h = absurd (omega (arith, h))
 cut-inside (suc k) n (suc e) [] h = refl

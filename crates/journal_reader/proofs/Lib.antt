@@ -1,3 +1,4 @@
 mod Filling
 mod Resting
+pub mod Standing
 mod Taking

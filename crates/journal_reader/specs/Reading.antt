@@ -13,7 +13,7 @@ use Rattle.checksum.specs.Slices.{slices}
 use Rattle.journal_file.specs.declared.Kind.the-variants.{Good}
 use Rattle.journal_file.specs.declared.Replay.{Replay}
 use Rattle.journal_file.specs.Appends.{Over, frontOf, zeroed}
-use Rattle.journal_file.specs.Heads.{headSize, headOf}
+use Rattle.journal_file.specs.Heads.{headSize, headOf, headName}
 use Rattle.journal_file.specs.Replaying.{fileReplayBegun, stepOf, Leads}
 use Rattle.journal_reader.specs.declared.Reading.{Reading}
 use Rattle.journal_reader.specs.declared.Beginning.{Beginning}
@@ -94,11 +94,20 @@ abbrev pub lastAppend : List ℕ → List (List ℕ) → List ℕ
 lastAppend head [] = head
 lastAppend head (a ∷ more) = lastAppend a more
 
--- a good head and appends of so many bytes make this replay, and these bytes are the last of them
-pub record ReplayStands (r : Replay) (n : ℕ) (last : List ℕ) : Type 0 where
+-- a head is of the garage that is asked for, where one is: the name in it is that garage's
+abbrev pub HeadOfGarage : List ℕ → List ℕ → Type 0
+HeadOfGarage asked head = 0 < length asked → headName head ≡ asked
+
+-- a good head, of the garage that is asked for, and appends of so many bytes make this replay, and these bytes are the last of them
+pub record ReplayStands (asked : List ℕ) (r : Replay) (n : ℕ) (last : List ℕ) : Type 0 where
   pub head : List ℕ
   pub appends : List (List ℕ)
   pub headed : (length head ≡ headSize) × (headOf crcOver head .kind ≡ Good)
+  pub named : HeadOfGarage asked head
   pub leads : Leads (fileReplayBegun crcOver head) appends r
   pub long : n ≡ counted (length (head ++ join appends))
   pub last-is : last ≡ lastAppend head appends
+
+-- so it is with what was read, as it stands in the buffer
+abbrev pub StandsIn : List ℕ → Reading → List ℕ → Type 0
+StandsIn asked q buf = ReplayStands asked (q .replay) (q .place) (lastIn q buf)

@@ -1,156 +1,20 @@
--- A journal that is read append by append stands in the buffer as a head and appends make it. Assumes nothing.
-use mathlib.Core.Path.{_≡_, refl, sym, ap, subst, _∙_}
-use mathlib.Core.Bool.{Bool, true, false, cond}
-use mathlib.Core.List.{List, [], _∷_, _++_, append-nil}
-use Prim.Native.Nat.{ℕ, _+_, _-_, _≤_, _<_, _%_, _^_}
+-- How a journal is gone on with from where a reading of it ended. Assumes nothing.
+use mathlib.Core.Path.{_≡_, sym, ap, subst, _∙_}
+use mathlib.Core.Bool.{Bool, false}
+use mathlib.Core.List.{List, []}
+use Prim.Native.Nat.{ℕ, _<_}
 use native.Mathlib.Omega.{arith}
-use borrow.Author.Tests.{lt-ltb, ltb-true, ltb-false}
-use lib.Dec.{ltb}
-use lib.ListN.{length, take, drop, set, length-set, length-take, length-append}
-use lib.Seq.{length-take-le}
-use Rattle.bits.specs.Places.{join}
-use Rattle.bits.proofs.Cases.{split}
-use Rattle.journal.specs.Journal.{counted}
-use Rattle.codec.specs.Bytes.{Bytes}
 use Rattle.station.specs.declared.Station.{Station}
-use Rattle.codec.proofs.Numbers.{bytes-take}
 use Rattle.checksum.specs.Checksum.{crcOver}
-use Rattle.checksum.specs.Slices.{slices, crcBy}
-use Rattle.journal.proofs.Which.{join-both}
-use Rattle.journal_file.specs.declared.Head.{Head}
-use Rattle.journal_file.specs.declared.Kind.{Kind}
-use Rattle.journal_file.specs.declared.Kind.the-variants.{NoJournal, OtherFormat, Damaged, Unfit, Good}
 use Rattle.journal_file.specs.declared.Replay.{Replay}
-use Rattle.journal_file.specs.Appends.{Over}
-use Rattle.journal_file.specs.Heads.{headSize, headOf}
-use Rattle.journal_file.specs.Replaying.{fileReplayBegun, Leads, FileJournaled}
-use Rattle.journal_file.proofs.Alone.{head-by-tables}
-use Rattle.journal_file.proofs.Files.{leads-more}
-use Rattle.journal_reader.specs.declared.Reading.{Reading}
-use Rattle.journal_reader.specs.declared.Beginning.{Beginning}
+use Rattle.journal_file.specs.Replaying.{fileReplayBegun, Leads}
 use Rattle.journal_reader.specs.declared.Rest.{Rest}
 use Rattle.journal_reader.specs.declared.Rest.the-variants as rests
-use Rattle.journal_reader.specs.Reading.{lastIn, headIn, ReadingBegins, BuffersLent, AppendTakes, Stays, Next, lastAppend, ReplayStands}
+use Rattle.journal_reader.specs.Reading.{ReplayStands, StandsIn}
 use Rattle.station_program.specs.declared.keeping.Journal.{Journal}
+use Rattle.station_program.specs.Opened.{FileOf, OpenedIfSafe}
 
--- ---- bytes behind a name
-
-pub five-stored : (l : List ℕ) (n : ℕ) (a b c d e : ℕ) → n + 5 ≤ length l
-    → n + 5 ≤ length (set (set (set (set (set l n a) (n + 1) b) (n + 2) c) (n + 3) d) (n + 4) e)
-five-stored l n a b c d e h =
-    let p = length-set l n a in
-    let q = length-set (set l n a) (n + 1) b in
-    let r = length-set (set (set l n a) (n + 1) b) (n + 2) c in
-    let s = length-set (set (set (set l n a) (n + 1) b) (n + 2) c) (n + 3) d in
-    let t = length-set (set (set (set (set l n a) (n + 1) b) (n + 2) c) (n + 3) d) (n + 4) e in
-    omega (arith, p, q, r, s, t, h)
-
--- ---- the head
-
-abbrev kindNumber : Kind → ℕ
-kindNumber NoJournal = 0
-kindNumber OtherFormat = 1
-kindNumber Damaged = 2
-kindNumber Unfit = 3
-kindNumber Good = 4
-
-short-kind : (over : Over) (m : List ℕ) → length m < 128 → headOf over m .kind ≡ NoJournal
-unfolding headOf
-short-kind over m h = rw (lt-ltb (length m) 128 h)
-
-module _ (t buf : List ℕ) (b : Beginning) (begins : ReadingBegins (crcBy t) b buf) (good : b .kind ≡ Good) (right : t ≡ slices) (bytes : Bytes buf) where
-  abbrev end : ℕ
-  end = b .reading .end
-
-  abbrev head : List ℕ
-  head = headIn end buf
-
-  by-tables : headOf (crcBy t) head ≡ headOf crcOver head
-  by-tables = ap (λ (u : List ℕ). headOf (crcBy u) head) right ∙ head-by-tables head (bytes-take (cond (ltb end 128) end 128) buf bytes)
-
-  good-head : headOf crcOver head .kind ≡ Good
-  good-head = sym (ap (λ (h : Head). h .kind) by-tables) ∙ sym (begins .1) ∙ good
-
-  -- a file that is shorter than a head has none
-  enough-bytes : ltb end 128 ≡ false
-  enough-bytes = split (ltb end 128) (λ t. absurd (never t)) (λ t. t)
-    where
-      never : ltb end 128 ≡ true → ⊥
-      never t =
-          let l = length-take (cond (ltb end 128) end 128) buf in
-          let z : cond (ltb end 128) end 128 ≡ end = ap (λ (x : Bool). cond x end 128) t in
-          let s = ltb-true end 128 t in
-          let k = short-kind crcOver head (omega (arith, l, z, s)) in
-          omega (arith, ap kindNumber (sym k ∙ good-head))
-
-  size-is : cond (ltb end 128) end 128 ≡ 128
-  size-is = ap (λ (x : Bool). cond x end 128) enough-bytes
-
-  pub begins-stands : ReplayStands (b .reading .replay) (b .reading .place) (lastIn (b .reading) buf)
-  begins-stands =
-      let h = ltb-false end 128 enough-bytes in
-      let long : length head ≡ 128 = length-take-le (cond (ltb end 128) end 128) buf (omega (arith, size-is, h, begins .0)) ∙ size-is in
-      let n = length-append head [] in
-      let z : 128 ≡ counted (length (head ++ [])) = omega (arith, long, n) in
-      let w : b .reading .at - b .reading .from ≡ 128 = omega (arith, begins .4, begins .5) in
-      record {
-        head = head;
-        appends = [];
-        headed = (long, good-head);
-        leads = begins .2 ∙ ap (λ (x : Head). let r : Replay = record { station = x .station; sum = x .sum; closed = false } in r) by-tables;
-        long = begins .3 ∙ z;
-        last-is = ap (λ (k : ℕ). take (b .reading .at - b .reading .from) (drop k buf)) (begins .4) ∙ ap (λ (k : ℕ). take k buf) (w ∙ sym size-is);
-      }
-
--- ---- one step
-
-last-more : (head : List ℕ) (appends : List (List ℕ)) (a : List ℕ) → a ≡ lastAppend head (appends ++ (a ∷ []))
-last-more head [] a = refl
-last-more head (b ∷ more) a = last-more b more a
-
-more-long : (head : List ℕ) (appends : List (List ℕ)) (a : List ℕ) → length (head ++ join (appends ++ (a ∷ []))) ≡ length (head ++ join appends) + length a
-more-long head appends a =
-    let j : length (join (appends ++ (a ∷ []))) ≡ length (join appends ++ (a ++ [])) = ap length (join-both appends (a ∷ [])) in
-    let p = length-append head (join (appends ++ (a ∷ []))) in
-    let q = length-append head (join appends) in
-    let r = length-append (join appends) (a ++ []) in
-    let s = ap length (append-nil a) in
-    omega (arith, j, p, q, r, s)
-
-counted-more : (n m k place : ℕ) → n ≡ counted m → place ≡ counted (n + k) → place ≡ counted (m + k)
-counted-more n m k place e p = omega (arith, e, p)
-
-module _ (t room before after : List ℕ) (q r : Reading) (next : Next t room q before r after) (lent : BuffersLent t room)
-    (was : ReplayStands (q .replay) (q .place) (lastIn q before)) where
-  stayed : Stays q before r after → ReplayStands (r .replay) (r .place) (lastIn r after)
-  stayed s =
-      record {
-        head = was .head;
-        appends = was .appends;
-        headed = was .headed;
-        leads = subst (λ (x : Replay). Leads (fileReplayBegun crcOver (was .head)) (was .appends) x) (sym (s .0)) (was .leads);
-        long = s .1 ∙ was .long;
-        last-is = s .2 ∙ was .last-is;
-      }
-
-  went : AppendTakes q r after → ReplayStands (r .replay) (r .place) (lastIn r after)
-  went k =
-      let a = lastIn r after in
-      record {
-        head = was .head;
-        appends = was .appends ++ (a ∷ []);
-        headed = was .headed;
-        leads = leads-more (fileReplayBegun crcOver (was .head)) (q .replay) (r .replay) (was .appends) a (was .leads) (k .0) (k .1) (k .2);
-        long = counted-more (q .place) (length (was .head ++ join (was .appends))) (length a) (r .place) (was .long) (k .3) ∙ ap counted (sym (more-long (was .head) (was .appends) a));
-        last-is = last-more (was .head) (was .appends) a;
-      }
-
-  pub next-stands : ReplayStands (r .replay) (r .place) (lastIn r after)
-  next-stands = split (r .took) (λ y. went (next .2 y lent)) (λ n. stayed (next .1 n))
-
--- ---- the end
-
-module _ {r : Replay} {n : ℕ} {last : List ℕ} (j : Journal) (stands : ReplayStands r n last) (unclosed : r .closed ≡ false)
+module _ {asked : List ℕ} {r : Replay} {n : ℕ} {last : List ℕ} (j : Journal) (stands : ReplayStands asked r n last) (unclosed : r .closed ≡ false)
     (as-read : (j .station ≡ r .station) × (j .sum ≡ r .sum) × (j .length ≡ n)) where
   abbrev replay-of : Station → ℕ → Bool → Replay
   replay-of s k c = record { station = s; sum = k; closed = c }
@@ -161,15 +25,31 @@ module _ {r : Replay} {n : ℕ} {last : List ℕ} (j : Journal) (stands : Replay
       ∙ ap (λ (s : Station). replay-of s (r .sum) false) (sym (as-read .0))
       ∙ ap (λ (k : ℕ). replay-of (j .station) k false) (sym (as-read .1))
 
-  pub stands-journaled : FileJournaled (record { station = j .station; sum = j .sum; closed = false }) (j .length)
+  pub stands-journaled : FileOf asked (record { station = j .station; sum = j .sum; closed = false }) (j .length)
   stands-journaled =
       record {
-        head = stands .head;
-        appends = stands .appends;
-        headed = stands .headed;
-        leads = subst (λ (x : Replay). Leads (fileReplayBegun crcOver (stands .head)) (stands .appends) x) same-replay (stands .leads);
-        long = as-read .2 ∙ stands .long;
+        file = record {
+          head = stands .head;
+          appends = stands .appends;
+          headed = stands .headed;
+          leads = subst (λ (x : Replay). Leads (fileReplayBegun crcOver (stands .head)) (stands .appends) x) same-replay (stands .leads);
+          long = as-read .2 ∙ stands .long;
+        };
+        named = stands .named;
       }
+
+-- a journal of the garage that was asked for is one where none is asked for
+pub whichever : (t room asked buf : List ℕ) (j : Journal) → OpenedIfSafe t room asked buf j → OpenedIfSafe t room [] buf j
+whichever t room asked buf j o s k =
+    let w = o s k in
+    let any : StandsIn asked (w .reading) buf → StandsIn [] (w .reading) buf =
+        λ x. record { head = x .head; appends = x .appends; headed = x .headed; named = λ h. absurd (omega (arith, h)); leads = x .leads; long = x .long; last-is = x .last-is; } in
+    record {
+      reading = w .reading;
+      read = (w .read .0, w .read .1, λ l. any (w .read .2 l));
+      as-read = w .as-read;
+      journaled = λ l. record { file = w .journaled l .file; named = λ h. absurd (omega (arith, h)); };
+    }
 
 -- what stands behind the last append is one thing only
 abbrev restNumber : Rest → ℕ

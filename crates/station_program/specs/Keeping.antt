@@ -1,11 +1,9 @@
 -- What holds of a station and its journal between two turns. Assumes nothing.
 use mathlib.Core.Path.{_≡_}
-use mathlib.Core.Bool.{Bool, true, false, cond}
+use mathlib.Core.Bool.{Bool, true, false}
 use mathlib.Core.Logic.{_⊎_}
 use mathlib.Core.List.{List}
 use Prim.Native.Nat.{ℕ, _≤_, _<_}
-use lib.Dec.{ltb}
-use lib.IntN.{ℤ, pos, negsuc}
 use lib.ListN.{length}
 use Rattle.station.specs.declared.Station.{Station}
 use Rattle.service.specs.Runs.{enough}
@@ -17,10 +15,6 @@ use Rattle.journal_file.specs.Appends.{messagesKind, cutShortKind, badLengthKin
 use Rattle.journal_file.specs.Replaying.{FileJournaled}
 use Rattle.station_program.specs.declared.keeping.Journal.{Journal}
 use Rattle.station_program.specs.declared.Between.{Between}
-
--- the place behind so many bytes of a file; there is none past 2^63
-abbrev pub filePlace : ℕ → ℤ
-filePlace n = cond (ltb n 9223372036854775808) (pos n) (negsuc 0)
 
 -- where a journal is kept, a good head and appends of so many bytes make its station
 abbrev pub JournalMakes : Journal → Type 0

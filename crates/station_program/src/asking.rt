@@ -1,6 +1,7 @@
 // The journal that the program's arguments ask for: none, FILE, --garage NAME FILE, or --new FILE --garage NAME.
 ghost use mathlib.Core.Path.{_≡_};
 ghost use mathlib.Core.Bool.{false};
+ghost use mathlib.Core.List.{[]};
 ghost use Rattle.io.specs.Counts.{Counts};
 ghost use Rattle.station_program.specs.Opened.{OpenedIfSafe};
 ghost use Rattle.station_program.specs.Words.{isNew, isGarageWord, isName};
@@ -70,7 +71,7 @@ fn misnamed() -> Journal
 
 // The journal that argument i names, made before if it is to be new; where a garage is asked for, it must be its.
 fn named(t: &[u32], i: usize, new: bool, garage: &[u8], buf: &mut [u8], room: &mut [u8]) -> Journal
-    ensures { λ j. ⌜ OpenedIfSafe (now (t .entry)) (now (room .entry)) (now (buf .exit)) j ⌝ }
+    ensures { λ j. ⌜ OpenedIfSafe (now (t .entry)) (now (room .entry)) (now (garage .entry)) (now (buf .exit)) j ⌝ }
 {
     let mut name = io::buffer();
     let n = os::arg(i, &mut name);
@@ -91,7 +92,7 @@ fn named(t: &[u32], i: usize, new: bool, garage: &[u8], buf: &mut [u8], room: &m
 
 // The journal that argument i names, of the garage that argument g names.
 fn of_garage(t: &[u32], i: usize, new: bool, g: usize, buf: &mut [u8], room: &mut [u8]) -> Journal
-    ensures { λ j. ⌜ OpenedIfSafe (now (t .entry)) (now (room .entry)) (now (buf .exit)) j ⌝ }
+    ensures { λ j. ⌜ OpenedIfSafe (now (t .entry)) (now (room .entry)) [] (now (buf .exit)) j ⌝ }
 {
     let mut garage = [0u8; 40];
     let n = os::arg(g, &mut garage);
@@ -106,7 +107,7 @@ fn of_garage(t: &[u32], i: usize, new: bool, g: usize, buf: &mut [u8], room: &mu
 
 // The journal that is asked for.
 pub fn asked(t: &[u32], buf: &mut [u8], room: &mut [u8]) -> Journal
-    ensures { λ j. ⌜ OpenedIfSafe (now (t .entry)) (now (room .entry)) (now (buf .exit)) j ⌝ }
+    ensures { λ j. ⌜ OpenedIfSafe (now (t .entry)) (now (room .entry)) [] (now (buf .exit)) j ⌝ }
 {
     let count = os::arg_count();
     if count < 2 {

@@ -11,7 +11,7 @@ ghost use Rattle.journal.specs.Journal.{Follows};
 ghost use Rattle.journal_file.specs.Appends.{mostCarried};
 ghost use Rattle.journal_file.specs.Replaying.{FileJournaled};
 ghost use Rattle.libc.specs.Io.{Ended};
-ghost use Rattle.station_program.specs.Keeping.{filePlace, JournalMakes, JournalKept, KeptIfSafe, EndKind, Adds, Noted};
+ghost use Rattle.station_program.specs.Keeping.{JournalMakes, JournalKept, KeptIfSafe, EndKind, Adds, Noted};
 use station::Station;
 
 // The station, and the journal that makes it: whether one is kept, its descriptor, under which name the system has the file, how many bytes
@@ -52,33 +52,6 @@ pub fn lost() -> Journal
     let mut j = unkept();
     j.safe = false;
     j
-}
-
-// A number of bytes as a place in a file; no file goes further than 2^63.
-pub fn place(n: usize) -> i64
-    ensures { λ r. ⌜ r ≡ filePlace n ⌝ }
-{
-    if n < 9223372036854775808 {
-        return n as i64;
-    }
-    -1
-}
-
-// Whether the file is so long; where it isn't, that is told.
-pub fn has_length(fd: i32, n: usize) -> bool {
-    let end = libc::lseek(fd, 0, libc::SEEK_END);
-    if end < 0 {
-        os::fail(b"station: the journal's length can't be told");
-        return false;
-    }
-    if end != place(n) {
-        io::write_all(
-            libc::STDERR_FILENO,
-            b"station: the journal has another length than it should: is another station running on it?\n",
-        );
-        return false;
-    }
-    true
 }
 
 // The digits of a number below 10,000, and zeros behind them.
@@ -159,27 +132,6 @@ fn still_called(fd: i32, called: u32) -> bool {
     true
 }
 
-// Writes bytes to the journal's end.
-pub fn write(fd: i32, bytes: &[u8]) -> bool {
-    streams::send(
-        fd,
-        bytes,
-        bytes.len(),
-        b"station: the journal can't be written",
-    )
-}
-
-// Writes an append in its three parts.
-fn write_append(fd: i32, opening: &[u8], bytes: &[u8], closing: &[u8]) -> bool {
-    if !write(fd, opening) {
-        return false;
-    }
-    if !write(fd, bytes) {
-        return false;
-    }
-    write(fd, closing)
-}
-
 // Whether what was written is at the end of a file that is so long now, alone, on the disk and under its name; where it isn't, that is
 // told. Name and length are looked at after the write: of two stations that append at once, neither answers, or only the one whose bytes
 // come first.
@@ -191,7 +143,7 @@ fn is_there(fd: i32, called: u32, after: usize) -> bool {
     if !still_called(fd, called) {
         return false;
     }
-    has_length(fd, after)
+    journal_files::has_length(fd, after)
 }
 
 // Puts an append of this kind behind the journal, whose last one has the checksum `was`; it has this station then.
@@ -207,17 +159,15 @@ fn add(
     requires { ⌜ (now t ≡ slices) × FileJournaled (record { station = j .station; sum = was; closed = false }) (j .length) × Adds (j .station) kind (now bytes) next ⌝ }
     ensures { λ r. ⌜ (r .safe ≡ true → (r .station ≡ next) × (r .ended ≡ ended) × JournalMakes r) ⌝ }
 {
-    let opening = journal_file::opening(t, was, kind, bytes.len());
-    let sum = journal_file::sum_after(t, was, kind, bytes);
-    let closing = journal_file::closing(sum);
     let length = std::num::wrapping_add_usize(
         j.length,
         std::num::wrapping_add_usize(bytes.len(), 13),
     );
-    if !has_length(j.fd, j.length) {
+    if !journal_files::has_length(j.fd, j.length) {
         return lost();
     }
-    if !write_append(j.fd, &opening, bytes, &closing) {
+    let a = journal_files::write_append(t, j.fd, was, kind, bytes);
+    if !a.well {
         return lost();
     }
     if !is_there(j.fd, j.called, length) {
@@ -225,7 +175,7 @@ fn add(
     }
     Journal {
         station: next,
-        sum,
+        sum: a.sum,
         length,
         kept: true,
         fd: j.fd,

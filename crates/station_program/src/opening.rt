@@ -4,113 +4,30 @@ ghost use mathlib.Core.Path.{_≡_};
 ghost use mathlib.Core.Bool.{true, false};
 ghost use Prim.Native.Nat.{_≤_};
 ghost use lib.ListN.{length};
-ghost use Rattle.io.specs.Counts.{Counts};
 ghost use Rattle.checksum.specs.Slices.{slices};
-ghost use Rattle.journal_file.specs.declared.Kind.the-variants.{Good};
-ghost use Rattle.journal_reader.specs.Reading.{ReadingWithin, BuffersLent};
+ghost use Rattle.journal_reader.specs.Reading.{ReadingWithin, BuffersLent, StandsIn};
 ghost use Rattle.journal_reader.specs.declared.Rest.the-variants.{Damaged};
-ghost use Rattle.station_program.specs.Opened.{StandsIn, ReadToEnd, OpenedIfSafe};
+ghost use Rattle.station_program.specs.Opened.{ReadToEnd, OpenedIfSafe};
 use crate::keeping::Journal;
 use crate::keeping::called_now;
-use crate::keeping::has_length;
 use crate::keeping::lost;
-use crate::keeping::place;
 use station::Station;
-use journal_file::Kind;
 use journal_file::Replay;
 use journal_reader::Reading;
 use journal_reader::Rest;
 
 // ---- what is told
 
-// Tells something of the journal.
-fn tell(text: &[u8]) {
-    io::write_all(libc::STDERR_FILENO, text);
-}
-
-// Tells a number and what follows it.
-fn tell_number(n: usize, text: &[u8]) {
-    io::print_decimal(libc::STDERR_FILENO, n as u64);
-    tell(text);
-}
-
-// Tells where a journal is damaged.
-fn tell_damage(q: Reading) {
-    tell(b"station: the journal is damaged at byte ");
-    tell_number(q.place, b", in append ");
-    tell_number(std::num::wrapping_add_usize(q.appends, 1), b" behind ");
-    tell_number(
-        q.messages,
-        b" messages; nothing is answered: put a good copy in its place\n",
-    );
-}
-
 // Tells what was cut off.
 fn tell_torn(place: usize, n: usize, name: &[u8]) {
-    tell(b"station: note: ");
-    tell_number(n, b" bytes behind byte ");
-    tell_number(
+    journal_files::tell(b"station: note: ");
+    journal_files::tell_number(n, b" bytes behind byte ");
+    journal_files::tell_number(
         place,
         b" of the journal were never answered; they are cut off and kept in ",
     );
-    tell(name);
-    tell(b"\n");
-}
-
-// Whether a head is a good one; where it isn't, that is told.
-fn is_good(kind: Kind, empty: bool) -> bool
-    ensures { λ b. ⌜ (b ≡ true → kind ≡ Good) ⌝ }
-{
-    if empty {
-        tell(b"station: the journal is an empty file: put the right one in its place, or make one with --new\n");
-        return false;
-    }
-    match kind {
-        Kind::NoJournal => {
-            tell(b"station: the file is no journal of a station (one of version 1.0 is taken over by --follow)\n");
-            false
-        }
-        Kind::OtherFormat => {
-            tell(b"station: the journal has another format: start the version of station that wrote it\n");
-            false
-        }
-        Kind::Damaged => {
-            tell(b"station: the journal's head is damaged; nothing is answered: put a good copy in its place\n");
-            false
-        }
-        Kind::Unfit => {
-            tell(b"station: the journal begins with a station that is not fit; put a good copy in its place\n");
-            false
-        }
-        Kind::Good => true,
-    }
-}
-
-// How many bytes of a garage's name there are before the zeros.
-fn name_size(name: &[u8]) -> usize
-    ensures { λ n. ⌜ Counts n (now (name .entry)) ⌝ }
-{
-    let mut n = name.len();
-    while 0 < n {
-        if name[n - 1] != 0 {
-            return n;
-        }
-        n -= 1;
-    }
-    0
-}
-
-// Whether a journal of this name is the garage's that is asked for; where it isn't, both are told.
-fn is_of(asked: &[u8], name: &[u8]) -> bool {
-    if commands::is_text(name, asked) {
-        return true;
-    }
-    tell(b"station: the journal is of the garage ");
-    tell(&name[..name_size(name)]);
-    tell(b", not of ");
-    tell(&asked[..name_size(asked)]);
-    tell(b"\n");
-    false
+    journal_files::tell(name);
+    journal_files::tell(b"\n");
 }
 
 // ---- the replay
@@ -125,9 +42,9 @@ fn refused(q: Reading) -> Reading
 }
 
 // Append after append; no file has so many that it takes more.
-fn replay_all(t: &[u32], fd: i32, start: Reading, buf: &mut [u8], room: &mut [u8]) -> Reading
-    requires { ⌜ (BuffersLent (now t) (now room) → StandsIn start (now buf)) ⌝ }
-    ensures { λ q. ⌜ (q .well ≡ true → ReadingWithin q (length (now (buf .exit)))) × (q .well ≡ true → BuffersLent (now (t .entry)) (now (room .entry)) → StandsIn q (now (buf .exit))) ⌝ }
+fn replay_all(t: &[u32], fd: i32, asked: &[u8], start: Reading, buf: &mut [u8], room: &mut [u8]) -> Reading
+    requires { ⌜ (BuffersLent (now t) (now room) → StandsIn (now asked) start (now buf)) ⌝ }
+    ensures { λ q. ⌜ (q .well ≡ true → ReadingWithin q (length (now (buf .exit)))) × (q .well ≡ true → BuffersLent (now (t .entry)) (now (room .entry)) → StandsIn (now (asked .entry)) q (now (buf .exit))) ⌝ }
 {
     let mut q = start;
     let mut appends = u64::MAX;
@@ -154,7 +71,7 @@ fn is_open(q: Reading) -> bool
 {
     let r = q.replay;
     if r.closed {
-        tell(b"station: the journal is closed: another one follows it, start with that\n");
+        journal_files::tell(b"station: the journal is closed: another one follows it, start with that\n");
         return false;
     }
     true
@@ -168,51 +85,13 @@ fn goes_on(q: Reading, rest: Rest) -> bool
         Rest::Nothing => is_open(q),
         Rest::Torn => is_open(q),
         Rest::Damaged => {
-            tell_damage(q);
+            journal_files::tell_damage(q.place, q.appends, q.messages);
             false
         }
     }
 }
 
 // ---- the file
-
-// How many bytes of a name are its folder's: those up to the last slash.
-fn folder(name: &[u8]) -> usize
-    ensures { λ n. ⌜ Counts n (now (name .entry)) ⌝ }
-{
-    let mut n = name.len();
-    while 0 < n {
-        if name[n - 1] == b'/' {
-            return n;
-        }
-        n -= 1;
-    }
-    0
-}
-
-// Opens the folder that the name stands in.
-fn open_folder(name: &[u8]) -> i32 {
-    let n = folder(name);
-    if n == 0 {
-        return os::open_read(b".");
-    }
-    os::open_read(&name[..n])
-}
-
-// Waits until a new name is on the disk.
-fn sync_folder(name: &[u8]) -> bool {
-    let fd = open_folder(name);
-    if fd < 0 {
-        os::fail(b"station: the journal's folder can't be opened");
-        return false;
-    }
-    if libc::fsync(fd) != 0 {
-        os::fail(b"station: the journal's folder can't be synced");
-        return false;
-    }
-    libc::close(fd);
-    true
-}
 
 // Opens the file for what is cut off, made where it is missing.
 fn open_torn(name: &[u8]) -> i32 {
@@ -243,7 +122,7 @@ fn keep_torn(name: &[u8], rest: &[u8]) -> bool {
         return false;
     }
     libc::close(fd);
-    sync_folder(name)
+    journal_files::sync_folder(name)
 }
 
 // Cuts off what stands behind the last append, and keeps it in the file of this name.
@@ -252,29 +131,11 @@ fn cut(fd: i32, place: usize, rest: &[u8], name: &[u8]) -> bool {
         return false;
     }
     tell_torn(place, rest.len(), name);
-    if libc::ftruncate(fd, crate::keeping::place(place)) != 0 {
+    if libc::ftruncate(fd, journal_files::place(place)) != 0 {
         os::fail(b"station: the journal can't be cut");
         return false;
     }
     true
-}
-
-// Puts .torn behind a name of n bytes, and says how many there are then; 0 where there is no room.
-fn torn_name(name: &mut [u8], n: usize) -> usize
-    ensures { λ r. ⌜ Counts r (now (name .exit)) ⌝ }
-{
-    if name.len() < 5 {
-        return 0;
-    }
-    if name.len() - 5 < n {
-        return 0;
-    }
-    name[n] = b'.';
-    name[n + 1] = b't';
-    name[n + 2] = b'o';
-    name[n + 3] = b'r';
-    name[n + 4] = b'n';
-    n + 5
 }
 
 // The journal to append to, once all that was replayed is on the disk.
@@ -286,8 +147,7 @@ fn to_append(name: &[u8], r: Replay, place: usize) -> Journal
         os::fail(b"station: the journal can't be opened");
         return lost();
     }
-    if libc::fsync(fd) != 0 {
-        os::fail(b"station: the journal can't be synced");
+    if !journal_files::is_synced(fd) {
         return lost();
     }
     let station = r.station;
@@ -303,23 +163,9 @@ fn to_append(name: &[u8], r: Replay, place: usize) -> Journal
     }
 }
 
-// Opens the file to read and to cut; what has no places, as a pipe, is none.
-fn to_read(name: &[u8]) -> i32 {
-    let fd = os::open_update(name);
-    if fd < 0 {
-        os::fail(b"station: the journal can't be opened");
-        return -1;
-    }
-    if libc::lseek(fd, 0, libc::SEEK_SET) != 0 {
-        os::fail(b"station: the journal is no plain file");
-        return -1;
-    }
-    fd
-}
-
 // Reads the head: whether it is a good one, and of the garage that is asked for.
 fn begun(t: &[u32], fd: i32, asked: &[u8], buf: &mut [u8]) -> Reading
-    ensures { λ q. ⌜ (q .well ≡ true → now (t .entry) ≡ slices → StandsIn q (now (buf .exit))) ⌝ }
+    ensures { λ q. ⌜ (q .well ≡ true → now (t .entry) ≡ slices → StandsIn (now (asked .entry)) q (now (buf .exit))) ⌝ }
 {
     let b = journal_reader::begin(t, fd, buf, b"station: the journal can't be read");
     let q = b.reading;
@@ -327,14 +173,14 @@ fn begun(t: &[u32], fd: i32, asked: &[u8], buf: &mut [u8]) -> Reading
     if !q.well {
         return refused(q);
     }
-    if !is_good(kind, q.end == 0) {
+    if !journal_files::is_good(kind, q.end == 0) {
         return refused(q);
     }
     if 0 < asked.len() {
         if buf.len() < 64 {
             return refused(q);
         }
-        if !is_of(asked, &buf[24..64]) {
+        if !journal_files::is_of(asked, &buf[24..64]) {
             return refused(q);
         }
     }
@@ -342,11 +188,11 @@ fn begun(t: &[u32], fd: i32, asked: &[u8], buf: &mut [u8]) -> Reading
 }
 
 // Replays all appends, and looks at what stands behind them: nothing else may.
-fn read_all(t: &[u32], fd: i32, start: Reading, buf: &mut [u8], room: &mut [u8]) -> Reading
-    requires { ⌜ (BuffersLent (now t) (now room) → StandsIn start (now buf)) ⌝ }
-    ensures { λ q. ⌜ (q .well ≡ true → ReadToEnd (now (t .entry)) (now (room .entry)) q (now (buf .exit))) ⌝ }
+fn read_all(t: &[u32], fd: i32, asked: &[u8], start: Reading, buf: &mut [u8], room: &mut [u8]) -> Reading
+    requires { ⌜ (BuffersLent (now t) (now room) → StandsIn (now asked) start (now buf)) ⌝ }
+    ensures { λ q. ⌜ (q .well ≡ true → ReadToEnd (now (t .entry)) (now (room .entry)) (now (asked .entry)) q (now (buf .exit))) ⌝ }
 {
-    let q = replay_all(t, fd, start, buf, room);
+    let q = replay_all(t, fd, asked, start, buf, room);
     if !q.well {
         return refused(q);
     }
@@ -357,7 +203,7 @@ fn read_all(t: &[u32], fd: i32, start: Reading, buf: &mut [u8], room: &mut [u8])
     if !goes_on(q, rest) {
         return refused(q);
     }
-    if !has_length(fd, std::num::wrapping_add_usize(q.place, end - at)) {
+    if !journal_files::has_length(fd, std::num::wrapping_add_usize(q.place, end - at)) {
         return refused(q);
     }
     q
@@ -372,19 +218,19 @@ fn cut_rest(fd: i32, q: Reading, buf: &[u8], name: &mut [u8], n: usize) -> bool
     if at == end {
         return true;
     }
-    let m = torn_name(name, n);
+    let m = journal_files::beside(name, n, b".torn");
     cut(fd, q.place, &buf[at..end], &name[..m])
 }
 
 // Reads a journal of the garage that is asked for from its head to its end.
 fn read_from(t: &[u32], fd: i32, asked: &[u8], buf: &mut [u8], room: &mut [u8]) -> Reading
-    ensures { λ q. ⌜ (q .well ≡ true → ReadToEnd (now (t .entry)) (now (room .entry)) q (now (buf .exit))) ⌝ }
+    ensures { λ q. ⌜ (q .well ≡ true → ReadToEnd (now (t .entry)) (now (room .entry)) (now (asked .entry)) q (now (buf .exit))) ⌝ }
 {
     let start = begun(t, fd, asked, buf);
     if !start.well {
         return refused(start);
     }
-    read_all(t, fd, start, buf, room)
+    read_all(t, fd, asked, start, buf, room)
 }
 
 // Goes on with a journal that was read to its end; its name is the first n bytes.
@@ -410,10 +256,13 @@ pub fn open(
     room: &mut [u8],
 ) -> Journal
     requires { ⌜ n ≤ length (now name) ⌝ }
-    ensures { λ j. ⌜ OpenedIfSafe (now (t .entry)) (now (room .entry)) (now (buf .exit)) j ⌝ }
+    ensures { λ j. ⌜ OpenedIfSafe (now (t .entry)) (now (room .entry)) (now (asked .entry)) (now (buf .exit)) j ⌝ }
 {
-    let fd = to_read(&name[..n]);
+    let fd = journal_files::open_update(&name[..n]);
     if fd < 0 {
+        return lost();
+    }
+    if !journal_files::is_begun(&name[..n]) {
         return lost();
     }
     let all = read_from(t, fd, asked, buf, room);
@@ -425,24 +274,6 @@ pub fn open(
 
 // ---- a new one
 
-// Writes the head of a garage with this name, which begins with the start.
-fn write_head(t: &[u32], fd: i32, garage: &[u8]) -> bool {
-    let station = Station::start();
-    let title = journal_file::title();
-    let bytes = rooms::station_bytes(station);
-    let sum = codec::four_bytes(journal_file::head_sum(t, garage, station));
-    if !crate::keeping::write(fd, &title) {
-        return false;
-    }
-    if !crate::keeping::write(fd, garage) {
-        return false;
-    }
-    if !crate::keeping::write(fd, &bytes) {
-        return false;
-    }
-    crate::keeping::write(fd, &sum)
-}
-
 // Makes the file, and waits until it and its name are on the disk.
 pub fn make(t: &[u32], name: &[u8], garage: &[u8]) -> bool {
     let fd = os::create(name);
@@ -450,13 +281,12 @@ pub fn make(t: &[u32], name: &[u8], garage: &[u8]) -> bool {
         os::fail(b"station: the journal can't be made");
         return false;
     }
-    if !write_head(t, fd, garage) {
+    if !journal_files::write_head(t, fd, garage, Station::start()) {
         return false;
     }
-    if libc::fsync(fd) != 0 {
-        os::fail(b"station: the journal can't be synced");
+    if !journal_files::is_synced(fd) {
         return false;
     }
     libc::close(fd);
-    sync_folder(name)
+    journal_files::sync_folder(name)
 }

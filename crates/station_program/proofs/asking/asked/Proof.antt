@@ -1,6 +1,7 @@
 -- `station_program::asking::asked` meets its contract. Assumes nothing.
 use borrow.Author.Needs.{needs}
 use Rattle.bits.proofs.Cases.{clash}
+use Rattle.station_program.proofs.OpeningStands.{whichever}
 use Rattle.station_program.proofs.asking.asked.Statement.{statement}
 use Rattle.station_program.proofs.asking.asked.Tie as tie
 
@@ -26,7 +27,7 @@ same-length-2 : tie.Need-same-length-2
 same-length-2 c = search needs
 
 returns-2 : tie.Need-returns-2
-returns-2 c = search needs
+returns-2 c = whichever _ _ _ _ (c .before .before .before .before .named .result) (c .before .before .before .before .named .ensures)
 
 asks-garage-requires : tie.Need-asks-garage-requires
 asks-garage-requires c κs = search needs

@@ -1,6 +1,7 @@
 -- `station_program::asking::of_garage` meets its contract. Assumes nothing.
 use borrow.Author.Needs.{needs}
 use Rattle.bits.proofs.Cases.{clash}
+use Rattle.station_program.proofs.OpeningStands.{whichever}
 use Rattle.station_program.proofs.asking.of_garage.Statement.{statement}
 use Rattle.station_program.proofs.asking.of_garage.Tie as tie
 
@@ -47,7 +48,7 @@ same-length-2 : tie.Need-same-length-2
 same-length-2 c = search needs
 
 returns-3 : tie.Need-returns-3
-returns-3 c = search needs
+returns-3 c = whichever _ _ _ _ (c .before .before .before .before .named .result) (c .before .before .before .before .named .ensures)
 
 pub of-garage-spec : {M : Type 1} → statement M
 of-garage-spec =

@@ -7,15 +7,6 @@ use Rattle.bits.proofs.Cases.{clash}
 use Rattle.station_program.proofs.keeping.add.Statement.{statement}
 use Rattle.station_program.proofs.keeping.add.Tie as tie
 
-opening-requires : tie.Need-opening-requires
-opening-requires c κs = search needs
-
-sum-after-requires : tie.Need-sum-after-requires
-sum-after-requires c κs = search needs
-
-closing-requires : tie.Need-closing-requires
-closing-requires c κs = search needs
-
 wrapping-add-usize-requires : tie.Need-wrapping-add-usize-requires
 wrapping-add-usize-requires c κs = search needs
 
@@ -30,12 +21,6 @@ lost-requires c κs = search needs
 
 returns : tie.Need-returns
 returns c = λ q. clash q (c .lost .ensures)
-
-slice-aggregate-write-append : tie.Need-slice-aggregate-write-append
-slice-aggregate-write-append c = search needs
-
-slice-aggregate-write-append-2 : tie.Need-slice-aggregate-write-append-2
-slice-aggregate-write-append-2 c = search needs
 
 write-append-requires : tie.Need-write-append-requires
 write-append-requires c κs = search needs
@@ -56,22 +41,21 @@ returns-3 : tie.Need-returns-3
 returns-3 c = λ q. clash q (c .lost3 .ensures)
 
 returns-4 : tie.Need-returns-4
-returns-4 c = λ q. (refl, refl, λ k. adding (c .before .before .before .before .before .before .before .before .before .before .before .before .before .before .before .before .before .before .before .args .t .now) (c .before .before .before .before .before .before .before .before .before .before .before .before .before .before .before .before .before .before .before .args .j .station) (c .before .before .before .before .before .before .before .before .before .before .before .before .before .before .before .before .before .before .before .args .next) (c .before .before .before .before .before .before .before .before .before .before .before .before .before .before .before .before .before .before .before .args .was) (c .before .before .before .before .before .before .before .before .before .before .before .before .before .before .before .before .before .before .before .args .j .length) (c .before .before .before .before .before .before .before .before .before .before .before .before .before .before .before .before .before .before .before .args .kind) (c .before .before .before .before .before .before .before .before .before .before .before .before .before .before .before .before .before .before .before .args .bytes .now) (c .before .before .before .before .before .before .before .before .before .before .before .before .before .before .before .before .before .before .before .fits .was .fits) (omega (arith, c .before .before .before .before .before .before .before .before .before .before .before .before .before .before .before .before .before .before .before .fits .kind .fits)) (λ i. omega (arith, c .before .before .before .before .before .before .before .before .before .before .before .before .before .before .before .before .before .shared-slice-known2 .given i)) (c .before .before .before .before .before .before .before .before .before .before .before .before .before .before .before .before .before .before .before .pre .0) (c .before .before .before .before .before .before .before .before .before .before .before .before .before .before .before .before .before .before .before .pre .1) (c .before .before .before .before .before .before .before .before .before .before .before .before .before .before .before .before .before .before .before .pre .2) (c .before .before .before .before .before .before .before .before .before .before .before .before .before .before .before .sum-after .ensures) (c .before .before .before .before .before .before .before .before .before .before .before .before .before .wrapping-add-usize .ensures) (c .before .before .before .before .before .before .before .before .before .before .before .before .wrapping-add-usize2 .ensures))
+returns-4 c = λ q. (refl, refl, λ k.
+    adding (c .before .before .before .before .before .before .before .before .before .before .before .before .before .before .before .args .t .now) (c .before .before .before .before .before .before .before .before .before .before .before .before .before .before .before .args .j .station) (c .before .before .before .before .before .before .before .before .before .before .before .before .before .before .before .args .next) (c .before .before .before .before .before .before .before .before .before .before .before .before .before .before .before .args .was) (c .before .before .before .before .before .before .before .before .before .before .before .before .before .before .before .args .j .length) (c .before .before .before .before .before .before .before .before .before .before .before .before .before .before .before .args .kind) (c .before .before .before .before .before .before .before .before .before .before .before .before .before .before .before .args .bytes .now)
+    (c .before .before .before .before .before .before .before .before .before .before .before .before .before .before .before .fits .was .fits) (omega (arith, c .before .before .before .before .before .before .before .before .before .before .before .before .before .before .before .fits .kind .fits)) (λ i. omega (arith, c .before .before .before .before .before .before .before .before .before .before .before .before .before .shared-slice-known2 .given i))
+    (c .before .before .before .before .before .before .before .before .before .before .before .before .before .before .before .pre .0) (c .before .before .before .before .before .before .before .before .before .before .before .before .before .before .before .pre .1) (c .before .before .before .before .before .before .before .before .before .before .before .before .before .before .before .pre .2) (c .before .before .before .before .before .before .write-append .ensures)
+    (c .before .before .before .before .before .before .before .before .before .before .before .before .wrapping-add-usize .ensures) (c .before .before .before .before .before .before .before .before .before .before .before .wrapping-add-usize2 .ensures))
 
 pub add-spec : {M : Type 1} → statement M
 add-spec =
     tie.close
     (tie.spec
-    opening-requires
-    sum-after-requires
-    closing-requires
     wrapping-add-usize-requires
     wrapping-add-usize-requires-2
     has-length-requires
     lost-requires
     returns
-    slice-aggregate-write-append
-    slice-aggregate-write-append-2
     write-append-requires
     lost-requires-2
     returns-2

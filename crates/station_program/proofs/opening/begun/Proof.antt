@@ -1,9 +1,13 @@
 -- `station_program::opening::begun` meets its contract: behind a good head the reading stands. Assumes nothing.
+use mathlib.Core.Path.{sym, _∙_}
+use lib.Dec.{eqb}
+use lib.ListN.{take, drop}
 use native.Mathlib.Omega.{arith}
 use borrow.Author.Needs.{needs}
 use borrow.Author.Tests.{not-false}
 use Rattle.bits.proofs.Cases.{clash}
-use Rattle.station_program.proofs.OpeningStands.{begins-stands}
+use Rattle.journal_files.proofs.Names.{text-is, good-is}
+use Rattle.journal_reader.proofs.Standing.{begins-stands}
 use Rattle.station_program.proofs.opening.begun.Statement.{statement}
 use Rattle.station_program.proofs.opening.begun.Tie as tie
 
@@ -70,7 +74,9 @@ same-length-5 c = search needs
 returns-5 : tie.Need-returns-5
 returns-5 c = λ e s.
     begins-stands (c .before .before .before .before .before .before .before .before .before .before .before .before .before .before .before .before .before .before .before .before .args .t .now) (c .before .before .before .before .before .before .before .before .before .before .before .before .before .before .begin .last .1 .1 .0) (c .before .before .before .before .before .before .before .before .before .before .before .before .before .before .begin .result) (c .before .before .before .before .before .before .before .before .before .before .before .before .before .before .begin .ensures)
-    (c .before .before .before .before .before .before .before .is-good .ensures (not-false _ (c .before .before .before .before .before .before .if2 .left))) s (λ i. omega (arith, c .before .before .before .before .before .before .before .before .before .before .before .before .slice-known2 .given i))
+    (good-is (c .before .before .before .before .before .before .before .before .before .before .before .before .before .before .begin .result .kind) (eqb (c .before .before .before .before .before .before .before .before .before .before .before .before .before .before .begin .result .reading .end) 0) (sym (c .before .before .before .before .before .before .before .is-good .ensures) ∙ not-false _ (c .before .before .before .before .before .before .if2 .left)))
+    s (λ i. omega (arith, c .before .before .before .before .before .before .before .before .before .before .before .before .slice-known2 .given i)) (c .before .before .before .before .before .before .before .before .before .before .before .before .before .before .before .before .before .before .before .before .args .asked .now)
+    (λ h. text-is (c .before .before .before .before .before .before .before .before .before .before .before .before .before .before .before .before .before .before .before .before .args .asked .now) (take 40 (drop 24 (c .before .before .before .before .before .before .before .before .before .before .before .before .before .before .begin .last .1 .1 .0))) (sym (c .before .is-of .ensures) ∙ not-false _ (c .if5 .left)))
 
 same-length-6 : tie.Need-same-length-6
 same-length-6 c = search needs
@@ -78,7 +84,9 @@ same-length-6 c = search needs
 returns-6 : tie.Need-returns-6
 returns-6 c = λ e s.
     begins-stands (c .before .before .before .before .before .before .before .before .before .before .before .before .before .before .before .args .t .now) (c .before .before .before .before .before .before .before .before .before .begin .last .1 .1 .0) (c .before .before .before .before .before .before .before .before .before .begin .result) (c .before .before .before .before .before .before .before .before .before .begin .ensures)
-    (c .before .before .is-good .ensures (not-false _ (c .before .if2 .left))) s (λ i. omega (arith, c .before .before .before .before .before .before .before .slice-known2 .given i))
+    (good-is (c .before .before .before .before .before .before .before .before .before .begin .result .kind) (eqb (c .before .before .before .before .before .before .before .before .before .begin .result .reading .end) 0) (sym (c .before .before .is-good .ensures) ∙ not-false _ (c .before .if2 .left)))
+    s (λ i. omega (arith, c .before .before .before .before .before .before .before .slice-known2 .given i)) (c .before .before .before .before .before .before .before .before .before .before .before .before .before .before .before .args .asked .now)
+    (λ h. absurd (omega (arith, h, c .if3 .left)))
 
 pub begun-spec : {M : Type 1} → statement M
 begun-spec =

@@ -7,7 +7,7 @@ use Rattle.station_program.proofs.opening.read_all.Statement.{statement
 use Rattle.station_program.proofs.opening.read_all.Tie as tie
 
 replay-all-requires : tie.Need-replay-all-requires
-replay-all-requires c κs = c .before .before .before .before .before .pre
+replay-all-requires c κs = c .before .before .before .before .before .before .pre
 
 refused-requires : tie.Need-refused-requires
 refused-requires c κs = search needs

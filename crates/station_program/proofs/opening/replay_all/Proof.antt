@@ -4,20 +4,19 @@ use lib.ListN.{length}
 use native.Mathlib.Omega.{arith}
 use borrow.Author.Needs.{needs}
 use Rattle.bits.proofs.Cases.{clash}
-use Rattle.journal_reader.specs.Reading.{BuffersLent}
-use Rattle.station_program.specs.Opened.{StandsIn}
-use Rattle.station_program.proofs.OpeningStands.{next-stands}
+use Rattle.journal_reader.specs.Reading.{BuffersLent, StandsIn}
+use Rattle.journal_reader.proofs.Standing.{next-stands}
 use Rattle.station_program.proofs.opening.replay_all.Statement.{statement}
 use Rattle.station_program.proofs.opening.replay_all.Tie as tie
 
 abbrev Inv-loop : tie.InvT-loop
-Inv-loop t fd buf₀ room₀ q₀ appends₀ t8 buf room q appends = (length buf ≡ length buf₀) × (length room ≡ length room₀) × (BuffersLent t room₀ → StandsIn q buf)
+Inv-loop t fd asked buf₀ room₀ q₀ appends₀ t8 buf room q appends = (length buf ≡ length buf₀) × (length room ≡ length room₀) × (BuffersLent t room₀ → StandsIn asked q buf)
 
 abbrev μ-loop : tie.MeasureT-loop
-μ-loop t fd buf₀ room₀ q₀ appends₀ t8 buf room q appends = appends
+μ-loop t fd asked buf₀ room₀ q₀ appends₀ t8 buf room q appends = appends
 
 loop-holds : tie.Need-loop-holds Inv-loop μ-loop
-loop-holds c = (search needs, search needs, c .before .before .before .pre)
+loop-holds c = (search needs, search needs, c .before .before .before .before .pre)
 
 slice-aggregate-next : tie.Need-slice-aggregate-next Inv-loop μ-loop
 slice-aggregate-next c = search needs
@@ -37,7 +36,7 @@ returns c = (λ e.
     let w = n .ensures .0 e in
     let k = n .kept .1 .1 .1 .0 in
     (omega (arith, w .0, k), w .1, w .2, omega (arith, w .3, k)),
-    λ e l. next-stands (c .before .before .before .before .before .before .before .before .before .before .before .before .before .before .before .args .t .now) (c .before .before .before .before .before .before .before .before .before .before .before .loop .room) (c .before .before .before .before .before .before .before .before .before .before .before .loop .buf) (c .before .before .before .before .before .before .next .last .1 .1 .1 .0) (c .before .before .before .before .before .before .before .before .before .before .before .loop .q) (c .before .before .before .before .before .before .next .result)
+    λ e l. next-stands (c .before .before .before .before .before .before .before .before .before .before .before .before .before .before .before .before .args .t .now) (c .before .before .before .before .before .before .before .before .before .before .before .loop .room) (c .before .before .before .before .before .before .before .before .before .before .before .loop .buf) (c .before .before .before .before .before .before .next .last .1 .1 .1 .0) (c .before .before .before .before .before .before .before .before .before .before .before .loop .q) (c .before .before .before .before .before .before .next .result)
     (c .before .before .before .before .before .before .next .ensures) (l .0, omega (arith, l .1, c .before .before .before .before .before .before .before .before .before .before .before .loop .inv .1)) (c .before .before .before .before .before .before .before .before .before .before .before .loop .inv .2 l))
 
 sub-appends : tie.Need-sub-appends Inv-loop μ-loop
@@ -47,7 +46,7 @@ loop-less : tie.Need-loop-less Inv-loop μ-loop
 loop-less c = search needs
 
 loop-again : tie.Need-loop-again Inv-loop μ-loop
-loop-again c = (search needs, search needs, λ l. next-stands (c .before .before .before .before .before .before .before .before .before .before .before .before .before .before .before .args .t .now) (c .before .before .before .before .before .before .before .before .before .before .before .loop .room) (c .before .before .before .before .before .before .before .before .before .before .before .loop .buf) (c .before .before .before .before .before .before .next .last .1 .1 .1 .0) (c .before .before .before .before .before .before .before .before .before .before .before .loop .q) (c .before .before .before .before .before .before .next .result)
+loop-again c = (search needs, search needs, λ l. next-stands (c .before .before .before .before .before .before .before .before .before .before .before .before .before .before .before .before .args .t .now) (c .before .before .before .before .before .before .before .before .before .before .before .loop .room) (c .before .before .before .before .before .before .before .before .before .before .before .loop .buf) (c .before .before .before .before .before .before .next .last .1 .1 .1 .0) (c .before .before .before .before .before .before .before .before .before .before .before .loop .q) (c .before .before .before .before .before .before .next .result)
     (c .before .before .before .before .before .before .next .ensures) (l .0, omega (arith, l .1, c .before .before .before .before .before .before .before .before .before .before .before .loop .inv .1)) (c .before .before .before .before .before .before .before .before .before .before .before .loop .inv .2 l))
 
 refused-requires : tie.Need-refused-requires Inv-loop μ-loop

@@ -20,14 +20,8 @@ lost-requires c κs = search needs
 returns : tie.Need-returns
 returns c = λ q. clash q (c .lost .ensures)
 
-fsync-requires : tie.Need-fsync-requires
-fsync-requires c κs = search needs
-
-slice-aggregate-fail-2 : tie.Need-slice-aggregate-fail-2
-slice-aggregate-fail-2 c = search needs
-
-fail-requires-2 : tie.Need-fail-requires-2
-fail-requires-2 c κs = search needs
+is-synced-requires : tie.Need-is-synced-requires
+is-synced-requires c κs = search needs
 
 lost-requires-2 : tie.Need-lost-requires-2
 lost-requires-2 c κs = search needs
@@ -50,9 +44,7 @@ to-append-spec =
     fail-requires
     lost-requires
     returns
-    fsync-requires
-    slice-aggregate-fail-2
-    fail-requires-2
+    is-synced-requires
     lost-requires-2
     returns-2
     called-now-requires
