@@ -95,7 +95,7 @@ impl Text {
 
     fn answered(&mut self, answered: &Answered) -> String {
         let (bytes, differs) = (&answered.bytes, answered.agrees == Some(false));
-        if self.shows.quiet && !differs && !(is_refusal(bytes) && !self.begun) {
+        if self.shows.quiet && !differs && (self.begun || !is_refusal(bytes)) {
             return String::new();
         }
         let mut text = format!("message {}, {}, answered\n", answered.number, answered.at);
