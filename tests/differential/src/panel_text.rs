@@ -294,44 +294,6 @@ pub fn main(given: &[String]) {
             }
         }
     }
-    let missing: Vec<u8> = numbers.filter(|number| !came.contains_key(number)).collect();
-    assert!(missing.is_empty(), "{missing:?} never came: {came:?}");
-    println!("panel_text: {} calls on 300 stations, each rejection explained; numbers {came:?}", 300 * 40);
-
-    let (alike, wrong) = (same_texts(), wrong_texts());
-    let expected = text(&alike[0]);
-    assert!(expected.2 && expected.0.matches("verdict 0").count() == 2, "both are allowed");
-    for input in &alike {
-        same(&format!("{input:?}"), format!("{:?}", text(input)), format!("{expected:?}"));
-    }
-    for (input, told) in &wrong {
-        // a bad floor ends the session; a bad line leaves the floor, and the lines behind it are tried
-        let (output, heard, well) = text(&format!("{input}{}", if input.starts_with(DRAWN) { "rotate\n" } else { "" }));
-        same(&format!("{input:?}"), format!("{heard}{well}"), format!("{told}false"));
-        let rest = if input.starts_with(DRAWN) { text(&format!("{DRAWN}rotate\n")).0 } else { String::new() };
-        same(&format!("{input:?}"), output, rest);
-    }
-
-    let content = std::fs::read_to_string(page).expect("the page is there");
-    let (mut got, mut examples, mut verdicts) = ((String::new(), String::new(), true), [0; 3], BTreeSet::new());
-    for (line, mark, block) in blocks(&content, &["panel", "shown", "told"]) {
-        let place = format!("{page}:{line}");
-        match mark {
-            "panel" => {
-                got = text(&block);
-                examples[0] += 1;
-            }
-            "shown" => {
-                verdicts.extend(block.lines().filter_map(|line| line.strip_prefix("verdict ")?.split_once(':')?.0.parse::<u8>().ok()));
-                same(&place, got.0.clone(), block);
-                examples[1] += 1;
-            }
-            _ => {
-                same(&place, got.1.clone(), block);
-                examples[2] += 1;
-            }
-        }
-    }
     let missing: Vec<u8> = REASON_NUMBERS.filter(|number| !verdicts.contains(number)).collect();
     same(&pages.join(" "), format!("no example of {missing:?}"), "no example of []".to_string());
     if failed > 0 || examples[0] != examples[1] || examples[2] == 0 {
