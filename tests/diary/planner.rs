@@ -18,7 +18,7 @@ fn look(garage: &mut Station) -> Result<(), Refusal> {
 
 fn drive(garage: &mut Station, what: &str, begins: Event) -> Result<(), Refusal> {
     garage.event(begins)?;
-    garage.event(Event::EndDone)?;
+    garage.event(Event::EndedDone)?;
     println!("{what}: accepted");
     Ok(())
 }

@@ -31,6 +31,25 @@
 //! assert_eq!(format!("{down}: {refusal}"), "lift basement: 31 (out of turn)");
 //! # Ok::<(), station::Refusal>(())
 //! ```
+//!
+//! # A car comes down, and a belt is stuck
+//!
+//! ```
+//! use station::{Event, Number, Outcome, Parts, Station};
+//! let mut station = Station::new();
+//! station.event(Event::BeginIn)?;
+//! station.event(Event::EndedDone)?;
+//! let set = station.request(&["lift basement".parse().unwrap()])?;
+//! station.result(set, 0, Outcome::Done)?;
+//! let belts = ["belts row 1 left lift, lower, full".parse().unwrap()];
+//! let set = station.request(&belts)?;
+//! station.result(set, 0, Outcome::Stuck)?;
+//! assert_eq!(station.request(&belts).unwrap_err().number, Number::SetApart);
+//! assert!(station.apart().lift());
+//! station.image(station.record())?; // somebody has looked, and nothing had moved
+//! assert_eq!(station.apart(), Parts::NONE);
+//! # Ok::<(), station::Refusal>(())
+//! ```
 
 #![cfg_attr(not(feature = "entries"), allow(dead_code))] // what only the entries' calls use
 

@@ -194,5 +194,6 @@ test('under a 32 each stuck result is named that set apart what is touched', asy
   assert.deepEqual(await why(messages), [[by(7, 0, 1, low)], [by(7, 0, 1, low)], [by(6, 1, 1, lowers)], [by(13, 0, 2, low)]]);
   // a log that begins with the set outstanding, and one that begins after the jam
   assert.deepEqual((await why(messages, 5))[0], [by(2, 0, 1, low)]);
-  assert.deepEqual((await why(messages, 7))[2], ['set apart before the first message: right row 3 lowered, right row 3 tilted']);
+  assert.deepEqual((await why(messages, 7))[2], 
+    ['set apart before the first message: cell 39; the lowered slot right in row 3; the tilted slot right in row 3']);
 });
