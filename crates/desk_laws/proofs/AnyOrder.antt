@@ -16,7 +16,7 @@ use Rattle.any_order.proofs.AnyOrder as machine-order
 use Rattle.station.specs.declared.Station.{Station}
 use Rattle.station.specs.Station.{presentIssue, fit, closed, opened}
 use Rattle.station_laws.specs.Orders.{Fate}
-use Rattle.station_laws.specs.Demands.{Acceptable}
+use Rattle.station_laws.specs.AnswersRight.{Acceptable}
 use Rattle.station_laws.proofs.Apart.{awayOf, away-same}
 use Rattle.station_laws.proofs.Fits.{fit-has}
 use Rattle.station_laws.proofs.Calls.{request-has, request-is}
@@ -134,7 +134,7 @@ module _ (t : Desk) (f : deskFit t ≡ true) (whole : Whole t) (n : ℕ) (set : 
       (request-accepted (t .station) n set A) (choice k fate) drives a b O U in
       let W : machine-orders.Alike numbered (deskView holds) a b = rw holds-view T in
       subst₃ DeskAlike (sym there) (sym p) (sym q)
-      (alike holds holds-fit whole (inl (A .some)) k (ap (λ (d : Desk). presentIssue (d .station)) there) n (choice k fate) drives a b O U W)
+      (alike holds holds-fit whole (inl (A .orderly .readable .some)) k (ap (λ (d : Desk). presentIssue (d .station)) there) n (choice k fate) drives a b O U W)
 
 pub desk-any-order : DeskAnyOrder
 desk-any-order d b before n set z =

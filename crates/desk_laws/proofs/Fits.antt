@@ -30,7 +30,7 @@ use Rattle.station.specs.declared.Report.{Report}
 use Rattle.station.specs.Held.{codeAt, heldAllowed, heldNext}
 use Rattle.station_laws.specs.Runs as run
 use Rattle.station_laws.specs.Runs.{Call}
-use Rattle.station_laws.specs.Demands.{Waiting, ChangesRecord}
+use Rattle.station_laws.specs.AnswersRight.{Waiting, ChangesRecord}
 use Rattle.station_laws.proofs.Instance.{possibleAs, afterAs}
 use Rattle.station_laws.proofs.Fits.{fit-has, fit-start, waits-allowed}
 use Rattle.station_laws.proofs.Calls.{following, success-has, success-is, answering-bits, event-has, event-is, image-has, image-is}

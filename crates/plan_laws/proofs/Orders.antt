@@ -109,7 +109,8 @@ module _ (s : Station) (M : Met s) (x : PlanSet) (e : answerNumber s (requestOfS
   -- every order of its results, and the one in which it is judged
   pub alike : (l : List Call) → Order (presentIssue (setOpened s x)) (x .count) (λ i. succeeds) [] l
       → Alike (setOpened s x) l (successes (presentIssue (setOpened s x)) (x .count))
-  alike l O = any-order s (M .reached) (x .count) (setOf (x .bytes)) e (λ i. succeeds) [] l _ O (in-order (presentIssue (setOpened s x)) (x .count) (request-has s _ _ e .some))
+  alike l O = any-order s (M .reached) (x .count) (setOf (x .bytes)) e (λ i. succeeds) [] l _ O
+      (in-order (presentIssue (setOpened s x)) (x .count) (request-has s _ _ e .orderly .readable .some))
 
   -- its calls
   abbrev since : List Call
@@ -135,7 +136,7 @@ module _ (s : Station) (M : Met s) (x : PlanSet) (e : answerNumber s (requestOfS
   pub after-met : Met (afterSet s x)
   after-met = record {
     reached = after-reached;
-    idle = alike _ (in-order (presentIssue (setOpened s x)) (x .count) (request-has s _ _ e .some)) .closed .0;
+    idle = alike _ (in-order (presentIssue (setOpened s x)) (x .count) (request-has s _ _ e .orderly .readable .some)) .closed .0;
     whole = results-whole (presentIssue (setOpened s x)) (x .count) (setOpened s x)
         ∙ ⊎-elim (λ z. z) (λ z. absurd (z .1)) (only-stuck-sets-apart s (requestOfSet x)) ∙ M .whole;
   }

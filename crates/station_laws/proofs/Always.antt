@@ -22,7 +22,7 @@ use Rattle.station.specs.Held.{codeAt, heldNext, liftIn, crossesDrive}
 use Rattle.station.specs.Station.{fit, seeing, apartWith}
 use Rattle.station_laws.specs.Runs as run
 use Rattle.station_laws.specs.Runs.{Call, answerNumber, stationAfter, calls, Begins, atStart, byImage, NoImages, driveAt, drove, carsDriven}
-use Rattle.station_laws.specs.Demands.{FitStays, NeverUnfit, StillAllowed}
+use Rattle.station_laws.specs.SafeInAnyOrder.{FitStays, NeverUnfit, StillAllowed}
 use Rattle.station_laws.proofs.Reach.{under-way-kept, crosses-none, clear-is}
 use Rattle.station_laws.proofs.Instance.{afterAs, next-sound, after-sound, next-cars, event-counted}
 use Rattle.station_laws.proofs.Fits.{Ready, fit-has, fit-start, fit-holding, fit-opened, fit-answering, with-small, waits-allowed}

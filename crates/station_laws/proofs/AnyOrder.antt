@@ -18,7 +18,7 @@ use Rattle.station.specs.Station.{presentIssue, fit, closed, holding, opened, a
 use Rattle.station_laws.specs.Runs as run
 use Rattle.station_laws.specs.Runs.{Call, stationAfter, calls}
 use Rattle.station_laws.specs.Orders.{Order, Alike}
-use Rattle.station_laws.specs.Demands.{AnyOrder}
+use Rattle.station_laws.specs.SafeInAnyOrder.{AnyOrder}
 use Rattle.station_laws.proofs.Instance.{rules, seenOf, carsIn, framed}
 use Rattle.station_laws.proofs.Apart.{awayOf, away-same}
 use Rattle.station_laws.proofs.Fits.{fit-has, fit-opened, after-result}
@@ -39,7 +39,7 @@ tidy-answering s i r apart h = after-result Tidy s i r apart (λ t. inr refl) (�
 
 pub tidy-step : (s t : Station) (c : Call) → Step s c t → Tidy s → Tidy t
 tidy-step s t c (refuses n) d = d
-tidy-step s t c (opens A) d = inl (A .some)
+tidy-step s t c (opens A) d = inl (A .orderly .readable .some)
 tidy-step s t c (fails {i} w) d = tidy-answering s i _ _ (w .1)
 tidy-step s t c (succeeds {i} p w a) d = tidy-answering s i _ _ (w .1)
 tidy-step s t c (sticks {i} p w) d = tidy-answering s i _ _ (w .1)
@@ -99,8 +99,8 @@ any-order s R n set e chosen events l m P Q =
     let O = order-heard k (subst (Order k n chosen events) p P) in
     let U = order-heard k (subst (Order k n chosen events) q Q) in
     let small : Small s = reached Small small-step (λ t b. begins-has t b .2) s R in
-    let T = machine-order.any-order rules seenOf carsIn framed (kept s n set A) (s .bits) (awayOf (s .apart)) (fit-has s (A .fits) .sound) (request-accepted s n set A) (choice k chosen) events a b O U in
+    let T = machine-order.any-order rules seenOf carsIn framed (kept s n set A) (s .bits) (awayOf (s .apart)) (fit-has s (A .orderly .readable .fits) .sound) (request-accepted s n set A) (choice k chosen) events a b O U in
     let W : machine-orders.Alike rules (view (opened s n set)) a b = rw (request-view s n set A) T in
     let there : stationAfter s (run.request n set) ≡ opened s n set = ap (λ o. o .station) (request-is s n set A) in
     subst₃ Alike (sym there) (sym p) (sym q)
-    (alike (opened s n set) (fit-opened s n set A) small (inl (A .some)) k (ap presentIssue there) a b W)
+    (alike (opened s n set) (fit-opened s n set A) small (inl (A .orderly .readable .some)) k (ap presentIssue there) a b W)

@@ -33,7 +33,7 @@ use Rattle.station.specs.Calls.{refused, taken, onFit, opening}
 use Rattle.station.proofs.Marks.{in-set}
 use Rattle.station_laws.specs.Runs as run
 use Rattle.station_laws.specs.Runs.{call, answerNumber}
-use Rattle.station_laws.specs.Demands.{Acceptable, Orderly, Waiting}
+use Rattle.station_laws.specs.AnswersRight.{Acceptable, Orderly, Readable, Waiting}
 use Rattle.station_laws.proofs.Instance.{onEvent, possibleAs, openAs, afterAs, heldAs, replyAs}
 use Rattle.station_laws.proofs.Reach.{clear-has, clear-is}
 use Rattle.station_laws.proofs.Reasons.{why-number, least-fault}
@@ -110,73 +110,65 @@ module _ (s : Station) (n : ℕ) (set : List ℕ) where
       (a, b, c, d, f, e₅)
 
   -- past each test but the last it is orderly
-  pub orderly-of : fit s ≡ true → ltb 0 (s .count) ≡ false → ltb mostInSet n ≡ false → eqb n 0 ≡ false
-      → ltb (least n (bad set)) n ≡ false → crossesDrive (s .bits) set n ≡ false → ltb (least n (touches set (s .apart))) n ≡ false
-      → ltb (least n (overlapsEarlier set)) n ≡ false → Orderly s n set
-  orderly-of a b c d f x y g =
+  pub readable-of : fit s ≡ true → ltb 0 (s .count) ≡ false → ltb mostInSet n ≡ false → eqb n 0 ≡ false → ltb (least n (bad set)) n ≡ false
+      → Readable s n set
+  readable-of a b c d f =
       record {
         fits = a;
         idle = (let l = ltb-false 0 (s .count) b in omega arith);
         some = (let l = eqb-false n 0 d in omega arith);
         few = ltb-false mostInSet n c;
-        good = faultless n (bad set) f;
+        good = λ i l. not-false _ (faultless n (bad set) f i l);
+      }
+
+  pub orderly-of : fit s ≡ true → ltb 0 (s .count) ≡ false → ltb mostInSet n ≡ false → eqb n 0 ≡ false
+      → ltb (least n (bad set)) n ≡ false → crossesDrive (s .bits) set n ≡ false → ltb (least n (touches set (s .apart))) n ≡ false
+      → ltb (least n (overlapsEarlier set)) n ≡ false → Orderly s n set
+  unfolding overlapsEarlier
+  orderly-of a b c d f x y g =
+      record {
+        readable = readable-of a b c d f;
         clear = clear-has (s .bits) set n x;
         spared = faultless n (touches set (s .apart)) y;
-        apart = faultless n (overlapsEarlier set) g;
+        apart = λ i j l m. none-at i _ (faultless n (overlapsEarlier set) g i l) j (omega arith);
       }
 
   pub request-has : answerNumber s (run.request n set) ≡ 0 → Acceptable s n set
-  unfolding station.request overlapsEarlier
+  unfolding station.request
   request-has e =
       let (a, e₁) = met (fit s) s Unfit (station.requested s n set) (λ z. omega arith) e in
       let (b, c, d, f, x, e₂) = requested-has e₁ in
       let (y, e₃) = spared-has e₂ in
       let (g, h) = accepted-has e₃ in
-      let O = orderly-of a b c d f x y g in
-      record {
-        fits = O .fits;
-        idle = O .idle;
-        some = O .some;
-        few = O .few;
-        good = λ i l. not-false _ (O .good i l);
-        clear = O .clear;
-        spared = O .spared;
-        apart = λ i j l m. none-at i _ (O .apart i l) j (omega arith);
-        allowed = λ i l. not-false _ (faultless n (barred set (s .bits)) h i l);
-      }
+      record { orderly = orderly-of a b c d f x y g; allowed = λ i l. not-false _ (faultless n (barred set (s .bits)) h i l) }
+
+  -- no instruction of a readable one is bad, and none of an orderly one overlaps an earlier one
+  pub none-bad : Readable s n set → (i : ℕ) → i < n → bad set i ≡ false
+  none-bad R i h = rw (R .good i h)
+
+  pub none-overlaps : Orderly s n set → (i : ℕ) → i < n → overlapsEarlier set i ≡ false
+  unfolding overlapsEarlier
+  none-overlaps O i h = none-is i _ (λ j l. O .apart i j h l)
 
   -- an orderly one comes to its last test
   module _ (O : Orderly s n set) where
     requested-is : station.requested s n set ≡ station.accepted s n set
     unfolding station.requested station.cleared station.spared
     requested-is = rw (
-      le-ltb 0 (s .count) (let z = O .idle in omega arith),
-      le-ltb mostInSet n (O .few),
-      ne-eqb n 0 (λ z. (let l = O .some in omega arith)),
-      no-fault n (bad set) (O .good),
+      le-ltb 0 (s .count) (let z = O .readable .idle in omega arith),
+      le-ltb mostInSet n (O .readable .few),
+      ne-eqb n 0 (λ z. (let l = O .readable .some in omega arith)),
+      no-fault n (bad set) (none-bad (O .readable)),
       clear-is (s .bits) set n (O .clear),
       no-fault n (touches set (s .apart)) (O .spared),
     )
 
     pub orderly-is : station.request s n set ≡ station.unlessAny n (barred set (s .bits)) s (whyNot set (s .bits)) (opening s n set)
     unfolding station.request station.accepted
-    orderly-is = rw (O .fits) (requested-is ∙ rw (no-fault n (overlapsEarlier set) (O .apart)))
+    orderly-is = rw (O .readable .fits) (requested-is ∙ rw (no-fault n (overlapsEarlier set) (none-overlaps O)))
 
   pub request-is : Acceptable s n set → station.request s n set ≡ opening s n set
-  unfolding overlapsEarlier
-  request-is A = orderly-is orderly ∙ rw (no-fault n (barred set (s .bits)) (λ i h. rw (A .allowed i h)))
-    where
-      orderly : Orderly s n set
-      orderly = record {
-        fits = A .fits;
-        idle = A .idle;
-        some = A .some;
-        few = A .few;
-        good = λ i h. rw (A .good i h);
-        clear = A .clear;
-        spared = A .spared;
-        apart = λ i h. none-is i _ (λ j l. A .apart i j h l);
-      }
+  request-is A = orderly-is (A .orderly) ∙ rw (no-fault n (barred set (s .bits)) (λ i h. rw (A .allowed i h)))
 
 -- ---- a result, part by part
 

@@ -16,7 +16,7 @@ use Rattle.station.specs.declared.Station.{Station}
 use Rattle.station.specs.Station.{apartWith}
 use Rattle.station_laws.specs.Runs as run
 use Rattle.station_laws.specs.Runs.{Call, answerNumber}
-use Rattle.station_laws.specs.Demands.{ResultTaken, EventTaken, ChangesRecord, OnlySuccessChanges, ChangesApart, OnlyStuckSetsApart}
+use Rattle.station_laws.specs.AnswersRight.{ResultTaken, EventTaken, ChangesRecord, OnlySuccessChanges, ChangesApart, OnlyStuckSetsApart}
 use Rattle.station_laws.proofs.Instance.{possibleAs}
 use Rattle.station_laws.proofs.Calls.{following, success-is, stuck-is, ending-has, answering-bits, answering-apart, event-has, event-is}
 use Rattle.station_laws.proofs.EachCall.{untouched}

@@ -1,4 +1,4 @@
--- The three demands of specs/Demands.antt, kept. Assumes nothing.
+-- The three demands of specs/AlwaysAnswers.antt, AnswersRight.antt and SafeInAnyOrder.antt, kept. Assumes nothing.
 use mathlib.Core.Path.{refl, ap, _∙_}
 use Prim.Native.Nat.{ℕ}
 use Rattle.floor.proofs.Promises.{sound-exactly}
@@ -7,7 +7,9 @@ use Rattle.station.specs.declared.Station.{Station}
 use Rattle.station.specs.declared.Outcome.{Outcome}
 use Rattle.station_laws.specs.Runs as run
 use Rattle.station_laws.specs.Runs.{call}
-use Rattle.station_laws.specs.Demands.{RefusedUntouched, CallsInTable, AcceptedExactly, ReasonExactly, ResultRecord, FailureKeeps, StuckSetsApart, LateExactly, IssuesInTurn, FirstIsZero, ImageKeepsCount, BehindCounts, EventRecord, ImageTaken, AskKeeps, ResultTaken, EventTaken, EventRefused, LiftRefused, ApartRefused, EndTaken, NobodyMovesTheLift, LiftHeldSinceBegin, OnlySuccessChanges, OnlyStuckSetsApart, PlacesRight, PlacesElse, PlacesInRange, AlwaysLaidOut, CarsCounted, AnyOrder, OrdersExist, AnyOrderAmid, AmidUnmoved, AmidExists, AmidCovers, FinishedAnyOrder, WaitsAnyway, NothingMeetsAJam, StillAllowed, FitStays, NeverUnfit}
+use Rattle.station_laws.specs.AlwaysAnswers.{RefusedUntouched, CallsInTable}
+use Rattle.station_laws.specs.AnswersRight.{AcceptedExactly, ReasonExactly, ResultRecord, FailureKeeps, StuckSetsApart, LateExactly, IssuesInTurn, FirstIsZero, ImageKeepsCount, BehindCounts, EventRecord, ImageTaken, AskKeeps, ResultTaken, EventTaken, EventRefused, LiftRefused, ApartRefused, EndTaken, NobodyMovesTheLift, LiftHeldSinceBegin, OnlySuccessChanges, OnlyStuckSetsApart, PlacesRight, PlacesElse, PlacesInRange}
+use Rattle.station_laws.specs.SafeInAnyOrder.{AlwaysLaidOut, CarsCounted, AnyOrder, OrdersExist, AmidUnmoved, AmidExists, AmidCovers, FinishedAnyOrder, WaitsAnyway, NothingMeetsAJam, StillAllowed, FitStays, NeverUnfit}
 use Rattle.station_laws.proofs.EachCall as each
 use Rattle.station_laws.proofs.Calls.{request-has, request-is, success-has, success-is, failure-has, failure-is, stuck-has, stuck-is, answering-bits, answering-apart, image-has, image-is, ask-has, ask-is}
 use Rattle.station_laws.proofs.Places as places
@@ -147,9 +149,6 @@ any-order = orders.any-order
 
 pub orders-exist : OrdersExist
 orders-exist = lists.orders-exist
-
-pub any-order-amid : AnyOrderAmid
-any-order-amid = amid.any-order-amid
 
 pub amid-unmoved : AmidUnmoved
 amid-unmoved = amid.amid-unmoved

@@ -7,7 +7,7 @@ use mathlib.Core.List.{List, [], _∷_}
 use Prim.Native.Nat.{ℕ, _≤_, _<_}
 use native.Mathlib.Omega.{arith}
 use lib.Dec.{eqb, ltb}
-use borrow.Author.Tests.{ltb-false, eqb-true, eqb-false, le-ltb, ne-eqb}
+use borrow.Author.Tests.{eqb-true, eqb-false, le-ltb, ne-eqb}
 use Rattle.bits.specs.Bits.{Bits, bit, image}
 use Rattle.bits.specs.Places.{elem, share}
 use Rattle.bits.specs.Search.{least}
@@ -33,13 +33,13 @@ use Rattle.station.specs.Station.{fit, holding, apartWith}
 use Rattle.station.specs.Calls as station
 use Rattle.station_laws.specs.Runs as run
 use Rattle.station_laws.specs.Runs.{Call, answerNumber, stationAfter, calls, Begins, atStart, byImage, NoImages, driveAt}
-use Rattle.station_laws.specs.Demands.{EventRecord, EventRefused, Readable, LiftRefused, EndTaken, Unended, NobodyMovesTheLift, LiftHeldSinceBegin}
+use Rattle.station_laws.specs.AnswersRight.{EventRecord, EventRefused, Readable, LiftRefused, EndTaken, Unended, NobodyMovesTheLift, LiftHeldSinceBegin}
 use Rattle.station_laws.proofs.Reach.{drive-outside, held-outside, under-way-kept, crosses-none}
 use Rattle.station_laws.proofs.Apart.{part-lift}
 use Rattle.station_laws.proofs.Instance.{possibleAs, heldAs, replyAs, afterAs}
 use Rattle.station_laws.proofs.Fits.{fit-has}
 use Rattle.station_laws.proofs.Reasons.{why-number, least-fault}
-use Rattle.station_laws.proofs.Calls.{either, faultless, no-fault, possible-turn, following, Drivable, answering-bits, answering-apart, event-has, event-is, event-number, image-has, image-is}
+use Rattle.station_laws.proofs.Calls.{either, no-fault, possible-turn, following, Drivable, answering-bits, answering-apart, event-has, event-is, event-number, image-has, image-is, readable-of, none-bad}
 use Rattle.station_laws.proofs.EachCall.{unfit-is, untouched}
 use Rattle.station_laws.proofs.Steps.{Step, refuses, opens, fails, succeeds, sticks, drives, tells, steps, parts}
 use Rattle.station_laws.proofs.Always.{begins-has, fit-kept, fit-always}
@@ -182,13 +182,7 @@ module _ (s : Station) (n : ℕ) (set : List ℕ) where
       (λ x. let (u, l) = both (holds underWay (bit (s .bits))) (liftIn set n) x in
       record {
         then = λ z. record {
-          readable = record {
-            fits = a;
-            idle = (let l = ltb-false 0 (s .count) b in omega arith);
-            some = (let l = eqb-false n 0 d in omega arith);
-            few = ltb-false mostInSet n c;
-            good = faultless n (bad set) f;
-          };
+          readable = readable-of s n set a b c d f;
           driving = u;
           lifted = l;
         };
@@ -205,7 +199,7 @@ module _ (s : Station) (n : ℕ) (set : List ℕ) where
     le-ltb 0 (s .count) (let z = R .idle in omega arith),
     le-ltb mostInSet n (R .few),
     ne-eqb n 0 (λ z. (let l = R .some in omega arith)),
-    no-fault n (bad set) (R .good),
+    no-fault n (bad set) (none-bad s n set R),
     u,
     l,
   )

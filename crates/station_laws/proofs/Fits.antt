@@ -24,7 +24,7 @@ use Rattle.station.specs.declared.Station.{Station}
 use Rattle.station.specs.Held.{codeAt, heldParts, heldArea, heldAllowed, bad, overlapsEarlier, stranded, liftIn, crossesDrive}
 use Rattle.station.specs.Station.{fit, marked, placeUsed, closed, startOf, noting, opened, answering, apartWith}
 use Rattle.any_order.proofs.Marks.{marks}
-use Rattle.station_laws.specs.Demands.{Acceptable, Waiting}
+use Rattle.station_laws.specs.AnswersRight.{Acceptable, Waiting}
 use Rattle.station.specs.Private.{heldMask}
 use Rattle.station.proofs.Areas.{partsMask, parts-is}
 use Rattle.station.proofs.Padding.{kept-code, zero-past}
@@ -107,20 +107,20 @@ kept-clear s n set o =
 kept-apart : (s : Station) (n : ℕ) (set : List ℕ) → Acceptable s n set → (i : ℕ) → i < n → overlapsEarlier (opened s n set .set) i ≡ false
 unfolding overlapsEarlier
 kept-apart s n set A i h =
-    none-is i _ (λ j l. rw (kept-code n (40 - 5 * n) set i h, kept-code n (40 - 5 * n) set j (omega arith)) (A .apart i j h l))
+    none-is i _ (λ j l. rw (kept-code n (40 - 5 * n) set i h, kept-code n (40 - 5 * n) set j (omega arith)) (A .orderly .apart i j h l))
 
 pub fit-opened : (s : Station) (n : ℕ) (set : List ℕ) → Acceptable s n set → fit (opened s n set) ≡ true
 fit-opened s n set A = has-fit (opened s n set) (record {
-  sound = fit-has s (A .fits) .sound;
-  few = A .few;
-  good = every-is n _ (λ i h. rw (kept-code n (40 - 5 * n) set i h, A .good i h));
+  sound = fit-has s (A .orderly .readable .fits) .sound;
+  few = A .orderly .readable .few;
+  good = every-is n _ (λ i h. rw (kept-code n (40 - 5 * n) set i h, A .orderly .readable .good i h));
   marks = every-is 8 _ (λ i h. rw (bit-none i));
   blank = every-is 40 _ (λ k h. split (ltb k (5 * n)) (λ t. rw t) (λ t. rw (t, zero-past (5 * n) (40 - 5 * n) set k (ltb-false k (5 * n) t))));
-  owed = rw (some-at n (λ i. not (bit 0 i)) 0 (A .some) refl) (or-true (eqb n 0));
-  clear = kept-clear s n set (clear-is (s .bits) set n (A .clear));
+  owed = rw (some-at n (λ i. not (bit 0 i)) 0 (A .orderly .readable .some) refl) (or-true (eqb n 0));
+  clear = kept-clear s n set (clear-is (s .bits) set n (A .orderly .clear));
   apart = every-is n _ (λ i h. rw (kept-apart s n set A i h));
   ready = every-is n _ (λ i h. rw (bit-none i, kept-code n (40 - 5 * n) set i h, A .allowed i h));
-  within = fit-has s (A .fits) .within;
+  within = fit-has s (A .orderly .readable .fits) .within;
 })
 
 -- ---- a result

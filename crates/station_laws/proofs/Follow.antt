@@ -20,7 +20,7 @@ use Rattle.station.specs.Calls.{taken}
 use Rattle.station_laws.specs.Runs as run
 use Rattle.station_laws.specs.Runs.{call, answerNumber, stationAfter, calls}
 use Rattle.station_laws.specs.Orders.{Fair, replies}
-use Rattle.station_laws.specs.Demands.{Waiting}
+use Rattle.station_laws.specs.AnswersRight.{Waiting}
 use Rattle.station_laws.proofs.Instance.{rules, possibleAs, openAs, allowed-has}
 use Rattle.station_laws.proofs.Calls.{success-is, failure-is, stuck-is, event-has, event-is, event-number}
 use Rattle.station_laws.proofs.EachCall.{untouched}

@@ -20,7 +20,7 @@ use Rattle.station.specs.Calls as station
 use Rattle.station.specs.Calls.{refused}
 use Rattle.station_laws.specs.Runs as run
 use Rattle.station_laws.specs.Runs.{Call, call, answerNumber, stationAfter, issueCarried, opens, calls, setsOpened}
-use Rattle.station_laws.specs.Demands.{ResultHeard, LateExactly, IssuesInTurn, FirstIsZero, BehindCounts}
+use Rattle.station_laws.specs.AnswersRight.{ResultHeard, LateExactly, IssuesInTurn, FirstIsZero, BehindCounts}
 use Rattle.station_laws.proofs.Fits.{after-result}
 use Rattle.station_laws.proofs.Calls.{either, following, request-has, request-is, success-has, success-is, failure-has, failure-is, stuck-has, stuck-is, ending-has, event-has, event-is, image-has, image-is, ask-has, ask-is}
 use Rattle.station_laws.proofs.EachCall.{untouched}

@@ -24,7 +24,7 @@ use Rattle.station.specs.Station.{fit}
 use Rattle.station_laws.specs.Runs as run
 use Rattle.station_laws.specs.Runs.{Call, answerNumber, stationAfter, calls}
 use Rattle.station_laws.specs.Jams.{jammed, jams, stuck, jamAt, has, Picks, applied, finished, Chosen}
-use Rattle.station_laws.specs.Demands.{AlwaysLaidOut, CarsCounted, FinishedAnyOrder, WaitsAnyway}
+use Rattle.station_laws.specs.SafeInAnyOrder.{AlwaysLaidOut, CarsCounted, FinishedAnyOrder, WaitsAnyway}
 use Rattle.station_laws.proofs.Instance.{rules, seenOf, carsIn, framed, next-cars, allowed-has}
 use Rattle.station_laws.proofs.Calls.{image-has, image-is}
 use Rattle.station_laws.proofs.EachCall.{unfit-is, untouched}

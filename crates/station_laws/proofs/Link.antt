@@ -30,7 +30,7 @@ use Rattle.station.specs.Station.{fit, marked, closed, seeing, opened, answerin
 use Rattle.station_laws.specs.Runs as run
 use Rattle.station_laws.specs.Runs.{Call, answerNumber}
 use Rattle.station_laws.specs.Jams.{jammed, jamAt}
-use Rattle.station_laws.specs.Demands.{Acceptable, Waiting}
+use Rattle.station_laws.specs.AnswersRight.{Acceptable, Waiting}
 use Rattle.station_laws.proofs.Reach.{reach, reach-small, reach-apart, reach-lift, crosses-none, clear-is}
 use Rattle.station_laws.proofs.Instance.{rules, seenOf, carsIn, framed, blank, possibleAs, openAs, allowed-has}
 use Rattle.station.proofs.Padding.{five-at, zeros-at, kept-code}
@@ -67,12 +67,12 @@ module _ (s : Station) (n : ℕ) (set : List ℕ) (A : Acceptable s n set) where
 
   free : (j : ℕ) → j < n → machine.meets rules (rules .area (kept .at j)) (awayOf (s .apart)) ≡ false
   unfolding touches
-  free j h = ap (λ (x : Code). machine.meets rules (rules .area x) (awayOf (s .apart))) (same j h) ∙ meets-touched (codeAt set j) (s .apart) ∙ A .spared j h
+  free j h = ap (λ (x : Code). machine.meets rules (rules .area x) (awayOf (s .apart))) (same j h) ∙ meets-touched (codeAt set j) (s .apart) ∙ A .orderly .spared j h
 
   pub request-accepted : accepted rules kept (s .bits) (awayOf (s .apart)) ≡ true
-  request-accepted = is-accepted rules kept (s .bits) (awayOf (s .apart)) (A .some) (A .few) free
-      (λ i h j l. rw (same i h, same j (omega arith)) (let x = codeAt set i in let y = codeAt set j in sym (share-some (reach x) (reach y) (reach-small x)) ∙ reach-apart x y (A .apart i j h l)))
-      (λ i h. rw (same i h) (rw (A .allowed i h, crosses-none (s .bits) set n (clear-is (s .bits) set n (A .clear)) i h)))
+  request-accepted = is-accepted rules kept (s .bits) (awayOf (s .apart)) (A .orderly .readable .some) (A .orderly .readable .few) free
+      (λ i h j l. rw (same i h, same j (omega arith)) (let x = codeAt set i in let y = codeAt set j in sym (share-some (reach x) (reach y) (reach-small x)) ∙ reach-apart x y (A .orderly .apart i j h l)))
+      (λ i h. rw (same i h) (rw (A .allowed i h, crosses-none (s .bits) set n (clear-is (s .bits) set n (A .orderly .clear)) i h)))
 
   pub request-view : view (opened s n set) ≡ machine.opened kept (s .bits) (awayOf (s .apart))
   request-view = ap (λ (g : ℕ → Bool). record { bits = s .bits; set = kept; answered = g; away = awayOf (s .apart) }) unmarked
@@ -202,7 +202,7 @@ module _ (js : List Code) (s : Station) (G : Sane js s) where
   good-step t c (refuses n) = rw (ne-eqb (answerNumber s c) 0 n) G
   good-step t c (opens {n} {set} A) =
       rw (same-jams (eqb (answerNumber s (run.request n set)) 0), request-view s n set A)
-      (takes-good (request (kept s n set A)) (rw (A .idle) (request-accepted s n set A)))
+      (takes-good (request (kept s n set A)) (rw (A .orderly .readable .idle) (request-accepted s n set A)))
   good-step t c (fails {i} {k} w) = rw (same-jams (eqb (answerNumber s (run.resultCall k i 0)) 0)) (result-good i failed w)
   good-step t c (succeeds {i} {k} p w a) = rw (same-jams (eqb (answerNumber s (run.resultCall k i 1)) 0)) (result-good i finished w)
   good-step t c (sticking {i} {k} p w) =

@@ -13,7 +13,7 @@ use Rattle.station.specs.declared.Report.{Report}
 use Rattle.station_laws.specs.Runs as run
 use Rattle.station_laws.specs.Runs.{Call, NoImages}
 use Rattle.station_laws.specs.Orders.{Fate, fails, succeeds, sticks, fateNumber, resultsOf, eventsOf, AsChosen, Order}
-use Rattle.station_laws.specs.Demands.{OrdersExist}
+use Rattle.station_laws.specs.SafeInAnyOrder.{OrdersExist}
 
 -- what is reported of an instruction, by its fate
 abbrev pub outcome : Fate → Outcome

@@ -12,7 +12,7 @@ use Rattle.station.specs.Held.{codeAt}
 use Rattle.station.specs.Station.{presentIssue, marked}
 use Rattle.station_laws.specs.Runs.{Call, calls, Begins}
 use Rattle.station_laws.specs.Jams.{stuck, has, finished, Chosen}
-use Rattle.station_laws.specs.Demands.{AlwaysLaidOut, FinishedAnyOrder, WaitsAnyway, StillAllowed}
+use Rattle.station_laws.specs.SafeInAnyOrder.{AlwaysLaidOut, FinishedAnyOrder, WaitsAnyway, StillAllowed}
 use Rattle.station_laws.specs.Motion.{Moving, ofSet, ofStuck, setNumbers, stuckNumbers, isAmong, Unheard, movedOn, inFact, AllWaiting}
 use Rattle.station_laws.specs.Motion.{LaidOutInFact, CarsInFact, AnyOrderInFact, AllowedInFact, HeardInFact, HoweverFar, WaitingListed}
 use Rattle.station_laws.proofs.Instance.{allowed-has}

@@ -22,7 +22,7 @@ use Rattle.station_laws.specs.Runs as run
 use Rattle.station_laws.specs.Runs.{call, stationAfter, calls}
 use Rattle.station_laws.specs.Orders.{Fair}
 use Rattle.station_laws.specs.Jams.{jamAt, has, Picks, applied}
-use Rattle.station_laws.specs.Demands.{Waiting}
+use Rattle.station_laws.specs.AnswersRight.{Waiting}
 use Rattle.station_laws.specs.Motion.{Moving, ofSet, ofStuck, setNumbers, stuckNumbers, isAmong, movedOn, asItHappened}
 use Rattle.station_laws.proofs.Fits.{marksWith, after-result, waits-allowed}
 use Rattle.station_laws.proofs.Calls.{following, success-is, failure-is, answering-bits}

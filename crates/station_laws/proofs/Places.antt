@@ -28,7 +28,7 @@ use Rattle.station.specs.Station.{inSet, marked, presentIssue, late, fit}
 use Rattle.station.specs.Calls as station
 use Rattle.station_laws.specs.Runs as run
 use Rattle.station_laws.specs.Runs.{call}
-use Rattle.station_laws.specs.Demands.{PlacesRight, PlacesElse, PlacesInRange}
+use Rattle.station_laws.specs.AnswersRight.{PlacesRight, PlacesElse, PlacesInRange}
 use Rattle.station_laws.proofs.Calls.{either, faultless, event-as, drivenAs}
 use Rattle.station_laws.proofs.Reasons.{least-fault, good-refused}
 

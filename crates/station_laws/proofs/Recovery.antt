@@ -33,7 +33,7 @@ use Rattle.station_laws.specs.Runs.{Call, call, answerNumber, stationAft
 use Rattle.station_laws.specs.Orders.{Fate, fails, succeeds, sticks, fateNumber}
 use Rattle.station_laws.specs.Jams.{has, Picks}
 use Rattle.station_laws.specs.Motion.{AllWaiting}
-use Rattle.station_laws.specs.Demands.{Waiting}
+use Rattle.station_laws.specs.AnswersRight.{Waiting}
 use Rattle.station_laws.specs.Recovery.{AllAccepted, resultsFor, SaidOfDrive, nothing, done, notDone, mostCalls, LeadBack, NeverLocksUp, TenAreReached}
 use Rattle.station_laws.proofs.Reach.{under-way-kept}
 use Rattle.station_laws.proofs.Fits.{fit-has, marksWith, after-result}

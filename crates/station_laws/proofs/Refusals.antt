@@ -1,12 +1,12 @@
 -- A request is refused with a reason exactly where it is orderly: the least instruction not allowed, and its first condition that fails.
 -- Assumes nothing.
-use mathlib.Core.Path.{_≡_, refl, sym, ap, _∙_, subst}
-use mathlib.Core.Bool.{Bool, true, false}
+use mathlib.Core.Path.{_≡_, sym, ap, _∙_, subst}
+use mathlib.Core.Bool.{true}
 use mathlib.Core.List.{List}
 use Prim.Native.Nat.{ℕ, _≤_}
 use native.Mathlib.Omega.{arith}
 use lib.Dec.{eqb, ltb}
-use borrow.Author.Tests.{lt-ltb, not-false}
+use borrow.Author.Tests.{lt-ltb}
 use Rattle.bits.specs.Bits.{bit}
 use Rattle.bits.specs.Search.{least, IsLeast}
 use Rattle.bits.proofs.Least.{least-is}
@@ -16,7 +16,6 @@ use Rattle.rules.specs.Verdicts.{answerFor}
 use Rattle.rules.proofs.CodeLaws.{one-form}
 use Rattle.rules.proofs.Reasons.{reason-first}
 use Rattle.answers.specs.declared.Reason.{Reason}
-use Rattle.answers.specs.declared.Answer.{Answer}
 use Rattle.answers.specs.declared.Answer.the-variants.{NotAllowed}
 use Rattle.answers.specs.Answers.{reasonNumber, numberOf, placeOf}
 use Rattle.answers.proofs.Promises.{reason-from, reason-to, reason-same}
@@ -25,7 +24,7 @@ use Rattle.station.specs.declared.Outcome.{Outcome}
 use Rattle.station.specs.Held.{codeAt, bad, overlapsEarlier, barred, whyNot, touches, crossesDrive}
 use Rattle.station.specs.Station.{fit}
 use Rattle.station.specs.Calls as station
-use Rattle.station_laws.specs.Demands.{Orderly, ReasonAt, ReasonExactly}
+use Rattle.station_laws.specs.AnswersRight.{Orderly, ReasonAt, ReasonExactly}
 use Rattle.station_laws.proofs.Reasons.{least-fault, good-refused, told-by}
 use Rattle.station_laws.proofs.Calls.{either, orderly-of, orderly-is}
 
@@ -50,7 +49,7 @@ module _ (s : Station) (n : ℕ) (set : List ℕ) (why : Reason) (p : ℕ) where
   judged : (O : Orderly s n set) → ltb (least n (barred set (s .bits))) n ≡ true → Told (station.refused s (whyNot set (s .bits) (least n (barred set (s .bits)))))
   judged O t =
       let L = least-fault n (barred set (s .bits)) t in
-      let R = good-refused set (s .bits) _ (L .passes) (not-false _ (O .good _ (L .within))) in
+      let R = good-refused set (s .bits) _ (L .passes) (O .readable .good _ (L .within)) in
       record {
         then = λ e q.
             let at : least n (barred set (s .bits)) ≡ p = sym (ap placeOf (R .told)) ∙ q in

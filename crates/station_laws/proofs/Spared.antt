@@ -1,15 +1,14 @@
 -- What touches a part that is set apart is refused, with 32 and the least such place; and nothing that is taken has a place in common with
 -- what is stuck. Assumes nothing.
-use mathlib.Core.Path.{_≡_, refl, sym, ap, subst, _∙_}
+use mathlib.Core.Path.{_≡_, ap, subst, _∙_}
 use mathlib.Core.Logic.{_⊎_, inl, inr}
-use mathlib.Core.Bool.{Bool, true, false, _&&_}
+use mathlib.Core.Bool.{true, false, _&&_}
 use mathlib.Core.List.{List, []}
 use Prim.Native.Nat.{ℕ, _≤_, _<_}
 use native.Mathlib.Omega.{arith}
 use lib.Dec.{eqb, ltb}
 use lib.ListN.{length}
-use borrow.Author.Tests.{ltb-false, eqb-false, lt-ltb, le-ltb, ne-eqb, eqb-true}
-use Rattle.bits.specs.Bits.{bit}
+use borrow.Author.Tests.{lt-ltb, le-ltb, ne-eqb}
 use Rattle.bits.specs.Places.{elem, share}
 use Rattle.bits.specs.Search.{least, IsLeast}
 use Rattle.bits.proofs.Cases.{split, clash, off, T→true, true→T}
@@ -24,19 +23,20 @@ use Rattle.answers.specs.Answers.{numberOf, placeOf}
 use Rattle.any_order.proofs.Facts.{meets-clear}
 use Rattle.station.specs.declared.Station.{Station}
 use Rattle.station.specs.declared.Outcome.{Outcome}
-use Rattle.station.specs.Held.{codeAt, heldArea, bad, overlapsEarlier, barred, whyNot, touches, liftApart, crossesDrive}
+use Rattle.station.specs.Held.{codeAt, heldArea, bad, overlapsEarlier, barred, whyNot, touches, crossesDrive}
 use Rattle.station.specs.Station.{fit}
 use Rattle.station.specs.Calls as station
 use Rattle.station.proofs.Areas.{held-small}
 use Rattle.station_laws.specs.Runs as run
 use Rattle.station_laws.specs.Runs.{Call, answerNumber, calls}
 use Rattle.station_laws.specs.Jams.{stuck, jamAt}
-use Rattle.station_laws.specs.Demands.{Readable, ClearOfDrives, ApartRefused, NothingMeetsAJam}
-use Rattle.station_laws.proofs.Reach.{reach, in-area, clear-has, clear-is}
+use Rattle.station_laws.specs.AnswersRight.{Readable, ClearOfDrives, ApartRefused}
+use Rattle.station_laws.specs.SafeInAnyOrder.{NothingMeetsAJam}
+use Rattle.station_laws.proofs.Reach.{in-area, clear-has, clear-is}
 use Rattle.station_laws.proofs.Instance.{rules}
 use Rattle.station_laws.proofs.Apart.{awayOf, meets-touched, lost-lift}
 use Rattle.station_laws.proofs.Reasons.{why-number, least-fault}
-use Rattle.station_laws.proofs.Calls.{either, faultless, no-fault, request-has, event-has}
+use Rattle.station_laws.proofs.Calls.{either, no-fault, request-has, event-has, readable-of, none-bad}
 use Rattle.station_laws.proofs.Link.{fit-sane}
 use Rattle.station_laws.proofs.Jammed.{sane-calls, none-stuck}
 
@@ -76,13 +76,7 @@ module _ (s : Station) (n : ℕ) (set : List ℕ) (p : ℕ) where
       either Said (ltb (least n (touches set (s .apart))) n)
       (λ t. record {
         then = λ z q. record {
-          readable = record {
-            fits = a;
-            idle = (let l = ltb-false 0 (s .count) b in omega arith);
-            some = (let l = eqb-false n 0 d in omega arith);
-            few = ltb-false mostInSet n c;
-            good = faultless n (bad set) f;
-          };
+          readable = readable-of s n set a b c d f;
           clear = clear-has (s .bits) set n x;
           first = subst (IsLeast n (touches set (s .apart))) q (least-fault n (touches set (s .apart)) t);
         };
@@ -103,7 +97,7 @@ module _ (s : Station) (n : ℕ) (set : List ℕ) (p : ℕ) where
         le-ltb 0 (s .count) (let z = R .idle in omega arith),
         le-ltb mostInSet n (R .few),
         ne-eqb n 0 (λ z. (let l = R .some in omega arith)),
-        no-fault n (bad set) (R .good),
+        no-fault n (bad set) (none-bad s n set R),
         clear-is (s .bits) set n (M .clear),
         at,
         lt-ltb p n (L .within),
@@ -132,7 +126,7 @@ module _ (s : Station) (f : fit s ≡ true) (l : List Call) (j : ℕ) (h : j < l
       let (k, p, q) = share-at (heldArea (codeAt set i)) (heldArea jam) e in
       let x = codeAt set i in
       let A = request-has (calls s l) n set z in
-      clash (jam-away k q) (meets-clear rules (rules .area x) (awayOf (calls s l .apart)) (meets-touched x (calls s l .apart) ∙ A .spared i b) k (held-small x k p) (in-area x k p)))
+      clash (jam-away k q) (meets-clear rules (rules .area x) (awayOf (calls s l .apart)) (meets-touched x (calls s l .apart) ∙ A .orderly .spared i b) k (held-small x k p) (in-area x k p)))
 
   beside-event : (e : ℕ) → answerNumber (calls s l) (run.event e) ≡ 0 → share (heldArea jam) lift ≡ false
   beside-event e z = off _ (λ u.

@@ -19,7 +19,7 @@ use Rattle.station.specs.Calls as station
 use Rattle.station.specs.Calls.{refused, taken}
 use Rattle.station_laws.specs.Runs as run
 use Rattle.station_laws.specs.Runs.{Call, answerNumber, stationAfter, calls, NoImages, Begins, Reached}
-use Rattle.station_laws.specs.Demands.{Acceptable, Waiting}
+use Rattle.station_laws.specs.AnswersRight.{Acceptable, Waiting}
 use Rattle.station_laws.proofs.Instance.{afterAs}
 use Rattle.station_laws.proofs.Calls.{request-has, request-is, following, success-has, success-is, failure-has, failure-is, stuck-has, stuck-is, ending-has, Drivable, event-has, event-is}
 use Rattle.station_laws.proofs.EachCall.{untouched}

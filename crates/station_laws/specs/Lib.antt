@@ -1,7 +1,9 @@
 pub mod Runs
 pub mod Orders
 pub mod Jams
-pub mod Demands
+pub mod AlwaysAnswers
+pub mod AnswersRight
+pub mod SafeInAnyOrder
 pub mod Filling
 pub mod Motion
 pub mod Recovery

@@ -122,24 +122,3 @@ turnsAmid ends = []
 turnsAmid (kept {s} c a) = s ∷ turnsAmid a
 turnsAmid (asked a) = turnsAmid a
 turnsAmid (refused c r a) = turnsAmid a
-
--- within the longer list, each result of the shorter one is taken, and each success was allowed on the record at its turn
-abbrev pub FairAmid : {s : Station} {l m : List Call} → Amid s l m → Type 0
-FairAmid ends = Unit {0}
-FairAmid (kept {s} c a) = Fair s (c ∷ []) × FairAmid a
-FairAmid (asked a) = FairAmid a
-FairAmid (refused c r a) = FairAmid a
-
--- within the longer list, the numbers that the car events of the shorter one are answered with, in their order
-abbrev pub repliesAmid : {s : Station} {l m : List Call} → Amid s l m → List ℕ
-repliesAmid ends = []
-repliesAmid (kept {s} c a) = replies s (c ∷ []) ++ repliesAmid a
-repliesAmid (asked a) = repliesAmid a
-repliesAmid (refused c r a) = repliesAmid a
-
--- the longer lists come to the same: what the shorter ones have is fair and answered alike, the set closed, the stations at the end equal
-pub record AlikeAmid {s : Station} {l l' m m' : List Call} (a : Amid s l l') (b : Amid s m m') : Type 0 where
-  pub fair : FairAmid a × FairAmid b
-  pub answered : repliesAmid a ≡ repliesAmid b
-  pub closed : (calls s l' .count ≡ 0) × (calls s m' .count ≡ 0)
-  pub same : calls s l' ≡ calls s m'

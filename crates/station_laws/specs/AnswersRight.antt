@@ -1,63 +1,57 @@
--- The three demands of the station, as statements about the calls that the code's contracts cite. Each is proved in proofs/Demands.antt.
+-- Demand 2, it answers right: when each call is accepted, what it leaves, and what it is answered. Proved in proofs/Demands.antt.
 -- Assumes nothing.
 use mathlib.Core.Path.{_≡_}
 use mathlib.Core.Logic.{_↔_, _⊎_}
-use mathlib.Core.Bool.{Bool, true, false, cond}
-use mathlib.Core.List.{List, [], _∷_, _++_}
-use Prim.Native.Nat.{ℕ, _+_, _%_, _≤_, _<_}
-use lib.ListN.{length}
+use mathlib.Core.Bool.{true, false, cond}
+use mathlib.Core.List.{List, [], _∷_}
+use Prim.Native.Nat.{ℕ, _%_, _≤_, _<_}
 use Rattle.bits.specs.Bits.{Bits, bit, image}
 use Rattle.bits.specs.Places.{elem, share}
 use Rattle.bits.specs.Search.{IsLeast}
 use Rattle.floor.specs.Floor.{lift, drives}
 use Rattle.floor.specs.Tests.{holds, underWay}
-use Rattle.floor.specs.Cars.{Car, Layout}
 use Rattle.floor.specs.Sound.{Sound}
 use Rattle.rules.specs.declared.Instruction.{Instruction}
 use Rattle.rules.specs.declared.Reading.the-variants.{Good}
 use Rattle.rules.specs.declared.Event.{Event}
+use Rattle.rules.specs.declared.Event.the-variants.{EndDone, EndNotDone}
 use Rattle.rules.specs.Events.{inTurn, possible, placesOpen, afterEvent}
 use Rattle.rules.specs.Rules.{clauses}
 use Rattle.rules.specs.Codes.{readCode, eventCode, mostInSet}
 use Rattle.rules.specs.Promises.{FirstFails}
 use Rattle.answers.specs.declared.Reason.{Reason}
-use Rattle.answers.specs.Answers.{reasonNumber, OfTable, nowhere}
+use Rattle.answers.specs.declared.Answer.the-variants.{BadField, Overlap, EventImpossible, Late, NotIssued, OutOfTurn, SetApart, KeptOpen}
+use Rattle.answers.specs.Answers.{numberOf, reasonNumber, nowhere}
 use Rattle.station.specs.declared.Station.{Station}
 use Rattle.station.specs.declared.Report.{Report}
 use Rattle.station.specs.Held.{codeAt, isGood, heldArea, heldAllowed, heldNext, bad, overlapsEarlier, barred, liftIn, touches, liftApart}
 use Rattle.station.specs.Station.{startOf, issueAfter, presentIssue, behind, late, fit, marked, holding, seeing, opened, answering, apartWith}
 use Rattle.station_laws.specs.Runs as run
-use Rattle.station_laws.specs.Runs.{Call, answerNumber, stationAfter, faultIndex, issueCarried, opens, calls, setsOpened, Begins, NoImages, Reached, driveAt, carsDriven}
-use Rattle.station_laws.specs.Orders.{Fate, fateNumber, Order, Alike, Amid, interrupted, takenOf, turns, turnsAmid, AlikeAmid}
-use Rattle.station_laws.specs.Jams.{stuck, jamAt, has, finished, Chosen}
-
--- ---- 1. It always answers: a refused call leaves the station as it was
-
--- a call that is rejected leaves the station as it was, whatever station and call
-abbrev pub RefusedUntouched : Type 0
-RefusedUntouched = (s : Station) (c : Call) → (answerNumber s c ≡ 0 → ⊥) → stationAfter s c ≡ s
-
--- every call, on any station, is answered with a number of the table
-abbrev pub CallsInTable : Type 0
-CallsInTable = (s : Station) (c : Call) → OfTable (answerNumber s c)
-
--- ---- 2. It answers right
+use Rattle.station_laws.specs.Orders.{fails, succeeds, sticks, fateNumber}
+use Rattle.station_laws.specs.Runs.{Call, answerNumber, stationAfter, faultIndex, issueCarried, opens, calls, setsOpened, Begins, NoImages, driveAt}
 
 -- no drive is under way, or the lift is in no area of these instructions
 abbrev pub ClearOfDrives : Station → ℕ → List ℕ → Type 0
 ClearOfDrives s n set = (holds underWay (bit (s .bits)) ≡ false) ⊎ (liftIn set n ≡ false)
 
--- what a request must have: no set outstanding, 1 to 8 instructions, all well formed, no drive under way or the lift in no area, none
--- touching a part set apart, no two overlapping, each allowed on the present record
-pub record Acceptable (s : Station) (n : ℕ) (set : List ℕ) : Type 0 where
+-- what a request must have to be looked at as a whole: no set outstanding, 1 to 8 instructions, all well formed
+pub record Readable (s : Station) (n : ℕ) (set : List ℕ) : Type 0 where
   pub fits : fit s ≡ true
   pub idle : s .count ≡ 0
   pub some : 1 ≤ n
   pub few : n ≤ mostInSet
   pub good : (i : ℕ) → i < n → isGood (codeAt set i) ≡ true
+
+-- for its instructions to be judged: besides, no drive under way or the lift in no area, none touching a part set apart, no two overlapping
+pub record Orderly (s : Station) (n : ℕ) (set : List ℕ) : Type 0 where
+  pub readable : Readable s n set
   pub clear : ClearOfDrives s n set
   pub spared : (i : ℕ) → i < n → touches set (s .apart) i ≡ false
   pub apart : (i j : ℕ) → i < n → j < i → share (heldArea (codeAt set i)) (heldArea (codeAt set j)) ≡ false
+
+-- to be accepted: besides, each allowed on the present record
+pub record Acceptable (s : Station) (n : ℕ) (set : List ℕ) : Type 0 where
+  pub orderly : Orderly s n set
   pub allowed : (i : ℕ) → i < n → heldAllowed (codeAt set i) (bit (s .bits)) ≡ true
 
 -- a request is taken exactly if it is acceptable; then the set is outstanding with no mark, and the record as it was
@@ -65,17 +59,6 @@ abbrev pub AcceptedExactly : Type 0
 AcceptedExactly =
     (s : Station) (n : ℕ) (set : List ℕ)
     → ((answerNumber s (run.request n set) ≡ 0) ↔ Acceptable s n set) × (Acceptable s n set → stationAfter s (run.request n set) ≡ opened s n set)
-
--- what a request must have for its instructions to be judged: all that is asked of an acceptable one before they are
-pub record Orderly (s : Station) (n : ℕ) (set : List ℕ) : Type 0 where
-  pub fits : fit s ≡ true
-  pub idle : s .count ≡ 0
-  pub some : 1 ≤ n
-  pub few : n ≤ mostInSet
-  pub good : (i : ℕ) → i < n → bad set i ≡ false
-  pub clear : ClearOfDrives s n set
-  pub spared : (i : ℕ) → i < n → touches set (s .apart) i ≡ false
-  pub apart : (i : ℕ) → i < n → overlapsEarlier set i ≡ false
 
 -- of the conditions of the instruction at p the first that fails has this reason
 abbrev pub ReasonAt : List ℕ → ℕ → Bits → Reason → Type 0
@@ -97,29 +80,29 @@ Waiting s i = (fit s ≡ true) × (i < s .count) × (marked s i ≡ false)
 abbrev pub ResultRecord : Type 0
 ResultRecord =
     (s : Station) (k i : ℕ)
-    → ((answerNumber s (run.resultCall k i 1) ≡ 0) ↔ ((k ≡ presentIssue s) × Waiting s i))
-    × (answerNumber s (run.resultCall k i 1) ≡ 0
-    → (stationAfter s (run.resultCall k i 1) ≡ answering s i (image (heldNext (codeAt (s .set) i) (bit (s .bits)))) (s .apart))
-    × (stationAfter s (run.resultCall k i 1) .bits ≡ image (heldNext (codeAt (s .set) i) (bit (s .bits)))))
+    → ((answerNumber s (run.resultCall k i (fateNumber succeeds)) ≡ 0) ↔ ((k ≡ presentIssue s) × Waiting s i))
+    × (answerNumber s (run.resultCall k i (fateNumber succeeds)) ≡ 0
+    → (stationAfter s (run.resultCall k i (fateNumber succeeds)) ≡ answering s i (image (heldNext (codeAt (s .set) i) (bit (s .bits)))) (s .apart))
+    × (stationAfter s (run.resultCall k i (fateNumber succeeds)) .bits ≡ image (heldNext (codeAt (s .set) i) (bit (s .bits)))))
 
 -- a failure is taken exactly if it is of the present set and its instruction waits; the record stays, and what is set apart
 abbrev pub FailureKeeps : Type 0
 FailureKeeps =
     (s : Station) (k i : ℕ)
-    → ((answerNumber s (run.resultCall k i 0) ≡ 0) ↔ ((k ≡ presentIssue s) × Waiting s i))
-    × (answerNumber s (run.resultCall k i 0) ≡ 0
-    → (stationAfter s (run.resultCall k i 0) ≡ answering s i (s .bits) (s .apart)) × (stationAfter s (run.resultCall k i 0) .bits ≡ s .bits))
+    → ((answerNumber s (run.resultCall k i (fateNumber fails)) ≡ 0) ↔ ((k ≡ presentIssue s) × Waiting s i))
+    × (answerNumber s (run.resultCall k i (fateNumber fails)) ≡ 0
+    → (stationAfter s (run.resultCall k i (fateNumber fails)) ≡ answering s i (s .bits) (s .apart)) × (stationAfter s (run.resultCall k i (fateNumber fails)) .bits ≡ s .bits))
 
 -- a stuck result is taken exactly if it is of the present set and its instruction waits; the record stays, and everything in the
 -- instruction's area is set apart with what was, also where its set is closed
 abbrev pub StuckSetsApart : Type 0
 StuckSetsApart =
     (s : Station) (k i : ℕ)
-    → ((answerNumber s (run.resultCall k i 2) ≡ 0) ↔ ((k ≡ presentIssue s) × Waiting s i))
-    × (answerNumber s (run.resultCall k i 2) ≡ 0
-    → (stationAfter s (run.resultCall k i 2) ≡ answering s i (s .bits) (apartWith s i))
-    × (stationAfter s (run.resultCall k i 2) .bits ≡ s .bits)
-    × (stationAfter s (run.resultCall k i 2) .apart ≡ apartWith s i))
+    → ((answerNumber s (run.resultCall k i (fateNumber sticks)) ≡ 0) ↔ ((k ≡ presentIssue s) × Waiting s i))
+    × (answerNumber s (run.resultCall k i (fateNumber sticks)) ≡ 0
+    → (stationAfter s (run.resultCall k i (fateNumber sticks)) ≡ answering s i (s .bits) (apartWith s i))
+    × (stationAfter s (run.resultCall k i (fateNumber sticks)) .bits ≡ s .bits)
+    × (stationAfter s (run.resultCall k i (fateNumber sticks)) .apart ≡ apartWith s i))
 
 -- a result that could be of a set: the station is fit, it says 0 to 2, and a set is outstanding
 abbrev pub ResultHeard : Station → Report → Type 0
@@ -130,8 +113,8 @@ ResultHeard s r = (fit s ≡ true) × (r .ending ≤ 2) × (0 < s .count)
 abbrev pub LateExactly : Type 0
 LateExactly =
     (s : Station) (r : Report)
-    → ((answerNumber s (run.reports r) ≡ 29) ↔ (ResultHeard s r × (late s (r .issue) ≡ true)))
-    × ((answerNumber s (run.reports r) ≡ 30) ↔ (ResultHeard s r × (late s (r .issue) ≡ false) × (r .issue ≡ presentIssue s → ⊥)))
+    → ((answerNumber s (run.reports r) ≡ numberOf Late) ↔ (ResultHeard s r × (late s (r .issue) ≡ true)))
+    × ((answerNumber s (run.reports r) ≡ numberOf NotIssued) ↔ (ResultHeard s r × (late s (r .issue) ≡ false) × (r .issue ≡ presentIssue s → ⊥)))
 
 -- a request that is taken carries the next issue, which moves on by one, round the end; every other call carries 0 and keeps it
 abbrev pub IssuesInTurn : Type 0
@@ -190,48 +173,40 @@ EventTaken = (s : Station) (e : ℕ) → answerNumber s (run.event e) ≡ 0 → 
 abbrev pub EventRefused : Type 0
 EventRefused =
     (s : Station) (e : Event)
-    → ((answerNumber s (run.event (eventCode e)) ≡ 31) ↔ ((fit s ≡ true) × (liftIn (s .set) (s .count) ≡ false) × (inTurn e (bit (s .bits)) ≡ false)))
-    × ((answerNumber s (run.event (eventCode e)) ≡ 32)
+    → ((answerNumber s (run.event (eventCode e)) ≡ numberOf OutOfTurn) ↔ ((fit s ≡ true) × (liftIn (s .set) (s .count) ≡ false) × (inTurn e (bit (s .bits)) ≡ false)))
+    × ((answerNumber s (run.event (eventCode e)) ≡ numberOf (SetApart nowhere))
     ↔ ((fit s ≡ true) × (liftIn (s .set) (s .count) ≡ false) × (inTurn e (bit (s .bits)) ≡ true) × (liftApart (s .apart) ≡ true)))
-    × ((answerNumber s (run.event (eventCode e)) ≡ 10)
+    × ((answerNumber s (run.event (eventCode e)) ≡ numberOf EventImpossible)
     ↔ ((fit s ≡ true) × (liftIn (s .set) (s .count) ≡ false) × (inTurn e (bit (s .bits)) ≡ true) × (liftApart (s .apart) ≡ false)
     × (possible e (bit (s .bits)) ≡ false)))
-    × ((answerNumber s (run.event (eventCode e)) ≡ 33)
+    × ((answerNumber s (run.event (eventCode e)) ≡ numberOf KeptOpen)
     ↔ ((fit s ≡ true) × (liftIn (s .set) (s .count) ≡ false) × (liftApart (s .apart) ≡ false) × (possible e (bit (s .bits)) ≡ true)
     × (placesOpen e (bit (s .bits)) ≡ false)))
-
--- what a request must have for the lift to be looked for: all that is asked of an acceptable one before
-pub record Readable (s : Station) (n : ℕ) (set : List ℕ) : Type 0 where
-  pub fits : fit s ≡ true
-  pub idle : s .count ≡ 0
-  pub some : 1 ≤ n
-  pub few : n ≤ mostInSet
-  pub good : (i : ℕ) → i < n → bad set i ≡ false
 
 -- a request is answered 31 exactly if it is readable, a drive is under way and any of its instructions has the lift in its area
 abbrev pub LiftRefused : Type 0
 LiftRefused =
     (s : Station) (n : ℕ) (set : List ℕ)
-    → (answerNumber s (run.request n set) ≡ 31) ↔ (Readable s n set × (holds underWay (bit (s .bits)) ≡ true) × (liftIn set n ≡ true))
+    → (answerNumber s (run.request n set) ≡ numberOf OutOfTurn) ↔ (Readable s n set × (holds underWay (bit (s .bits)) ≡ true) × (liftIn set n ≡ true))
 
 -- a request is answered 32 with a place exactly if it is readable and clear of drives, and the place is the least that touches a part set
 -- apart
 abbrev pub ApartRefused : Type 0
 ApartRefused =
     (s : Station) (n : ℕ) (set : List ℕ) (p : ℕ)
-    → ((answerNumber s (run.request n set) ≡ 32) × (faultIndex s (run.request n set) ≡ p))
+    → ((answerNumber s (run.request n set) ≡ numberOf (SetApart p)) × (faultIndex s (run.request n set) ≡ p))
     ↔ (Readable s n set × ClearOfDrives s n set × IsLeast n (touches set (s .apart)) p)
 
 -- whatever calls came before, images too: while a drive is under way, an end is taken, done or not
 abbrev pub EndTaken : Type 0
 EndTaken =
     (s : Station) → Begins s → (l : List Call) → holds underWay (bit (calls s l .bits)) ≡ true
-    → (answerNumber (calls s l) (run.event 3) ≡ 0) × (answerNumber (calls s l) (run.event 4) ≡ 0)
+    → (answerNumber (calls s l) (run.event (eventCode EndDone)) ≡ 0) × (answerNumber (calls s l) (run.event (eventCode EndNotDone)) ≡ 0)
 
 -- none of these calls is an end that is taken
 abbrev pub Unended : Station → List Call → Type 0
 Unended s [] = Unit {0}
-Unended s (c ∷ l) = ((c ≡ run.event 3) ⊎ (c ≡ run.event 4) → answerNumber s c ≡ 0 → ⊥) × Unended (stationAfter s c) l
+Unended s (c ∷ l) = ((c ≡ run.event (eventCode EndDone)) ⊎ (c ≡ run.event (eventCode EndNotDone)) → answerNumber s c ≡ 0 → ⊥) × Unended (stationAfter s c) l
 
 -- while a drive is under way, begun here or brought by an image, nobody moves the lift: over any calls but an image, and until an end is
 -- accepted, its height and the car on it stay what they are, and that drive stays under way
@@ -255,7 +230,7 @@ LiftHeldSinceBegin =
 -- the calls that may change the record: a success, an event, an image
 abbrev pub ChangesRecord : Call → Type 0
 ChangesRecord (run.request n set) = ⊥
-ChangesRecord (run.reports r) = r .ending ≡ 1
+ChangesRecord (run.reports r) = r .ending ≡ fateNumber succeeds
 ChangesRecord (run.event e) = Unit {0}
 ChangesRecord (run.pictures p) = Unit {0}
 ChangesRecord run.ask = ⊥
@@ -267,7 +242,7 @@ OnlySuccessChanges = (s : Station) (c : Call) → (stationAfter s c .bits ≡ s 
 -- the calls that may change what is set apart: a stuck result, an image
 abbrev pub ChangesApart : Call → Type 0
 ChangesApart (run.request n set) = ⊥
-ChangesApart (run.reports r) = r .ending ≡ 2
+ChangesApart (run.reports r) = r .ending ≡ fateNumber sticks
 ChangesApart (run.event e) = ⊥
 ChangesApart (run.pictures p) = Unit {0}
 ChangesApart run.ask = ⊥
@@ -281,14 +256,15 @@ OnlyStuckSetsApart = (s : Station) (c : Call) → (stationAfter s c .apart ≡ s
 abbrev pub PlacesRight : Type 0
 PlacesRight =
     (s : Station) (n : ℕ) (set : List ℕ)
-    → (answerNumber s (run.request n set) ≡ 4 → IsLeast n (bad set) (faultIndex s (run.request n set)))
-    × (answerNumber s (run.request n set) ≡ 32 → IsLeast n (touches set (s .apart)) (faultIndex s (run.request n set)))
-    × (answerNumber s (run.request n set) ≡ 8 → IsLeast n (overlapsEarlier set) (faultIndex s (run.request n set)))
+    → (answerNumber s (run.request n set) ≡ numberOf (BadField nowhere) → IsLeast n (bad set) (faultIndex s (run.request n set)))
+    × (answerNumber s (run.request n set) ≡ numberOf (SetApart nowhere) → IsLeast n (touches set (s .apart)) (faultIndex s (run.request n set)))
+    × (answerNumber s (run.request n set) ≡ numberOf (Overlap nowhere) → IsLeast n (overlapsEarlier set) (faultIndex s (run.request n set)))
     × ((why : Reason) → answerNumber s (run.request n set) ≡ reasonNumber why → IsLeast n (barred set (s .bits)) (faultIndex s (run.request n set)))
 
 -- the answers that name an instruction: 4, 32, 8 and 20 to 28 to a request
 abbrev pub Names : Call → ℕ → Type 0
-Names (run.request n set) k = (k ≡ 4) ⊎ ((k ≡ 32) ⊎ ((k ≡ 8) ⊎ ((why : Reason) × (k ≡ reasonNumber why))))
+Names (run.request n set) k =
+    (k ≡ numberOf (BadField nowhere)) ⊎ ((k ≡ numberOf (SetApart nowhere)) ⊎ ((k ≡ numberOf (Overlap nowhere)) ⊎ ((why : Reason) × (k ≡ reasonNumber why))))
 Names (run.reports r) k = ⊥
 Names (run.event e) k = ⊥
 Names (run.pictures p) k = ⊥
@@ -301,90 +277,3 @@ PlacesElse = (s : Station) (c : Call) → (Names c (answerNumber s c) → ⊥) �
 -- the place of a call is 0 to 7, or 255
 abbrev pub PlacesInRange : Type 0
 PlacesInRange = (s : Station) (c : Call) → (faultIndex s c < mostInSet) ⊎ (faultIndex s c ≡ nowhere)
-
--- ---- 3. Sets are safe in any order
-
--- whatever calls follow, images too, for every choice of which stuck instructions did in fact finish, the record with those applied is
--- sound: its occupied places can be laid out as whole cars, none on another, each on belts that are there
-abbrev pub AlwaysLaidOut : Type 0
-AlwaysLaidOut = (s : Station) → Begins s → (l : List Call) (p : List ℕ) → Chosen s l p → Sound (bit (finished s l p))
-
--- over any calls but an image, for every choice of which stuck instructions did in fact finish, there are as many cars as at the start,
--- plus those driven in, less those driven out; an image that is taken is a new start
-abbrev pub CarsCounted : Type 0
-CarsCounted =
-    (s : Station) (l : List Call) → NoImages l → (p : List ℕ) → Chosen s l p
-    → (start end : List Car) → Layout (bit (s .bits)) start → Layout (bit (finished s l p)) end
-    → length end + carsDriven 2 s l ≡ length start + carsDriven 1 s l
-
--- of an accepted set: whichever instructions fail, succeed or stick, two orders of their results, with the present issue, and with the same
--- car events come to the same
-abbrev pub AnyOrder : Type 0
-AnyOrder =
-    (s : Station) → Reached s → (n : ℕ) (set : List ℕ) → answerNumber s (run.request n set) ≡ 0
-    → (fate : ℕ → Fate) (events : List ℕ) (l m : List Call)
-    → Order (presentIssue (stationAfter s (run.request n set))) n fate events l → Order (presentIssue (stationAfter s (run.request n set))) n fate events m
-    → Alike (stationAfter s (run.request n set)) l m
-
--- orders of a set's results exist for every issue and size, with any instruction answered last
-abbrev pub OrdersExist : Type 0
-OrdersExist =
-    (k n i : ℕ) → i < n → (fate : ℕ → Fate) (events : List ℕ)
-    → (front : List Call) × Order k n fate events (front ++ (run.resultCall k i (fateNumber (fate i)) ∷ []))
-
--- two orders come to the same also with asks, and calls that are refused, put in anywhere between
-abbrev pub AnyOrderAmid : Type 0
-AnyOrderAmid =
-    (s : Station) → Reached s → (n : ℕ) (set : List ℕ) → answerNumber s (run.request n set) ≡ 0
-    → (fate : ℕ → Fate) (events : List ℕ) (l m : List Call)
-    → Order (presentIssue (stationAfter s (run.request n set))) n fate events l → Order (presentIssue (stationAfter s (run.request n set))) n fate events m
-    → (l' m' : List Call) (a : Amid (stationAfter s (run.request n set)) l l') (b : Amid (stationAfter s (run.request n set)) m m')
-    → AlikeAmid a b
-
--- on any station asks and refused calls that are put in move nothing: each other call meets the station that it would meet without, and the
--- end is the same
-abbrev pub AmidUnmoved : Type 0
-AmidUnmoved = (s : Station) (l m : List Call) (a : Amid s l m) → (turnsAmid a ≡ turns s l) × (calls s m ≡ calls s l)
-
--- for every list of calls there is one with an ask and a refused call put in before each
-abbrev pub AmidExists : Type 0
-AmidExists = (s : Station) (l : List Call) → Amid s l (interrupted l)
-
--- every list of calls is those of it that are taken, with the others put in
-abbrev pub AmidCovers : Type 0
-AmidCovers = (s : Station) (l : List Call) → Amid s (takenOf s l) l
-
--- the order in which stuck instructions finished makes no difference
-abbrev pub FinishedAnyOrder : Type 0
-FinishedAnyOrder =
-    (s : Station) → Begins s → (l : List Call) (p q : List ℕ) → Chosen s l p → Chosen s l q → ((j : ℕ) → has p j ≡ has q j)
-    → finished s l p ≡ finished s l q
-
--- whichever did finish, an instruction that has no result yet, and may be running, is allowed on that record
-abbrev pub WaitsAnyway : Type 0
-WaitsAnyway =
-    (s : Station) → Begins s → (l : List Call) (p : List ℕ) → Chosen s l p
-    → (i : ℕ) → i < calls s l .count → marked (calls s l) i ≡ false
-    → heldAllowed (codeAt (calls s l .set) i) (bit (finished s l p)) ≡ true
-
--- until an image is taken, no set that is accepted and no event that is taken has a place in common with what is stuck
-abbrev pub NothingMeetsAJam : Type 0
-NothingMeetsAJam =
-    (s : Station) (l : List Call) (j : ℕ) → j < length (stuck s l)
-    → ((n : ℕ) (set : List ℕ) → answerNumber (calls s l) (run.request n set) ≡ 0
-    → (i : ℕ) → i < n → share (heldArea (codeAt set i)) (heldArea (jamAt (stuck s l) j)) ≡ false)
-    × ((e : ℕ) → answerNumber (calls s l) (run.event e) ≡ 0 → share (heldArea (jamAt (stuck s l) j)) lift ≡ false)
-
--- whatever calls came before, images too: an instruction that has no result yet is still allowed on the present record
-abbrev pub StillAllowed : Type 0
-StillAllowed =
-    (s : Station) → Begins s → (l : List Call) (i : ℕ) → i < calls s l .count → marked (calls s l) i ≡ false
-    → heldAllowed (codeAt (calls s l .set) i) (bit (calls s l .bits)) ≡ true
-
--- a call leaves a fit station fit, and one that isn't unfit
-abbrev pub FitStays : Type 0
-FitStays = (s : Station) (c : Call) → fit (stationAfter s c) ≡ fit s
-
--- whatever calls came before, images too, the station never answers 16
-abbrev pub NeverUnfit : Type 0
-NeverUnfit = (s : Station) → Begins s → (l : List Call) (c : Call) → answerNumber (calls s l) c ≡ 16 → ⊥
