@@ -33,6 +33,12 @@ void reference_told(uint8_t side, const struct command *given, const struct comm
 static uint32_t call_any(const struct command *c);
 static bool may_write(uint8_t entry, int run, uint32_t answer);
 static void tell(const struct command *command, uint8_t sort, uint32_t answer);
+/* At the end it tells what was reached. */
+static void summary(void);
+
+/* What the fuzzer calls: first of all, and with each input, which is the harness's. */
+int LLVMFuzzerInitialize(int *count, char ***words);
+int LLVMFuzzerTestOneInput(const uint8_t *data, size_t size);
 
 enum { RUNS = 3 };
 
@@ -43,6 +49,13 @@ static void open_pages(void) {
     page_size = (size_t)sysconf(_SC_PAGESIZE);
     for (int run = 0; run < RUNS; run++)
         open_page(&pages[run], page_size);
+}
+
+int LLVMFuzzerInitialize(int *count, char ***words) {
+    (void)count, (void)words;
+    open_pages();
+    atexit(summary);
+    return 0;
 }
 
 /* The call that is being made: what it was lent as it was before; in the command, as it must be after; and the answer. */

@@ -6,9 +6,6 @@
 #include "compare.h"
 #include "desk_command.h"
 
-int LLVMFuzzerInitialize(int *count, char ***words);
-int LLVMFuzzerTestOneInput(const uint8_t *data, size_t size);
-
 enum { NUMBERS = DESK_WRONG_COUNT + 1, SORTS = 32, DRIVE_IN = 55 };
 
 /* ---- what was reached */
@@ -251,13 +248,6 @@ static void one_step(void) {
     default:
         one_call(pick & 15, places, pick >> 7);
     }
-}
-
-int LLVMFuzzerInitialize(int *count, char ***words) {
-    (void)count, (void)words;
-    open_pages();
-    atexit(summary);
-    return 0;
 }
 
 int LLVMFuzzerTestOneInput(const uint8_t *data, size_t size) {

@@ -7,9 +7,6 @@
 #include "compare.h"
 #include "drawing.h"
 
-int LLVMFuzzerInitialize(int *count, char ***words);
-int LLVMFuzzerTestOneInput(const uint8_t *data, size_t size);
-
 /* The text to read is the run to read; what is written, a drawing or a record, goes into the room. */
 enum { WRITE, READ, DRAWING_ENTRIES };
 enum { NUMBERS = DRAWING_BAD_LINE + 1, PLACES = DRAWING_PAST_THE_LAST + 1 };
@@ -75,13 +72,6 @@ static bool may_write(uint8_t entry, int run, uint32_t answer) {
 }
 
 /* ---- an input */
-
-int LLVMFuzzerInitialize(int *count, char ***words) {
-    (void)count, (void)words;
-    open_pages();
-    atexit(summary);
-    return 0;
-}
 
 /* Makes a call, and gives whether it was taken. */
 static bool taken(struct command *command, unsigned places) {

@@ -12,9 +12,6 @@
 uint16_t reference_reason(const struct command *command, uint32_t answer);
 bool reference_refuses(uint8_t opcode, uint8_t number);
 
-int LLVMFuzzerInitialize(int *count, char ***words);
-int LLVMFuzzerTestOneInput(const uint8_t *data, size_t size);
-
 /* Where the record has the lift's car, height and drives, and the shuttles' slots. */
 enum { LIFT_AT = 52, SLOTS_AT = 40 };
 
@@ -332,13 +329,6 @@ static void tell_station(void) {
         reached.apart[part] |= (uint8_t)(apart >> part & 1);
     if (kept[SET_AT] <= STATION_MOST)
         reached.outstanding[kept[SET_AT]][marks] = 1;
-}
-
-int LLVMFuzzerInitialize(int *count, char ***words) {
-    (void)count, (void)words;
-    open_pages();
-    atexit(summary);
-    return 0;
 }
 
 int LLVMFuzzerTestOneInput(const uint8_t *data, size_t size) {

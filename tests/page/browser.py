@@ -23,6 +23,19 @@ def free_port() -> int:
         return one.getsockname()[1]
 
 
+def tried(page, checks, address, names):
+    """Runs the checks with these names, all if none is named, and prints how long each took: how many were run, and what failed ones said."""
+    chosen, failed = [check for check in checks if not names or check.__name__ in names], []
+    for check in chosen:
+        begun = time.monotonic()
+        try:
+            check(page, address)
+            print(f"{check.__name__}: {time.monotonic() - begun:.1f} s")
+        except (AssertionError, Failed) as why:
+            failed.append(f"{check.__name__}: {why}")
+    return len(chosen), failed
+
+
 class Browser:
     def __init__(self, folder, width=1280, height=1000, dark=False):
         self.port, self.session, self.patience, self.timed = free_port(), None, PATIENCE, False

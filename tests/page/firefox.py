@@ -15,7 +15,7 @@ from pathlib import Path
 import checks
 import logs
 import looks
-from browser import PATIENCE, Browser, Failed, free_port
+from browser import PATIENCE, Browser, Failed, free_port, tried
 
 COMMANDS = {"/url": "Navigate", "/execute/async": "ExecuteAsyncScript", "/element": "FindElement", "/actions": "PerformActions", "/window/rect": "SetWindowRect", "/print": "Print"}
 CHECKS = [checks.parks_by_clicks, checks.fetches_by_keys, checks.jam_and_image, checks.refusals_are_told, checks.two_orders, checks.motors_play, checks.garage_drawn,
@@ -75,18 +75,10 @@ class Firefox(Browser):
 
 
 def main(path, names):
-    failed = []
     with tempfile.TemporaryDirectory() as folder, Firefox(folder) as page:
-        for check in CHECKS:
-            if names and check.__name__ not in names:
-                continue
-            begun = time.monotonic()
-            try:
-                check(page, path.as_uri())
-                print(f"{check.__name__}: {time.monotonic() - begun:.1f} s")
-            except (AssertionError, Failed) as why:
-                failed.append(check.__name__)
-                print(f"failed: {check.__name__}: {why}")
+        _, failed = tried(page, CHECKS, path.as_uri(), names)
+    for line in failed:
+        print(f"failed: {line}")
     print(f"firefox: {len(failed)} failed")
     return 1 if failed else 0
 

@@ -4,13 +4,12 @@ the check that must find it out, and what is wrong with it."""
 
 import sys
 import tempfile
-import time
 from pathlib import Path
 
 import checks
 import logs
 import looks
-from browser import Browser, Failed
+from browser import Browser, Failed, tried
 
 ALL = [checks.parks_by_clicks, checks.fetches_by_keys, checks.jam_and_image, checks.refusals_are_told, checks.two_orders, checks.motors_play, checks.garage_drawn,
        checks.plan_judged, checks.station_link, logs.night_log, logs.journal, logs.random_messages, logs.bad_files, logs.headed_journal, logs.cards_in_a_log,
@@ -18,18 +17,9 @@ ALL = [checks.parks_by_clicks, checks.fetches_by_keys, checks.jam_and_image, che
 
 
 def main(path, wrong, names):
-    failed, tried, found_out = [], 0, 0
+    found_out = 0
     with tempfile.TemporaryDirectory() as folder, Browser(folder) as page:
-        for check in ALL:
-            if names and check.__name__ not in names:
-                continue
-            begun = time.monotonic()
-            try:
-                check(page, path.as_uri())
-                print(f"{check.__name__}: {time.monotonic() - begun:.1f} s")
-            except (AssertionError, Failed) as why:
-                failed.append(f"{check.__name__}: {why}")
-            tried += 1
+        count, failed = tried(page, ALL, path.as_uri(), names)
         by_name = {check.__name__: check for check in ALL}
         for line in (wrong / "list").read_text().splitlines():
             name, by, what = line.split(" ", 2)
@@ -46,7 +36,7 @@ def main(path, wrong, names):
                 found_out += 1
     for line in failed:
         print(f"failed: {line}")
-    print(f"page: {tried - sum(not line.startswith('a wrong') for line in failed)} of {tried} checks passed, {found_out} wrong pages found out")
+    print(f"page: {count - sum(not line.startswith('a wrong') for line in failed)} of {count} checks passed, {found_out} wrong pages found out")
     return 1 if failed else 0
 
 

@@ -8,6 +8,7 @@ mod stations;
 
 use reference::{cars, Instruction, REASON_NUMBERS, START};
 use shared::child::run_on as run;
+use shared::hex;
 use shared::page::blocks;
 use shared::sound_records::{every_five, SoundRecords};
 use shared::texts::{listed, words};
@@ -16,7 +17,7 @@ use std::collections::BTreeSet;
 use std::process::exit;
 
 fn hexadecimal(image: u64) -> String {
-    image.to_le_bytes().map(|byte| format!("{byte:02X}")).join(" ")
+    hex::written(&image.to_le_bytes())
 }
 
 /// A floor as it is shown: its drawing, its image, and how many cars it has.
@@ -29,7 +30,7 @@ struct Floor {
 /// The next floor of some lines.
 fn floor<'a>(lines: &mut impl Iterator<Item = &'a str>) -> Option<Floor> {
     let drawing: String = lines.take(6).map(|line| format!("{line}\n")).collect();
-    let bytes: Vec<u8> = lines.next()?.strip_prefix("image ")?.split(' ').filter_map(|byte| u8::from_str_radix(byte, 16).ok()).collect();
+    let bytes = hex::read(lines.next()?.strip_prefix("image ")?);
     let cars = lines.next()?.strip_prefix("cars ")?;
     let (count, places) = cars.split_once(": ").unwrap_or((cars, ""));
     let count: u32 = count.parse().ok()?;

@@ -4,6 +4,7 @@
 //! told of it, and one marked `verdict` what the judge writes.
 
 use shared::child::run_on as run;
+use shared::hex;
 use shared::page::blocks;
 use shared::texts::words;
 use std::process::exit;
@@ -114,10 +115,6 @@ fn wrong_texts() -> Vec<(String, String)> {
     all
 }
 
-fn hexadecimal(text: &str) -> Vec<u8> {
-    text.split_whitespace().map(|byte| u8::from_str_radix(byte, 16).expect("a byte in hexadecimal")).collect()
-}
-
 pub fn main(given: &[String]) {
     let [_, writer, judge, page] = given else { panic!("usage: plan_text WRITER JUDGE PAGE") };
     let mut failed = 0;
@@ -142,7 +139,7 @@ pub fn main(given: &[String]) {
         let place = format!("{page}:{line}");
         match mark {
             "plan" => written = run(writer, text.as_bytes()),
-            "bytes" => held(&place, format!("{:02X?}", written.0), format!("{:02X?}", hexadecimal(&text))),
+            "bytes" => held(&place, format!("{:02X?}", written.0), format!("{:02X?}", hex::read(&text))),
             "wrong" => held(&place, written.1.clone(), text),
             _ => held(&place, format!("{:?}", run(judge, &written.0)), format!("{:?}", (text.into_bytes(), "", true))),
         }

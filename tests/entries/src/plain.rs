@@ -9,7 +9,6 @@
 mod engines;
 
 use engines::Left;
-use reference::command::Command;
 use reference::panel_command::{self, CARS, CARS_SIZE, CONDITION, CONDITION_SIZE, ENTRIES, EVENT, NEXT, RECORD, REQUEST, RESULT};
 use reference::{cars, read_call, Call, Instruction, Station};
 use shared::handed::{self, handed, Handed};
@@ -25,10 +24,7 @@ use wrong::fault::{all_of, Fault};
 
 /// A call by the reference.
 fn reference_call(given: &Given) -> Left {
-    let &Given { entry, first, second, issue, image, apart, card, ref input, .. } = given;
-    engines::on_copies(given, |room, output| {
-        panel_command::call(&mut Command { entry, first, second, issue, image, apart, card, room, input, output })
-    })
+    engines::on_copies(given, |room, output| panel_command::call(&mut given.on(room, &given.input, output)))
 }
 
 /// A call by a reference with a fault.
@@ -36,18 +32,7 @@ fn wrong_call(fault: &Fault, given: &Given) -> Left {
     let &Given { entry, first, second, issue, image, apart, card, ref input, .. } = given;
     engines::on_copies(given, |room, output| {
         fault.with(|| {
-            wrong::panel_command::call(&mut wrong::command::Command {
-                entry,
-                first,
-                second,
-                issue,
-                image,
-                apart,
-                card,
-                room,
-                input,
-                output,
-            })
+            wrong::panel_command::call(&mut wrong::command::Given { entry, first, second, issue, image, apart, card, room, input, output })
         })
     })
 }

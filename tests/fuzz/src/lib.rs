@@ -55,38 +55,17 @@ pub struct Lent {
 }
 
 /// As `struct command` of command.h.
-#[repr(C)]
-pub struct Command {
-    entry: u8,
-    first: u8,
-    second: u8,
-    issue: u16,
-    image: u64,
-    apart: u64,
-    card: u32,
-    room: Lent,
-    input: Lent,
-    output: Lent,
-}
+pub type Command = command::Given<Lent, Lent, Lent>;
 
-impl Command {
-    /// # Safety
-    /// Each run is valid for its size, and overlaps no other.
-    unsafe fn lent(&self) -> command::Command<'_> {
-        let &Command { entry, first, second, issue, image, apart, card, ref room, ref input, ref output } = self;
-        command::Command {
-            entry,
-            first,
-            second,
-            issue,
-            image,
-            apart,
-            card,
-            room: from_raw_parts_mut(room.bytes, room.size),
-            input: from_raw_parts(input.bytes, input.size),
-            output: from_raw_parts_mut(output.bytes, output.size),
-        }
-    }
+/// # Safety
+/// Each run is valid for its size, and overlaps no other.
+unsafe fn lent(given: &Command) -> command::Command<'_> {
+    let Command { room, input, output, .. } = given;
+    given.on(
+        from_raw_parts_mut(room.bytes, room.size),
+        from_raw_parts(input.bytes, input.size),
+        from_raw_parts_mut(output.bytes, output.size),
+    )
 }
 
 /// What the call must return; its rooms are left as it must leave them.
@@ -95,7 +74,7 @@ impl Command {
 /// Each run is valid for its size, and overlaps no other; the same below.
 #[no_mangle]
 pub unsafe extern "C" fn reference_call(of: u8, given: &Command) -> u32 {
-    side(of).call(&mut given.lent())
+    side(of).call(&mut lent(given))
 }
 
 /// The sort of what is handed in that a call is made on.
@@ -104,7 +83,7 @@ pub unsafe extern "C" fn reference_call(of: u8, given: &Command) -> u32 {
 /// As above.
 #[no_mangle]
 pub unsafe extern "C" fn reference_handed(of: u8, given: &Command) -> u8 {
-    side(of).handed(&given.lent())
+    side(of).handed(&lent(given))
 }
 
 /// How many sorts there are.
@@ -132,7 +111,7 @@ pub extern "C" fn reference_gives(of: u8, entry: u8, number: u8) -> bool {
 #[no_mangle]
 pub unsafe extern "C" fn reference_told(of: u8, given: &Command, left: &Command, answer: u32) {
     #[cfg(feature = "wrong")]
-    wrong::told(side(of), &given.lent(), &left.lent(), answer);
+    wrong::told(side(of), &lent(given), &lent(left), answer);
     #[cfg(not(feature = "wrong"))]
     let _ = (of, given, left, answer);
 }

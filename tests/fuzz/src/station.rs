@@ -1,7 +1,7 @@
 //! The side of harness.c.
 
 use crate::judged::{command, panel_command, places};
-use crate::{Command, Side};
+use crate::{lent, Command, Side};
 use reference::REASONS;
 use shared::handed;
 
@@ -63,7 +63,7 @@ impl Side for Station {
 /// Each run is valid for its size, and overlaps no other.
 #[no_mangle]
 pub unsafe extern "C" fn reference_reason(given: &Command, answer: u32) -> u16 {
-    command::reason_told(&given.lent(), answer).map_or(0, |(opcode, number)| u16::from_be_bytes([opcode, number]))
+    command::reason_told(&lent(given), answer).map_or(0, |(opcode, number)| u16::from_be_bytes([opcode, number]))
 }
 
 /// Whether an opcode can be refused with a number for what a sound record is.

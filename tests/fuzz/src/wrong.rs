@@ -44,9 +44,7 @@ pub fn told(side: &dyn Side, given: &Command, left: &Command, answer: u32) {
     }
     unfound.retain(|fault| {
         let (mut room, mut output) = (given.room.to_vec(), given.output.to_vec());
-        let &Command { entry, first, second, issue, image, apart, card, input, .. } = given;
-        let mut call = Command { entry, first, second, issue, image, apart, card, room: &mut room, input, output: &mut output };
-        let said = fault.with(|| side.call(&mut call));
+        let said = fault.with(|| side.call(&mut given.on(&mut room, given.input, &mut output)));
         said == answer && room == left.room && output == left.output
     });
     if unfound.is_empty() {

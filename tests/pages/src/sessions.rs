@@ -3,13 +3,10 @@
 //! marked `session on` goes on with the session before it. At a line `!` the program is ended and started again: a session with one is held
 //! on a journal.
 
+use shared::hex;
 use shared::page::blocks;
 use std::io::Write;
 use std::process::{exit, Command, Stdio};
-
-fn bytes(line: &str) -> Vec<u8> {
-    line[1..].split_whitespace().map(|byte| u8::from_str_radix(byte, 16).expect("a byte in hexadecimal")).collect()
-}
 
 /// What the program writes for an input, started with these words.
 fn answers(program: &str, words: &[&str], input: &[u8]) -> Vec<u8> {
@@ -46,9 +43,9 @@ pub fn main(words: &[String]) {
         *end = at;
         for line in block.lines() {
             match (mark, line.as_bytes().first()) {
-                (_, Some(b'>')) => inputs.last_mut().expect("an input").extend(bytes(line)),
+                (_, Some(b'>')) => inputs.last_mut().expect("an input").extend(hex::read(&line[1..])),
                 ("report", _) => expected.extend([line.as_bytes(), b"\n"].concat()),
-                (_, Some(b'<')) => expected.extend(bytes(line)),
+                (_, Some(b'<')) => expected.extend(hex::read(&line[1..])),
                 (_, Some(b'!')) => inputs.push(Vec::new()),
                 _ => panic!("{page}:{at}: {line:?} is no line of a session"),
             }

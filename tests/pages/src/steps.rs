@@ -3,17 +3,10 @@
 //! plan's, and each instruction of the plan's text stands on the page as its words, in order.
 
 use shared::child;
+use shared::hex;
 use shared::page::blocks;
 use shared::planned::{self, SETS};
 use std::fs::read_to_string;
-
-fn bytes(line: &str) -> Vec<u8> {
-    line[1..].split_whitespace().map(|byte| u8::from_str_radix(byte, 16).expect("a byte in hexadecimal")).collect()
-}
-
-fn hex(bytes: &[u8]) -> String {
-    bytes.iter().map(|byte| format!("{byte:02X}")).collect::<Vec<_>>().join(" ") + "\n"
-}
 
 /// The instructions of a plan's text: its lines without comments and without the two that say the record and the wish.
 fn instructions(plan: &str) -> impl Iterator<Item = &str> {
@@ -28,13 +21,13 @@ pub fn main(given: &[String]) {
     let (mut image, mut first, mut sets, mut drawings) = (Vec::new(), None, Vec::<u8>::new(), 0);
     for (at, mark, block) in blocks(&text, &["session", "session on", "drawing"]) {
         if mark == "drawing" {
-            let drawn = child::run_on(draw, hex(&image).as_bytes()).0;
+            let drawn = child::run_on(draw, (hex::written(&image) + "\n").as_bytes()).0;
             assert_eq!(String::from_utf8_lossy(&drawn), block, "{page}:{at}: the image before it is drawn otherwise");
             drawings += 1;
             continue;
         }
         for line in block.lines() {
-            match &bytes(line)[..] {
+            match &hex::read(&line[1..])[..] {
                 [_, 0, 129, 0, shown @ ..] if line.starts_with('<') => image = shown[..8].to_vec(),
                 [_, 0, 1, 0, set @ ..] if line.starts_with('>') => {
                     first.get_or_insert_with(|| image.clone());

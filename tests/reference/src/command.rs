@@ -26,8 +26,11 @@ pub const ENTRIES: [(&str, &[u8]); 14] = [
 /// The version, its three numbers from the lowest byte up.
 const VERSION: [u8; 4] = [0, 0, 1, 0];
 
-/// One call with all that it is given; what an entry doesn't take is not looked at.
-pub struct Command<'a> {
+/// One call with all that it is given, on lent runs or on runs of its own; what an entry doesn't take is not looked at. Its fields are in the
+/// order of `struct command` of command.h.
+#[derive(Clone, Default)]
+#[repr(C)]
+pub struct Given<Room, Input, Output> {
     pub entry: u8,
     /// Its byte arguments: a count, an event, or a number and an outcome.
     pub first: u8,
@@ -39,9 +42,48 @@ pub struct Command<'a> {
     pub apart: u64,
     /// A card's number.
     pub card: u32,
-    pub room: &'a mut [u8],
-    pub input: &'a [u8],
-    pub output: &'a mut [u8],
+    pub room: Room,
+    pub input: Input,
+    pub output: Output,
+}
+
+/// On lent runs.
+pub type Command<'a> = Given<&'a mut [u8], &'a [u8], &'a mut [u8]>;
+
+/// A command in bytes, what it must return and leave, and what a run wants to know of it.
+pub struct Trial<T> {
+    pub entry: u8,
+    pub sent: Vec<u8>,
+    pub answer: u32,
+    pub left: Vec<u8>,
+    pub of_it: T,
+}
+
+impl<Own, Its, Made> Given<Own, Its, Made> {
+    /// The same call on other runs.
+    pub fn on<Room, Input, Output>(&self, room: Room, input: Input, output: Output) -> Given<Room, Input, Output> {
+        let &Given { entry, first, second, issue, image, apart, card, .. } = self;
+        Given { entry, first, second, issue, image, apart, card, room, input, output }
+    }
+}
+
+impl Given<Vec<u8>, Vec<u8>, Vec<u8>> {
+    /// The trial of it: `call` is the reference's, on a command that is left as the call must leave it; the program has the entry by the
+    /// number `first_entry` more.
+    pub fn trial<T>(self, first_entry: u8, call: impl FnOnce(&mut Command) -> (u32, T)) -> Trial<T> {
+        let mut sent = vec![first_entry + self.entry, self.first, self.second];
+        sent.extend(self.issue.to_le_bytes());
+        sent.extend(self.image.to_le_bytes());
+        sent.extend(self.apart.to_le_bytes());
+        sent.extend(self.card.to_le_bytes());
+        for run in [&self.room, &self.input, &self.output] {
+            sent.push(u8::try_from(run.len()).expect("a length of one byte"));
+            sent.extend(run);
+        }
+        let (mut room, mut output) = (self.room.clone(), self.output.clone());
+        let (answer, of_it) = call(&mut self.on(&mut room, &self.input, &mut output));
+        Trial { entry: self.entry, sent, answer, left: [room, output].concat(), of_it }
+    }
 }
 
 /// The bytes of a record, of a record with what is set apart, and of an instruction.

@@ -77,6 +77,20 @@ impl Damage {
     }
 }
 
+/// Damage by another byte somewhere in the line.
+macro_rules! another_byte {
+    ($name:literal, $told:expr, $byte:expr) => {
+        Damage {
+            name: $name,
+            told: $told,
+            spoil: |numbers, lines, at| {
+                let byte = $byte(numbers, at);
+                put(numbers, &mut lines[at], byte);
+            },
+        }
+    };
+}
+
 const OWN: &[(usize, u8)] = &[(0, 0), (1, 1), (2, 2), (3, 3), (4, 4), (5, 5)];
 const NEXT: &[(usize, u8)] = &[(0, 1), (1, 2), (2, 3), (3, 4), (4, 5), (5, 6)];
 /// The next line of the same form takes its place, if there is one.
@@ -254,38 +268,10 @@ pub const DAMAGES: [Damage; 36] = [
             lines[at].insert(k, byte);
         },
     },
-    Damage {
-        name: "a foreign byte",
-        told: OWN,
-        spoil: |numbers, lines, at| {
-            let byte = foreign(numbers, at);
-            put(numbers, &mut lines[at], byte);
-        },
-    },
-    Damage {
-        name: "a byte above 127",
-        told: OWN,
-        spoil: |numbers, lines, at| {
-            let byte = numbers.byte() | 128;
-            put(numbers, &mut lines[at], byte);
-        },
-    },
-    Damage {
-        name: "a letter for a mark",
-        told: FLOOR,
-        spoil: |numbers, lines, at| {
-            let byte = one_of(numbers, b"LTB-");
-            put(numbers, &mut lines[at], byte);
-        },
-    },
-    Damage {
-        name: "a mark for a letter",
-        told: SHUTTLES,
-        spoil: |numbers, lines, at| {
-            let byte = one_of(numbers, b"#.");
-            put(numbers, &mut lines[at], byte);
-        },
-    },
+    another_byte!("a foreign byte", OWN, foreign),
+    another_byte!("a byte above 127", OWN, |numbers: &mut Numbers, _| numbers.byte() | 128),
+    another_byte!("a letter for a mark", FLOOR, |numbers: &mut Numbers, _| one_of(numbers, b"LTB-")),
+    another_byte!("a mark for a letter", SHUTTLES, |numbers: &mut Numbers, _| one_of(numbers, b"#.")),
     Damage {
         name: "marks alone",
         told: WORDS,

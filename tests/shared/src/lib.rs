@@ -9,6 +9,7 @@ pub mod drawing_traffic;
 pub mod drives;
 pub mod filling;
 pub mod handed;
+pub mod hex;
 pub mod jams;
 pub mod journal_form;
 pub mod journals;

@@ -2,53 +2,12 @@
 //! the run of them, in which each answer is held against that.
 
 use crate::traffic::{any_bytes, Numbers};
-use reference::command::Command;
+pub use reference::command::Trial;
 use std::io::{BufReader, Read, Write};
 use std::process::{exit, Stdio};
 
-/// What a command is made of.
-#[derive(Clone, Default)]
-pub struct Given {
-    pub entry: u8,
-    pub first: u8,
-    pub second: u8,
-    pub issue: u16,
-    pub image: u64,
-    pub apart: u64,
-    pub card: u32,
-    pub room: Vec<u8>,
-    pub input: Vec<u8>,
-    pub output: Vec<u8>,
-}
-
-/// A command in bytes, what it must return and leave, and what a run wants to know of it.
-pub struct Trial<T> {
-    pub entry: u8,
-    pub sent: Vec<u8>,
-    pub answer: u32,
-    pub left: Vec<u8>,
-    pub of_it: T,
-}
-
-impl Given {
-    /// The trial of it: `call` is the reference's, on a command that is left as the call must leave it; the program has the entry by the
-    /// number `first_entry` more.
-    pub fn trial<T>(mut self, first_entry: u8, call: impl FnOnce(&mut Command) -> (u32, T)) -> Trial<T> {
-        let mut sent = vec![first_entry + self.entry, self.first, self.second];
-        sent.extend(self.issue.to_le_bytes());
-        sent.extend(self.image.to_le_bytes());
-        sent.extend(self.apart.to_le_bytes());
-        sent.extend(self.card.to_le_bytes());
-        for run in [&self.room, &self.input, &self.output] {
-            sent.push(u8::try_from(run.len()).expect("a length of one byte"));
-            sent.extend(run);
-        }
-        let Given { entry, first, second, issue, image, apart, card, .. } = self;
-        let (room, input, output) = (&mut self.room[..], &self.input[..], &mut self.output[..]);
-        let (answer, of_it) = call(&mut Command { entry, first, second, issue, image, apart, card, room, input, output });
-        Trial { entry, sent, answer, left: [self.room, self.output].concat(), of_it }
-    }
-}
+/// A command on runs of its own.
+pub type Given = reference::command::Given<Vec<u8>, Vec<u8>, Vec<u8>>;
 
 /// A room with these bytes in it: mostly longer than they are, now and then too short.
 pub fn room_for(numbers: &mut Numbers, bytes: &[u8]) -> Vec<u8> {

@@ -4,6 +4,7 @@
 use crate::explain::held::Beside;
 use crate::explain::shown::parts_in;
 use reference::{read_call, Call, Instruction, Station, DONE, STUCK};
+use shared::hex;
 use shared::sound_records::every_five;
 use shared::texts::words;
 use shared::traffic::{framed_message, input, Numbers};
@@ -12,7 +13,7 @@ use std::collections::BTreeMap;
 const EVENTS: [&str; 4] = ["begin in", "begin out", "ended and done", "ended and not done"];
 
 fn hexadecimal(bytes: &[u8]) -> String {
-    bytes.iter().map(|byte| format!("{byte:02X}")).collect()
+    hex::written(bytes).replace(' ', "")
 }
 
 /// A call in the panel's words, if it has some.
