@@ -148,14 +148,17 @@ module _ (r : ℕ) (five room : List ℕ) where
         pub says-none : {x : ℕ} → one ≡ Bad → x ≡ returned (BadField nowhere) → LeavesRoom (nextInto r five room) x room
         says-none g e =
             lead (as-next
-            ∙ ap₂ (λ (b : Bool) (y : Reading). writes (cond b OutOfTurn (answerTo (onCode (λ i. movedOf i r) Moved.IllFormed y))) (littleEndian 8 (recordIn (onCode (λ i. movedOf i r) Moved.IllFormed y))) room) (no-area g) g
+            ∙ ap₂ (λ (b : Bool) (y : Reading). writes (cond b OutOfTurn (answerTo (onCode (λ i. movedOf i r) Moved.IllFormed y)))
+                (littleEndian 8 (recordIn (onCode (λ i. movedOf i r) Moved.IllFormed y))) room) (no-area g) g
             ∙ refused-writes (BadField nowhere) _ room (λ z. omega arith)) (e, refl)
 
         pub next-so : (i : Instruction) {f : Floor} {x : ℕ} {last : List ℕ} → one ≡ Good i → r < 2 ^ 64 → f ≡ floorOf (bit r)
             → LeavesRoom (writes (floorAnswer f i) (littleEndian 8 (floorNext f i)) room) x last → LeavesRoom (nextInto r five room) x last
         next-so i g k e w =
             lead (as-next
-            ∙ ap (λ (y : Reading). writes (cond (crosses (codeFrom five) r) OutOfTurn (answerTo (onCode (λ i. movedOf i r) Moved.IllFormed y))) (littleEndian 8 (recordIn (onCode (λ i. movedOf i r) Moved.IllFormed y))) room) g
+            ∙ ap (λ (y : Reading). writes (cond (crosses (codeFrom five) r) OutOfTurn
+                (answerTo (onCode (λ i. movedOf i r) Moved.IllFormed y)))
+                (littleEndian 8 (recordIn (onCode (λ i. movedOf i r) Moved.IllFormed y))) room) g
             ∙ sym (followed r k s e five room i (reading ∙ g))) w
 
 -- ---- an instruction on a floor

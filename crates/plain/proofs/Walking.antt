@@ -197,5 +197,7 @@ module _ (f : Bits) {w : Walk} (e : w ≡ walkOf (inRows f)) where
   unfolding walked
   whole-walk d g =
       walking-ends
-      (walking-on {rest = []} (f raisedCar) raised (record { met = inRows f; kept = e; parts = append-assoc (inRow1 f) (singlesOf (from 20 20) f) (cond (f raisedCar) (raised ∷ []) []) }) last-room d g)
+      (walking-on {rest = []} (f raisedCar) raised
+          (record { met = inRows f; kept = e; parts = append-assoc (inRow1 f) (singlesOf (from 20 20) f)
+          (cond (f raisedCar) (raised ∷ []) []) }) last-room d g)
       refl

@@ -31,7 +31,9 @@ none-past f past = fun-ext (λ k. split (ltb k 64)
 
 pub floor-bits : (f : Floor) → bit (image (plainBits f)) ≡ plainBits f
 unfolding plainBits
-floor-bits f = none-past (plainBits f) (λ k h. rw (le-ltb k 40 (omega arith), le-ltb k 52 (omega arith), ne-eqb k 52 (λ e. omega arith), ne-eqb k 53 (λ e. omega arith), ne-eqb k 54 (λ e. omega arith), ne-eqb k 55 (λ e. omega arith), ne-eqb k 56 (λ e. omega arith)))
+floor-bits f = none-past (plainBits f) (λ k h. rw
+    (le-ltb k 40 (omega arith), le-ltb k 52 (omega arith), ne-eqb k 52 (λ e. omega arith), ne-eqb k 53 (λ e. omega arith), ne-eqb k 54
+    (λ e. omega arith), ne-eqb k 55 (λ e. omega arith), ne-eqb k 56 (λ e. omega arith)))
 
 pub parts-bits : (p : Parts) → bit (image (partsBits p)) ≡ partsBits p
 unfolding partsBits

@@ -152,7 +152,8 @@ pub record Carried (cs : List ℕ) (f g : Bits) : Type 0 where
   pub same : (n : ℕ) → T (besides n cs) → below g n ≡ below f n
 
 -- a span of row 1, or of rows 2 and 3
-span-carried : (f g : Bits) (first : Bool) (a p : ℕ) → Kept a (a + p) f g → T (inRows first (from a (suc p))) → T (holds (cond first (even (from a (suc p))) (fact true)) f) → Carried (from a (suc p)) f g
+span-carried : (f g : Bits) (first : Bool) (a p : ℕ) → Kept a (a + p) f g → T (inRows first (from a (suc p))) → T
+    (holds (cond first (even (from a (suc p))) (fact true)) f) → Carried (from a (suc p)) f g
 span-carried f g true a p k b ev =
     let l = span-within 0 20 p a b in
     let q : a + suc p ≡ suc (a + p) = omega arith in
@@ -174,7 +175,8 @@ span-carried f g false a p k b ev =
     }
 
 -- an allowed move is that of a span
-pub belts-carried : (row mask toward size : ℕ) (f : Bits) → T (beltsNamed row mask) → T (allHold (conditions (Belts row mask toward size)) f) → Carried (cells row mask) f (changed (changes (Belts row mask toward size)) f)
+pub belts-carried : (row mask toward size : ℕ) (f : Bits) → T (beltsNamed row mask) → T
+    (allHold (conditions (Belts row mask toward size)) f) → Carried (cells row mask) f (changed (changes (Belts row mask toward size)) f)
 belts-carried row mask toward size f named t =
     go (cells row mask) (c 1) (c 2) (c 4) (each-row (λ row mask. inRows (eqb row 1) (cells row mask)) all-inRows row mask named) (c 5)
   where

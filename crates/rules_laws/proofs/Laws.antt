@@ -121,7 +121,8 @@ event-sound e f s ok = record { layout = whole-layout (afterEvent e f) (whole-sa
     row : (k : ℕ) → k < 20 → afterEvent e f k ≡ f k
     row k h =
         frame.after-outside e f k
-        (simp (ne-eqb raisedCar k (λ p. omega arith), ne-eqb heightLow k (λ p. omega arith), ne-eqb heightHigh k (λ p. omega arith), ne-eqb driveIn k (λ p. omega arith), ne-eqb driveOut k (λ p. omega arith)))
+        (simp (ne-eqb raisedCar k (λ p. omega arith), ne-eqb heightLow k (λ p. omega arith), ne-eqb heightHigh k
+            (λ p. omega arith), ne-eqb driveIn k (λ p. omega arith), ne-eqb driveOut k (λ p. omega arith)))
 
     rules : allHold soundRules (afterEvent e f) ≡ true
     rules = T→true (allHold soundRules (afterEvent e f)) (event-rules e f (true→T ok) (true→T (s .rules)))

@@ -65,7 +65,8 @@ pub belts-named : (row mask toward size : ℕ) → T (wellFormed (Belts row mask
 belts-named row mask toward size w = and-l (beltsNamed row mask) (leb toward 1) (and-l (beltsNamed row mask && leb toward 1) (leb size 1) w)
 
 -- an allowed belt move
-belts-safe : (row mask toward size : ℕ) (f : Bits) → T (wellFormed (Belts row mask toward size)) → T (allHold (conditions (Belts row mask toward size)) f) → Whole 20 f → Safe f (changed (changes (Belts row mask toward size)) f)
+belts-safe : (row mask toward size : ℕ) (f : Bits) → T (wellFormed (Belts row mask toward size)) → T
+    (allHold (conditions (Belts row mask toward size)) f) → Whole 20 f → Safe f (changed (changes (Belts row mask toward size)) f)
 belts-safe row mask toward size f w c whole =
     let k = belts-carried row mask toward size f (belts-named row mask toward size w) c in
     record { whole = k .whole whole; same = counted f (changed (changes (Belts row mask toward size)) f) k }

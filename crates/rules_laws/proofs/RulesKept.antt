@@ -90,7 +90,8 @@ every-rule : T (everywhere (λ i. rulesKept [] (clearance i ++ conditions i) (ch
 unfolding everywhere every
 every-rule = tt
 
-pub instruction-rules : (i : Instruction) → T (wellFormed i) → (f : Bits) → T (allHold (clearance i) f) → T (allHold (conditions i) f) → T (allHold soundRules f) → T (allHold soundRules (changed (changes i) f))
+pub instruction-rules : (i : Instruction) → T (wellFormed i) → (f : Bits) → T (allHold (clearance i) f) → T (allHold (conditions i) f) → T
+    (allHold soundRules f) → T (allHold soundRules (changed (changes i) f))
 instruction-rules i w f c ok =
     rules-kept [] (clearance i ++ conditions i) (changes i) (each (λ i. rulesKept [] (clearance i ++ conditions i) (changes i)) every-rule i w) f
     (both-lists f (clearance i) (conditions i) c ok)

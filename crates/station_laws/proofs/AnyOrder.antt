@@ -59,7 +59,9 @@ module _ (s : Station) (f : fit s ≡ true) (small : Small s) (tidy : Tidy s) (k
     end-none = ap (λ (a : machine.Station ℕ Code). a .set .size) (v ∙ e)
 
     end-closed : end ≡ closed (end .bits) (s .next) (end .apart)
-    end-closed = ⊎-elim (λ h. absurd (let z = end-none in omega arith)) (λ t. t ∙ ap (λ (n : ℕ). closed (end .bits) n (end .apart)) (next-kept k l s)) (along Tidy tidy-step (map (asCall k) l) (no-images k l) s tidy)
+    end-closed = ⊎-elim (λ h. absurd (let z = end-none in omega arith))
+        (λ t. t ∙ ap (λ (n : ℕ). closed (end .bits) n (end .apart)) (next-kept k l s))
+        (along Tidy tidy-step (map (asCall k) l) (no-images k l) s tidy)
 
     -- what is set apart is told by the machine
     end-away : awayOf (end .apart) ≡ machine.run rules (view s) l .away
@@ -99,7 +101,8 @@ any-order s R n set e chosen events l m P Q =
     let O = order-heard k (subst (Order k n chosen events) p P) in
     let U = order-heard k (subst (Order k n chosen events) q Q) in
     let small : Small s = reached Small small-step (λ t b. begins-has t b .2) s R in
-    let T = machine-order.any-order rules seenOf carsIn framed (kept s n set A) (s .bits) (awayOf (s .apart)) (fit-has s (A .orderly .readable .fits) .sound) (request-accepted s n set A) (choice k chosen) events a b O U in
+    let T = machine-order.any-order rules seenOf carsIn framed (kept s n set A) (s .bits) (awayOf (s .apart))
+        (fit-has s (A .orderly .readable .fits) .sound) (request-accepted s n set A) (choice k chosen) events a b O U in
     let W : machine-orders.Alike rules (view (opened s n set)) a b = rw (request-view s n set A) T in
     let there : stationAfter s (run.request n set) ≡ opened s n set = ap (λ o. o .station) (request-is s n set A) in
     subst₃ Alike (sym there) (sym p) (sym q)

@@ -363,10 +363,12 @@ begin-still : (s : Station) (way : ℕ) → (way ≡ 1) ⊎ (way ≡ 2) → answ
 unfolding afterEvent
 begin-still s way (inl w) z =
     let e : stationAfter s (run.event way) ≡ holding s (image (afterEvent BeginIn (bit (s .bits)))) = rw w (event-record s BeginIn .1 (rw w at z)) in
-    rw (e, w) ((λ k m. bit-image (afterEvent BeginIn (bit (s .bits))) k (are-small lift tt k m) ∙ rw (lift-beside driveIn k refl m)), bit-image (afterEvent BeginIn (bit (s .bits))) driveIn (omega arith))
+    rw (e, w) ((λ k m. bit-image (afterEvent BeginIn (bit (s .bits))) k (are-small lift tt k m) ∙ rw
+        (lift-beside driveIn k refl m)), bit-image (afterEvent BeginIn (bit (s .bits))) driveIn (omega arith))
 begin-still s way (inr w) z =
     let e : stationAfter s (run.event way) ≡ holding s (image (afterEvent BeginOut (bit (s .bits)))) = rw w (event-record s BeginOut .1 (rw w at z)) in
-    rw (e, w) ((λ k m. bit-image (afterEvent BeginOut (bit (s .bits))) k (are-small lift tt k m) ∙ rw (lift-beside driveOut k refl m)), bit-image (afterEvent BeginOut (bit (s .bits))) driveOut (omega arith))
+    rw (e, w) ((λ k m. bit-image (afterEvent BeginOut (bit (s .bits))) k (are-small lift tt k m) ∙ rw
+        (lift-beside driveOut k refl m)), bit-image (afterEvent BeginOut (bit (s .bits))) driveOut (omega arith))
 
 pub lift-held-since-begin : LiftHeldSinceBegin
 lift-held-since-begin s way w z l p q =

@@ -27,7 +27,9 @@ use Rattle.station_laws.specs.Runs as run
 use Rattle.station_laws.specs.Runs.{Call, call, answerNumber, stationAfter}
 use Rattle.station_laws.proofs.Calls.{either, Other, barred-other, drivenAs, event-as, Zero}
 
-module _ (P : Outcome → Type 0) (s : Station) (unfit : fit s ≡ false → P (refused s Unfit)) (no : (a : Answer) → Other a → P (refused s a)) (done : (t : Station) → P (taken t)) (begun : (n : ℕ) (set : List ℕ) → P (opening s n set)) where
+module _ (P : Outcome → Type 0) (s : Station) (unfit : fit s ≡ false → P (refused s Unfit))
+    (no : (a : Answer) → Other a → P (refused s a)) (done : (t : Station) → P (taken t))
+    (begun : (n : ℕ) (set : List ℕ) → P (opening s n set)) where
   unless : (t : Bool) (a : Answer) {o : Outcome} → Other a → (t ≡ false → P o) → P (cond t (refused s a) o)
   unless t a other f = either P t (λ e. no a other) f
 
@@ -83,7 +85,8 @@ module _ (P : Outcome → Type 0) (s : Station) (unfit : fit s ≡ false → P (
   each-call (run.request n set) = fitting (λ f. requesting n set)
   each-call (run.reports r) = fitting (λ f. resulting r)
   each-call (run.event e) = rw (event-as s e) (driving (readEvent e))
-  each-call (run.pictures p) = fitting (λ f. unless (ltb 0 (s .count)) SetOutstanding (omega arith) (λ a. either P (sound (p .bits) && eqb (p .apart) 0) (λ b. done (seeing s (p .bits))) (λ b. no Unsound (omega arith))))
+  each-call (run.pictures p) = fitting (λ f. unless (ltb 0 (s .count)) SetOutstanding (omega arith)
+      (λ a. either P (sound (p .bits) && eqb (p .apart) 0) (λ b. done (seeing s (p .bits))) (λ b. no Unsound (omega arith))))
   each-call run.ask = fitting (λ f. done s)
 
 -- a refused call leaves the station as it was

@@ -1,4 +1,5 @@
--- The station follows the machine from act to act, as long as the machine's list is fair: it takes each result, answers each event as the machine does, and shows the machine's station at the end. Assumes nothing.
+-- The station follows the machine from act to act, as long as the machine's list is fair: it takes each result, answers each event as the
+-- machine does, and shows the machine's station at the end. Assumes nothing.
 use mathlib.Core.Path.{_≡_, refl, sym, ap, ap₂, subst, subst₂, _∙_}
 use mathlib.Core.Bool.{Bool, true, false, not, _&&_}
 use mathlib.Core.List.{List, [], _∷_, map}

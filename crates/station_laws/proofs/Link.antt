@@ -71,7 +71,9 @@ module _ (s : Station) (n : ℕ) (set : List ℕ) (A : Acceptable s n set) where
 
   pub request-accepted : accepted rules kept (s .bits) (awayOf (s .apart)) ≡ true
   request-accepted = is-accepted rules kept (s .bits) (awayOf (s .apart)) (A .orderly .readable .some) (A .orderly .readable .few) free
-      (λ i h j l. rw (same i h, same j (omega arith)) (let x = codeAt set i in let y = codeAt set j in sym (share-some (reach x) (reach y) (reach-small x)) ∙ reach-apart x y (A .orderly .apart i j h l)))
+      (λ i h j l. rw (same i h, same j (omega arith))
+          (let x = codeAt set i in let y = codeAt set j in sym (share-some (reach x) (reach y) (reach-small x)) ∙ reach-apart x y
+          (A .orderly .apart i j h l)))
       (λ i h. rw (same i h) (rw (A .allowed i h, crosses-none (s .bits) set n (clear-is (s .bits) set n (A .orderly .clear)) i h)))
 
   pub request-view : view (opened s n set) ≡ machine.opened kept (s .bits) (awayOf (s .apart))
@@ -135,7 +137,8 @@ blocked-lift s f = split (eqb (s .count) 0)
     (λ t. let o : outstanding (view s) ≡ true = rw t at (fit-has s f .owed) in rw o (blocks-lift (s .count) (s .set)))
 
 -- a fit station takes what the machine takes
-pub drivable : (s : Station) → fit s ≡ true → (e : ℕ) → machine.taken rules (view s) (event e) ≡ not (liftIn (s .set) (s .count)) && (not (liftApart (s .apart)) && (possibleAs (readEvent e) (s .bits) && openAs (readEvent e) (s .bits)))
+pub drivable : (s : Station) → fit s ≡ true → (e : ℕ) → machine.taken rules (view s) (event e) ≡ not (liftIn (s .set) (s .count)) &&
+    (not (liftApart (s .apart)) && (possibleAs (readEvent e) (s .bits) && openAs (readEvent e) (s .bits)))
 drivable s f e = rw (blocked-lift s f, lost-lift (s .apart))
 
 -- ---- in good order
@@ -187,7 +190,8 @@ sane-ready js s G = every-is (s .count) _ (λ i h. split (marked s i) (λ m. rw 
 module _ (js : List Code) (s : Station) (G : Sane js s) where
   -- what the machine takes leaves it so
   takes-good : (c : machine.Call ℕ Code ℕ) → takes rules (view s) c ≡ true → Good rules (jam rules (view s) c (jamsOf js)) (does rules (view s) c)
-  takes-good c t = subst (λ (b : Bool). Good rules (cond b (jam rules (view s) c (jamsOf js)) (jamsOf js)) (cond b (does rules (view s) c) (view s))) t (call-good rules seenOf carsIn framed (view s) G c)
+  takes-good c t = subst (λ (b : Bool). Good rules (cond b (jam rules (view s) c (jamsOf js)) (jamsOf js))
+      (cond b (does rules (view s) c) (view s))) t (call-good rules seenOf carsIn framed (view s) G c)
 
   -- a call that is not stuck keeps what is
   same-jams : (b : Bool) → cond b js js ≡ js

@@ -88,7 +88,9 @@ module _ (s : Station) (n : ℕ) (set : List ℕ) where
   unfolding station.accepted
   accepted-right few good =
       either Right (ltb (least n (overlapsEarlier set)) n)
-      (λ t. record { four = λ z. absurd (omega arith); apart = λ z. absurd (omega arith); eight = λ z. least-fault n _ t; reason = λ why z. absurd (beside (λ h. omega arith) why z); range = inl (small _ few t) }) (λ a.
+      (λ t. record { four = λ z. absurd (omega arith); apart = λ z. absurd
+          (omega arith); eight = λ z. least-fault n _ t; reason = λ why z. absurd (beside (λ h. omega arith) why z); range = inl
+          (small _ few t) }) (λ a.
       either Right (ltb (least n (barred set (s .bits))) n)
       (refused-right few good)
       (λ b. plain _ ((λ z. omega arith), (λ z. omega arith), (λ z. omega arith), (λ z. omega arith)) refl))
@@ -101,10 +103,12 @@ module _ (s : Station) (n : ℕ) (set : List ℕ) where
       either Right (eqb n 0) (λ t. plain _ ((λ z. omega arith), (λ z. omega arith), (λ z. omega arith), (λ z. omega arith)) refl) (λ c.
       let few = ltb-false mostInSet n b in
       either Right (ltb (least n (bad set)) n)
-      (λ t. record { four = λ z. least-fault n _ t; apart = λ z. absurd (omega arith); eight = λ z. absurd (omega arith); reason = λ why z. absurd (beside (λ h. omega arith) why z); range = inl (small _ few t) })
+      (λ t. record { four = λ z. least-fault n _ t; apart = λ z. absurd (omega arith); eight = λ z. absurd
+          (omega arith); reason = λ why z. absurd (beside (λ h. omega arith) why z); range = inl (small _ few t) })
       (λ d. either Right (crossesDrive (s .bits) set n) (λ t. plain _ ((λ z. omega arith), (λ z. omega arith), (λ z. omega arith), (λ z. omega arith)) refl) (λ x.
       either Right (ltb (least n (touches set (s .apart))) n)
-      (λ t. record { four = λ z. absurd (omega arith); apart = λ z. least-fault n _ t; eight = λ z. absurd (omega arith); reason = λ why z. absurd (beside (λ h. omega arith) why z); range = inl (small _ few t) })
+      (λ t. record { four = λ z. absurd (omega arith); apart = λ z. least-fault n _ t; eight = λ z. absurd
+          (omega arith); reason = λ why z. absurd (beside (λ h. omega arith) why z); range = inl (small _ few t) })
       (λ y. accepted-right few d))))))
 
   request-right : Right (station.request s n set)

@@ -44,7 +44,8 @@ array-read-t33 : tie.Need-array-read-t33
 array-read-t33 c = search needs
 
 returns : tie.Need-returns
-returns c = in-bytes (c .before .before .before .before .before .before .args .x) (c .before .before .before .before .number .ensures) (c .before .before .before .image-bytes .ensures) (c .before .before .number2 .ensures)
+returns c = in-bytes (c .before .before .before .before .before .before .args .x) (c .before .before .before .before .number .ensures)
+    (c .before .before .before .image-bytes .ensures) (c .before .before .number2 .ensures)
 
 pub condition-bytes-spec : {M : Type 1} → statement M
 condition-bytes-spec =

@@ -26,7 +26,9 @@ same-length : tie.Need-same-length
 same-length c = search needs
 
 returns : tie.Need-returns
-returns c = as-writes _ _ _ (c .before .before .before .before .before .before .condition-bytes .ensures ∙ ap conditionBytes (c .before .before .before .before .before .before .before .explained .ensures)) (omega arith) (c .before .before .before .before .before .say .ensures) (c .before .before .tell .ensures)
+returns c = as-writes _ _ _ (c .before .before .before .before .before .before .condition-bytes .ensures ∙ ap conditionBytes
+    (c .before .before .before .before .before .before .before .explained .ensures)) (omega arith)
+    (c .before .before .before .before .before .say .ensures) (c .before .before .tell .ensures)
 
 pub explain-spec : {M : Type 1} → statement M
 explain-spec =

@@ -30,7 +30,11 @@ bit-requires-5 : tie.Need-bit-requires-5
 bit-requires-5 c κs = search needs
 
 returns : tie.Need-returns
-returns c = floor-is (bit (c .before .before .before .before .before .before .before .before .args .r)) (c .before .before .before .before .before .before .before .cells-of .ensures) (c .before .before .before .before .before .before .slots-of .ensures) (c .before .before .before .before .before .bit .ensures) (c .before .before .before .before .bit2 .ensures) (c .before .before .before .height-of .ensures) (c .before .before .bit3 .ensures) (c .before .bit4 .ensures) (c .bit5 .ensures)
+returns c = floor-is (bit (c .before .before .before .before .before .before .before .before .args .r))
+    (c .before .before .before .before .before .before .before .cells-of .ensures)
+    (c .before .before .before .before .before .before .slots-of .ensures) (c .before .before .before .before .before .bit .ensures)
+    (c .before .before .before .before .bit2 .ensures) (c .before .before .before .height-of .ensures) (c .before .before .bit3 .ensures)
+    (c .before .bit4 .ensures) (c .bit5 .ensures)
 
 pub of-image-spec : {M : Type 1} → statement M
 of-image-spec =

@@ -13,7 +13,9 @@ none-requires : tie.Need-none-requires
 none-requires c κs = search needs
 
 returns : tie.Need-returns
-returns c = of-ill (c .before .before .before .args .i) (c .before .before .before .args .c) (plainBits (c .before .before .before .args .self)) (c .before .before .well-formed .ensures) (c .before .if1 .taken) (c .none .ensures)
+returns c = of-ill (c .before .before .before .args .i) (c .before .before .before .args .c)
+    (plainBits (c .before .before .before .args .self)) (c .before .before .well-formed .ensures) (c .before .if1 .taken)
+    (c .none .ensures)
 
 enum-known-i : tie.Need-enum-known-i
 enum-known-i c = search needs
@@ -46,19 +48,37 @@ rotate-condition-requires : tie.Need-rotate-condition-requires
 rotate-condition-requires c κs = search needs
 
 returns-2 : tie.Need-returns-2
-returns-2 c = of-variant (c .before .before .before .before .before .before .args .i) (c .before .before .before .before .before .before .args .c) (plainBits (c .before .before .before .before .before .before .args .self)) (c .before .before .before .before .before .well-formed .ensures) (c .before .before .before .before .if1 .left) (c .before .before .i .given .1) (c .belts-condition .ensures)
+returns-2 c = of-variant (c .before .before .before .before .before .before .args .i)
+    (c .before .before .before .before .before .before .args .c)
+    (plainBits (c .before .before .before .before .before .before .args .self))
+    (c .before .before .before .before .before .well-formed .ensures) (c .before .before .before .before .if1 .left)
+    (c .before .before .i .given .1) (c .belts-condition .ensures)
 
 returns-3 : tie.Need-returns-3
-returns-3 c = of-variant (c .before .before .before .before .before .before .args .i) (c .before .before .before .before .before .before .args .c) (plainBits (c .before .before .before .before .before .before .args .self)) (c .before .before .before .before .before .well-formed .ensures) (c .before .before .before .before .if1 .left) (c .before .before .i2 .given .1) (c .shuttles-condition .ensures)
+returns-3 c = of-variant (c .before .before .before .before .before .before .args .i)
+    (c .before .before .before .before .before .before .args .c)
+    (plainBits (c .before .before .before .before .before .before .args .self))
+    (c .before .before .before .before .before .well-formed .ensures) (c .before .before .before .before .if1 .left)
+    (c .before .before .i2 .given .1) (c .shuttles-condition .ensures)
 
 returns-4 : tie.Need-returns-4
-returns-4 c = of-variant (c .before .before .before .before .before .before .args .i) (c .before .before .before .before .before .before .args .c) (plainBits (c .before .before .before .before .before .before .args .self)) (c .before .before .before .before .before .well-formed .ensures) (c .before .before .before .before .if1 .left) (c .before .before .i3 .given .1) (c .tilt-condition .ensures)
+returns-4 c = of-variant (c .before .before .before .before .before .before .args .i)
+    (c .before .before .before .before .before .before .args .c)
+    (plainBits (c .before .before .before .before .before .before .args .self))
+    (c .before .before .before .before .before .well-formed .ensures) (c .before .before .before .before .if1 .left)
+    (c .before .before .i3 .given .1) (c .tilt-condition .ensures)
 
 returns-5 : tie.Need-returns-5
-returns-5 c = of-variant (c .before .before .before .before .before .before .args .i) (c .before .before .before .before .before .before .args .c) (plainBits (c .before .before .before .before .before .before .args .self)) (c .before .before .before .before .before .well-formed .ensures) (c .before .before .before .before .if1 .left) (c .before .before .i4 .given .1) (c .lift-condition .ensures)
+returns-5 c = of-variant (c .before .before .before .before .before .before .args .i)
+    (c .before .before .before .before .before .before .args .c)
+    (plainBits (c .before .before .before .before .before .before .args .self))
+    (c .before .before .before .before .before .well-formed .ensures) (c .before .before .before .before .if1 .left)
+    (c .before .before .i4 .given .1) (c .lift-condition .ensures)
 
 returns-6 : tie.Need-returns-6
-returns-6 c = of-variant (c .before .before .before .before .before .args .i) (c .before .before .before .before .before .args .c) (plainBits (c .before .before .before .before .before .args .self)) (c .before .before .before .before .well-formed .ensures) (c .before .before .before .if1 .left) (c .before .enum-told .given .1) (c .rotate-condition .ensures)
+returns-6 c = of-variant (c .before .before .before .before .before .args .i) (c .before .before .before .before .before .args .c)
+    (plainBits (c .before .before .before .before .before .args .self)) (c .before .before .before .before .well-formed .ensures)
+    (c .before .before .before .if1 .left) (c .before .enum-told .given .1) (c .rotate-condition .ensures)
 
 pub condition-spec : {M : Type 1} → statement M
 condition-spec =

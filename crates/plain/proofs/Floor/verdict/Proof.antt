@@ -26,7 +26,10 @@ condition-requires : tie.Need-condition-requires Inv-loop μ-loop
 condition-requires c κs = search needs
 
 returns-2 : tie.Need-returns-2 Inv-loop μ-loop
-returns-2 c = search-stops (c .before .before .before .before .before .before .before .args .i) (plainBits (c .before .before .before .before .before .before .before .args .self)) (c .before .before .before .before .before .before .well-formed .ensures) (c .before .before .before .before .before .if1 .left) (c .before .before .before .before .loop .inv) (c .before .before .condition .ensures) (c .if2 .taken)
+returns-2 c = search-stops (c .before .before .before .before .before .before .before .args .i)
+    (plainBits (c .before .before .before .before .before .before .before .args .self))
+    (c .before .before .before .before .before .before .well-formed .ensures) (c .before .before .before .before .before .if1 .left)
+    (c .before .before .before .before .loop .inv) (c .before .before .condition .ensures) (c .if2 .taken)
 
 add-c : tie.Need-add-c Inv-loop μ-loop
 add-c c = omega arith
@@ -35,7 +38,10 @@ loop-less : tie.Need-loop-less Inv-loop μ-loop
 loop-less c = omega arith
 
 loop-again : tie.Need-loop-again Inv-loop μ-loop
-loop-again c = search-goes-on (c .before .before .before .before .before .before .before .args .i) (plainBits (c .before .before .before .before .before .before .before .args .self)) (c .before .before .before .before .before .before .well-formed .ensures) (c .before .before .before .before .before .if1 .left) (c .before .before .before .before .loop .inv) (c .before .before .condition .ensures) (omega arith) (c .if2 .left)
+loop-again c = search-goes-on (c .before .before .before .before .before .before .before .args .i)
+    (plainBits (c .before .before .before .before .before .before .before .args .self))
+    (c .before .before .before .before .before .before .well-formed .ensures) (c .before .before .before .before .before .if1 .left)
+    (c .before .before .before .before .loop .inv) (c .before .before .condition .ensures) (omega arith) (c .if2 .left)
 
 returns-3 : tie.Need-returns-3 Inv-loop μ-loop
 returns-3 c = search-ends (c .before .loop .inv) (omega arith)

@@ -28,13 +28,17 @@ named-requires : tie.Need-named-requires Inv-loop μ-loop
 named-requires c κs = search needs
 
 occupied-requires : tie.Need-occupied-requires Inv-loop μ-loop
-occupied-requires c κs = let a = c .before .before .before .before .before .args in let k = c .before .before .before .loop .j in omega (arith, c .before .from-end .ensures, cell-below (a .row) (a .toward) k (omega (arith, c .before .before .before .before .width .ensures)))
+occupied-requires c κs = let a = c .before .before .before .before .before .args in let k = c .before .before .before .loop .j in omega
+    (arith, c .before .from-end .ensures, cell-below (a .row) (a .toward) k
+    (omega (arith, c .before .before .before .before .width .ensures)))
 
 cast-m : tie.Need-cast-m Inv-loop μ-loop
 cast-m c = search needs
 
 loop-again : tie.Need-loop-again Inv-loop μ-loop
-loop-again c = counts (c .before .before .before .before .loop .inv) (omega (arith, c .before .before .before .before .before .width .ensures)) (c .before .before .from-end .ensures) (c .before .named .ensures) (c .occupied .ensures)
+loop-again c = counts (c .before .before .before .before .loop .inv)
+    (omega (arith, c .before .before .before .before .before .width .ensures)) (c .before .before .from-end .ensures)
+    (c .before .named .ensures) (c .occupied .ensures)
 
 add-m : tie.Need-add-m Inv-loop μ-loop
 add-m c = omega (arith, loop-again c .few)
@@ -53,7 +57,8 @@ loop-less c = omega arith
 
 returns : tie.Need-returns Inv-loop μ-loop
 returns c = let a = c .before .before .before .args in
-    counting-ends (c .before .loop .inv) (omega (arith, c .before .before .width .ensures)) ∙ end-count (a .row) (a .mask) (a .toward) (a .n) (c .before .before .before .pre .0) (omega arith) (omega arith) (plainBits (a .f))
+    counting-ends (c .before .loop .inv) (omega (arith, c .before .before .width .ensures)) ∙ end-count (a .row) (a .mask) (a .toward)
+        (a .n) (c .before .before .before .pre .0) (omega arith) (omega arith) (plainBits (a .f))
 
 pub at-end-spec : {M : Type 1} → statement M
 at-end-spec =

@@ -22,7 +22,8 @@ names-requires-2 : tie.Need-names-requires-2
 names-requires-2 c κs = search needs
 
 shuttle-requires-2 : tie.Need-shuttle-requires-2
-shuttle-requires-2 c κs = let r = belts-row (c .before .before .before .before .args .row) (c .before .before .before .before .args .mask) (c .before .before .before .before .pre) in (omega arith, omega arith, r .0, r .1)
+shuttle-requires-2 c κs = let r = belts-row (c .before .before .before .before .args .row) (c .before .before .before .before .args .mask)
+    (c .before .before .before .before .pre) in (omega arith, omega arith, r .0, r .1)
 
 names-requires-3 : tie.Need-names-requires-3
 names-requires-3 c κs = search needs
@@ -32,8 +33,10 @@ lift-at-requires c κs = search needs
 
 returns : tie.Need-returns
 returns c = let a = c .before .before .before .before .before .before .before .args in
-    all-available (a .row) (a .mask) (plainBits (a .f)) (c .before .before .before .before .before .before .before .pre) (c .before .before .before .before .before .before .names .ensures) (c .before .before .before .before .before .shuttle .ensures)
-    (c .before .before .before .names2 .ensures ∙ ap (bit (a .mask)) (c .before .before .before .before .last-belt .ensures)) (c .before .before .shuttle2 .ensures) (c .before .names3 .ensures) (c .lift-at .ensures)
+    all-available (a .row) (a .mask) (plainBits (a .f)) (c .before .before .before .before .before .before .before .pre)
+        (c .before .before .before .before .before .before .names .ensures) (c .before .before .before .before .before .shuttle .ensures)
+    (c .before .before .before .names2 .ensures ∙ ap (bit (a .mask)) (c .before .before .before .before .last-belt .ensures))
+        (c .before .before .shuttle2 .ensures) (c .before .names3 .ensures) (c .lift-at .ensures)
 
 pub available-spec : {M : Type 1} → statement M
 available-spec =

@@ -41,7 +41,8 @@ returns c = told (clauses Rotate) (plainBits (c .before .before .before .args .f
 
 returns-2 : tie.Need-returns-2
 returns-2 c = told (clauses Rotate) (plainBits (c .before .before .before .before .args .f)) 1 (c .before .before .before .match .keys2) _ CellsNotFree (c .told2 .ensures)
-    (ap (λ (n : ℕ). eqb n 0) (ap₂ _+_ (c .before .before .among .ensures) (c .before .among2 .ensures) ∙ sym (count-append (from 8 3) (from 13 3) (plainBits (c .before .before .before .before .args .f))))) refl
+    (ap (λ (n : ℕ). eqb n 0) (ap₂ _+_ (c .before .before .among .ensures) (c .before .among2 .ensures) ∙ sym
+        (count-append (from 8 3) (from 13 3) (plainBits (c .before .before .before .before .args .f))))) refl
 
 returns-3 : tie.Need-returns-3
 returns-3 c = past (clauses Rotate) (plainBits (c .before .before .args .f)) (c .before .before .args .c) (omega arith) (c .none .ensures)

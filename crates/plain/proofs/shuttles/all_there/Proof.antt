@@ -26,7 +26,9 @@ shuttle-requires-3 c κs = search needs
 
 returns : tie.Need-returns
 returns c = let a = c .before .before .before .before .before .before .args in
-    all-rows (a .mask) (slot (a .side) (a .orientation)) (plainBits (a .f)) (c .before .before .before .before .before .names .ensures) (c .before .before .before .before .shuttle .ensures) (c .before .before .before .names2 .ensures) (c .before .before .shuttle2 .ensures)
+    all-rows (a .mask) (slot (a .side) (a .orientation)) (plainBits (a .f)) (c .before .before .before .before .before .names .ensures)
+        (c .before .before .before .before .shuttle .ensures) (c .before .before .before .names2 .ensures)
+        (c .before .before .shuttle2 .ensures)
     (c .before .names3 .ensures) (c .shuttle3 .ensures)
 
 pub all-there-spec : {M : Type 1} → statement M

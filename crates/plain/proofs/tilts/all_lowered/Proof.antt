@@ -17,7 +17,8 @@ shuttle-requires-3 c κs = search needs
 
 returns : tie.Need-returns
 returns c = let a = c .before .before .before .args in
-    three-set (slot (a .side) lowered 1) (slot (a .side) lowered 2) (slot (a .side) lowered 3) (plainBits (a .f)) (c .before .before .shuttle .ensures) (c .before .shuttle2 .ensures) (c .shuttle3 .ensures)
+    three-set (slot (a .side) lowered 1) (slot (a .side) lowered 2) (slot (a .side) lowered 3) (plainBits (a .f))
+        (c .before .before .shuttle .ensures) (c .before .shuttle2 .ensures) (c .shuttle3 .ensures)
 
 pub all-lowered-spec : {M : Type 1} → statement M
 all-lowered-spec =

@@ -41,9 +41,13 @@ returns-2 : tie.Need-returns-2
 unfolding accepted packedOf
 returns-2 c = let s = packedOf (c .before .before .before .before .before .before .before .before .before .args .self) in
     c .refused2 .ensures .1
-    ∙ ap (λ (y : Answer). plainOutcome (refused s y)) (c .before .answer .ensures ∙ ap (λ (v : Verdict). answerFor v (c .before .before .before .before .before .least-barred .result)) (c .before .before .verdict-at .ensures))
+    ∙ ap (λ (y : Answer). plainOutcome (refused s y))
+        (c .before .answer .ensures ∙ ap (λ (v : Verdict). answerFor v (c .before .before .before .before .before .least-barred .result))
+        (c .before .before .verdict-at .ensures))
     ∙ ap plainOutcome (found _ (barred _ (s .bits)) s (whyNot _ (s .bits)) _ (c .before .before .before .before .before .least-barred .ensures) (c .before .before .before .before .if2 .taken)
-    ∙ none-found _ (overlapsEarlier _) s Overlap _ (c .before .before .before .before .before .before .before .before .least-overlapping .ensures) (c .before .before .before .before .before .before .before .if1 .left))
+    ∙ none-found _ (overlapsEarlier _) s Overlap _
+        (c .before .before .before .before .before .before .before .before .least-overlapping .ensures)
+        (c .before .before .before .before .before .before .before .if1 .left))
 
 opened-requires : tie.Need-opened-requires
 opened-requires c κs = search needs

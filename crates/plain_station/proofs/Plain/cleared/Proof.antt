@@ -32,7 +32,9 @@ unfolding cleared spared packedOf crossesDrive
 returns-2 c = let s = packedOf (c .before .before .before .before .before .before .before .before .args .self) in
     c .refused2 .ensures .1
     ∙ ap plainOutcome (found _ (touches _ (s .apart)) s SetApart _ (c .before .before .least-touching .ensures) (c .before .if2 .taken)
-    ∙ where-false (crossesDrive (s .bits) _ _) (refused s OutOfTurn) _ (sym (under-driver _ (c .before .before .before .before .before .lift-in .ensures)) ∙ c .before .before .before .before .if1 .left))
+    ∙ where-false (crossesDrive (s .bits) _ _) (refused s OutOfTurn) _
+        (sym (under-driver _ (c .before .before .before .before .before .lift-in .ensures))
+        ∙ c .before .before .before .before .if1 .left))
 
 accepted-requires : tie.Need-accepted-requires
 accepted-requires c κs = search needs
@@ -42,7 +44,9 @@ unfolding cleared spared packedOf crossesDrive
 returns-3 c = let s = packedOf (c .before .before .before .before .before .before .before .before .args .self) in
     c .accepted .ensures
     ∙ ap plainOutcome (none-found _ (touches _ (s .apart)) s SetApart _ (c .before .before .least-touching .ensures) (c .before .if2 .left)
-    ∙ where-false (crossesDrive (s .bits) _ _) (refused s OutOfTurn) _ (sym (under-driver _ (c .before .before .before .before .before .lift-in .ensures)) ∙ c .before .before .before .before .if1 .left))
+    ∙ where-false (crossesDrive (s .bits) _ _) (refused s OutOfTurn) _
+        (sym (under-driver _ (c .before .before .before .before .before .lift-in .ensures))
+        ∙ c .before .before .before .before .if1 .left))
 
 pub cleared-spec : {M : Type 1} → statement M
 cleared-spec =

@@ -23,13 +23,17 @@ refused-requires-2 : tie.Need-refused-requires-2
 refused-requires-2 c κs = search needs
 
 returns-2 : tie.Need-returns-2
-returns-2 c = kept-open _ _ (c .before .before .before .before .before .possible .ensures) (c .before .before .before .before .if1 .left) (c .before .before .before .walk .ensures) (c .before .before .opens .ensures) (c .before .if2 .taken) (c .refused2 .ensures .0)
+returns-2 c = kept-open _ _ (c .before .before .before .before .before .possible .ensures) (c .before .before .before .before .if1 .left)
+    (c .before .before .before .walk .ensures) (c .before .before .opens .ensures) (c .before .if2 .taken) (c .refused2 .ensures .0)
 
 driven-requires : tie.Need-driven-requires
 driven-requires c κs = search needs
 
 returns-3 : tie.Need-returns-3
-returns-3 c = driven-there _ _ (c .before .before .before .before .before .before .before .before .possible .ensures) (c .before .before .before .before .before .before .before .if1 .left) (c .before .before .before .before .before .before .walk .ensures) (c .before .before .before .before .before .opens .ensures) (c .before .before .before .before .if2 .left) (c .driven .ensures)
+returns-3 c = driven-there _ _ (c .before .before .before .before .before .before .before .before .possible .ensures)
+    (c .before .before .before .before .before .before .before .if1 .left)
+    (c .before .before .before .before .before .before .walk .ensures) (c .before .before .before .before .before .opens .ensures)
+    (c .before .before .before .before .if2 .left) (c .driven .ensures)
 
 pub entered-spec : {M : Type 1} → statement M
 entered-spec =

@@ -11,7 +11,8 @@ wrapping-add-u16-requires : tie.Need-wrapping-add-u16-requires
 wrapping-add-u16-requires c κs = search needs
 
 returns : tie.Need-returns
-returns c = opens (c .before .before .before .before .args .self) (c .before .before .before .before .args .count) (c .before .before .before .before .args .set) (search needs) (c .before .only .ensures) (c .wrapping-add-u16 .ensures)
+returns c = opens (c .before .before .before .before .args .self) (c .before .before .before .before .args .count)
+    (c .before .before .before .before .args .set) (search needs) (c .before .only .ensures) (c .wrapping-add-u16 .ensures)
 
 pub opened-spec : {M : Type 1} → statement M
 opened-spec = tie.close (tie.spec only-requires wrapping-add-u16-requires returns)

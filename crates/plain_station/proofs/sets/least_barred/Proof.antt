@@ -28,7 +28,8 @@ allows-requires : tie.Need-allows-requires Inv-loop μ-loop
 allows-requires c κs = search needs
 
 returns : tie.Need-returns Inv-loop μ-loop
-returns c = here (c .before .before .before .before .before .loop .inv) (c .before .before .before .before .loop-test .taken) (verdict-seen _ _ _ (c .before .before .verdict-at .ensures) (c .before .allows .ensures) (c .if1 .taken))
+returns c = here (c .before .before .before .before .before .loop .inv) (c .before .before .before .before .loop-test .taken)
+    (verdict-seen _ _ _ (c .before .before .verdict-at .ensures) (c .before .allows .ensures) (c .if1 .taken))
 
 add-i : tie.Need-add-i Inv-loop μ-loop
 add-i c = search needs
@@ -37,7 +38,8 @@ loop-less : tie.Need-loop-less Inv-loop μ-loop
 loop-less c = search needs
 
 loop-again : tie.Need-loop-again Inv-loop μ-loop
-loop-again c = turn (c .before .before .before .before .before .loop .inv) (c .before .before .before .before .loop-test .taken) (verdict-seen _ _ _ (c .before .before .verdict-at .ensures) (c .before .allows .ensures) (c .if1 .left))
+loop-again c = turn (c .before .before .before .before .before .loop .inv) (c .before .before .before .before .loop-test .taken)
+    (verdict-seen _ _ _ (c .before .before .verdict-at .ensures) (c .before .allows .ensures) (c .if1 .left))
 
 returns-2 : tie.Need-returns-2 Inv-loop μ-loop
 returns-2 c = past (c .before .loop .inv) (c .loop-test .left)

@@ -25,7 +25,9 @@ meets-requires : tie.Need-meets-requires Inv-loop μ-loop
 meets-requires c κs = search needs
 
 returns : tie.Need-returns Inv-loop μ-loop
-returns c = overlap-found _ _ _ (c .before .before .before .loop-test .taken) (overlap-seen _ _ _ (c .before .before .before .before .before .area-at .ensures) (c .before .before .area-at2 .ensures) (c .before .meets .ensures) (c .if1 .taken))
+returns c = overlap-found _ _ _ (c .before .before .before .loop-test .taken)
+    (overlap-seen _ _ _ (c .before .before .before .before .before .area-at .ensures) (c .before .before .area-at2 .ensures)
+    (c .before .meets .ensures) (c .if1 .taken))
 
 add-j : tie.Need-add-j Inv-loop μ-loop
 add-j c = search needs
@@ -34,7 +36,9 @@ loop-less : tie.Need-loop-less Inv-loop μ-loop
 loop-less c = search needs
 
 loop-again : tie.Need-loop-again Inv-loop μ-loop
-loop-again c = turn (c .before .before .before .before .loop .inv) (c .before .before .before .loop-test .taken) (overlap-seen _ _ _ (c .before .before .before .before .before .area-at .ensures) (c .before .before .area-at2 .ensures) (c .before .meets .ensures) (c .if1 .left))
+loop-again c = turn (c .before .before .before .before .loop .inv) (c .before .before .before .loop-test .taken)
+    (overlap-seen _ _ _ (c .before .before .before .before .before .area-at .ensures) (c .before .before .area-at2 .ensures)
+    (c .before .meets .ensures) (c .if1 .left))
 
 returns-2 : tie.Need-returns-2 Inv-loop μ-loop
 returns-2 c = overlap-missed _ _ (c .before .loop .inv) (c .loop-test .left)
