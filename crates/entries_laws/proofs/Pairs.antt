@@ -132,10 +132,10 @@ pair-is-request s one other h k =
       λ e. said-so
           ∙ eight x y (overlapsEarlier (one ++ other)) p (readCode x) (readCode y) refl refl (right .2 e) (none-before one other h k)
           (overlapping one other h k),
-      λ e. let a = accepted-exactly s 2 (one ++ other) .0 .0 e in
+      λ e. let a = accepted-exactly s 2 (one ++ other) .0 .0 e .orderly in
           said-so
           ∙ zero-said x y (readCode x) (readCode y) refl refl
-          (good-at one other h k 0 x at-0 (a .good 0 (omega arith)))
-          (good-at one other h k 1 y at-1 (a .good 1 (omega arith)))
+          (good-at one other h k 0 x at-0 (a .readable .good 0 (omega arith)))
+          (good-at one other h k 1 y at-1 (a .readable .good 1 (omega arith)))
           (sym (sharing one other h k) ∙ a .apart 1 0 (omega arith) (omega arith)),
     )

@@ -139,8 +139,8 @@ never-so s R (made.refuses a) f z = let l = low a 16 f z in omega arith
 places-step : (s t : Station) (c : Call) → Step s c t → AsMade c → length (s .set) ≡ 40 → length (t .set) ≡ 40
 places-step s t c (refuses n) m h = h
 places-step s t c (opens {n} {set} A) m h =
-    let k = length-take-le (5 * n) set (m (A .few)) in
-    let l = A .few in
+    let k = length-take-le (5 * n) set (m (A .orderly .readable .few)) in
+    let l = A .orderly .readable .few in
     length-append (take (5 * n) set) (replicate (40 - 5 * n) 0) ∙ rw (k, length-replicate {A = ℕ} (40 - 5 * n) 0) (omega arith)
 places-step s t c (fails {i} w) m h = after-result (λ (x : Station). length (x .set) ≡ 40) s i (s .bits) (s .apart) (λ _. refl) (λ _. h)
 places-step s t c (succeeds {i} p w a) m h = after-result (λ (x : Station). length (x .set) ≡ 40) s i (following s i) (s .apart) (λ _. refl) (λ _. h)
