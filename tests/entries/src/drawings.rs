@@ -385,7 +385,7 @@ fn examples(run: &mut Run) -> Vec<Vec<u8>> {
         inputs.push(text.into_bytes());
     }
     for (text, image) in spelled_ones() {
-        assert_eq!(image_in(text.as_bytes()), image, "{text:?}");
+        assert_eq!(image_in(text.as_bytes()), image.map(|image| (image, None)), "{text:?}");
         inputs.push(text.into_bytes());
     }
     // long inputs: hex with as many blanks as there may be and with one more, a drawing with much behind it, a line that doesn't end
@@ -442,6 +442,8 @@ pub fn main(words: &[String]) {
     let mut run = Run::new(number(share).into());
     let mut inputs = examples(&mut run);
     cut_anywhere(&mut run);
+    // none of the parts, the lift alone, all of them, and the first bit that is none's
+    [0, 1 << 52, (1 << 53) - 1, 1 << 53].into_iter().for_each(|parts| run.parts(parts, true));
     for at in 0..number(records) {
         let image = sound_record(&mut run.numbers);
         let [other, drawable] = [any_record, drawable_record].map(|made| made(&mut run.numbers, image));
