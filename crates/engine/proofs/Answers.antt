@@ -27,7 +27,7 @@ use Rattle.areas.specs.declared.Located.{Located}
 use Rattle.areas.specs.Located.{locate}
 use Rattle.rows.specs.Private.{whole}
 use Rattle.engine.specs.declared.Judged.{Judged}
-use Rattle.engine.specs.Judged.{judge, unbroken, codeNext}
+use Rattle.engine.specs.Judged.{judge, judgedAs, unbroken, codeNext}
 use Rattle.engine.proofs.Ruling.{whole-right, allowed-unbroken}
 
 -- of a well-formed instruction its conditions say it
@@ -100,10 +100,13 @@ module _ (x : Code) (l : Located) (e : l ≡ locate x) where
     unfolding codeMoved
     code-moved m p = p ∙ ap (onCode (λ i. movedOf i r) Moved.IllFormed) (sym said)
 
-    pub code-judged : (v : Verdict) → v ≡ judged (clauses i) (bit r) → record { area = l .area; verdict = v } ≡ judge x r
-    unfolding judge codeVerdict
-    code-judged v p = ap₂ {A = ℕ} {B = Verdict} {C = Judged} (λ a v. record { area = a; verdict = v }) placed
-        (is-verdict i r well p ∙ ap (onCode (λ i. verdictOf i r) Verdict.IllFormed) (sym said))
+    pub code-told : (v : Verdict) → v ≡ judged (clauses i) (bit r) → v ≡ codeVerdict x r
+    unfolding codeVerdict
+    code-told v p = is-verdict i r well p ∙ ap (onCode (λ i. verdictOf i r) Verdict.IllFormed) (sym said)
+
+    pub code-judged : (v : Verdict) → v ≡ judged (clauses i) (bit r) → judgedAs (l .area) v ≡ judge x r
+    unfolding judge
+    code-judged v p = ap₂ {A = ℕ} {B = Verdict} {C = Judged} judgedAs placed (code-told v p)
 
     known : (b : Bool) → whole i ≡ b → cond b (image (nextRecord i (bit r))) r ≡ codeNext x r
     unfolding codeNext
@@ -125,17 +128,17 @@ module _ (x : Code) (l : Located) (e : l ≡ locate x) where
     unfolding codeMoved
     bad-moved = ap (onCode (λ i. movedOf i r) Moved.IllFormed) (sym nothing)
 
-    pub bad-judged : record { area = l .area; verdict = Verdict.IllFormed } ≡ judge x r
-    unfolding judge codeVerdict
-    bad-judged = ap₂ {A = ℕ} {B = Verdict} {C = Judged} (λ a v. record { area = a; verdict = v }) placed (ap (onCode (λ i. verdictOf i r) Verdict.IllFormed) (sym nothing))
+    pub bad-told : Verdict.IllFormed ≡ codeVerdict x r
+    unfolding codeVerdict
+    bad-told = ap (onCode (λ i. verdictOf i r) Verdict.IllFormed) (sym nothing)
+
+    pub bad-judged : judgedAs (l .area) Verdict.IllFormed ≡ judge x r
+    unfolding judge
+    bad-judged = ap₂ {A = ℕ} {B = Verdict} {C = Judged} judgedAs placed bad-told
 
     pub bad-next : r ≡ codeNext x r
     unfolding codeNext
     bad-next = ap (onCode (λ i. cond (unbroken i) (image (nextRecord i (bit r))) r) r) (sym nothing)
-
-pub verdict-in : (x : Code) (r : ℕ) (j : Judged) → j ≡ judge x r → j .verdict ≡ codeVerdict x r
-unfolding judge
-verdict-in x r j e = ap (λ (j : Judged). j .verdict) e
 
 -- rotating keeps the record
 pub rotated : (i : Instruction) → i ≡ Rotate → (r : ℕ) → r < 2 ^ 64 → r ≡ image (nextRecord i (bit r))

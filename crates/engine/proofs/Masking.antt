@@ -14,6 +14,13 @@ shift-small zero n h k = omega arith
 shift-small (suc zero) n h k = omega arith
 shift-small (suc (suc d)) n h k = absurd (omega (arith, h))
 
+-- a direction picks one of two shifts: n or none
+pub lower-shifts : (toward n : ℕ) → toward ≡ 0 → (0 ≡ toward * n) × (n ≡ (1 - toward) * n)
+lower-shifts toward n e = rw e (omega arith, omega arith)
+
+pub higher-shifts : (toward n : ℕ) → toward ≡ 1 → (n ≡ toward * n) × (0 ≡ (1 - toward) * n)
+higher-shifts toward n e = rw e (omega arith, omega arith)
+
 pub step-small : (row size : ℕ) → step row size < 3
 step-small row size = go (eqb row 1 && eqb size 1)
   where

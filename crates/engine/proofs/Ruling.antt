@@ -34,10 +34,12 @@ shuttles-bounds : (side mask orientation toward : ℕ) → T (wellFormed (Shuttl
     → (side < 2) × (mask < 8) × (orientation < 2) × (toward < 2)
 shuttles-bounds side mask orientation toward w =
     let p = and-l (leb side 1 && leb mask 7 && leb orientation 1) (leb toward 1) w in
-    let q = and-l (leb side 1 && leb mask 7) (leb orientation 1) p in
-    (omega (arith, leb→le side 1 (and-l (leb side 1) (leb mask 7) q)), omega (arith, leb→le mask 7 (and-r (leb side 1) (leb mask 7) q)),
-    omega (arith, leb→le orientation 1 (and-r (leb side 1 && leb mask 7) (leb orientation 1) p)),
-    omega (arith, leb→le toward 1 (and-r (leb side 1 && leb mask 7 && leb orientation 1) (leb toward 1) w)))
+    let q = and-l (leb side 1 && leb mask 7) (leb orientation 1) p in (
+      omega (arith, leb→le side 1 (and-l (leb side 1) (leb mask 7) q)),
+      omega (arith, leb→le mask 7 (and-r (leb side 1) (leb mask 7) q)),
+      omega (arith, leb→le orientation 1 (and-r (leb side 1 && leb mask 7) (leb orientation 1) p)),
+      omega (arith, leb→le toward 1 (and-r (leb side 1 && leb mask 7 && leb orientation 1) (leb toward 1) w)),
+    )
 
 -- the same of an instruction that is such a one
 module _ (i : Instruction) (w : wellFormed i ≡ true) where

@@ -1,19 +1,20 @@
 -- What is told at once is what the rules say: belts by areas that are looked up, and runs of the raised lift. Assumes nothing.
 use mathlib.Core.Path.{_≡_, refl, sym, ap, _∙_}
 use mathlib.Core.Bool.{Bool, true, false, not, _&&_, _||_}
-use Prim.Native.Nat.{ℕ, _%_, _^_, _<_, _≤_}
+use Prim.Native.Nat.{ℕ, zero, suc, _+_, _%_, _^_, _<_, _≤_}
 use native.Mathlib.Omega.{arith}
 use lib.Bits.{bitAnd}
-use lib.Dec.{eqb, leb}
+use lib.Dec.{T, eqb, leb}
 use borrow.Author.Tests.{eq-eqb, le-leb, eqb-true, leb-true, not-true}
 use Rattle.bits.specs.Bits.{bit, image, count}
 use Rattle.bits.specs.Places.{places}
-use Rattle.bits.proofs.Cases.{both}
+use Rattle.bits.specs.Search.{every}
+use Rattle.bits.proofs.Cases.{both, true→T, T→true}
 use Rattle.floor.specs.Tests.{holds, heightIs}
 use Rattle.answers.specs.declared.Reason.{Reason}
 use Rattle.answers.specs.declared.Reason.the-variants.{NotAvailable, NotFree}
 use Rattle.rules.specs.declared.Instruction.{Instruction}
-use Rattle.rules.specs.declared.Instruction.the-variants.{Belts, Lift}
+use Rattle.rules.specs.declared.Instruction.the-variants.{Belts, Shuttles, Tilt, Lift, Rotate}
 use Rattle.rules.specs.declared.Code.{Code}
 use Rattle.rules.specs.declared.Reading.the-variants.{Good}
 use Rattle.rules.specs.declared.Verdict.{Verdict}
@@ -21,12 +22,13 @@ use Rattle.rules.specs.Named.{step}
 use Rattle.rules.specs.Rules.{wellFormed, beltsNamed, area, clauses}
 use Rattle.rules.specs.Codes.{readCode}
 use Rattle.rules.specs.Verdicts.{judged}
+use Rattle.rules.proofs.Every.{everywhere, each}
 use Rattle.areas.specs.Private.{areaMask, beltsMask}
 use Rattle.areas.specs.Located.{locate}
 use Rattle.areas.proofs.Areas.{area-right}
-use Rattle.rows.specs.Private.{judgedRow, looksAsked, beltsRow, beltsMove, moveRow, gaps, spanWithin, others, cellsOfArea, firstIn}
-use Rattle.engine.specs.Judged.{judge, codeNext}
-use Rattle.engine.specs.Private.{runs, codeRuns, accepting}
+use Rattle.rows.specs.Private.{judgedRow, looksAsked, beltsRow, beltsMove, moveRow, gaps, firstIn}
+use Rattle.engine.specs.Judged.{judge, judgedAs, codeNext}
+use Rattle.engine.specs.Private.{runs, codeRuns, roomIn, fitting}
 use Rattle.engine.proofs.Answers.{area-is, code-judged, code-next}
 use Rattle.engine.proofs.Ruling.{belts-judge, belts-move}
 use Rattle.engine.proofs.Lifting.{lift-law}
@@ -37,24 +39,35 @@ module _ (x : Code) (i : Instruction) (w : wellFormed i ≡ true) (s : readCode 
   unfolding locate
   read = s
 
-  pub at-once : judged (clauses i) (bit r) ≡ Verdict.Allowed → record { area = a; verdict = Verdict.Allowed } ≡ judge x r
+  pub at-once : judged (clauses i) (bit r) ≡ Verdict.Allowed → judgedAs a Verdict.Allowed ≡ judge x r
   at-once j =
-      ap (λ (y : ℕ). record { area = y; verdict = Verdict.Allowed }) (q ∙ sym (area-is x (locate x) refl r i read))
+      ap (λ (y : ℕ). judgedAs y Verdict.Allowed) (q ∙ sym (area-is x (locate x) refl r i read))
       ∙ code-judged x (locate x) refl r i read Verdict.Allowed (sym j)
 
 -- ---- belts
 
--- a row passes if what looks at the record accepts
-accepted : (care need m room r : ℕ) (why late : Reason) → accepting care need m room r ≡ true → judgedRow (looksAsked care need why false m room late) r ≡ Verdict.Allowed
-accepted care need m room r why late e =
-    let a = eqb (bitAnd r care) need in
-    let b = not (eqb room 0) in
-    let c = eqb (bitAnd r room) 0 in
-    let d = eqb (count (places m) (bit r) % 2) 0 in
-    let (p, f) = both (a && b && c) d e in
-    let (q, g) = both (a && b) c p in
-    let (h, k) = both a b q in
+-- a row passes if what looks at the record finds it so, and it has room
+accepted : (a toward n r : ℕ) → fitting a toward n r ≡ true → not (eqb (roomIn a toward n) 0) ≡ true
+    → judgedRow (looksAsked (bitAnd a 0x6FFF0000000000) (bitAnd a 0x4FFF0000000000) NotAvailable false (firstIn a) (roomIn a toward n) NotFree) r ≡ Verdict.Allowed
+accepted a toward n r e k =
+    let b = eqb (bitAnd r (bitAnd a 0x6FFF0000000000)) (bitAnd a 0x4FFF0000000000) in
+    let c = eqb (bitAnd r (roomIn a toward n)) 0 in
+    let d = eqb (count (places (firstIn a)) (bit r) % 2) 0 in
+    let (p, f) = both (b && c) d e in
+    let (h, g) = both b c p in
     rw (h, k, g, f)
+
+-- belts without a gap have room
+hasRoom : Instruction → Bool
+hasRoom (Belts row mask toward size) = not (not (eqb mask 0) && not (gaps mask)) || not (eqb (roomIn (beltsMask row mask) toward (step row size)) 0)
+hasRoom (Shuttles side mask orientation toward) = true
+hasRoom (Tilt side row orientation) = true
+hasRoom (Lift height) = true
+hasRoom Rotate = true
+
+all-room : T (everywhere hasRoom)
+unfolding everywhere every hasRoom beltsMask
+all-room = tt
 
 module _ (x : Code) (a : ℕ) (e : codeRuns x a ≡ true) where
   parts : (eqb (x .op) 1 ≡ true) × (leb (x .c) 1 ≡ true) × (leb (x .d) 1 ≡ true) × (beltsNamed (x .a) (x .b) ≡ true) × (not (eqb (x .b) 0) ≡ true)
@@ -82,29 +95,39 @@ module _ (x : Code) (a : ℕ) (e : codeRuns x a ≡ true) where
   pub toward-small : x .c < 2
   toward-small = omega (arith, leb-true (x .c) 1 (parts .1))
 
-  pub belts-allowed : (r : ℕ) {n w : ℕ} {ok : Bool} → n ≡ step (x .a) (x .d) → w ≡ spanWithin (cellsOfArea a) (x .c) n
-      → ok ≡ accepting (bitAnd a 0x6FFF0000000000) (bitAnd a 0x4FFF0000000000) (firstIn a) (bitAnd (cellsOfArea a) (others w)) r
-      → (eqb (x .a) 1 || eqb (x .d) 1) && ok ≡ true
-      → judged (clauses (Belts (x .a) (x .b) (x .c) (x .d))) (bit r) ≡ Verdict.Allowed
-  belts-allowed r {n} {w} {ok} f g h b =
-      let (half, o) = both (eqb (x .a) 1 || eqb (x .d) 1) ok b in
-      let c = accepted (bitAnd a 0x6FFF0000000000) (bitAnd a 0x4FFF0000000000) (firstIn a)
-      (bitAnd (cellsOfArea a) (others (spanWithin (cellsOfArea a) (x .c) (step (x .a) (x .d))))) r NotAvailable NotFree (rw (g, f) at (sym h ∙ o)) in
-      sym (belts-judge (Belts (x .a) (x .b) (x .c) (x .d)) r a well placed refl) ∙ rw (half, parts .4, parts .5) c
+  roomy : not (eqb (roomIn a (x .c) (step (x .a) (x .d))) 0) ≡ true
+  unfolding hasRoom
+  roomy = ap (λ (a : ℕ). not (eqb (roomIn a (x .c) (step (x .a) (x .d))) 0)) (parts .6)
+      ∙ rw (parts .4, parts .5) at (T→true (hasRoom (Belts (x .a) (x .b) (x .c) (x .d))) (each hasRoom all-room (Belts (x .a) (x .b) (x .c) (x .d)) (true→T well)))
 
-  pub belts-told : (r : ℕ) → judged (clauses (Belts (x .a) (x .b) (x .c) (x .d))) (bit r) ≡ Verdict.Allowed → record { area = a; verdict = Verdict.Allowed } ≡ judge x r
-  belts-told r j = at-once x (Belts (x .a) (x .b) (x .c) (x .d)) well said a placed r j
+  pub belts-told : (r : ℕ) {n : ℕ} {ok : Bool} → (eqb (x .a) 1 || eqb (x .d) 1) ≡ true → n ≡ step (x .a) (x .d) → ok ≡ fitting a (x .c) n r → ok ≡ true
+      → judgedAs a Verdict.Allowed ≡ judge x r
+  belts-told r {n} {ok} half f h o =
+      let fine = accepted a (x .c) (step (x .a) (x .d)) r (rw f at (sym h ∙ o)) roomy in
+      at-once x (Belts (x .a) (x .b) (x .c) (x .d)) well said a placed r
+      (sym (belts-judge (Belts (x .a) (x .b) (x .c) (x .d)) r a well placed refl) ∙ rw (half, parts .4, parts .5) fine)
 
   pub belts-left : (r n : ℕ) → n < 2 ^ 64 → n ≡ moveRow (beltsMove a (x .a) (x .c) (x .d)) r → n ≡ codeNext x r
   belts-left r n small m =
       code-next x (locate x) refl r (Belts (x .a) (x .b) (x .c) (x .d)) (read x (Belts (x .a) (x .b) (x .c) (x .d)) well said a placed r) (parts .5) n
       (belts-move (Belts (x .a) (x .b) (x .c) (x .d)) r a well placed (parts .5) n small refl m)
 
+-- in row 1 a full move goes by two cells
+pub first-step : (size : ℕ) → size ≤ 1 → 1 + size ≡ step 1 size
+first-step zero h = refl
+first-step (suc zero) h = refl
+first-step (suc (suc k)) h = absurd (omega (arith, h))
+
+pub row-told : (x : Code) (r row a : ℕ) {n : ℕ} {ok : Bool} → x .op ≡ 1 → x .c ≤ 1 → x .d ≤ 1 → x .a ≡ row → runs row (x .b) a ≡ true
+    → (eqb row 1 || eqb (x .d) 1) ≡ true → n ≡ step row (x .d) → ok ≡ fitting a (x .c) n r → ok ≡ true → judgedAs a Verdict.Allowed ≡ judge x r
+row-told x r row a o c d e q half f h t =
+    belts-told x a (rw (eq-eqb (x .op) 1 o, le-leb (x .c) 1 c, le-leb (x .d) 1 d, e) q) r (rw e half) (rw e f) h t
+
 -- ---- the lift
 
 pub lift-told : (x : Code) (r : ℕ) {still below : Bool} → still ≡ holds (heightIs (x .a)) (bit r) → below ≡ holds (heightIs 2) (bit r)
     → eqb (x .op) 4 && leb (x .a) 2 && eqb (x .b) 0 && eqb (x .c) 0 && eqb (x .d) 0 && not still && not below ≡ true
-    → record { area = 0x70000000001800; verdict = Verdict.Allowed } ≡ judge x r
+    → judgedAs 0x70000000001800 Verdict.Allowed ≡ judge x r
 unfolding readCode areaMask
 lift-told x r {still} {below} f g e =
     let o = eqb (x .op) 4 in

@@ -1,6 +1,6 @@
--- What five bytes come to on a record: area and verdict at once; and the next record where it is known that the instruction is allowed.
+-- What five bytes come to on a record: area, and whether they say an instruction that is allowed, at once; and the next record where it is known that the instruction is allowed.
 -- Assumes nothing.
-use mathlib.Core.Bool.{Bool, true, cond}
+use mathlib.Core.Bool.{Bool, true, false, cond}
 use Prim.Native.Nat.{ℕ}
 use Rattle.bits.specs.Bits.{bit, image}
 use Rattle.bits.specs.Places.{adjacent}
@@ -10,12 +10,22 @@ use Rattle.rules.specs.declared.Code.{Code}
 use Rattle.rules.specs.Named.{cells, rowsOf}
 use Rattle.rules.specs.Rules.{area, nextRecord}
 use Rattle.rules.specs.Codes.{readCode}
-use Rattle.rules.specs.Verdicts.{onCode, codeVerdict}
+use Rattle.rules.specs.declared.Verdict.{Verdict}
+use Rattle.rules.specs.Verdicts.{onCode, codeVerdict, isAllowed}
 use Rattle.engine.specs.declared.Judged.{Judged}
+
+-- what an area and a verdict tell: ill-formed bytes say no instruction
+abbrev pub isRead : Verdict → Bool
+isRead Verdict.Allowed = true
+isRead (Verdict.NotAllowed why) = true
+isRead Verdict.IllFormed = false
+
+abbrev pub judgedAs : ℕ → Verdict → Judged
+judgedAs a v = record { area = a; good = isRead v; allowed = isAllowed v }
 
 -- the area as a mask, none for bytes that say no instruction, and the verdict on the record with this image
 unfoldable pub judge : Code → ℕ → Judged
-judge x r = record { area = onCode (λ i. image (area i)) 0 (readCode x); verdict = codeVerdict x r }
+judge x r = judgedAs (onCode (λ i. image (area i)) 0 (readCode x)) (codeVerdict x r)
 
 -- the belts or rows that an instruction names leave no gap
 abbrev pub unbroken : Instruction → Bool

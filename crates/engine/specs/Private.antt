@@ -11,7 +11,7 @@ use Rattle.floor.specs.Floor.{liftCells, raisedCar, heightLow, heightHigh, base
 use Rattle.rules.specs.declared.Code.{Code}
 use Rattle.rules.specs.Rules.{beltsNamed}
 use Rattle.areas.specs.Private.{beltsMask}
-use Rattle.rows.specs.Private.{gaps}
+use Rattle.rows.specs.Private.{gaps, others, cellsOfArea, firstIn, spanWithin}
 
 -- the lift at a height, with a car or without: in the basement the car stands on its two cells
 abbrev pub liftBits : ℕ → Bool → List ℕ
@@ -28,7 +28,12 @@ runs row mask a = beltsNamed row mask && not (eqb mask 0) && not (gaps mask) && 
 abbrev pub codeRuns : Code → ℕ → Bool
 codeRuns x a = eqb (x .op) 1 && leb (x .c) 1 && leb (x .d) 1 && runs (x .a) (x .b) a
 
--- a record has the bits that are needed, room that is there and free, and pairs
-abbrev pub accepting : ℕ → ℕ → ℕ → ℕ → ℕ → Bool
-accepting care need m room r =
-    eqb (bitAnd r care) need && not (eqb room 0) && eqb (bitAnd r room) 0 && eqb (count (places m) (bit r) % 2) 0
+-- the room of belts with this area that go this way by n cells
+abbrev pub roomIn : ℕ → ℕ → ℕ → ℕ
+roomIn a toward n = bitAnd (cellsOfArea a) (others (spanWithin (cellsOfArea a) toward n))
+
+-- a record has the bits that they need, their room is free, and row 1 holds pairs
+abbrev pub fitting : ℕ → ℕ → ℕ → ℕ → Bool
+fitting a toward n r =
+    eqb (bitAnd r (bitAnd a 0x6FFF0000000000)) (bitAnd a 0x4FFF0000000000) && eqb (bitAnd r (roomIn a toward n)) 0
+    && eqb (count (places (firstIn a)) (bit r) % 2) 0

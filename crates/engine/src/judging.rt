@@ -73,7 +73,10 @@ pub fn within(span: u64, toward: u8, n: u8) -> u64
     requires { ⌜ (toward < 2) × (n < 3) ⌝ }
     ensures { λ x. ⌜ x ≡ spanWithin span toward n ⌝ }
 {
-    span & shifted(span, (1 - toward) * n, toward * n)
+    if toward == 0 {
+        return span & shifted(span, n, 0);
+    }
+    span & shifted(span, 0, n)
 }
 
 // A mask of belts has a gap: adding the lowest bit clears a run of bits.

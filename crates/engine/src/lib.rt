@@ -7,7 +7,7 @@ ghost use Rattle.rules.specs.Rules.{wellFormed, area, clauses, nextRecord};
 ghost use Rattle.rules.specs.Events.{inTurn, possible, placesOpen, afterEvent};
 ghost use Rattle.rules.specs.Verdicts.{judged, verdictOf, movedOf, drivenOf, codeVerdict, codeMoved};
 ghost use Rattle.rows.specs.Private.{whole};
-ghost use Rattle.engine.specs.Judged.{judge, codeNext};
+ghost use Rattle.engine.specs.Judged.{judge, judgedAs, codeNext};
 use rules::Area;
 use rules::Code;
 use rules::Driven;
@@ -143,12 +143,50 @@ pub fn code_moved(x: Code, r: u64) -> Moved
     }
 }
 
-// The area and the verdict of five bytes; bytes that say no instruction have no area. Most are told at once.
+// What five bytes are told on a record: whether they say an instruction, its area, or none, and whether it is allowed.
 pub struct Judged {
     pub area: u64,
-    pub verdict: Verdict,
+    pub good: bool,
+    pub allowed: bool,
 }
 
+// The same by a verdict.
+fn judged_as(area: u64, verdict: Verdict) -> Judged
+    ensures { λ j. ⌜ j ≡ judgedAs area verdict ⌝ }
+{
+    match verdict {
+        Verdict::Allowed => Judged {
+            area,
+            good: true,
+            allowed: true,
+        },
+        Verdict::NotAllowed(_) => Judged {
+            area,
+            good: true,
+            allowed: false,
+        },
+        Verdict::IllFormed => Judged {
+            area,
+            good: false,
+            allowed: false,
+        },
+    }
+}
+
+// The exact way, byte by byte: a struct would be kept in memory for it by callers that seldom go this way.
+fn exact(op: u8, a: u8, b: u8, c: u8, d: u8, r: u64) -> Judged
+    ensures { λ j. ⌜ j ≡ judge (record { op = op; a = a; b = b; c = c; d = d }) r ⌝ }
+{
+    let l = areas::locate(Code { op, a, b, c, d });
+    let area = l.area;
+    let y = l.reading;
+    match y {
+        Reading::Good(i) => judged_as(area, told(i, area, r)),
+        Reading::Bad => judged_as(area, Verdict::IllFormed),
+    }
+}
+
+// Most are told at once.
 pub fn judge(x: Code, r: u64) -> Judged
     ensures { λ j. ⌜ j ≡ judge x r ⌝ }
 {
@@ -156,22 +194,11 @@ pub fn judge(x: Code, r: u64) -> Judged
     if at_once != 0 {
         return Judged {
             area: at_once,
-            verdict: Verdict::Allowed,
+            good: true,
+            allowed: true,
         };
     }
-    let l = areas::locate(x);
-    let area = l.area;
-    let y = l.reading;
-    match y {
-        Reading::Good(i) => {
-            let verdict = told(i, area, r);
-            Judged { area, verdict }
-        }
-        Reading::Bad => Judged {
-            area,
-            verdict: Verdict::IllFormed,
-        },
-    }
+    exact(x.op, x.a, x.b, x.c, x.d, r)
 }
 
 // The verdict alone.

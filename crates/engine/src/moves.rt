@@ -2,14 +2,14 @@
 ghost use mathlib.Core.Path.{_≡_};
 ghost use Prim.Native.Nat.{_<_};
 ghost use Rattle.rows.specs.Private.{carriedBits, moveRow, beltsMove, shuttlesMove, tiltMove};
+use super::judging::shifted;
+use super::judging::step;
+use super::judging::within;
 use super::masks::CELLS;
 use super::masks::ROW_2;
 use super::masks::ROW_3;
 use super::masks::SLOTS;
 use super::masks::TILTED;
-use super::judging::shifted;
-use super::judging::step;
-use super::judging::within;
 use floor::masks::ROW_1;
 
 // What a car becomes: where all of these bits, if there are any, are 1, those become 1.
@@ -29,8 +29,11 @@ pub fn belts_next(r: u64, a: u64, row: u8, toward: u8, size: u8) -> u64
 {
     let span = a & CELLS;
     let n = step(row, size);
-    let moved = shifted(r & within(span, toward, n), toward * n, (1 - toward) * n);
-    (r & !span) | moved
+    let movers = r & within(span, toward, n);
+    if toward == 0 {
+        return (r & !span) | shifted(movers, 0, n);
+    }
+    (r & !span) | shifted(movers, n, 0)
 }
 
 // Slots shift by a row, and cars go along from row to row.
@@ -41,7 +44,8 @@ pub fn shuttles_next(r: u64, a: u64, toward: u8) -> u64
     let moved = shifted(r & within(a & SLOTS, toward, 1), toward, 1 - toward);
     let kept = r & !a;
     if toward == 1 {
-        return kept | (moved | (carried(r, a & ROW_1, a & ROW_2) | carried(r, a & ROW_2, a & ROW_3)));
+        return kept
+            | (moved | (carried(r, a & ROW_1, a & ROW_2) | carried(r, a & ROW_2, a & ROW_3)));
     }
     kept | (moved | (carried(r, a & ROW_2, a & ROW_1) | carried(r, a & ROW_3, a & ROW_2)))
 }

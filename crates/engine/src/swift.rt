@@ -2,14 +2,9 @@
 // said of the others: 0 stands for that.
 ghost use mathlib.Core.Path.{_≡_};
 ghost use mathlib.Core.Bool.{true};
-ghost use Rattle.bits.specs.Bits.{bit};
-ghost use Rattle.rules.specs.declared.Instruction.{Instruction};
-ghost use Rattle.rules.specs.declared.Verdict.{Verdict};
-ghost use Rattle.rules.specs.Rules.{clauses};
-ghost use Rattle.rules.specs.Verdicts.{judged};
+ghost use Prim.Native.Nat.{_<_};
 ghost use Rattle.engine.specs.Judged.{judge};
-ghost use Rattle.engine.specs.Private.{runs, codeRuns, accepting};
-use super::judging::step;
+ghost use Rattle.engine.specs.Private.{runs, codeRuns, fitting};
 use super::judging::within;
 use super::masks::CELLS;
 use super::masks::NEEDED;
@@ -98,26 +93,63 @@ pub fn named(x: Code) -> u64
     run(x.a, x.b)
 }
 
-// A record has the bits that are needed, room that is there and free, and pairs.
-fn accepts(r: u64, care: u64, need: u64, pairs: u64, room: u64) -> bool
-    ensures { λ b. ⌜ b ≡ accepting care need pairs room r ⌝ }
-{
-    (r & care == need) & (room != 0) & (r & room == 0) & bits::even(r, pairs)
-}
-
-// A record allows such belts.
-fn moves(x: Code, a: u64, r: u64) -> bool
-    requires { ⌜ codeRuns x a ≡ true ⌝ }
-    ensures { λ b. ⌜ (b ≡ true → judged (clauses (Instruction.Belts (x .a) (x .b) (x .c) (x .d))) (bit r) ≡ Verdict.Allowed) ⌝ }
+// A record has the bits that belts with this area need, their room is free, and row 1 holds pairs.
+fn fits(a: u64, toward: u8, n: u8, r: u64) -> bool
+    requires { ⌜ (toward < 2) × (n < 3) ⌝ }
+    ensures { λ b. ⌜ b ≡ fitting a toward n r ⌝ }
 {
     let span = a & CELLS;
-    let room = span & !within(span, x.c, step(x.a, x.d));
-    ((x.a == 1) | (x.d == 1)) & accepts(r, a & NEEDED, a & NEEDED_SET, a & ROW_1, room)
+    let room = span & !within(span, toward, n);
+    if r & (a & NEEDED) != a & NEEDED_SET {
+        return false;
+    }
+    if r & room != 0 {
+        return false;
+    }
+    bits::even(r, a & ROW_1)
+}
+
+// The area of belts that the record is seen to allow, row by row: above row 1 there is no half move.
+fn belts(x: Code, r: u64) -> u64
+    requires { ⌜ x .op ≡ 1 ⌝ }
+    ensures { λ a. ⌜ ((a ≡ 0 → ⊥) → record { area = a; good = true; allowed = true } ≡ judge x r) ⌝ }
+{
+    if 1 < x.c {
+        return 0;
+    }
+    if 1 < x.d {
+        return 0;
+    }
+    if x.a == 1 {
+        let a = run_1(x.b);
+        if fits(a, x.c, 1 + x.d, r) {
+            return a;
+        }
+        return 0;
+    }
+    if x.d == 0 {
+        return 0;
+    }
+    if x.a == 2 {
+        let a = run_2(x.b);
+        if fits(a, x.c, 1, r) {
+            return a;
+        }
+        return 0;
+    }
+    if x.a == 3 {
+        let a = run_3(x.b);
+        if fits(a, x.c, 1, r) {
+            return a;
+        }
+        return 0;
+    }
+    0
 }
 
 // A lift that is not in the basement runs to another height.
 fn rises(x: Code, r: u64) -> bool
-    ensures { λ b. ⌜ (b ≡ true → record { area = 0x70000000001800; verdict = Verdict.Allowed } ≡ judge x r) ⌝ }
+    ensures { λ b. ⌜ (b ≡ true → record { area = 0x70000000001800; good = true; allowed = true } ≡ judge x r) ⌝ }
 {
     (x.op == 4)
         & (x.a <= 2)
@@ -130,14 +162,10 @@ fn rises(x: Code, r: u64) -> bool
 
 // The area of what the record is seen to allow.
 pub fn area(x: Code, r: u64) -> u64
-    ensures { λ a. ⌜ ((a ≡ 0 → ⊥) → record { area = a; verdict = Verdict.Allowed } ≡ judge x r) ⌝ }
+    ensures { λ a. ⌜ ((a ≡ 0 → ⊥) → record { area = a; good = true; allowed = true } ≡ judge x r) ⌝ }
 {
-    let a = named(x);
-    if a != 0 {
-        if moves(x, a, r) {
-            return a;
-        }
-        return 0;
+    if x.op == 1 {
+        return belts(x, r);
     }
     if rises(x, r) {
         return LIFT_AND_CELLS;

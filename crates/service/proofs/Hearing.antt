@@ -5,7 +5,7 @@ use mathlib.Core.Bool.{Bool, true, false, cond, not, _&&_, and-false}
 use mathlib.Core.List.{List, [], _∷_, _++_}
 use Prim.Native.Nat.{ℕ, zero, suc, _+_, _*_, _-_, _<_, _≤_}
 use native.Mathlib.Omega.{arith}
-use borrow.Author.Tests.{eq-eqb, ne-eqb, eqb-true, eqb-false, lt-ltb, le-ltb, ltb-true, ltb-false}
+use borrow.Author.Tests.{eq-eqb, ne-eqb, eqb-true, eqb-false, lt-ltb, le-ltb, lt-leb, le-leb, ltb-true, ltb-false}
 use lib.Dec.{eqb, ltb}
 use lib.ListN.{getD, length, take, drop, replicate, length-drop, drop-of-length-le}
 use lib.Seq.{length-take-le, take-all, take-at}
@@ -40,7 +40,7 @@ use Rattle.wire.proofs.Parts.{from-on, set-short}
 use Rattle.wire.proofs.Reading.{read-too-many, read-bad-length, read-bad-one, read-all-good}
 use Rattle.service.specs.declared.Reply.{Reply}
 use Rattle.service.specs.Service.{answerMessage, replyMessage, replyOf, respond, onKnown, calledKnown, respondKnown}
-use Rattle.service.specs.Private.{calledAs, messageCall, replySaid, messageReply}
+use Rattle.service.specs.Private.{isResult, calledAs, messageCall, replySaid, messageReply}
 use Rattle.service.proofs.Readings.{ways}
 use Rattle.service.proofs.Called.{known-reply, kept-on-known}
 
@@ -78,6 +78,44 @@ module _ (known : Bool) (s : Station) (m : List ℕ) (k : kindAt m ≡ 1 → ⊥
       let n = eq-eqb (numberOf (r .answer)) 0 (rw e at z) in
       ap (λ (y : Said). calledKnown known (y .what) s 0 (replicate 40 0)) e
       ∙ sym (among ∙ rw n (ap (λ (y : Message). calledKnown known (y .what) s (y .count) (y .set)) (among-plain kindsAsked m .plainly)))
+
+-- ---- a result
+
+-- what is not of the kind of results is none
+module _ (m : List ℕ) where
+  record Other (r : Received) : Type 0 where
+    other : isResult (r .message .what) ≡ false
+
+  sized-other : (n : ℕ) (w : What) → isResult w ≡ false → Other (sized m n w)
+  sized-other n w e =
+      ways Other (eqb (length m) n)
+      (λ _. ways Other (inRange w) (λ _. record { other = e }) (λ _. record { other = refl }))
+      (λ _. record { other = refl })
+
+  pub no-result : (kindAt m ≡ 3 → ⊥) → {x : Said} → x ≡ saidIn (readAmong kindsAsked m) → isResult (x .what) ≡ false
+  no-result k e =
+      let k₀ = kindAt m in
+      ap (λ (y : Said). isResult (y .what)) e ∙ (ways Other (eqb k₀ 2) (λ _. sized-other 5 (eventKind .says m) refl)
+      (λ _. ways Other (eqb k₀ 3) (λ t. absurd (k (eqb-true k₀ 3 t)))
+      (λ _. ways Other (eqb k₀ 4) (λ _. sized-other 20 (imageKind .says m) refl)
+      (λ _. ways Other (eqb k₀ 5) (λ _. sized-other 4 Ask refl)
+      (λ _. record { other = refl }))))) .other
+
+module _ (known : Bool) (s : Station) (m : List ℕ) (k : kindAt m ≡ 3) where
+  reporting : messageCall known s m ≡ calledAs known s (sized m 8 (resultKind .says m))
+  unfolding messageCall readWhole
+  reporting = rw k
+
+  pub report-long : (length m ≡ 8 → ⊥) → refused s BadLength ≡ messageCall known s m
+  report-long l = sym (reporting ∙ rw (ne-eqb (length m) 8 l))
+
+  module _ (l : length m ≡ 8) {ending : ℕ} (d : ending ≡ getD m 7 0) where
+    pub report-bad : 2 < ending → refused s (BadField nowhere) ≡ messageCall known s m
+    report-bad h = sym (reporting ∙ rw (eq-eqb (length m) 8 l, ← d, lt-leb ending 2 h))
+
+    pub report-called : {issue number : ℕ} → ending ≤ 2 → issue ≡ fromLittleEndian 2 4 m → number ≡ getD m 6 0
+        → calledKnown known (Result issue number ending) s 0 (replicate 40 0) ≡ messageCall known s m
+    report-called h e n = rw (e, n) (sym (reporting ∙ rw (eq-eqb (length m) 8 l, ← d, le-leb ending 2 h)))
 
 -- ---- a request
 

@@ -27,6 +27,16 @@ makesCall Ask = true
 makesCall (Answer number place issue) = false
 makesCall (Held bits apart) = false
 
+-- a message is a result
+abbrev pub isResult : What → Bool
+isResult Request = false
+isResult (Event way) = false
+isResult (Result issue number ending) = true
+isResult (Image bits apart) = false
+isResult Ask = false
+isResult (Answer number place issue) = false
+isResult (Held bits apart) = false
+
 -- what was read as a call: refused in reading, the station is as it was
 abbrev pub calledAs : Bool → Station → Received → Outcome
 calledAs known s r =

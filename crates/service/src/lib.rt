@@ -1,19 +1,21 @@
 // Messages answered on a station: one, and a run of them. What they are answered with stands in specs/.
 ghost use mathlib.Core.Path.{_≡_};
-ghost use mathlib.Core.Bool.{true};
+ghost use mathlib.Core.Bool.{true, false};
 ghost use mathlib.Core.List.{_++_};
 ghost use Prim.Native.Nat.{_≤_};
 ghost use lib.Dec.{leb};
 ghost use lib.ListN.{length, drop, replicate};
-ghost use Rattle.station.specs.Calls.{refused};
+ghost use Rattle.station.specs.Station.{fit};
+ghost use Rattle.station.specs.Calls.{refused, resulted};
 ghost use Rattle.station.specs.Turns.{turnOf, afterTurn};
-ghost use Rattle.wire.specs.Kinds.{firstInstruction, requestKind, inRange, setOf};
+ghost use Rattle.wire.specs.Kinds.{firstInstruction, requestKind, resultKind, inRange, setOf};
 ghost use Rattle.wire.specs.Reads.{kindAt};
 ghost use Rattle.wire.specs.Writes.{LeavesMessage};
 ghost use Rattle.service.specs.Service.{answerMessage, respond, calledKnown, respondKnown, answerBytes};
-ghost use Rattle.service.specs.Private.{makesCall, messageCall, replySaid, messageReply};
+ghost use Rattle.service.specs.Private.{makesCall, isResult, messageCall, replySaid, messageReply};
 ghost use Rattle.service.specs.Runs.{Serves, run, enough, served, serving, finishing};
 use answers::Answer;
+use answers::NOWHERE;
 use station::Picture;
 use station::Report;
 use station::Station;
@@ -71,8 +73,21 @@ fn unmoved(s: Station, answer: Answer) -> Turn
     }
 }
 
-// The turn of the call that a message without instructions makes on a station of which it is known whether it is fit.
+// A result past the test of fitness. It is sure that a station is fit where that was tested, and not where a caller says so: then a success
+// is not judged.
+fn resulted(sure: bool, s: Station, report: Report) -> Turn
+    requires { ⌜ (sure ≡ true → fit s ≡ true) ⌝ }
+    ensures { λ t. ⌜ t ≡ turnOf (resulted s report) ⌝ }
+{
+    if sure {
+        return s.settled(report);
+    }
+    s.resulted(report)
+}
+
+// The turn of the call that a message makes on a station of which it is known whether it is fit, if it is no result and has no instructions.
 fn turn(known: bool, what: What, s: Station) -> Turn
+    requires { ⌜ isResult what ≡ false ⌝ }
     ensures { λ t. ⌜ t ≡ turnOf (calledKnown known what s 0 (replicate 40 0)) ⌝ }
 {
     if makes_call(what) & !known {
@@ -87,14 +102,10 @@ fn turn(known: bool, what: What, s: Station) -> Turn
         }
         What::Event { way } => s.evented(way),
         What::Result {
-            issue,
-            number,
-            ending,
-        } => s.resulted(Report {
-            issue,
-            number,
-            ending,
-        }),
+            issue: _,
+            number: _,
+            ending: _,
+        } => unmoved(s, Answer::UnknownKind),
         What::Image { bits, apart } => s.imaged(Picture { bits, apart }),
         What::Ask => unmoved(s, Answer::Taken),
         What::Answer {
@@ -151,12 +162,45 @@ fn asked(known: bool, s: Station, m: &[u8]) -> Turn
     unmoved(s, Answer::Unfit)
 }
 
-// The turn of a message whose bytes are exactly m.
-fn heard(known: bool, s: Station, m: &[u8]) -> Turn
+// A result, read as it stands: most messages are results.
+fn reported(known: bool, sure: bool, s: Station, m: &[u8]) -> Turn
+    requires { ⌜ (sure ≡ true → fit s ≡ true) × (kindAt (now m) ≡ resultKind .number) ⌝ }
     ensures { λ t. ⌜ t ≡ turnOf (messageCall known s (now (m .entry))) ⌝ }
 {
-    if wire::kind_at(m) == 1 {
+    if m.len() != 8 {
+        return unmoved(s, Answer::BadLength);
+    }
+    let ending = wire::byte(m, 7);
+    if 2 < ending {
+        return unmoved(s, Answer::BadField(NOWHERE));
+    }
+    if !known {
+        return unmoved(s, Answer::Unfit);
+    }
+    let issue = wire::word(wire::byte(m, 4), wire::byte(m, 5));
+    let number = wire::byte(m, 6);
+    resulted(
+        sure,
+        s,
+        Report {
+            issue,
+            number,
+            ending,
+        },
+    )
+}
+
+// The turn of a message whose bytes are exactly m.
+fn heard(known: bool, sure: bool, s: Station, m: &[u8]) -> Turn
+    requires { ⌜ (sure ≡ true → fit s ≡ true) ⌝ }
+    ensures { λ t. ⌜ t ≡ turnOf (messageCall known s (now (m .entry))) ⌝ }
+{
+    let kind = wire::kind_at(m);
+    if kind == 1 {
         return asked(known, s, m);
+    }
+    if kind == 3 {
+        return reported(known, sure, s, m);
     }
     let r = wire::saying(m);
     let answer = r.answer;
@@ -193,10 +237,11 @@ fn told(kind: u16, t: Turn) -> What
 }
 
 // The reply to a message whose bytes are exactly m.
-fn answered(known: bool, s: Station, m: &[u8]) -> Reply
+fn answered(known: bool, sure: bool, s: Station, m: &[u8]) -> Reply
+    requires { ⌜ (sure ≡ true → fit s ≡ true) ⌝ }
     ensures { λ r. ⌜ r ≡ messageReply (kindAt (now (m .entry))) (messageCall known s (now (m .entry))) ⌝ }
 {
-    let t = heard(known, s, m);
+    let t = heard(known, sure, s, m);
     let answer = told(wire::kind_at(m), t);
     let set = fresh(m);
     let o = s.after(t, set);
@@ -212,23 +257,32 @@ fn unread(s: Station, answer: Answer) -> Reply
     Reply { station: s, answer }
 }
 
-// The reply to the first message of m, on a station of which it is known whether it is fit.
-pub fn respond_known(known: bool, s: Station, m: &[u8]) -> Reply
+// The reply to the first message of m, on a station of which it is known, or sure, whether it is fit.
+fn replied(known: bool, sure: bool, s: Station, m: &[u8]) -> Reply
+    requires { ⌜ (sure ≡ true → fit s ≡ true) ⌝ }
     ensures { λ r. ⌜ r ≡ respondKnown known s (now (m .entry)) ⌝ }
 {
     let frame = wire::framed(m);
     match frame {
         Frame::Cut => unread(s, Answer::TooFewBytes),
         Frame::Wrong => unread(s, Answer::BadLength),
-        Frame::Whole(n) => answered(known, s, &m[..n]),
+        Frame::Whole(n) => answered(known, sure, s, &m[..n]),
     }
+}
+
+// The same where a caller says whether it is fit: results are judged.
+pub fn respond_known(known: bool, s: Station, m: &[u8]) -> Reply
+    ensures { λ r. ⌜ r ≡ respondKnown known s (now (m .entry)) ⌝ }
+{
+    replied(known, false, s, m)
 }
 
 // The reply to the first message of m.
 pub fn respond(s: Station, m: &[u8]) -> Reply
     ensures { λ r. ⌜ r ≡ respond s (now (m .entry)) ⌝ }
 {
-    respond_known(s.fit(), s, m)
+    let tested = s.fit();
+    replied(tested, tested, s, m)
 }
 
 // ---- a run of messages
@@ -323,7 +377,7 @@ fn answer_all(s: Station, input: &[u8], out: &mut [u8]) -> Served
             }
             Frame::Whole(n) => {
                 let m = &rest[..n];
-                let t = heard(known, s, m);
+                let t = heard(known, known, s, m);
                 made += tell(wire::kind_at(m), t, &mut out[made..]);
                 at += n;
                 if t.count != s.count {

@@ -6,8 +6,8 @@ use mathlib.Core.Path.{_≡_, refl, sym, ap, ap₂, _∙_}
 use mathlib.Core.Bool.{Bool, true, false, not, cond, _&&_, _||_, and-true, and-false, or-comm, and-or-distrib-left}
 use mathlib.Core.List.{List, []}
 use lib.Dec.{T, eqb, ltb}
-use lib.Bits.{bitAnd, bitOr, and-zero-r, and-comm, and-le-r}
-use borrow.Author.Tests.{eqb-true, eqb-false, ltb-true, ltb-false, lt-ltb, le-ltb, not-true}
+use lib.Bits.{bitAnd, bitOr, and-zero-r, and-comm, and-le-l, and-le-r}
+use borrow.Author.Tests.{eq-eqb, eqb-true, eqb-false, ltb-true, ltb-false, lt-ltb, le-ltb, not-true}
 use Rattle.bits.specs.Bits.{bit, packed}
 use Rattle.bits.specs.Places.{elem, share}
 use Rattle.bits.specs.Search.{some, every}
@@ -25,7 +25,7 @@ use Rattle.rules.specs.Codes.{readCode}
 use Rattle.rules.specs.Verdicts.{onCode}
 use Rattle.rules.proofs.CodeLaws.{one-form}
 use Rattle.rules.proofs.Every.{everywhere, each}
-use Rattle.bits.proofs.Cases.{clash, split, T→true, true→T}
+use Rattle.bits.proofs.Cases.{clash, split, neither, T→true, true→T}
 use Rattle.bits.proofs.Sharing.{Small, share-masks}
 use Rattle.rules.proofs.Frame.{area-small}
 use Rattle.station.specs.Held.{codeAt, heldArea, overlapsEarlier, liftIn, partsIn, heldParts, touches}
@@ -159,10 +159,36 @@ parts-is x {m} e = bit-ext 64 (bitAnd m partsMask) _ (omega (arith, and-le-r m p
     ∙ ap₂ _&&_ (ap (λ (y : ℕ). bit y k) e ∙ bit-image (λ j. elem j (heldArea x)) k h) (parts-bit k)
     ∙ part-at x k ∙ sym (bit-image (partsIn (heldArea x)) k h))
 
+held-mask : (x : Code) {m : ℕ} → m ≡ heldMask x → m < 2 ^ 64
+unfolding heldMask
+held-mask x e = omega (arith, e, packed-lt 64 0 (λ k. elem k (heldArea x)))
+
+-- a mask meets the parts of what is apart, exactly if its own parts meet what is apart
+meets-parts : (m apart : ℕ) → m < 2 ^ 64 → not (eqb (bitAnd (bitAnd m partsMask) apart) 0) ≡ not (eqb (bitAnd m (bitAnd apart partsMask)) 0)
+meets-parts m apart h =
+    sym (meet 64 (bitAnd m partsMask) apart (omega (arith, and-le-l m partsMask, h)))
+    ∙ some-same 64 _ _ (λ k l. rw (bit-and m partsMask k, bit-and apart partsMask k) (turned (bit m k) (bit partsMask k) (bit apart k)))
+    ∙ meet 64 m (bitAnd apart partsMask) h
+  where
+    turned : (a b c : Bool) → (a && b) && c ≡ a && (c && b)
+    turned true true true = refl
+    turned true true false = refl
+    turned true false true = refl
+    turned true false false = refl
+    turned false b c = refl
+
 -- the code's test of what is set apart
 pub touching : (set : List ℕ) (apart i : ℕ) {m : ℕ} {x : Code} → x ≡ codeAt set i → m ≡ heldMask x
-    → touches set apart i ≡ not (eqb (bitAnd (bitAnd m partsMask) apart) 0)
+    → touches set apart i ≡ not (eqb (bitAnd m (bitAnd apart partsMask)) 0)
 unfolding touches heldParts
 touching set apart i {m} {x} d e =
     meet 64 (heldParts (codeAt set i)) apart (packed-lt 64 0 _)
     ∙ ap (λ (y : ℕ). not (eqb (bitAnd y apart) 0)) (sym (parts-is (codeAt set i) (e ∙ ap heldMask d)))
+    ∙ meets-parts m apart (held-mask x e)
+
+-- a mask that meets neither what was gathered nor what is apart
+pub clear-of : (x : Code) (seen held : ℕ) {m : ℕ} → m ≡ heldMask x → bitAnd m (bitOr seen held) ≡ 0
+    → (not (eqb (bitAnd m held) 0) ≡ false) × (not (eqb (bitAnd m seen) 0) ≡ false)
+clear-of x seen held {m} e z =
+    neither (not (eqb (bitAnd m held) 0)) (not (eqb (bitAnd m seen) 0))
+    (sym (meets-or m seen held (held-mask x e)) ∙ ap not (eq-eqb (bitAnd m (bitOr seen held)) 0 z))

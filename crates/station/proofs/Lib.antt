@@ -5,3 +5,4 @@ pub mod Marks
 pub mod Moves
 pub mod Issues
 pub mod Turns
+pub mod Settling

@@ -1,9 +1,9 @@
 -- The loops over a set's forty bytes. Assumes nothing.
-use Prim.Native.Nat.{ℕ, suc, _+_, _*_, _-_, _/_, _%_, _^_, _≤_, _<_}
+use Prim.Native.Nat.{ℕ, suc, _+_, _*_, _-_, _≤_, _<_}
 use native.Mathlib.Omega.{arith}
 use native.Mathlib.Numerals.{add-one}
 use mathlib.Core.Path.{_≡_, refl, sym, ap, ap₂, fun-ext, _∙_}
-use mathlib.Core.Bool.{Bool, true, false, cond, not, _&&_, _||_}
+use mathlib.Core.Bool.{Bool, true, false, cond, not, _&&_, _||_, and-false}
 use mathlib.Core.List.{List, [], _∷_, _++_, append-nil}
 use lib.Bits.{bitAnd, bitOr, or-self, or-add-and, and-le-l, and-le-r}
 use lib.Dec.{eqb, ltb}
@@ -15,12 +15,12 @@ use Rattle.bits.specs.Search.{every, least}
 use Rattle.bits.proofs.Cases.{split, alike, both, and-intro}
 use Rattle.bits.proofs.Search.{every-is}
 use Rattle.bits.proofs.Digits.{bit-none}
-use Rattle.bits.proofs.Masks.{half}
 use Rattle.bits.proofs.Least.{Sought, sought-start, sought-turn, sought-end}
 use Rattle.rules.specs.declared.Code.{Code}
 use Rattle.station.specs.Held.{codeAt, isGood, heldAllowed, bad, touches, overlapsEarlier, barred, stranded, liftIn}
 use Rattle.station.specs.Private.{heldMask, areas, firstOf}
-use Rattle.station.proofs.Areas.{areas-start, areas-turn, overlapping, partsMask, touching, liftMask, lift-in}
+use Rattle.station.proofs.Areas.{areas-start, areas-turn, overlapping, partsMask, touching, clear-of, liftMask, lift-in}
+use Rattle.station.proofs.Moves.{allowed-good}
 use Rattle.station.proofs.Padding.{five-at}
 
 -- ---- four searches in one
@@ -33,61 +33,53 @@ pub where-false : (b : Bool) (x y : ℕ) → b ≡ false → y ≡ cond b x y
 where-false b x y e = rw e
 
 -- the areas of the instructions below i, and of these the least that is bad, that touches what is apart, that overlaps an earlier one, that
--- has no mark and is not allowed; and the marks from i on
-pub record Searched (set : List ℕ) (n marks r apart seen worst touched overlap closed rest i : ℕ) : Type 0 where
+-- has no mark and is not allowed
+pub record Searched (set : List ℕ) (n marks r apart seen worst touched overlap closed i : ℕ) : Type 0 where
   pub gathered : seen ≡ areas set i
   pub worse : Sought (bad set) n i worst
   pub met : Sought (touches set apart) n i touched
   pub over : Sought (overlapsEarlier set) n i overlap
   pub shut : Sought (stranded marks set r) n i closed
-  pub unread : rest ≡ marks / 2 ^ i
 
-pub search-starts : (set : List ℕ) (n marks r apart : ℕ) → Searched set n marks r apart 0 n n n n marks 0
+pub search-starts : (set : List ℕ) (n marks r apart : ℕ) → Searched set n marks r apart 0 n n n n 0
 search-starts set n marks r apart = record {
   gathered = areas-start set;
   worse = sought-start _ n;
   met = sought-start _ n;
   over = sought-start _ n;
   shut = sought-start _ n;
-  unread = omega arith;
 }
 
-pub searches : {set : List ℕ} {n marks r apart seen worst touched overlap closed rest i m p t q u : ℕ} {x : Code} {good ok : Bool}
-    → Searched set n marks r apart seen worst touched overlap closed rest i → i < n
-    → x ≡ codeAt set i → good ≡ isGood x → m ≡ heldMask x → ok ≡ heldAllowed x (bit r)
-    → p ≡ firstOf worst n (not good) i → t ≡ firstOf touched n (not (eqb (bitAnd (bitAnd m partsMask) apart) 0)) i → q ≡ firstOf overlap n (not (eqb (bitAnd m seen) 0)) i
-    → u ≡ firstOf closed n (not (eqb (rest % 2) 1) && not ok) i
-    → Searched set n marks r apart (bitOr seen m) p t q u (rest / 2) (i + 1)
-searches {set} {n} {marks} {r} {apart} {rest = rest} {i = i} v h e g a o d₁ d₄ d₂ d₃ = record {
+pub searches : {set : List ℕ} {n marks r apart seen worst touched overlap closed i m p t q u : ℕ} {x : Code} {good ok mark : Bool}
+    → Searched set n marks r apart seen worst touched overlap closed i → i < n
+    → x ≡ codeAt set i → good ≡ isGood x → m ≡ heldMask x → ok ≡ heldAllowed x (bit r) → mark ≡ bit marks i
+    → p ≡ firstOf worst n (not good) i → t ≡ firstOf touched n (not (eqb (bitAnd m (bitAnd apart partsMask)) 0)) i
+    → q ≡ firstOf overlap n (not (eqb (bitAnd m seen) 0)) i → u ≡ firstOf closed n (not mark && not ok) i
+    → Searched set n marks r apart (bitOr seen m) p t q u (i + 1)
+searches {set} {n} {marks} {r} {apart} {i = i} v h e g a o b d₁ d₄ d₂ d₃ = record {
   gathered = areas-turn set i (v .gathered) e a;
   worse = rw d₁ (sought-turn (v .worse) h (ap not (g ∙ ap isGood e)));
   met = rw d₄ (sought-turn (v .met) h (sym (touching set apart i e a)));
   over = rw d₂ (sought-turn (v .over) h (sym (overlapping set i (v .gathered) e a)));
-  shut = rw d₃ (sought-turn (v .shut) h
-      (ap₂ (λ (y b : Bool). not y && not b) (ap (λ (y : ℕ). eqb (y % 2) 1) (v .unread)) (o ∙ ap (λ (y : Code). heldAllowed y (bit r)) e)));
-  unread = ap (λ (y : ℕ). y / 2) (v .unread) ∙ half marks i ∙ ap (λ (y : ℕ). marks / 2 ^ y) (sym (add-one i));
+  shut = rw d₃ (sought-turn (v .shut) h (ap₂ (λ (y b : Bool). not y && not b) b (o ∙ ap (λ (y : Code). heldAllowed y (bit r)) e)));
 }
 
 -- one that has no fault leaves what was found
 still : (found n i : ℕ) {b : Bool} → b ≡ false → found ≡ firstOf found n b i
 still found n i e = rw e
 
-pub passes : {set : List ℕ} {n marks r apart seen worst touched overlap closed rest i m : ℕ} {x : Code} {good ok : Bool}
-    → Searched set n marks r apart seen worst touched overlap closed rest i → i < n
+pub passes : {set : List ℕ} {n marks r apart seen worst touched overlap closed i m : ℕ} {x : Code} {good ok : Bool}
+    → Searched set n marks r apart seen worst touched overlap closed i → i < n
     → x ≡ codeAt set i → good ≡ isGood x → m ≡ heldMask x → ok ≡ heldAllowed x (bit r)
-    → good && not (not (eqb (bitAnd (bitAnd m partsMask) apart) 0)) && not (not (eqb (bitAnd m seen) 0)) && not (not (eqb (rest % 2) 1) && not ok) ≡ true
-    → Searched set n marks r apart (bitOr seen m) worst touched overlap closed (rest / 2) (i + 1)
-passes {apart = apart} {seen = seen} {worst} {touched} {overlap} {closed} {rest} {i} {m} {good = good} {ok} v h e g a o f =
-    let t = not (eqb (bitAnd (bitAnd m partsMask) apart) 0) in
-    let w = not (eqb (bitAnd m seen) 0) in
-    let u = not (eqb (rest % 2) 1) && not ok in
-    let (f₂, p₄) = both (good && not t && not w) (not u) f in
-    let (f₁, p₃) = both (good && not t) (not w) f₂ in
-    let (p₁, p₂) = both good (not t) f₁ in
-    searches v h e g a o (still worst _ i (ap not p₁)) (still touched _ i (not-true t p₂)) (still overlap _ i (not-true w p₃)) (still closed _ i (not-true u p₄))
+    → ok ≡ true → bitAnd m (bitOr seen (bitAnd apart partsMask)) ≡ 0
+    → Searched set n marks r apart (bitOr seen m) worst touched overlap closed (i + 1)
+passes {marks = marks} {r} {apart} {seen} {worst} {touched} {overlap} {closed} {i} {x = x} v h e g a o y z =
+    let (t, w) = clear-of x seen (bitAnd apart partsMask) a z in
+    searches v h e g a o refl (still worst _ i (ap not (g ∙ allowed-good x (bit r) (sym o ∙ y)))) (still touched _ i t) (still overlap _ i w)
+    (still closed _ i (ap (λ (b : Bool). not (bit marks i) && not b) y ∙ and-false (not (bit marks i))))
 
-pub search-ends : {set : List ℕ} {n marks r apart seen worst touched overlap closed rest i : ℕ}
-    → Searched set n marks r apart seen worst touched overlap closed rest i → n ≤ i
+pub search-ends : {set : List ℕ} {n marks r apart seen worst touched overlap closed i : ℕ}
+    → Searched set n marks r apart seen worst touched overlap closed i → n ≤ i
     → (worst ≡ least n (bad set)) × (touched ≡ least n (touches set apart)) × (overlap ≡ least n (overlapsEarlier set)) × (closed ≡ least n (stranded marks set r))
     × (not (eqb (bitAnd seen liftMask) 0) ≡ liftIn set n)
 search-ends {set} {n} {seen = seen} {i = i} v h =

@@ -28,7 +28,7 @@ use Rattle.rules.proofs.Reasons.{allows-is}
 use Rattle.answers.specs.declared.Answer.the-variants.{BadField, EventImpossible, OutOfTurn, SetApart, KeptOpen}
 use Rattle.answers.specs.Answers.{nowhere}
 use Rattle.engine.specs.declared.Judged.{Judged}
-use Rattle.engine.specs.Judged.{judge, unbroken, codeNext}
+use Rattle.engine.specs.Judged.{isRead, judge, unbroken, codeNext}
 use Rattle.engine.proofs.Ruling.{allowed-unbroken}
 use Rattle.station.specs.declared.Station.{Station}
 use Rattle.station.specs.declared.Outcome.{Outcome}
@@ -61,12 +61,6 @@ held-verdict x r e = ap isAllowed e ∙ read (readCode x)
 
 -- ---- one judgement
 
--- a verdict is of an instruction that was read
-abbrev pub isRead : Verdict → Bool
-isRead Verdict.Allowed = true
-isRead (Verdict.NotAllowed why) = true
-isRead Verdict.IllFormed = false
-
 conditions-read : (cs : List Clause) (f : Bits) → isRead (judged cs f) ≡ true
 conditions-read [] f = refl
 conditions-read ((t else why) ∷ cs) f = go (holds t f) (conditions-read cs f)
@@ -84,16 +78,23 @@ held-read x r = read (readCode x) refl
     read Bad d = refl
 
 -- what the engine says of five bytes
-pub one-judgement : (x : Code) (r : ℕ) {j : Judged} → j ≡ judge x r → (v : Verdict) → j .verdict ≡ v
-    → (isRead v ≡ isGood x) × (j .area ≡ heldMask x) × (isAllowed v ≡ heldAllowed x (bit r))
+pub one-judgement : (x : Code) (r : ℕ) {j : Judged} → j ≡ judge x r → (j .good ≡ isGood x) × (j .area ≡ heldMask x) × (j .allowed ≡ heldAllowed x (bit r))
 unfolding judge heldMask heldArea area packed
-one-judgement x r {j} e v d =
-    let u : v ≡ codeVerdict x r = sym d ∙ ap (λ (j : Judged). j .verdict) e in
-    (ap isRead u ∙ held-read x r, ap (λ (j : Judged). j .area) e ∙ read (readCode x), held-verdict x r u)
+one-judgement x r {j} e =
+    (ap (λ (j : Judged). j .good) e ∙ held-read x r, ap (λ (j : Judged). j .area) e ∙ read (readCode x), ap (λ (j : Judged). j .allowed) e ∙ held-verdict x r refl)
   where
     read : (g : Reading) → onCode (λ i. image (λ k. elem k (areaOf i))) 0 g ≡ image (λ k. elem k (onCode areaOf [] g))
     read (Good i) = refl
     read Bad = refl
+
+-- what is allowed is an instruction
+pub allowed-good : (x : Code) (f : Bits) → heldAllowed x f ≡ true → isGood x ≡ true
+unfolding heldAllowed isGood
+allowed-good x f h = read (readCode x) h
+  where
+    read : (g : Reading) → onCode (λ i. allowed i f) false g ≡ true → onCode (λ i. true) false g ≡ true
+    read (Good i) a = refl
+    read Bad a = a
 
 -- ---- moves
 

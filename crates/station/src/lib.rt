@@ -129,7 +129,7 @@ impl Station {
             return false;
         }
         let all = all_marks(n);
-        let found = sets::search(set, n, marks, self.bits, 0);
+        let found = sets::search(&set, n, marks, self.bits, 0);
         floor::sound(self.bits)
             & (found.bad == n)
             & (marks <= all)

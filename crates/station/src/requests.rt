@@ -72,7 +72,7 @@ impl Station {
         if count == 0 {
             return self.unmoved(Answer::EmptySet);
         }
-        let found = sets::search(set, count, 0, self.bits, self.apart);
+        let found = sets::search(&set, count, 0, self.bits, self.apart);
         if found.bad < count {
             return self.unmoved(Answer::BadField(found.bad));
         }

@@ -1,12 +1,9 @@
 // Results of the outstanding set's instructions.
 ghost use mathlib.Core.Path.{_≡_};
-ghost use mathlib.Core.Bool.{true};
 ghost use Prim.Native.Nat.{_≤_, _<_};
-ghost use Rattle.bits.specs.Bits.{bit};
-ghost use Rattle.station.specs.Held.{codeAt, heldAllowed};
-ghost use Rattle.station.specs.Station.{fit, inSet, behind, answering};
+ghost use Rattle.station.specs.Station.{inSet, behind, answering};
 ghost use Rattle.station.specs.Calls.{taken, ended, numbered, timely, resulted, result};
-ghost use Rattle.station.specs.Turns.{turnOf};
+ghost use Rattle.station.specs.Turns.{turnOf, unjudged, settled};
 use super::Outcome;
 use super::Report;
 use super::Station;
@@ -47,18 +44,15 @@ impl Station {
         }
     }
 
-    // The end of a result: 0 failed, 1 done, 2 stuck. A success on a fit station was allowed, and is not judged.
-    fn ended(self, i: u8, ending: u8, known: bool) -> Turn
+    // The end of a result: 0 failed, 1 done, 2 stuck. A success is not judged.
+    fn ended(self, i: u8, ending: u8) -> Turn
         requires { ⌜ (self .count ≤ 8) × (i < self .count) ⌝ }
-        ensures { λ t. ⌜ ((known ≡ true → heldAllowed (codeAt (self .set) i) (bit (self .bits)) ≡ true) → t ≡ turnOf (ended self i ending)) ⌝ }
+        ensures { λ t. ⌜ t ≡ unjudged self i ending (ended self i ending) ⌝ }
     {
         let set = self.set;
         let x = sets::code_at(&set, i);
         if ending == 1 {
-            if known {
-                return self.answering(i, held::done(x, self.bits), self.apart);
-            }
-            return self.answering(i, held::after(x, self.bits), self.apart);
+            return self.answering(i, engine::code_next(x, self.bits), self.apart);
         }
         if ending == 2 {
             return self.answering(i, self.bits, self.apart | held::parts(x));
@@ -74,8 +68,8 @@ impl Station {
     }
 
     // A result by its instruction's number.
-    fn numbered(self, i: u8, ending: u8, known: bool) -> Turn
-        ensures { λ t. ⌜ ((known ≡ true → fit self ≡ true) → t ≡ turnOf (numbered self i ending)) ⌝ }
+    fn numbered(self, i: u8, ending: u8) -> Turn
+        ensures { λ t. ⌜ t ≡ unjudged self i ending (numbered self i ending) ⌝ }
     {
         if !self.in_set(i) {
             return self.unmoved(Answer::NotInSet);
@@ -83,7 +77,7 @@ impl Station {
         if (self.answered >> i) % 2 == 1 {
             return self.unmoved(Answer::AlreadyAnswered);
         }
-        self.ended(i, ending, known)
+        self.ended(i, ending)
     }
 
     // How far an issue is behind the present set's, counted round the end.
@@ -94,19 +88,19 @@ impl Station {
     }
 
     // A result by the issue of its set.
-    fn timely(self, report: Report, known: bool) -> Turn
-        ensures { λ t. ⌜ ((known ≡ true → fit self ≡ true) → t ≡ turnOf (timely self report)) ⌝ }
+    fn timely(self, report: Report) -> Turn
+        ensures { λ t. ⌜ t ≡ unjudged self (report .number) (report .ending) (timely self report) ⌝ }
     {
         match self.behind(report.issue) {
-            0 => self.numbered(report.number, report.ending, known),
+            0 => self.numbered(report.number, report.ending),
             1..=32767 => self.unmoved(Answer::Late),
             _ => self.unmoved(Answer::NotIssued),
         }
     }
 
-    // A result past the test of fitness, which may be known to have been passed: then a success is not judged.
-    fn settled(self, report: Report, known: bool) -> Turn
-        ensures { λ t. ⌜ ((known ≡ true → fit self ≡ true) → t ≡ turnOf (resulted self report)) ⌝ }
+    // A result on a station that is known to be fit: what waits is allowed, and a success is not judged.
+    pub fn settled(self, report: Report) -> Turn
+        ensures { λ t. ⌜ t ≡ settled self report ⌝ }
     {
         if 2 < report.ending {
             return self.unmoved(Answer::BadField(NOWHERE));
@@ -114,14 +108,28 @@ impl Station {
         if self.count == 0 {
             return self.unmoved(Answer::NoSet);
         }
-        self.timely(report, known)
+        self.timely(report)
     }
 
-    // A result past the test of fitness.
+    // A result past the test of fitness, where nothing is known of the station: a success is judged.
     pub fn resulted(self, report: Report) -> Turn
         ensures { λ t. ⌜ t ≡ turnOf (resulted self report) ⌝ }
     {
-        self.settled(report, false)
+        let told = self.settled(report);
+        let answer = told.answer;
+        if (report.ending == 1) & (answer.number() == 0) {
+            let set = self.set;
+            let bits = held::after(sets::code_at(&set, report.number), self.bits);
+            return Turn {
+                answer,
+                bits,
+                count: told.count,
+                answered: told.answered,
+                next: told.next,
+                apart: told.apart,
+            };
+        }
+        told
     }
 
     // A result.
@@ -131,7 +139,7 @@ impl Station {
         if !self.fit() {
             return refused(self, Answer::Unfit);
         }
-        let t = self.settled(report, true);
+        let t = self.settled(report);
         let held = self.set;
         self.after(t, held)
     }

@@ -59,33 +59,36 @@ pub struct Faults {
     pub lift: bool,
 }
 
-pub fn search(set: [u8; 40], n: u8, marks: u8, r: u64, apart: u64) -> Faults
-    ensures { λ f. ⌜ (f .bad ≡ least n (bad set)) × (f .touching ≡ least n (touches set apart)) × (f .overlap ≡ least n (overlapsEarlier set)) × (f .barred ≡ least n (stranded marks set r)) × (f .lift ≡ liftIn set n) ⌝ }
+pub fn search(set: &[u8; 40], n: u8, marks: u8, r: u64, apart: u64) -> Faults
+    requires { ⌜ length (now set) ≡ 40 ⌝ }
+    ensures { λ f. ⌜ (f .bad ≡ least n (bad (now (set .entry)))) × (f .touching ≡ least n (touches (now (set .entry)) apart)) × (f .overlap ≡ least n (overlapsEarlier (now (set .entry)))) × (f .barred ≡ least n (stranded marks (now (set .entry)) r)) × (f .lift ≡ liftIn (now (set .entry)) n) ⌝ }
 {
     let mut seen: u64 = 0;
     let mut bad = n;
     let mut touching = n;
     let mut overlap = n;
     let mut barred = n;
-    let mut rest = marks;
+    let held = apart & PARTS;
     let mut i = 0;
     while i < n {
-        let x = held::judge(code_at(&set, i), r);
-        let touched = x.area & PARTS & apart != 0;
-        let met = x.area & seen != 0;
-        let shut = (rest % 2 != 1) & !x.allowed;
-        if x.good & !touched & !met & !shut {
-            seen = seen | x.area;
-            rest = rest / 2;
-            i += 1;
-            continue;
+        let x = engine::judge(code_at(set, i), r);
+        if x.allowed {
+            if x.area & (seen | held) == 0 {
+                seen = seen | x.area;
+                i += 1;
+                continue;
+            }
         }
         bad = first(bad, n, !x.good, i);
-        touching = first(touching, n, touched, i);
-        overlap = first(overlap, n, met, i);
-        barred = first(barred, n, shut, i);
+        touching = first(touching, n, x.area & held != 0, i);
+        overlap = first(overlap, n, x.area & seen != 0, i);
+        barred = first(
+            barred,
+            n,
+            !bits::bit(marks as u64, i as u64) & !x.allowed,
+            i,
+        );
         seen = seen | x.area;
-        rest = rest / 2;
         i += 1;
     }
     Faults {

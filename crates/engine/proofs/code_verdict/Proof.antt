@@ -1,5 +1,5 @@
 -- `engine::code_verdict` meets its contract, by what the bytes say. Assumes nothing.
-use Rattle.engine.proofs.Answers.{well, area-is, code-judged, bad-judged, verdict-in}
+use Rattle.engine.proofs.Answers.{well, area-is, code-told, bad-told}
 use borrow.Author.Needs.{needs}
 use Rattle.engine.proofs.code_verdict.Statement.{statement}
 use Rattle.engine.proofs.code_verdict.Tie as tie
@@ -17,10 +17,10 @@ enum-told : tie.Need-enum-told
 enum-told c = search needs
 
 returns : tie.Need-returns
-returns c = verdict-in (c .before .before .before .before .before .args .x) (c .before .before .before .before .before .args .r) _ (code-judged (c .before .before .before .before .before .args .x) (c .before .before .before .before .locate .result) (c .before .before .before .before .locate .ensures) (c .before .before .before .before .before .args .r) _ (c .before .before .y .given .1) _ (c .told .ensures))
+returns c = code-told (c .before .before .before .before .before .args .x) (c .before .before .before .before .locate .result) (c .before .before .before .before .locate .ensures) (c .before .before .before .before .before .args .r) _ (c .before .before .y .given .1) _ (c .told .ensures)
 
 returns-2 : tie.Need-returns-2
-returns-2 c = verdict-in (c .before .before .before .args .x) (c .before .before .before .args .r) _ (bad-judged (c .before .before .before .args .x) (c .before .before .locate .result) (c .before .before .locate .ensures) (c .before .before .before .args .r) (c .enum-told .given .1))
+returns-2 c = bad-told (c .before .before .before .args .x) (c .before .before .locate .result) (c .before .before .locate .ensures) (c .before .before .before .args .r) (c .enum-told .given .1)
 
 pub code-verdict-spec : {M : Type 1} → statement M
 code-verdict-spec =

@@ -115,7 +115,7 @@ slice-aggregate-m : tie.Need-slice-aggregate-m Inv-loop μ-loop
 slice-aggregate-m c = sym (length-take-le _ _ (rw (from-on (now (c .before .before .before .before .before .before .before .before .before .before .args .input)) (c .before .before .before .before .before .before .loop .at)) (whole (c .before .before) .within)))
 
 heard-requires : tie.Need-heard-requires Inv-loop μ-loop
-heard-requires c κs = search needs
+heard-requires c κs = λ e. sym (c .before .before .before .before .before .before .loop .inv .1) ∙ e
 
 kind-at-requires : tie.Need-kind-at-requires Inv-loop μ-loop
 kind-at-requires c κs = search needs
@@ -145,10 +145,9 @@ loop-less : tie.Need-loop-less Inv-loop μ-loop
 loop-less c = omega (arith, whole (c .before .before .before .before .before .before .before .before .before .before .before .before) .within, whole (c .before .before .before .before .before .before .before .before .before .before .before .before) .low, length-drop (c .before .before .before .before .before .before .before .before .before .before .before .before .before .before .before .before .loop .at) (now (c .before .before .before .before .before .before .before .before .before .before .before .before .before .before .before .before .before .before .before .before .args .input)))
 
 loop-again : tie.Need-loop-again Inv-loop μ-loop
-loop-again c = 
-    let r = reply-new (c .before .before .before .before .before .before .before .before .before .before .before .before .before .before .before .before .loop .s) (drop (c .before .before .before .before .before .before .before .before .before .before .before .before .before .before .before .before .loop .at) (now (c .before .before .before .before .before .before .before .before .before .before .before .before .before .before .before .before .before .before .before .before .args .input))) (c .before .before .before .before .before .before .before .before .before .before .before .before .before .before .before .before .loop .inv .1) (c .before .before .before .before .before .before .before .before .before .before .before .before .frame .given .0 .0) (seen (c .before .before .before .before .before .before .before .before .before .before .before .before .before .before) ∙ c .before .before .before .before .before .before .before .before .before .before .before .before .frame .given .1) (turned (c .before .before .before .before .before .before .before .before)) (kinded (c .before .before .before .before .before .before .before .before)) 
-    (c .left .ensures ∙ ap (λ (x : List ℕ). afterTurn (c .before .before .before .before .before .before .before .before .before .before .before .before .before .before .before .before .loop .s) (c .before .before .before .before .before .before .before .before .before .heard .result) (setOf (drop 5 (take (c .before .before .before .before .before .before .before .before .before .before .before .before .frame .given .0 .0) x))) .station) (from-on (now (c .before .before .before .before .before .before .before .before .before .before .before .before .before .before .before .before .before .before .before .before .args .input)) (c .before .before .before .before .before .before .before .before .before .before .before .before .before .before .before .before .loop .at))) in
-    (
+loop-again c =
+    let r = reply-new (c .before .before .before .before .before .before .before .before .before .before .before .before .before .before .before .before .loop .s) (drop (c .before .before .before .before .before .before .before .before .before .before .before .before .before .before .before .before .loop .at) (now (c .before .before .before .before .before .before .before .before .before .before .before .before .before .before .before .before .before .before .before .before .args .input))) (c .before .before .before .before .before .before .before .before .before .before .before .before .before .before .before .before .loop .inv .1) (c .before .before .before .before .before .before .before .before .before .before .before .before .frame .given .0 .0) (seen (c .before .before .before .before .before .before .before .before .before .before .before .before .before .before) ∙ c .before .before .before .before .before .before .before .before .before .before .before .before .frame .given .1) (turned (c .before .before .before .before .before .before .before .before)) (kinded (c .before .before .before .before .before .before .before .before))
+    (c .left .ensures ∙ ap (λ (x : List ℕ). afterTurn (c .before .before .before .before .before .before .before .before .before .before .before .before .before .before .before .before .loop .s) (c .before .before .before .before .before .before .before .before .before .heard .result) (setOf (drop 5 (take (c .before .before .before .before .before .before .before .before .before .before .before .before .frame .given .0 .0) x))) .station) (from-on (now (c .before .before .before .before .before .before .before .before .before .before .before .before .before .before .before .before .before .before .before .before .args .input)) (c .before .before .before .before .before .before .before .before .before .before .before .before .before .before .before .before .loop .at))) in (
       answered (c .before .before .before .before .before .before .before .before .before .before .before .before .before .before .before .before .loop .inv .0) (c .before .before .before .before .before .before .before .before .before .before .before .before .before .before .before .before .before .before .before .before .pre) (replySaid (c .before .before .before .before .before .before .before .before .kind-at .result) (c .before .before .before .before .before .before .before .before .before .heard .result)) (c .before .before .before .before .before .before .tell .ensures .0) (c .before .before .before .before .before .before .tell .ensures .1) (c .before .before .before .before .before .before .before .before .before .before .before .before .frame .given .0 .0) _ (seen (c .before .before .before .before .before .before .before .before .before .before .before .before .before .before) ∙ c .before .before .before .before .before .before .before .before .before .before .before .before .frame .given .1) r refl,
       c .before .before .before .before .before .before .before .before .before .before .before .before .before .before .before .before .loop .inv .1 ∙ sym (ap (λ (r : Reply). fit (r .station)) r ∙ respond-fit _ _),
     )
@@ -157,9 +156,8 @@ loop-less-2 : tie.Need-loop-less-2 Inv-loop μ-loop
 loop-less-2 c = omega (arith, whole (c .before .before .before .before .before .before .before .before .before .before .before) .within, whole (c .before .before .before .before .before .before .before .before .before .before .before) .low, length-drop (c .before .before .before .before .before .before .before .before .before .before .before .before .before .before .before .loop .at) (now (c .before .before .before .before .before .before .before .before .before .before .before .before .before .before .before .before .before .before .before .args .input)))
 
 loop-again-2 : tie.Need-loop-again-2 Inv-loop μ-loop
-loop-again-2 c = 
-    let r = reply-same (c .before .before .before .before .before .before .before .before .before .before .before .before .before .before .before .loop .s) (drop (c .before .before .before .before .before .before .before .before .before .before .before .before .before .before .before .loop .at) (now (c .before .before .before .before .before .before .before .before .before .before .before .before .before .before .before .before .before .before .before .args .input))) (c .before .before .before .before .before .before .before .before .before .before .before .before .before .before .before .loop .inv .1) (c .before .before .before .before .before .before .before .before .before .before .before .frame .given .0 .0) (seen (c .before .before .before .before .before .before .before .before .before .before .before .before .before) ∙ c .before .before .before .before .before .before .before .before .before .before .before .frame .given .1) (turned (c .before .before .before .before .before .before .before)) (kinded (c .before .before .before .before .before .before .before)) (c .if1 .left) in
-    (
+loop-again-2 c =
+    let r = reply-same (c .before .before .before .before .before .before .before .before .before .before .before .before .before .before .before .loop .s) (drop (c .before .before .before .before .before .before .before .before .before .before .before .before .before .before .before .loop .at) (now (c .before .before .before .before .before .before .before .before .before .before .before .before .before .before .before .before .before .before .before .args .input))) (c .before .before .before .before .before .before .before .before .before .before .before .before .before .before .before .loop .inv .1) (c .before .before .before .before .before .before .before .before .before .before .before .frame .given .0 .0) (seen (c .before .before .before .before .before .before .before .before .before .before .before .before .before) ∙ c .before .before .before .before .before .before .before .before .before .before .before .frame .given .1) (turned (c .before .before .before .before .before .before .before)) (kinded (c .before .before .before .before .before .before .before)) (c .if1 .left) in (
       answered (c .before .before .before .before .before .before .before .before .before .before .before .before .before .before .before .loop .inv .0) (c .before .before .before .before .before .before .before .before .before .before .before .before .before .before .before .before .before .before .before .pre) (replySaid (c .before .before .before .before .before .before .before .kind-at .result) (c .before .before .before .before .before .before .before .before .heard .result)) (c .before .before .before .before .before .tell .ensures .0) (c .before .before .before .before .before .tell .ensures .1) (c .before .before .before .before .before .before .before .before .before .before .before .frame .given .0 .0) _ (seen (c .before .before .before .before .before .before .before .before .before .before .before .before .before) ∙ c .before .before .before .before .before .before .before .before .before .before .before .frame .given .1) r refl,
       c .before .before .before .before .before .before .before .before .before .before .before .before .before .before .before .loop .inv .1 ∙ sym (ap (λ (r : Reply). fit (r .station)) r ∙ respond-fit _ _),
     )

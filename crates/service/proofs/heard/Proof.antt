@@ -1,8 +1,8 @@
--- `service::heard` meets its contract. Assumes nothing.
-use Rattle.service.proofs.Hearing.{said-refused, said-called}
+-- `service::heard` meets its contract, by the kind. Assumes nothing.
+use Rattle.service.proofs.Hearing.{no-result, said-refused, said-called}
 use Rattle.station.specs.Turns.{turnOf}
 use denote.Ref.{now}
-use mathlib.Core.Path.{ap, _∙_}
+use mathlib.Core.Path.{sym, ap, _∙_}
 use borrow.Author.Needs.{needs}
 use Rattle.service.proofs.heard.Statement.{statement}
 use Rattle.service.proofs.heard.Tie as tie
@@ -16,6 +16,12 @@ asked-requires c κs = search needs
 returns : tie.Need-returns
 returns c = search needs
 
+reported-requires : tie.Need-reported-requires
+reported-requires c κs = (c .before .before .before .before .pre, sym (c .before .before .kind-at .ensures) ∙ c .if2 .taken)
+
+returns-2 : tie.Need-returns-2
+returns-2 c = c .reported .ensures
+
 saying-requires : tie.Need-saying-requires
 saying-requires c κs = search needs
 
@@ -25,14 +31,14 @@ number-requires c κs = search needs
 unmoved-requires : tie.Need-unmoved-requires
 unmoved-requires c κs = search needs
 
-returns-2 : tie.Need-returns-2
-returns-2 c = c .unmoved .ensures ∙ ap turnOf (said-refused (c .before .before .before .before .before .before .before .args .known) (c .before .before .before .before .before .before .before .args .s) (now (c .before .before .before .before .before .before .before .args .m)) (rw (c .before .before .before .before .before .kind-at .ensures) at (c .before .before .before .before .if1 .left)) (c .before .before .before .saying .ensures) (rw (c .before .before .number .ensures) at (c .before .if2 .taken)))
+returns-3 : tie.Need-returns-3
+returns-3 c = let a = c .before .before .before .before .before .before .before .before .args in c .unmoved .ensures ∙ ap turnOf (said-refused (a .known) (a .s) (now (a .m)) (rw (c .before .before .before .before .before .before .kind-at .ensures) at (c .before .before .before .before .before .if1 .left)) (c .before .before .before .saying .ensures) (rw (c .before .before .number .ensures) at (c .before .if3 .taken)))
 
 turn-requires : tie.Need-turn-requires
-turn-requires c κs = search needs
+turn-requires c κs = no-result (now (c .before .before .before .before .before .before .before .args .m)) (rw (c .before .before .before .before .before .kind-at .ensures) at (c .before .before .before .if2 .left)) (c .before .before .saying .ensures)
 
-returns-3 : tie.Need-returns-3
-returns-3 c = c .turn .ensures ∙ ap turnOf (said-called (c .before .before .before .before .before .before .before .args .known) (c .before .before .before .before .before .before .before .args .s) (now (c .before .before .before .before .before .before .before .args .m)) (rw (c .before .before .before .before .before .kind-at .ensures) at (c .before .before .before .before .if1 .left)) (c .before .before .before .saying .ensures) (rw (c .before .before .number .ensures) at (c .before .if2 .left)))
+returns-4 : tie.Need-returns-4
+returns-4 c = let a = c .before .before .before .before .before .before .before .before .args in c .turn .ensures ∙ ap turnOf (said-called (a .known) (a .s) (now (a .m)) (rw (c .before .before .before .before .before .before .kind-at .ensures) at (c .before .before .before .before .before .if1 .left)) (c .before .before .before .saying .ensures) (rw (c .before .before .number .ensures) at (c .before .if3 .left)))
 
 pub heard-spec : {M : Type 1} → statement M
 heard-spec =
@@ -41,9 +47,11 @@ heard-spec =
     kind-at-requires
     asked-requires
     returns
+    reported-requires
+    returns-2
     saying-requires
     number-requires
     unmoved-requires
-    returns-2
+    returns-3
     turn-requires
-    returns-3)
+    returns-4)

@@ -1,8 +1,11 @@
 -- `service::turn` meets its contract: by whether the station is known to be fit, and by what the message says. Assumes nothing.
-use mathlib.Core.Path.{ap, _∙_}
+use mathlib.Core.Bool.{true}
+use mathlib.Core.Path.{refl, sym, ap, _∙_}
 use lib.ListN.{replicate}
-use Rattle.station.specs.Calls.{taken, requested, evented, resulted, imaged}
+use Rattle.station.specs.Calls.{taken, requested, evented, imaged}
 use Rattle.station.specs.Turns.{turnOf}
+use Rattle.bits.proofs.Cases.{clash}
+use Rattle.service.specs.Private.{isResult}
 use Rattle.service.proofs.Called.{unfit-called, past-test}
 use Rattle.service.proofs.Hearing.{none-beside, none-asked}
 use borrow.Author.Needs.{needs}
@@ -36,23 +39,17 @@ enum-known-what c = search needs
 evented-requires : tie.Need-evented-requires
 evented-requires c κs = search needs
 
-enum-known-what-2 : tie.Need-enum-known-what-2
-enum-known-what-2 c = search needs
-
-resulted-requires : tie.Need-resulted-requires
-resulted-requires c κs = search needs
-
-enum-known-what-3 : tie.Need-enum-known-what-3
-enum-known-what-3 c = search needs
-
-imaged-requires : tie.Need-imaged-requires
-imaged-requires c κs = search needs
-
 enum-told-2 : tie.Need-enum-told-2
 enum-told-2 c = search needs
 
 unmoved-requires-4 : tie.Need-unmoved-requires-4
 unmoved-requires-4 c κs = search needs
+
+enum-known-what-2 : tie.Need-enum-known-what-2
+enum-known-what-2 c = search needs
+
+imaged-requires : tie.Need-imaged-requires
+imaged-requires c κs = search needs
 
 enum-told-3 : tie.Need-enum-told-3
 enum-told-3 c = search needs
@@ -66,6 +63,12 @@ enum-told-4 c = search needs
 unmoved-requires-6 : tie.Need-unmoved-requires-6
 unmoved-requires-6 c κs = search needs
 
+enum-told-5 : tie.Need-enum-told-5
+enum-told-5 c = search needs
+
+unmoved-requires-7 : tie.Need-unmoved-requires-7
+unmoved-requires-7 c κs = search needs
+
 returns-3 : tie.Need-returns-3
 returns-3 c = let a = c .before .before .before .before .before .before .before .args in past-test (a .known) (a .s) (requested (a .s) 0 (replicate 40 0)) (c .before .before .before .before .before .before .makes-call .ensures ∙ rw (c .before .before .before .enum-told .given .1)) (c .before .before .before .before .before .if1 .left) (c .unmoved3 .ensures ∙ ap turnOf (none-asked (a .s) (c .before .if2 .left))) ∙ rw (c .before .before .before .enum-told .given .1)
 
@@ -73,19 +76,19 @@ returns-4 : tie.Need-returns-4
 returns-4 c = let a = c .before .before .before .before .before .before .args in past-test (a .known) (a .s) (evented (a .s) _) (c .before .before .before .before .before .makes-call .ensures ∙ rw (c .before .before .what .given .1)) (c .before .before .before .before .if1 .left) (c .evented .ensures) ∙ rw (c .before .before .what .given .1)
 
 returns-5 : tie.Need-returns-5
-returns-5 c = let a = c .before .before .before .before .before .before .args in past-test (a .known) (a .s) (resulted (a .s) _) (c .before .before .before .before .before .makes-call .ensures ∙ rw (c .before .before .what2 .given .1)) (c .before .before .before .before .if1 .left) (c .resulted .ensures) ∙ rw (c .before .before .what2 .given .1)
+returns-5 c = clash {b = true} refl (ap isResult (sym (c .before .enum-told2 .given .1)) ∙ c .before .before .before .before .before .pre)
 
 returns-6 : tie.Need-returns-6
-returns-6 c = let a = c .before .before .before .before .before .before .args in past-test (a .known) (a .s) (imaged (a .s) _) (c .before .before .before .before .before .makes-call .ensures ∙ rw (c .before .before .what3 .given .1)) (c .before .before .before .before .if1 .left) (c .imaged .ensures) ∙ rw (c .before .before .what3 .given .1)
+returns-6 c = let a = c .before .before .before .before .before .before .args in past-test (a .known) (a .s) (imaged (a .s) _) (c .before .before .before .before .before .makes-call .ensures ∙ rw (c .before .before .what2 .given .1)) (c .before .before .before .before .if1 .left) (c .imaged .ensures) ∙ rw (c .before .before .what2 .given .1)
 
 returns-7 : tie.Need-returns-7
-returns-7 c = let a = c .before .before .before .before .before .args in past-test (a .known) (a .s) (taken (a .s)) (c .before .before .before .before .makes-call .ensures ∙ rw (c .before .enum-told2 .given .1)) (c .before .before .before .if1 .left) (c .unmoved4 .ensures) ∙ rw (c .before .enum-told2 .given .1)
+returns-7 c = let a = c .before .before .before .before .before .args in past-test (a .known) (a .s) (taken (a .s)) (c .before .before .before .before .makes-call .ensures ∙ rw (c .before .enum-told3 .given .1)) (c .before .before .before .if1 .left) (c .unmoved5 .ensures) ∙ rw (c .before .enum-told3 .given .1)
 
 returns-8 : tie.Need-returns-8
-returns-8 c = c .unmoved5 .ensures ∙ rw (c .before .enum-told3 .given .1)
+returns-8 c = c .unmoved6 .ensures ∙ rw (c .before .enum-told4 .given .1)
 
 returns-9 : tie.Need-returns-9
-returns-9 c = c .unmoved6 .ensures ∙ rw (c .before .enum-told4 .given .1)
+returns-9 c = c .unmoved7 .ensures ∙ rw (c .before .enum-told5 .given .1)
 
 pub turn-spec : {M : Type 1} → statement M
 turn-spec =
@@ -100,16 +103,16 @@ turn-spec =
     unmoved-requires-3
     enum-known-what
     evented-requires
-    enum-known-what-2
-    resulted-requires
-    enum-known-what-3
-    imaged-requires
     enum-told-2
     unmoved-requires-4
+    enum-known-what-2
+    imaged-requires
     enum-told-3
     unmoved-requires-5
     enum-told-4
     unmoved-requires-6
+    enum-told-5
+    unmoved-requires-7
     returns-3
     returns-4
     returns-5

@@ -1,27 +1,24 @@
--- `engine::judging::within` meets its contract: both shifts are small. Assumes nothing.
-use lib.Bits.{bitAnd}
-use mathlib.Core.Path.{ap}
+-- `engine::judging::within` meets its contract, by the direction. Assumes nothing.
 use native.Mathlib.Omega.{arith}
-use Prim.Native.Nat.{_-_}
-use Rattle.engine.proofs.Masking.{shift-small}
+use lib.Bits.{bitAnd}
+use mathlib.Core.Path.{ap, ap₂, _∙_}
+use Rattle.rows.specs.Private.{shifted}
+use Rattle.engine.proofs.Masking.{lower-shifts, higher-shifts}
 use borrow.Author.Needs.{needs}
 use Rattle.engine.proofs.judging.within.Statement.{statement}
 use Rattle.engine.proofs.judging.within.Tie as tie
 
-sub-shifted : tie.Need-sub-shifted
-sub-shifted c = search needs
-
-mul-shifted : tie.Need-mul-shifted
-mul-shifted c = let h = shift-small (1 - c .args .toward) (c .args .n) (omega arith) (c .pre .1) in omega (arith, h)
-
-mul-shifted-2 : tie.Need-mul-shifted-2
-mul-shifted-2 c = let h = shift-small (c .args .toward) (c .args .n) (c .pre .0) (c .pre .1) in omega (arith, h)
-
 shifted-requires : tie.Need-shifted-requires
-shifted-requires c κs = (shift-small (1 - c .args .toward) (c .args .n) (omega arith) (c .pre .1), shift-small (c .args .toward) (c .args .n) (c .pre .0) (c .pre .1))
+shifted-requires c κs = search needs
 
 returns : tie.Need-returns
-returns c = ap (bitAnd (c .before .args .span)) (c .shifted .ensures)
+returns c = let a = c .before .before .args in let h = lower-shifts (a .toward) (a .n) (c .before .if1 .taken) in ap (bitAnd (a .span)) (c .shifted .ensures ∙ ap₂ (shifted (a .span)) (h .1) (h .0))
+
+shifted-requires-2 : tie.Need-shifted-requires-2
+shifted-requires-2 c κs = search needs
+
+returns-2 : tie.Need-returns-2
+returns-2 c = let a = c .before .before .args in let h = higher-shifts (a .toward) (a .n) (omega arith) in ap (bitAnd (a .span)) (c .shifted2 .ensures ∙ ap₂ (shifted (a .span)) (h .1) (h .0))
 
 pub within-spec : {M : Type 1} → statement M
-within-spec = tie.close (tie.spec sub-shifted mul-shifted mul-shifted-2 shifted-requires returns)
+within-spec = tie.close (tie.spec shifted-requires returns shifted-requires-2 returns-2)

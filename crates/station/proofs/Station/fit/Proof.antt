@@ -24,7 +24,7 @@ under-way-requires : tie.Need-under-way-requires
 under-way-requires c κs = search needs
 
 returns-2 : tie.Need-returns-2
-returns-2 c = fit-is _ (c .before .before .before .before .before .before .before .before .before .before .if1 .left) (omega arith) (c .before .before .before .before .before .before .before .sound .ensures) (c .before .before .before .before .before .before .before .before .before .all-marks .ensures) (c .before .before .before .before .before .rest-zero .ensures) (c .before .before .before .before .under-way .ensures) (c .before .before .before .before .before .before .before .before .search .ensures)
+returns-2 c = fit-is _ (c .before .before .before .before .before .before .before .before .before .before .before .if1 .left) (omega arith) (c .before .before .before .before .before .before .before .sound .ensures) (c .before .before .before .before .before .before .before .before .before .before .all-marks .ensures) (c .before .before .before .before .before .rest-zero .ensures) (c .before .before .before .before .under-way .ensures) (c .before .before .before .before .before .before .before .before .search .ensures)
 
 pub fit-spec : {M : Type 1} → statement M
 fit-spec =

@@ -36,14 +36,14 @@ unmoved-requires-4 c κs = search needs
 
 returns-4 : tie.Need-returns-4
 unfolding requested
-returns-4 c = c .unmoved4 .ensures ∙ rw (le-ltb _ _ (c .before .before .before .before .before .before .if1 .left), le-ltb _ _ (c .before .before .before .before .before .if2 .left), ne-eqb _ _ (c .before .before .before .before .if3 .left), ← c .before .before .before .search .ensures .0, lt-ltb _ _ (c .before .if4 .taken))
+returns-4 c = c .unmoved4 .ensures ∙ rw (le-ltb _ _ (c .before .before .before .before .before .before .before .if1 .left), le-ltb _ _ (c .before .before .before .before .before .before .if2 .left), ne-eqb _ _ (c .before .before .before .before .before .if3 .left), ← c .before .before .before .search .ensures .0, lt-ltb _ _ (c .before .if4 .taken))
 
 cleared-requires : tie.Need-cleared-requires
 cleared-requires c κs = let e = c .before .before .search .ensures in (e .1, e .2, e .3 ∙ none-marked _ _ _, e .4)
 
 returns-5 : tie.Need-returns-5
 unfolding requested
-returns-5 c = c .cleared .ensures ∙ rw (le-ltb _ _ (c .before .before .before .before .before .before .if1 .left), le-ltb _ _ (c .before .before .before .before .before .if2 .left), ne-eqb _ _ (c .before .before .before .before .if3 .left), ← c .before .before .before .search .ensures .0, le-ltb _ _ (c .before .if4 .left))
+returns-5 c = c .cleared .ensures ∙ rw (le-ltb _ _ (c .before .before .before .before .before .before .before .if1 .left), le-ltb _ _ (c .before .before .before .before .before .before .if2 .left), ne-eqb _ _ (c .before .before .before .before .before .if3 .left), ← c .before .before .before .search .ensures .0, le-ltb _ _ (c .before .if4 .left))
 
 pub requested-spec : {M : Type 1} → statement M
 requested-spec =
