@@ -59,11 +59,36 @@ fn where_line(card: u32, w: Whereabouts) -> Line
     ensures { λ l. ⌜ l ≡ whereLine card w ⌝ }
 {
     match w {
-        Whereabouts::At(k) => Line { card, place: k, flag: 0, next: 0 },
-        Whereabouts::LastKnown(k) => Line { card, place: k, flag: 1, next: 0 },
-        Whereabouts::Moving { from, to } => Line { card, place: from, flag: 2, next: place_told(to) },
-        Whereabouts::NotHere => Line { card, place: NOWHERE, flag: 0, next: 0 },
-        Whereabouts::Unfit => Line { card, place: NOWHERE, flag: 0, next: 0 },
+        Whereabouts::At(k) => Line {
+            card,
+            place: k,
+            flag: 0,
+            next: 0,
+        },
+        Whereabouts::LastKnown(k) => Line {
+            card,
+            place: k,
+            flag: 1,
+            next: 0,
+        },
+        Whereabouts::Moving { from, to } => Line {
+            card,
+            place: from,
+            flag: 2,
+            next: place_told(to),
+        },
+        Whereabouts::NotHere => Line {
+            card,
+            place: NOWHERE,
+            flag: 0,
+            next: 0,
+        },
+        Whereabouts::Unfit => Line {
+            card,
+            place: NOWHERE,
+            flag: 0,
+            next: 0,
+        },
     }
 }
 
@@ -72,7 +97,16 @@ fn line_bytes(l: Line) -> [u8; 8]
     ensures { λ b. ⌜ b ≡ lineBytes l ⌝ }
 {
     let four = codec::four_bytes(l.card);
-    [four[0], four[1], four[2], four[3], l.place, l.flag, l.next, 0]
+    [
+        four[0],
+        four[1],
+        four[2],
+        four[3],
+        l.place,
+        l.flag,
+        l.next,
+        0,
+    ]
 }
 
 // No line.

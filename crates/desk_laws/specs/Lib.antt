@@ -4,3 +4,4 @@ pub mod Promises
 pub mod Following
 pub mod Amid
 pub mod Motion
+pub mod Facts
