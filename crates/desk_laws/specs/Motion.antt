@@ -75,6 +75,7 @@ MovingHappens =
 abbrev pub besideSeven : List DeskCall
 besideSeven = desk.event 1 7 ∷ desk.event 3 0 ∷ desk.request 1 ((1 ∷ 3 ∷ 2 ∷ 0 ∷ 1 ∷ []) ++ replicate 35 0) ∷ []
 
+-- such desks there are: a car beside which belts are asked to move is told for sure
 abbrev pub SureHappens : Type 0
 SureHappens =
     (whereabouts (callsDesk startDesk besideSeven) 7 ≡ At 52)
