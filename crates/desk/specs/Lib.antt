@@ -1,3 +1,4 @@
 pub mod Desk
 pub mod Calls
 pub mod Questions
+pub mod Lines

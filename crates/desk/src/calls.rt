@@ -55,7 +55,7 @@ fn is_taken(answer: Answer) -> bool
 }
 
 // What instruction i of a set says; past the eighth there is none.
-fn read_at(set: [u8; 40], i: u8) -> Reading
+pub fn read_at(set: [u8; 40], i: u8) -> Reading
     ensures { λ y. ⌜ y ≡ readCode (codeAt set i) ⌝ }
 {
     if Station::MOST <= i {
@@ -90,7 +90,7 @@ impl Desk {
     }
 
     // The numbers after a success of instruction i of the set, on the present record.
-    fn done(self, i: u8) -> [u32; 42]
+    pub fn done(self, i: u8) -> [u32; 42]
         ensures { λ a. ⌜ a ≡ codeCards (codeAt (self .station .set) i) (self .station .bits) (self .numbers) ⌝ }
     {
         let station = self.station;

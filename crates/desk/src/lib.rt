@@ -34,10 +34,12 @@ pub struct DeskOutcome {
     pub reply: Reply,
 }
 
-// Where a card's car is: at a place, at its last known place, or not here; nothing is told of a desk that isn't fit.
+// Where a card's car is: at a place, at its last known place, in motion from one place to another, or not here; nothing is told of a desk
+// that isn't fit.
 pub enum Whereabouts {
     At(u8),
     LastKnown(u8),
+    Moving { from: u8, to: u8 },
     NotHere,
     Unfit,
 }
@@ -47,6 +49,34 @@ pub enum Leaving {
     Card(u32),
     Nobody,
     Unfit,
+}
+
+// What is told of a card: its place, a flag, and the place that it would get.
+pub struct Line {
+    pub card: u32,
+    pub place: u8,
+    pub flag: u8,
+    pub next: u8,
+}
+
+// Lines, eight bytes each, and zeros behind them.
+pub struct Lines {
+    pub count: u8,
+    pub bytes: [u8; 496],
+}
+
+// What is outstanding: the issue of the present set, how many instructions it has, a mark for each that is answered, and the set.
+pub struct OpenSet {
+    pub issue: u16,
+    pub count: u8,
+    pub answered: u8,
+    pub set: [u8; 40],
+}
+
+// What an image would be answered, and what it would change.
+pub struct Comparison {
+    pub reply: Reply,
+    pub lines: Lines,
 }
 
 impl Reply {

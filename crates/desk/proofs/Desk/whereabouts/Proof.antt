@@ -1,8 +1,7 @@
 -- `desk::Desk::whereabouts` meets its contract. Assumes nothing.
-use mathlib.Core.Path.{ap, _∙_}
+use mathlib.Core.Path.{_∙_}
 use borrow.Author.Needs.{needs}
 use Rattle.bits.proofs.Cases.{failed, passed}
-use Rattle.desk.specs.Questions.{placeKnown}
 use Rattle.desk.proofs.Asking.{where-unfit, where-fit}
 use Rattle.desk.proofs.Desk.whereabouts.Statement.{statement}
 use Rattle.desk.proofs.Desk.whereabouts.Tie as tie
@@ -21,10 +20,8 @@ placed-requires c κs = search needs
 
 returns-2 : tie.Need-returns-2
 returns-2 c =
-    let a = c .before .before .before .before .before .before .args in
     c .placed .ensures
-    ∙ ap (placeKnown (a .self .station .apart)) (c .before .where-is .ensures)
-    ∙ where-fit (a .self) (a .card) (passed (c .before .before .before .before .before .fit .ensures) (c .before .before .before .before .if1 .left))
+    ∙ where-fit _ _ (c .before .where-is .ensures) (passed (c .before .before .before .before .fit .ensures) (c .before .before .before .if1 .left))
 
 pub whereabouts-spec : {M : Type 1} → statement M
 whereabouts-spec =
