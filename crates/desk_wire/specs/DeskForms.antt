@@ -14,7 +14,7 @@ use Rattle.wire.specs.Writes.{Writing, writingMessage, oneForm}
 use Rattle.wire_laws.specs.Statements.{MessageTyped}
 use Rattle.desk_wire.specs.Shapes.{Shape, InWidths, TailInWidths}
 use Rattle.desk_wire.specs.DeskKinds.{shapesKnown}
-use Rattle.desk_wire.specs.DeskReads.{DeskMessage, ofStation, shaped, deskMessageRefused, deskMessageTaken, frameUpTo, mostAskedLength, asReceived, readUpTo, readDesk, readDeskAsked}
+use Rattle.desk_wire.specs.DeskReads.{DeskMessage, ofStation, shaped, deskMessageRefused, deskMessageTaken, frameUpTo, mostLength, asReceived, readUpTo, readDesk, readDeskAsked}
 use Rattle.desk_wire.specs.DeskWrites.{writingWith, writingDesk, deskOneForm}
 
 -- ---- of any messages: how they are written, how they are read, and what is read where one is taken
@@ -74,13 +74,13 @@ DeskMessagesOneForm = OneFormBy writingDesk readDesk deskMessageTaken deskOneFor
 abbrev pub StationKindsSame : Type 0
 StationKindsSame = (s : List ℕ) → lengthAt s ≤ 43 → kindAt s ≤ 5 → readDeskAsked s ≡ asReceived (readAsked s)
 
--- on kinds up to 12 it says what the library's says
+-- on kinds up to 9 it says what the library's says
 abbrev pub DeskAskedAlike : Type 0
-DeskAskedAlike = (s : List ℕ) → lengthAt s ≤ mostAskedLength → kindAt s ≤ 12 → readDeskAsked s ≡ readDesk s
+DeskAskedAlike = (s : List ℕ) → kindAt s ≤ 9 → readDeskAsked s ≡ readDesk s
 
--- any kind above 12 is unknown to it, whatever its length
+-- any kind above 9 is unknown to it, whatever its length
 abbrev pub DeskAskedUnknown : Type 0
-DeskAskedUnknown = (s : List ℕ) (n : ℕ) → frameUpTo mostAskedLength s ≡ Whole n → 12 < kindAt s → readDeskAsked s ≡ deskMessageRefused UnknownKind n
+DeskAskedUnknown = (s : List ℕ) (n : ℕ) → frameUpTo mostLength s ≡ Whole n → 9 < kindAt s → readDeskAsked s ≡ deskMessageRefused UnknownKind n
 
 -- ---- that there are such messages
 

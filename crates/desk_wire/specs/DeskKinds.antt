@@ -5,14 +5,8 @@ use mathlib.Core.List.{List, [], _∷_, _++_}
 use Prim.Native.Nat.{ℕ}
 use lib.Dec.{eqb, leb}
 use lib.ListN.{length, getD}
-use Rattle.rules.specs.Codes.{mostInSet}
 use Rattle.answers.specs.Answers.{inTable, nowhere}
 use Rattle.desk_wire.specs.Shapes.{Shape}
-
--- every one of them passes
-abbrev pub everyEntry : (List ℕ → Bool) → List (List ℕ) → Bool
-everyEntry p [] = true
-everyEntry p (x ∷ xs) = p x && everyEntry p xs
 
 -- ---- what is asked
 
@@ -35,18 +29,6 @@ whereKind = record { number = 8; fields = 4 ∷ []; each = []; ranged = λ ns xs
 -- 9: which card is leaving
 abbrev pub leavingKind : Shape
 leavingKind = record { number = 9; fields = []; each = []; ranged = λ ns xs. true }
-
--- 10: every car with its card, place and flag
-abbrev pub listKind : Shape
-listKind = record { number = 10; fields = []; each = []; ranged = λ ns xs. true }
-
--- 11: what is outstanding
-abbrev pub outstandingKind : Shape
-outstandingKind = record { number = 11; fields = []; each = []; ranged = λ ns xs. true }
-
--- 12: what an image with these cards, or none, would change
-abbrev pub compareKind : Shape
-compareKind = record { number = 12; fields = 8 ∷ 8 ∷ []; each = 4 ∷ []; ranged = λ ns xs. leb (length xs) mostCards }
 
 -- ---- what is answered
 
@@ -72,34 +54,15 @@ placeKind = record { number = 136; fields = 1 ∷ 1 ∷ 1 ∷ []; each = []; ran
 abbrev pub cardKind : Shape
 cardKind = record { number = 137; fields = 4 ∷ []; each = []; ranged = λ ns xs. true }
 
--- a line in eight bytes: a card, its place, a flag, the place that it gets, and a zero
-abbrev pub lineWidths : List ℕ
-lineWidths = 4 ∷ 1 ∷ 1 ∷ 1 ∷ 1 ∷ []
-
-abbrev pub lineRanged : List ℕ → Bool
-lineRanged x = leb (getD x 2 0) 2 && eqb (getD x 4 0) 0
-
--- 138: every car, a line each
-abbrev pub listedKind : Shape
-listedKind = record { number = 138; fields = []; each = lineWidths; ranged = λ ns xs. leb (length xs) mostCards && everyEntry lineRanged xs }
-
--- 139: the issue of the present set, a mark for each instruction that is answered, and its instructions, five bytes each
-abbrev pub openKind : Shape
-openKind = record { number = 139; fields = 2 ∷ 1 ∷ []; each = 1 ∷ 1 ∷ 1 ∷ 1 ∷ 1 ∷ []; ranged = λ ns xs. leb (length xs) mostInSet }
-
--- 140: the cards that would leave, change places or appear, a line each
-abbrev pub comparedKind : Shape
-comparedKind = record { number = 140; fields = []; each = lineWidths; ranged = λ ns xs. leb (length xs) 62 && everyEntry lineRanged xs }
-
 -- ---- all of them
 
 -- those that a desk reads besides the station's
 abbrev pub shapesAsked : List Shape
-shapesAsked = beginKind ∷ cardsKind ∷ whereKind ∷ leavingKind ∷ listKind ∷ outstandingKind ∷ compareKind ∷ []
+shapesAsked = beginKind ∷ cardsKind ∷ whereKind ∷ leavingKind ∷ []
 
 -- those that it answers with
 abbrev pub shapesAnswered : List Shape
-shapesAnswered = toldKind ∷ placeKind ∷ cardKind ∷ listedKind ∷ openKind ∷ comparedKind ∷ []
+shapesAnswered = toldKind ∷ placeKind ∷ cardKind ∷ []
 
 -- those that the library reads besides the station's
 abbrev pub shapesKnown : List Shape

@@ -43,13 +43,9 @@ frameUpTo most s =
     (cond (ltb most (lengthAt s)) Wrong
     (cond (ltb (length s) (lengthAt s + 2)) Cut (Whole (lengthAt s + 2)))))
 
--- the greatest length that a message to a desk gives itself: an image with 31 cards
-abbrev pub mostAskedLength : ℕ
-mostAskedLength = 143
-
--- and that any message does: an answer of 62 lines
+-- the greatest length that a message gives itself: an image with 31 cards
 abbrev pub mostLength : ℕ
-mostLength = 499
+mostLength = 143
 
 -- what the station's reader says, as a desk's
 abbrev pub asReceived : Received → DeskReceived
@@ -86,4 +82,4 @@ readDesk s = readUpTo mostLength kindsKnown shapesKnown s
 
 -- the desk's reader
 unfoldable pub readDeskAsked : List ℕ → DeskReceived
-readDeskAsked s = readUpTo mostAskedLength kindsAsked shapesAsked s
+readDeskAsked s = readUpTo mostLength kindsAsked shapesAsked s
