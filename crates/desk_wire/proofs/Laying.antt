@@ -80,7 +80,7 @@ form-laid (w ∷ ws) s b h =
     ap₂ (λ (a c : List ℕ). a ++ c) (number-form w s b (omega arith)) (form-laid ws (drop w s) (bytes-drop w s b) (omega arith))
     ∙ sym (take-add w (widthsSum ws) s)
 
-each-many : (ws : List ℕ) (n : ℕ) (s : List ℕ) → length (readEach ws n s) ≡ n
+pub each-many : (ws : List ℕ) (n : ℕ) (s : List ℕ) → length (readEach ws n s) ≡ n
 each-many ws zero s = refl
 each-many ws (suc n) s = ap suc (each-many ws n (drop (widthsSum ws) s))
 
