@@ -1,16 +1,13 @@
--- For every choice of which stuck instructions did in fact finish: the numbers are those of the cars of the record with those applied, they
--- are the same numbers, and where no part under a car is set apart its number stands at its place. Assumes nothing.
+-- For every choice of which stuck instructions did in fact finish: the numbers are those of the cars of the record with those applied, and
+-- they are the same numbers. Assumes nothing.
 use mathlib.Core.Path.{_≡_, refl, sym, ap, subst, _∙_}
-use mathlib.Core.Bool.{Bool, true, false, _&&_}
+use mathlib.Core.Bool.{Bool, true}
 use mathlib.Core.List.{List, [], _∷_}
-use Prim.Native.Nat.{ℕ, suc, _<_}
+use Prim.Native.Nat.{ℕ}
 use native.Mathlib.Omega.{arith}
-use lib.Dec.{eqb, ltb}
-use lib.ListN.{length, getD}
-use borrow.Author.Tests.{eqb-true, eqb-false, ltb-true, ltb-false}
+use lib.ListN.{length}
 use Rattle.bits.specs.Bits.{bit, digit, image}
-use Rattle.bits.specs.Places.{elem}
-use Rattle.bits.proofs.Cases.{split, clash, off, neither, and-intro, alike}
+use Rattle.bits.proofs.Cases.{and-intro, alike}
 use Rattle.bits.proofs.Digits.{digit-one}
 use Rattle.floor.proofs.Promises.{sound-exactly}
 use Rattle.rules.specs.declared.Code.{Code}
@@ -20,30 +17,21 @@ use Rattle.any_order.proofs.Jams as machine-jams
 use Rattle.any_order.proofs.Jams.{Whichever}
 use Rattle.any_order.proofs.Stuck.{good-whichever}
 use Rattle.station.specs.declared.Station.{Station}
-use Rattle.station.specs.Held.{heldArea, heldNext}
+use Rattle.station.specs.Held.{heldNext}
 use Rattle.station_laws.specs.Jams.{jamAt, Picks, applied}
-use Rattle.station_laws.proofs.Reach.{in-area}
 use Rattle.station_laws.proofs.Instance.{allowed-has}
-use Rattle.station_laws.proofs.Apart.{awayOf}
-use Rattle.station_laws.proofs.Reasons.{least-fault}
 use Rattle.station_laws.proofs.Link.{view, jamsOf, Sane, fit-sane}
 use Rattle.station_laws.proofs.Jammed.{sane-calls, picks-same}
-use Rattle.cards.specs.Following.{noSource}
-use Rattle.cards.specs.Held.{placeOfElement, numbersIn, codeCards, cardsFit, isKnown, elementOf, whereIs}
-use Rattle.cards_laws.proofs.Elements.{element-number}
+use Rattle.cards.specs.Held.{codeCards, cardsFit, isKnown}
 use Rattle.cards_laws.proofs.Tested.{known-exactly}
 use Rattle.cards_laws.proofs.Arrays.{fit-cards}
 use Rattle.desk.specs.declared.Desk.{Desk}
-use Rattle.desk.specs.declared.Whereabouts.{Whereabouts}
-use Rattle.desk.specs.declared.Whereabouts.the-variants.{At, LastKnown, NotHere}
 use Rattle.desk.specs.Desk.{deskFit}
-use Rattle.desk.specs.Questions.{unsure, placeKnown}
 use Rattle.desk_laws.specs.Runs.{DeskCall, callsDesk, DeskBegins, below, appliedCards, stuckAt, finishedRecord, finishedCards}
-use Rattle.desk_laws.specs.Promises.{DeskAlways, WhicheverSame, WhereSure}
+use Rattle.desk_laws.specs.Promises.{DeskAlways, WhicheverSame}
 use Rattle.desk_laws.proofs.Calls.{fit-parts}
 use Rattle.desk_laws.proofs.Fits.{fit-always, begins-fit, station-below}
-use Rattle.desk_laws.proofs.Told.{whereabouts-fit}
-use Rattle.desk_laws.proofs.Carrying.{code-outside, code-known}
+use Rattle.desk_laws.proofs.Carrying.{code-known}
 use Rattle.desk_laws.proofs.Instance.{Garage, numbered, parts, frame}
 
 -- ---- the desk as a machine of the crate `sets`
@@ -115,71 +103,3 @@ whichever-same d b l p h c o =
     let x = finishedCards d l p in
     let y = callsDesk d l .numbers in
     (λ k. known-exactly y c o .0 (sym e ∙ known-exactly x c o .1 k), λ k. known-exactly x c o .0 (e ∙ known-exactly y c o .1 k))
-
--- ---- a place that is told for sure
-
--- the kind of an answer, and the place in it
-abbrev kind : Whereabouts → ℕ
-kind (At k) = 0
-kind (LastKnown k) = 1
-kind NotHere = 2
-kind Whereabouts.Unfit = 3
-
-abbrev placeIn : Whereabouts → ℕ
-placeIn (At k) = k
-placeIn (LastKnown k) = k
-placeIn NotHere = noSource
-placeIn Whereabouts.Unfit = noSource
-
--- it is a place, and of the car there nothing is set apart
-placed-sure : (apart j k : ℕ) → placeKnown apart j ≡ At k → (j ≡ k) × (j ≡ noSource → ⊥) × (bit apart j ≡ false)
-placed-sure apart j k e = split (eqb j noSource)
-    (λ t. let z = ap kind (rw t at e) in absurd (omega arith))
-    (λ t. split (unsure apart j)
-    (λ u. let z = ap kind (rw (t, u) at e) in absurd (omega arith))
-    (λ u. (ap placeIn (rw (t, u) at e), eqb-false j noSource t, neither (bit apart j) (ltb j 20 && bit apart (suc j)) u .0)))
-
--- the number stands at the place that is told
-car-place : (j : ℕ) → j < 41 → placeOfElement j < 53
-car-place j h = split (ltb j 40)
-    (λ t. rw t (omega arith))
-    (λ t. let l = ltb-false j 40 t in let q : j ≡ 40 = omega arith in rw q (omega arith))
-
-stands-there : (a : List ℕ) (c : ℕ) → (whereIs a c ≡ noSource → ⊥) → (whereIs a c < 53) × (numbersIn a (whereIs a c) ≡ c)
-unfolding whereIs
-stands-there a c o = split (eqb c 0)
-    (λ t. absurd (o (rw t)))
-    (λ t. split (ltb (elementOf a c) 41)
-    (λ u. let h = ltb-true (elementOf a c) 41 u in
-    rw (t, u) (
-      car-place (elementOf a c) h,
-      element-number a (elementOf a c) (omega arith)
-          ∙ eqb-true _ c (least-fault 41 (λ j. eqb (getD a j 0) c) u .passes),
-    ))
-    (λ u. absurd (o (rw (t, u)))))
-
--- instructions with other areas leave it there
-applied-outside : (js : List Code) (k : ℕ) → ((i : ℕ) → i < length js → elem k (heldArea (jamAt js i)) ≡ false)
-    → (p : List ℕ) → Picks (length js) p → (r : ℕ) (a : List ℕ) → numbersIn (appliedCards js p r a) k ≡ numbersIn a k
-applied-outside js k out [] h r a = refl
-applied-outside js k out (i ∷ p) h r a =
-    applied-outside js k out p (h .2) (image (heldNext (jamAt js i) (bit r))) (codeCards (jamAt js i) r a)
-    ∙ code-outside (jamAt js i) r a k (out i (h .0))
-
--- a place of which the bit is not set apart is in no area of what is stuck
-outside-jams : (js : List Code) (s : Station) → Sane js s → (k : ℕ) → k < 53 → bit (s .apart) k ≡ false
-    → (i : ℕ) → i < length js → elem k (heldArea (jamAt js i)) ≡ false
-outside-jams js s G k h o i m = off _ (λ t. clash (G .inside i m k (omega arith) (in-area (jamAt js i) k t)) away)
-  where
-    away : awayOf (s .apart) k ≡ false
-    away = split (ltb k 52)
-        (λ t. rw t o)
-        (λ t. let l = ltb-false k 52 t in let q : k ≡ 52 = omega arith in ap (awayOf (s .apart)) q ∙ sym (ap (bit (s .apart)) q) ∙ o)
-
-pub where-sure : WhereSure
-where-sure d b l c k e p h =
-    let s = callsDesk d l in
-    let (j, there, o) = placed-sure (s .station .apart) (whereIs (s .numbers) c) k (sym (whereabouts-fit s c (fits-now d b l)) ∙ e) in
-    let (m, stands) = stands-there (s .numbers) c there in
-    let out = outside-jams (stuckAt d l) (s .station) (sane-now d b l) (whereIs (s .numbers) c) m o in
-    rw (← j) (applied-outside (stuckAt d l) (whereIs (s .numbers) c) out p h _ _ ∙ stands)

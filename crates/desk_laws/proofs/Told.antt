@@ -1,11 +1,13 @@
 -- What the desk tells: where a card's car is, and which card is leaving. Assumes nothing.
-use mathlib.Core.Path.{_≡_, refl, sym, ap, _∙_}
-use mathlib.Core.Bool.{Bool, true, false, cond, or-false}
+use mathlib.Core.Path.{_≡_, refl, sym, ap, fun-ext, _∙_}
+use mathlib.Core.Bool.{Bool, true, false, cond, not, _&&_, or-false}
 use mathlib.Core.List.{List, [], _∷_}
 use Prim.Native.Nat.{ℕ}
 use native.Mathlib.Omega.{arith}
+use lib.Dec.{ltb}
 use borrow.Author.Tests.{lt-ltb, le-ltb, ne-eqb}
-use Rattle.bits.specs.Bits.{bit}
+use Rattle.bits.specs.Bits.{Bits, bit}
+use Rattle.bits.specs.Search.{least}
 use Rattle.bits.proofs.Cases.{split, clash, both, true→T}
 use Rattle.floor.specs.Floor.{raisedCar, driveOut}
 use Rattle.floor.specs.Tests.{set}
@@ -14,6 +16,8 @@ use Rattle.floor.specs.Sound.{sound, soundRules}
 use Rattle.floor.proofs.Promises.{sound-exactly}
 use Rattle.floor.proofs.Reading.{nth-holds}
 use Rattle.floor.proofs.Standing.{or-else}
+use Rattle.station.specs.declared.Station.{Station}
+use Rattle.station.specs.Station.{marked}
 use Rattle.station_laws.proofs.Fits.{fit-has}
 use Rattle.cards.specs.Cards.{anchor}
 use Rattle.cards.specs.Following.{noSource}
@@ -23,21 +27,21 @@ use Rattle.cards_laws.proofs.Tested.{fit-marked}
 use Rattle.cards_laws.proofs.Where.{where-right}
 use Rattle.cards_laws.proofs.Arrays.{fit-cards}
 use Rattle.desk.specs.declared.Desk.{Desk}
-use Rattle.desk.specs.declared.Whereabouts.the-variants.{At, LastKnown}
+use Rattle.desk.specs.declared.Whereabouts.the-variants.{At, LastKnown, Moving, NotHere}
 use Rattle.desk.specs.declared.Leaving.{Leaving}
 use Rattle.desk.specs.declared.Leaving.the-variants.{Card, Nobody, Unfit}
 use Rattle.desk.specs.Desk.{deskFit}
-use Rattle.desk.specs.Questions.{unsure, placeKnown, whereabouts, leaving}
-use Rattle.desk_laws.specs.Promises.{onApart, WhereTold, LeavingTold}
+use Rattle.desk.specs.Questions.{isUnder, moverOf, placeAfter, placeKnown, whereabouts, leaving}
+use Rattle.desk_laws.specs.Promises.{onParts, movesCar, WhereTold, LeavingTold}
 use Rattle.desk_laws.proofs.Calls.{fit-parts}
 
 -- ---- where a car is
 
--- a place is unsure exactly if a part under its car is set apart
-unsure-is : (apart : ℕ) (x : Car) → Stands x → unsure apart (anchor x) ≡ onApart apart x
-unsure-is apart (pair c) h = rw (lt-ltb c 20 (omega arith))
-unsure-is apart (single c) h = rw (le-ltb c 20 (h .0)) (or-false (bit apart c))
-unsure-is apart raised h = or-false (bit apart raisedCar)
+-- parts are under the place of a car exactly if they are under it
+pub under-is : (parts : Bits) (x : Car) → Stands x → isUnder parts (anchor x) ≡ onParts parts x
+under-is parts (pair c) h = rw (lt-ltb c 20 (omega arith))
+under-is parts (single c) h = rw (le-ltb c 20 (h .0)) (or-false (parts c))
+under-is parts raised h = or-false (parts raisedCar)
 
 -- no car stands nowhere
 somewhere : (x : Car) → Stands x → anchor x ≡ noSource → ⊥
@@ -45,22 +49,34 @@ somewhere (pair c) h e = omega arith
 somewhere (single c) h e = omega (arith, h .1)
 somewhere raised h e = omega arith
 
-placed-at : (apart : ℕ) (x : Car) → Stands x → placeKnown apart (anchor x) ≡ cond (onApart apart x) (LastKnown (anchor x)) (At (anchor x))
-placed-at apart x h = rw (ne-eqb (anchor x) noSource (somewhere x h), unsure-is apart x h)
+mover-is : (s : Station) (x : Car) → Stands x → moverOf s (anchor x) ≡ least (s .count) (movesCar s x)
+unfolding moverOf
+mover-is s x h = ap (least (s .count)) (fun-ext (λ i. ap (λ (b : Bool). not (marked s i) && b) (under-is _ x h)))
 
-pub whereabouts-fit : (d : Desk) (c : ℕ) → deskFit d ≡ true → whereabouts d c ≡ placeKnown (d .station .apart) (whereIs (d .numbers) c)
+placed-at : (d : Desk) (c : ℕ) (x : Car) → Stands x
+    → let i = least (d .station .count) (movesCar (d .station) x) in
+    placeKnown d c (anchor x)
+    ≡ cond (onParts (bit (d .station .apart)) x) (LastKnown (anchor x))
+    (cond (ltb i (d .station .count)) (Moving (anchor x) (placeAfter d i c)) (At (anchor x)))
+unfolding placeKnown
+placed-at d c x h = rw (ne-eqb (anchor x) noSource (somewhere x h), under-is (bit (d .station .apart)) x h, mover-is (d .station) x h)
+
+pub whereabouts-fit : (d : Desk) (c : ℕ) → deskFit d ≡ true → whereabouts d c ≡ placeKnown d c (whereIs (d .numbers) c)
 unfolding whereabouts
 whereabouts-fit d c f = rw f
+
+placed-nowhere : (d : Desk) (c : ℕ) → placeKnown d c noSource ≡ NotHere
+unfolding placeKnown
+placed-nowhere d c = refl
 
 pub where-told : WhereTold
 where-told d l f L c n =
     let (s, g) = fit-parts d f in
     let r = d .station .bits in
     let (here, gone) = where-right (bit r) (d .numbers) l L (fit-cards r (d .numbers) (fit-has (d .station) s .sound) g) c n in (
-      λ x a e. whereabouts-fit d c f ∙ ap (placeKnown (d .station .apart)) (here x a e) ∙ placed-at (d .station .apart) x (stands l x (L .stand) a),
-      λ none. whereabouts-fit d c f ∙ ap (placeKnown (d .station .apart)) (gone none),
+      λ x a e. whereabouts-fit d c f ∙ ap (placeKnown d c) (here x a e) ∙ placed-at d c x (stands l x (L .stand) a),
+      λ none. whereabouts-fit d c f ∙ ap (placeKnown d c) (gone none) ∙ placed-nowhere d c,
     )
-
 -- ---- which card is leaving
 
 -- a car that is being driven out is on the raised lift

@@ -3,3 +3,4 @@ pub mod Orders
 pub mod Promises
 pub mod Following
 pub mod Amid
+pub mod Motion

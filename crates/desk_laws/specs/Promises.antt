@@ -2,16 +2,21 @@
 -- is proved in proofs/. Assumes nothing.
 use mathlib.Core.Path.{_≡_}
 use mathlib.Core.Logic.{_↔_, _⊎_}
-use mathlib.Core.Bool.{Bool, true, cond, _||_}
+use mathlib.Core.Bool.{Bool, true, cond, not, _&&_, _||_}
 use mathlib.Core.List.{List}
 use Prim.Native.Nat.{ℕ, suc, _+_, _≤_, _<_}
+use lib.Dec.{ltb}
 use lib.ListN.{length, take, getD}
-use Rattle.bits.specs.Bits.{bit}
+use Rattle.bits.specs.Bits.{Bits, bit}
+use Rattle.bits.specs.Places.{elem}
+use Rattle.bits.specs.Search.{least}
 use Rattle.floor.specs.Floor.{raisedCar, driveOut}
 use Rattle.floor.specs.Cars.{Car, pair, single, raised, Layout}
 use Rattle.floor.specs.Sound.{Sound}
 use Rattle.station.specs.declared.Picture.{Picture}
-use Rattle.station.specs.Station.{presentIssue}
+use Rattle.station.specs.declared.Station.{Station}
+use Rattle.station.specs.Held.{codeAt, heldArea}
+use Rattle.station.specs.Station.{presentIssue, marked}
 use Rattle.station_laws.specs.Runs as run
 use Rattle.station_laws.specs.Jams.{Picks}
 use Rattle.station_laws.specs.Orders.{Fate}
@@ -20,10 +25,10 @@ use Rattle.cards.specs.Given.{AllNew}
 use Rattle.cards.specs.Held.{numbersIn}
 use Rattle.cards_laws.specs.Statements.{ThatMany}
 use Rattle.desk.specs.declared.Desk.{Desk}
-use Rattle.desk.specs.declared.Whereabouts.the-variants.{At, LastKnown, NotHere}
+use Rattle.desk.specs.declared.Whereabouts.the-variants.{At, LastKnown, Moving, NotHere}
 use Rattle.desk.specs.declared.Leaving.the-variants.{Card}
 use Rattle.desk.specs.Desk.{deskFit}
-use Rattle.desk.specs.Questions.{whereabouts, leaving}
+use Rattle.desk.specs.Questions.{placeAfter, whereabouts, leaving}
 use Rattle.desk_laws.specs.Runs as desk
 use Rattle.desk_laws.specs.Runs.{DeskCall, deskAnswerNumber, deskAfter, callsDesk, DeskBegins, NoDeskImages, under, below, stuckAt, finishedRecord, finishedCards, carded, drivenIn, drivenOut}
 use Rattle.desk_laws.specs.Orders.{DeskOrder, DeskAlike}
@@ -135,27 +140,29 @@ DeskAnyOrder =
 
 -- ---- where a card's car is, and which is leaving
 
--- a part under a car is set apart: one of its cells, or the lift
-abbrev pub onApart : ℕ → Car → Bool
-onApart apart (pair c) = bit apart c || bit apart (suc c)
-onApart apart (single c) = bit apart c
-onApart apart raised = bit apart raisedCar
+-- one of these parts is under a car: one of its cells, or the lift
+abbrev pub onParts : Bits → Car → Bool
+onParts parts (pair c) = parts c || parts (suc c)
+onParts parts (single c) = parts c
+onParts parts raised = parts raisedCar
 
--- a fit desk tells the place of the car that has the number, as the last known exactly if a part under it is set apart; and that it is not
--- here exactly if no car has the number
+-- instruction i waits for its result, and a part under the car is in its area
+abbrev pub movesCar : Station → Car → ℕ → Bool
+movesCar s x i = not (marked s i) && onParts (λ k. elem k (heldArea (codeAt (s .set) i))) x
+
+-- a fit desk tells the place of the car that has the number: as the last known exactly if a part under it is set apart; else as moving
+-- exactly if an instruction waits that has one in its area, with the place that the first such would bring it to; and that it is not here
+-- exactly if no car has the number
 abbrev pub WhereTold : Type 0
 WhereTold =
     (d : Desk) (l : List Car) → deskFit d ≡ true → Layout (bit (d .station .bits)) l
     → (c : ℕ) → (c ≡ 0 → ⊥)
     → ((x : Car) → Among x l → numbersIn (d .numbers) (anchor x) ≡ c
-    → whereabouts d c ≡ cond (onApart (d .station .apart) x) (LastKnown (anchor x)) (At (anchor x)))
+    → let i = least (d .station .count) (movesCar (d .station) x) in
+    whereabouts d c
+    ≡ cond (onParts (bit (d .station .apart)) x) (LastKnown (anchor x))
+    (cond (ltb i (d .station .count)) (Moving (anchor x) (placeAfter d i c)) (At (anchor x))))
     × (((x : Car) → Among x l → numbersIn (d .numbers) (anchor x) ≡ c → ⊥) → whereabouts d c ≡ NotHere)
-
--- a place that is told for sure is right, whichever stuck instructions did in fact finish
-abbrev pub WhereSure : Type 0
-WhereSure =
-    (d : Desk) → DeskBegins d → (l : List DeskCall) (c k : ℕ) → whereabouts (callsDesk d l) c ≡ At k
-    → (p : List ℕ) → Picks (length (stuckAt d l)) p → numbersIn (finishedCards d l p) k ≡ c
 
 -- a card is leaving exactly while a drive-out is under way, and it is that of the car on the raised lift
 abbrev pub LeavingTold : Type 0
