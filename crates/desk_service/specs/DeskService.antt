@@ -1,7 +1,7 @@
 -- What messages are answered with by a desk: one message on a desk. The station's kinds are the desk's calls without a card; the desk's own
 -- kinds bring cards, or ask. Assumes nothing.
 use mathlib.Core.Bool.{cond}
-use mathlib.Core.List.{List, [], map}
+use mathlib.Core.List.{List, [], _∷_, map}
 use Prim.Native.Nat.{ℕ}
 use lib.Dec.{eqb}
 use lib.ListN.{length, getD, replicate}
@@ -11,6 +11,8 @@ use Rattle.answers.specs.declared.Answer.the-variants.{UnknownKind, Unfit}
 use Rattle.answers.specs.Answers.{numberOf, placeOf, issueOf}
 use Rattle.wire.specs.declared.What.{What}
 use Rattle.wire.specs.declared.What.the-variants.{Request, Event, Result, Image, Ask}
+use Rattle.wire.specs.Kinds.{plain}
+use Rattle.wire.specs.Writes.{messageBytes}
 use Rattle.desk.specs.declared.Desk.{Desk}
 use Rattle.desk.specs.declared.DeskOutcome.{DeskOutcome}
 use Rattle.desk.specs.declared.Reply.{Reply}
@@ -21,7 +23,8 @@ use Rattle.desk.specs.Desk.{replyNumber, replyPlace, replyIssue}
 use Rattle.desk.specs.Calls.{deskRequest, deskEvent, deskResult, deskTakeImage, deskAsk}
 use Rattle.desk.specs.Questions.{whereabouts, leaving}
 use Rattle.desk.specs.Lines.{whereLine}
-use Rattle.desk_wire.specs.DeskKinds.{beginKind, mostCards, cardsKind, whereKind, leavingKind}
+use Rattle.desk_wire.specs.DeskKinds.{beginKind, mostCards, cardsKind, whereKind, leavingKind, toldKind, placeKind, cardKind}
+use Rattle.desk_wire.specs.DeskWrites.{shapedBytes}
 use Rattle.desk_wire.specs.DeskReads.{DeskMessage, ofStation, shaped, DeskReceived, readDeskAsked}
 use Rattle.desk_service.specs.declared.DeskTold.{DeskTold}
 use Rattle.desk_service.specs.declared.DeskTold.the-variants as told
@@ -108,3 +111,12 @@ replyRead d r = cond (eqb (numberOf (r .answer)) 0) (saidTo d (r .message)) (des
 -- the reply to the first message of some bytes
 unfoldable pub respondDesk : Desk → List ℕ → DeskReply
 respondDesk d bytes = replyRead d (readDeskAsked bytes)
+
+-- ---- in bytes
+
+-- what a message is told, in bytes
+abbrev pub toldBytes : DeskTold → List ℕ
+toldBytes (told.Answer number place issue) = shapedBytes toldKind (number ∷ place ∷ issue ∷ []) []
+toldBytes (told.Held bits apart) = messageBytes (plain (What.Held bits apart))
+toldBytes (told.Place place flag next) = shapedBytes placeKind (place ∷ flag ∷ next ∷ []) []
+toldBytes (told.Card card) = shapedBytes cardKind (card ∷ []) []
