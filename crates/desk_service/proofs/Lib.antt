@@ -1,2 +1,3 @@
 pub mod Cards
 pub mod Saying
+pub mod Written

@@ -12,6 +12,7 @@ use desk::Whereabouts;
 use wire::Frame;
 
 mod kinds;
+pub mod telling;
 
 // What a message is told: an answer, the image, where a car is, or a card.
 pub enum DeskTold {
