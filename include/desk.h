@@ -39,9 +39,11 @@
  * Where a car is (desk_where). Its place is the cell of its number: 0 to 39 as in the record, in row 1 the lower of its two, or
  * DESK_RAISED. After a jam (STATION_STUCK) it is not known what is in the parts set apart. A car of which a cell is set apart, in row 1
  * either of the two, or, on the raised lift, the lift, is told with DESK_LAST_KNOWN: at its last known place. It stands there if what got
- * stuck did nothing, or where that was to bring it, or between the two; somebody has to look. In all cases its number is still in the
- * garage. A car that is told without it stands where it is told, whichever of the stuck instructions did finish. An image that is taken
- * clears all of this (desk_image).
+ * stuck did nothing, or where that was to bring it, or between the two; somebody has to look. An image that is taken clears this
+ * (desk_image). A car of which a part is in the area of an instruction that waits for its result is told with DESK_MOVING, and
+ * DESK_MOVING_TO is the place that it would get: it stands there once that instruction has finished, else at its place, or between the
+ * two. In all cases its number is still in the garage. A car that is told without either stands where it is told, whichever of the
+ * instructions that wait or are stuck have finished.
  */
 #ifndef DESK_H
 #define DESK_H
@@ -75,8 +77,10 @@ enum {
     DESK_NOT_HERE = 255 /* told where no car in the garage has the number */
 };
 
-/* Of an answer of desk_where: whether the place is only the last known one. */
+/* Of an answer of desk_where: whether the place is only the last known one; whether the car is in motion, and to which place. */
 #define DESK_LAST_KNOWN(answer) ((int)((answer) >> 16 & 1u))
+#define DESK_MOVING(answer) ((int)((answer) >> 17 & 1u))
+#define DESK_MOVING_TO(answer) ((unsigned)((answer) >> 24))
 
 /* The card number at a place of a desk's room, 0 to DESK_PLACES less one. */
 #define DESK_BYTE(room, place, i) ((uint32_t)(room)[STATION_SIZE + DESK_CARD_SIZE * (place) + (i)] << (8 * (i)))
@@ -126,8 +130,8 @@ uint32_t desk_image(uint8_t *room, size_t room_length, uint64_t image, uint64_t 
 uint32_t desk_ask(const uint8_t *room, size_t room_length, uint8_t *image, size_t image_length);
 
 /* Where the car with the number `card` is. 17, 16; else 0, and STATION_PLACE of the answer is the cell of its number, DESK_RAISED, or
- * DESK_NOT_HERE; DESK_LAST_KNOWN of it says whether that place is only the last known one. No car has the number 0, and one whose drive-in
- * is under way is not here yet. */
+ * DESK_NOT_HERE; DESK_LAST_KNOWN of it says whether that place is only the last known one, DESK_MOVING whether the car is in motion, and
+ * then DESK_MOVING_TO the place that it would get. No car has the number 0, and one whose drive-in is under way is not here yet. */
 uint32_t desk_where(const uint8_t *room, size_t room_length, uint32_t card);
 
 /* Which card is leaving: writes DESK_CARD_SIZE bytes to `card`, the lowest first: the number of the car on the raised lift while a

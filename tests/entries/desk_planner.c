@@ -52,6 +52,8 @@ static void say_where(uint32_t card) {
         printf("row 1, cells %u and %u", place, place + 1);
     else
         printf("row %u, cell %u", place / 10, place);
+    if (DESK_MOVING(answer))
+        printf(", in motion to %u", DESK_MOVING_TO(answer));
     printf("%s\n", DESK_LAST_KNOWN(answer) ? ", at its last known place" : "");
 }
 

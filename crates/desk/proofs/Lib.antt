@@ -1,3 +1,4 @@
 pub mod Taking
 pub mod Reading
 pub mod Asking
+pub mod Laying

@@ -9,6 +9,7 @@ use answers::NOWHERE;
 use station::Station;
 
 mod calls;
+mod listing;
 mod questions;
 
 // The station, and the number at each of the forty cells, on the raised lift, and of a car that is being driven in; 0 for none.
@@ -63,6 +64,13 @@ pub struct Line {
 pub struct Lines {
     pub count: u8,
     pub bytes: [u8; 496],
+}
+
+// Which lines are gathered: of all cars; of those that an image would take away or move; of those that it would bring.
+enum Gathering {
+    Cars,
+    Moved,
+    New,
 }
 
 // What is outstanding: the issue of the present set, how many instructions it has, a mark for each that is answered, and the set.

@@ -23,7 +23,7 @@ use Rattle.desk.specs.Desk.{replyNumber}
 use Rattle.desk.specs.declared.Reply.{Reply}
 use Rattle.desk.specs.declared.Reply.the-variants.{Told, ZeroNumber, KnownNumber, WrongCount}
 use Rattle.desk.specs.declared.Whereabouts.{Whereabouts}
-use Rattle.desk.specs.declared.Whereabouts.the-variants.{At, LastKnown, NotHere}
+use Rattle.desk.specs.declared.Whereabouts.the-variants.{At, LastKnown, Moving, NotHere}
 use Rattle.desk.specs.declared.Leaving.{Leaving}
 use Rattle.desk.specs.declared.Leaving.the-variants.{Card, Nobody}
 use Rattle.desk.specs.Calls.{deskAsk}
@@ -64,18 +64,30 @@ replied-reads-back a = let h = reply-byte a in (omega arith, λ l. (omega arith,
 pub where-reads-back : WhereReadsBack
 where-reads-back (At k) (At j) l m e = let z : k ≡ j = omega arith in ap At z
 where-reads-back (At k) (LastKnown j) l m e = absurd (omega arith)
+where-reads-back (At k) (Moving j n) l m e = absurd (omega arith)
 where-reads-back (At k) NotHere l m e = absurd (omega arith)
 where-reads-back (At k) Whereabouts.Unfit l m e = absurd (omega arith)
 where-reads-back (LastKnown k) (At j) l m e = absurd (omega arith)
 where-reads-back (LastKnown k) (LastKnown j) l m e = let z : k ≡ j = omega arith in ap LastKnown z
+where-reads-back (LastKnown k) (Moving j n) l m e = absurd (omega arith)
 where-reads-back (LastKnown k) NotHere l m e = absurd (omega arith)
 where-reads-back (LastKnown k) Whereabouts.Unfit l m e = absurd (omega arith)
+where-reads-back (Moving k i) (At j) l m e = absurd (omega arith)
+where-reads-back (Moving k i) (LastKnown j) l m e = absurd (omega arith)
+where-reads-back (Moving k i) (Moving j n) l m e =
+    let y : i ≡ n = omega (arith, e, l .0, m .0) in
+    let z : k ≡ j = omega (arith, e, y) in
+    ap₂ Moving z y
+where-reads-back (Moving k i) NotHere l m e = absurd (omega arith)
+where-reads-back (Moving k i) Whereabouts.Unfit l m e = absurd (omega arith)
 where-reads-back NotHere (At j) l m e = absurd (omega arith)
 where-reads-back NotHere (LastKnown j) l m e = absurd (omega arith)
+where-reads-back NotHere (Moving j n) l m e = absurd (omega arith)
 where-reads-back NotHere NotHere l m e = refl
 where-reads-back NotHere Whereabouts.Unfit l m e = absurd (omega arith)
 where-reads-back Whereabouts.Unfit (At j) l m e = absurd (omega arith)
 where-reads-back Whereabouts.Unfit (LastKnown j) l m e = absurd (omega arith)
+where-reads-back Whereabouts.Unfit (Moving j n) l m e = absurd (omega arith)
 where-reads-back Whereabouts.Unfit NotHere l m e = absurd (omega arith)
 where-reads-back Whereabouts.Unfit Whereabouts.Unfit l m e = refl
 
@@ -116,6 +128,7 @@ of-desk WrongCount = inr (omega arith, omega arith)
 where-number : (w : Whereabouts) → let n = whereSaid w % 256 in (n ≡ 0) ⊎ (n ≡ 16) ⊎ (n ≡ 17)
 where-number (At k) = inl (omega arith)
 where-number (LastKnown k) = inl (omega arith)
+where-number (Moving k j) = inl (omega arith)
 where-number NotHere = inl refl
 where-number Whereabouts.Unfit = inr (inl refl)
 

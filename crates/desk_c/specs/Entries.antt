@@ -87,10 +87,12 @@ deskAsking room image =
     cond (ltb (length room) deskSize || ltb (length image) 16) (noRoom image)
     (shows (deskAsk d .reply) (imageBytes (d .station .bits) (d .station .apart)) image)
 
--- where a card's car is, as one number: its place, and 65536 where it is the last known one; 255 where it is not here
+-- where a card's car is, as one number: its place, and 65536 where it is the last known one, or twice that and the place that it would get
+-- where it is in motion; 255 where it is not here
 abbrev pub whereSaid : Whereabouts → ℕ
 whereSaid (Whereabouts.At k) = 256 * k
 whereSaid (Whereabouts.LastKnown k) = 256 * k + 65536
+whereSaid (Whereabouts.Moving k j) = 256 * k + 131072 + 16777216 * j
 whereSaid Whereabouts.NotHere = 256 * nowhere
 whereSaid Whereabouts.Unfit = returned Unfit
 

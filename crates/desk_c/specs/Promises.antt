@@ -11,7 +11,7 @@ use Rattle.desk.specs.declared.Desk.{Desk}
 use Rattle.desk.specs.declared.DeskOutcome.{DeskOutcome}
 use Rattle.desk.specs.declared.Reply.{Reply}
 use Rattle.desk.specs.declared.Whereabouts.{Whereabouts}
-use Rattle.desk.specs.declared.Whereabouts.the-variants.{At, LastKnown, NotHere}
+use Rattle.desk.specs.declared.Whereabouts.the-variants.{At, LastKnown, Moving, NotHere}
 use Rattle.desk.specs.Desk.{replyNumber, replyPlace, replyIssue}
 use Rattle.desk_c.specs.Entries.{deskNumbers, deskSize, deskBytes, deskOf, replied, deskEntry, deskAsking, whereSaid, finding, parting}
 
@@ -40,14 +40,15 @@ RepliedReadsBack =
     → (replied a % 256 ≡ replyNumber a)
     × (replyPlace a < 256 → (replied a / 256 % 256 ≡ replyPlace a) × (replied a / 65536 ≡ replyIssue a))
 
--- a place that can be told: below 255
+-- places that can be told: below 255
 abbrev pub Within255 : Whereabouts → Type 0
 Within255 (At k) = k < 255
 Within255 (LastKnown k) = k < 255
+Within255 (Moving k j) = (k < 255) × (j < 255)
 Within255 NotHere = Unit {0}
 Within255 Whereabouts.Unfit = Unit {0}
 
--- where a card's car is reads back: a place below 255 is told apart from none, and for sure from the last known
+-- where a card's car is reads back: a place below 255 is told apart from none, and for sure from the last known and from one in motion
 abbrev pub WhereReadsBack : Type 0
 WhereReadsBack = (w x : Whereabouts) → Within255 w → Within255 x → whereSaid w ≡ whereSaid x → w ≡ x
 

@@ -290,12 +290,13 @@ fn place_told(w: Whereabouts) -> u32
     match w {
         Whereabouts::At(k) => 256 * (k as u32),
         Whereabouts::LastKnown(k) => 256 * (k as u32) + 65536,
+        Whereabouts::Moving { from, to } => 256 * (from as u32) + 131072 + 16777216 * (to as u32),
         Whereabouts::NotHere => 256 * (NOWHERE as u32),
         Whereabouts::Unfit => say(Answer::Unfit),
     }
 }
 
-// Where a card's car is: its place and whether that is the last known one, or that it is not here.
+// Where a card's car is: its place, whether that is the last known one, or the place that it would get; or that it is not here.
 #[no_mangle]
 pub extern "C" fn desk_where(room: &[u8], card: u32) -> u32
     ensures { λ r. ⌜ r ≡ finding (now (room .entry)) card ⌝ }

@@ -306,9 +306,13 @@ module _ (d : Desk) (b : DeskBegins d) (l : List DeskCall) where
     where
       shown : elem k (heldArea (jamAt jams j)) ≡ true → bit (t .apart) k ≡ true
       shown e = ap (λ (s : Station). bit (s .apart) k) (station-below d b l)
-          ∙ apart-exactly (d .station) (station-begins d b) (below d l) k .1 (j, h, split (ltb k 52)
-          (λ u. rw u e)
-          (λ u. let q = ltb-false k 52 u in let z : k ≡ 52 = omega arith in rw z (share-is (heldArea (jamAt jams j)) lift 52 (rw z at e) refl)))
+          ∙ apart-exactly (d .station) (station-begins d b) (below d l) k .1 (
+            j,
+            h,
+            split (ltb k 52)
+                (λ u. rw u e)
+                (λ u. let q = ltb-false k 52 u in let z : k ≡ 52 = omega arith in rw z (share-is (heldArea (jamAt jams j)) lift 52 (rw z at e) refl)),
+          )
 
   -- a number at a place, of which nothing is set apart
   module _ (c k : ℕ) (there : numbersIn (now .numbers) k ≡ c) (o : c ≡ 0 → ⊥) (low : k < 53) (clear : isUnder (bit (t .apart)) k ≡ false) where
@@ -453,8 +457,12 @@ where-moving d b l c k j e =
     let (z, n, P) = placed-moving s c q k j (sym (whereabouts-fit s c (fits-now d b l)) ∙ e) in
     let (m, there) = stands-there (s .numbers) c (P .here) in
     let o = place-card (s .numbers) c (P .here) in
-    let (h, u) = waits d b l c q there o m (P .clear) (P .moves) in
-    (moverOf (s .station) q, h, u, λ p U. (
-      λ f. rw (← n) (brought d b l c q there o m (P .clear) (P .moves) p U f),
-      λ f. rw (← z) (stays d b l c q there o m (P .clear) (P .moves) p U f),
-    ))
+    let (h, u) = waits d b l c q there o m (P .clear) (P .moves) in (
+      moverOf (s .station) q,
+      h,
+      u,
+      λ p U. (
+        λ f. rw (← n) (brought d b l c q there o m (P .clear) (P .moves) p U f),
+        λ f. rw (← z) (stays d b l c q there o m (P .clear) (P .moves) p U f),
+      ),
+    )

@@ -77,6 +77,7 @@ where-told d l f L c n =
       λ x a e. whereabouts-fit d c f ∙ ap (placeKnown d c) (here x a e) ∙ placed-at d c x (stands l x (L .stand) a),
       λ none. whereabouts-fit d c f ∙ ap (placeKnown d c) (gone none) ∙ placed-nowhere d c,
     )
+
 -- ---- which card is leaving
 
 -- a car that is being driven out is on the raised lift

@@ -113,10 +113,12 @@ class Station(Calls):
 
 
 class Whereabouts(NamedTuple):
-    """Where a card's car is: its cell, in row 1 the lower of two, or RAISED; and whether that is only its last known place."""
+    """Where a card's car is: its cell, in row 1 the lower of two, or RAISED; whether that is only its last known place; and, of a car in
+    motion, the place that it would get."""
 
     place: int
     last_known: bool
+    moving_to: Optional[int] = None
 
 
 class Desk(Calls):
@@ -146,7 +148,8 @@ class Desk(Calls):
         if said & 255:
             raise Refused(Number(said & 255))
         place = said >> 8 & 255
-        return None if place == NOWHERE else Whereabouts(place, bool(said >> 16 & 1))
+        moving_to = said >> 24 if said >> 17 & 1 else None
+        return None if place == NOWHERE else Whereabouts(place, bool(said >> 16 & 1), moving_to)
 
     def leaving(self) -> Optional[int]:
         """The card that is leaving, if one is."""

@@ -74,7 +74,10 @@ class Desks(unittest.TestCase):
                 return f"0 set {desk.request([bytes(given[at : at + 5]) for at in range(0, len(given), 5)])}"
             if call == "desk_where":
                 found = desk.where(given[0])
-                return "0 at 255" if found is None else f"0 at {found.place}" + (" last known" if found.last_known else "")
+                if found is None:
+                    return "0 at 255"
+                moving = "" if found.moving_to is None else f" moving to {found.moving_to}"
+                return f"0 at {found.place}" + (" last known" if found.last_known else moving)
             if call == "desk_leaving":
                 return f"0 card {desk.leaving() or 0}"
             if call == "desk_ask":

@@ -123,9 +123,13 @@ pub fn desk_ask(room: &[u8], image: &mut [u8]) -> Answer {
 /// Where the car with a card's number is.
 pub fn desk_where(room: &[u8], card: u32) -> Result<Whereabouts, Refusal> {
     let answer = Answer::of(unsafe { desk::desk_where(room.as_ptr(), room.len(), card) });
-    let last_known = answer.issued()?.0 & 1 == 1;
+    let [flag, to] = answer.issued()?.0.to_le_bytes();
     let Some(place) = answer.place.map(Place::of) else { return Ok(Whereabouts::NotHere) };
-    Ok(if last_known { Whereabouts::LastKnown(place) } else { Whereabouts::At(place) })
+    Ok(match flag {
+        1 => Whereabouts::LastKnown(place),
+        2 => Whereabouts::Moving { from: place, to: Place::of(to) },
+        _ => Whereabouts::At(place),
+    })
 }
 
 /// Writes the number of the card that is leaving, or 0: four bytes.

@@ -44,6 +44,8 @@ pub enum Whereabouts {
     At(Place),
     /// Its last known place: since a jam a part of it is set apart, and somebody has to look.
     LastKnown(Place),
+    /// In motion: an instruction that waits for its result is to bring it from one place to the other.
+    Moving { from: Place, to: Place },
     /// No car in the garage has the number.
     NotHere,
 }
@@ -53,6 +55,7 @@ impl fmt::Display for Whereabouts {
         match self {
             Whereabouts::At(place) => write!(f, "at {place}"),
             Whereabouts::LastKnown(place) => write!(f, "last known at {place}"),
+            Whereabouts::Moving { from, to } => write!(f, "moving from {from} to {to}"),
             Whereabouts::NotHere => write!(f, "not here"),
         }
     }

@@ -68,6 +68,9 @@ fn compared(at: usize, given: &Given, bytes: &[u8; Desk::SIZE]) -> (u32, [u8; De
     ours
 }
 
+/// How many instructions that may have finished are looked at.
+const LOOKED_AT: usize = 6;
+
 /// A desk in a long run: as the reference keeps it, what got stuck since its last image, and the cards that have been here.
 struct Watched {
     desk: Desk,
@@ -99,11 +102,13 @@ impl Watched {
         number
     }
 
-    /// Looks at every choice of which stuck instructions finished, in two orders: the numbered cars, carried along, are those of the record
-    /// then; and those that are told for sure stand where they are told. Gives how many choices there are.
+    /// Looks at every choice of which instructions finished that wait or are stuck, of the first few, in two orders: the numbered cars,
+    /// carried along, are those of the record then; those that are told for sure stand where they are told, and those in motion there or
+    /// where they would get. Gives how many choices there are.
     fn every_choice(&self) -> usize {
-        for choice in 0..1usize << self.stuck.len() {
-            let chosen: Vec<&Instruction> = (0..self.stuck.len()).filter(|at| choice >> at & 1 == 1).map(|at| &self.stuck[at]).collect();
+        let may: Vec<Instruction> = self.desk.station.waiting().chain(self.stuck.iter().cloned()).take(LOOKED_AT).collect();
+        for choice in 0..1usize << may.len() {
+            let chosen: Vec<&Instruction> = (0..may.len()).filter(|at| choice >> at & 1 == 1).map(|at| &may[at]).collect();
             let mut after = self.desk.clone();
             let record = chosen.iter().fold(self.desk.station.record, |record, one| one.next(record));
             chosen.iter().for_each(|one| after.carry(one));
@@ -112,10 +117,11 @@ impl Watched {
             assert!(after.are_those_of(record) && backward.cars == after.cars, "{chosen:?} finished on {:?}: {after:?}", self.desk);
             for car in &after.cars {
                 let (stand, last) = self.desk.whereabouts(car.card).expect("no number is lost");
-                assert!(last || *stand == car.stand, "{car:?} is told for sure at {stand:?}, and {chosen:?} finished");
+                let there = *stand == car.stand || self.desk.moving(car.card).is_some_and(|to| to == car.stand);
+                assert!(last || there, "{car:?} is told at {stand:?}, and {chosen:?} finished");
             }
         }
-        1 << self.stuck.len()
+        1 << may.len()
     }
 
     /// Asks where each car is that is or was here, and which card is leaving.
@@ -128,9 +134,11 @@ impl Watched {
         }
         for &card in &asked {
             let (answer, _, _) = compared(at, &Given { entry: WHERE, card, ..Given::default() }, bytes);
-            let told = self.desk.whereabouts(card).map(|(stand, last)| (stand.told(), last));
-            let [number, place, last, above] = answer.to_le_bytes();
-            assert_eq!((number, above, (place != 255).then_some((place, last == 1))), (0, 0, told), "where {card} is");
+            let told = self.desk.whereabouts(card).map_or([255, 0, 0], |(stand, last)| match self.desk.moving(card) {
+                Some(to) => [stand.told(), 2, to.told()],
+                None => [stand.told(), last.into(), 0],
+            });
+            assert_eq!((answer & 255, &answer.to_le_bytes()[1..]), (0, &told[..]), "where {card} is");
             met.insert(Met::asked(&self.desk, &self.seen, card));
         }
         let (answer, _, card) = compared(at, &Given { entry: LEAVING, output: vec![0xEE; 4], ..Given::default() }, bytes);

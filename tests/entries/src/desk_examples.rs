@@ -58,8 +58,12 @@ fn call(room: &mut [u8; DESK], entry: &str, given: &[u64]) -> String {
                 format!("{answer} image {} apart {}", both as u64, (both >> 64) as u64)
             }
             ("desk_where", &[card]) => {
-                let [number, place, last, _] = desk_raw::desk_where(lent, length, card as u32).to_le_bytes();
-                format!("{number} at {place}{}", if last == 1 { " last known" } else { "" })
+                let [number, place, flag, to] = desk_raw::desk_where(lent, length, card as u32).to_le_bytes();
+                match flag {
+                    1 => format!("{number} at {place} last known"),
+                    2 => format!("{number} at {place} moving to {to}"),
+                    _ => format!("{number} at {place}"),
+                }
             }
             ("desk_leaving", []) => {
                 let mut card = [0; 4];

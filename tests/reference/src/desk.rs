@@ -192,6 +192,14 @@ impl Desk {
         Some((&car.stand, self.station.is_apart(&car.stand.parts())))
     }
 
+    /// Where a car would be that something under it is to bring there: an instruction that waits for its result has a part under the car in
+    /// its area. Of a car that is told at its last known place nothing is.
+    pub fn moving(&self, card: u32) -> Option<Stand> {
+        let (stand, _) = self.whereabouts(card).filter(|&(_, last)| !last)?;
+        let by = self.station.waiting().find(|one| one.area().meet(&stand.parts()))?;
+        Some(stand.carried(&by))
+    }
+
     /// The card of the car that is driving out.
     pub fn leaving(&self) -> Option<u32> {
         let raised = self.cars.iter().find(|car| car.stand == Raised)?;

@@ -29,8 +29,9 @@ pub const ENTRIES: [(&str, &[u8]); 8] = [
 pub const CARDS_MOST: u8 = 31;
 const CARD: usize = 4;
 
-/// What is told of a card's car where it is only its last known place.
+/// What is told of a card's car where it is only its last known place, and where it is in motion; above that the place that it would get.
 const LAST_KNOWN: u16 = 1;
+const MOVING: u16 = 2;
 
 /// A call on the lent desk; bytes that are no desk are told so first. It is written back if the call is taken.
 fn on_desk(room: &mut [u8], bytes_for_all: bool, call: impl FnOnce(&mut Desk) -> Answer) -> Answer {
@@ -63,10 +64,11 @@ fn image(room: &mut [u8], (record, apart): (u64, u64), count: u8, cards: &[u8]) 
     })
 }
 
-/// Where a card's car is: its place, or none, and whether that is its last known one.
+/// Where a card's car is: its place, or none; whether that is its last known one, or which one it would get.
 fn told_where(desk: &Desk, card: u32) -> Answer {
-    let (place, issue) = desk.whereabouts(card).map_or((NO_PLACE, 0), |(stand, last)| (stand.told(), if last { LAST_KNOWN } else { 0 }));
-    Answer { place, issue, ..answer(0) }
+    let (place, last) = desk.whereabouts(card).map_or((NO_PLACE, false), |(stand, last)| (stand.told(), last));
+    let moving = desk.moving(card).map_or(0, |to| MOVING + 256 * u16::from(to.told()));
+    Answer { place, issue: if last { LAST_KNOWN } else { moving }, ..answer(0) }
 }
 
 /// What the call returns; its rooms are left as it must leave them.

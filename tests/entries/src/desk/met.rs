@@ -83,10 +83,15 @@ pub enum Met {
         ending: u8,
         from: Kind,
     },
-    /// Where a car is told, and whether that is its last known place; and of which numbers there is none.
+    /// Where a car is told, and whether that is its last known place; from where to where one is in motion; and of which numbers there is
+    /// none.
     At {
         kind: Kind,
         last: bool,
+    },
+    Moving {
+        from: Kind,
+        to: Kind,
     },
     NotHere(Card),
     /// Whether a card is leaving.
@@ -133,7 +138,10 @@ impl Met {
     /// A question of where a card's car is.
     pub fn asked(desk: &Desk, seen: &BTreeSet<u32>, card: u32) -> Met {
         match desk.whereabouts(card) {
-            Some((stand, last)) => Met::At { kind: Kind::of(stand), last },
+            Some((stand, last)) => match desk.moving(card) {
+                Some(to) => Met::Moving { from: Kind::of(stand), to: Kind::of(&to) },
+                None => Met::At { kind: Kind::of(stand), last },
+            },
             None => Met::NotHere(sort(desk, seen, card)),
         }
     }
@@ -194,9 +202,11 @@ fn all() -> BTreeSet<Met> {
     let by_the_lift = [(4, Pair, Raised), (4, Raised, Pair)];
     for (opcode, from, to) in by_belts.into_iter().chain(by_shuttles).chain(by_the_lift) {
         all.insert(Met::Carried { opcode, from, to });
+        all.insert(Met::Moving { from, to });
         all.extend([FAILED, STUCK].map(|ending| Met::Kept { opcode, ending, from }));
     }
     all.extend([Pair, Single, Raised].into_iter().flat_map(|kind| [false, true].map(|last| Met::At { kind, last })));
+    all.insert(Met::Moving { from: Raised, to: Raised });
     all.extend([Zero, Coming, Gone, New].map(Met::NotHere));
     all.extend([false, true].map(Met::Leaving));
     all

@@ -103,7 +103,7 @@ impl Follower {
     /// The cards that are known, in the order of the cells.
     pub fn cards(&self) -> Vec<Known> {
         let one = |(&number, &card): (&u32, &u32)| match lent::desk_where(&self.desk, number).expect("it is a desk") {
-            Whereabouts::At(place) => Some(Known { card, place, last_known: false }),
+            Whereabouts::At(place) | Whereabouts::Moving { from: place, .. } => Some(Known { card, place, last_known: false }),
             Whereabouts::LastKnown(place) => Some(Known { card, place, last_known: true }),
             Whereabouts::NotHere => None,
         };
