@@ -1,8 +1,10 @@
 -- What is promised of bytes that a desk is sent: every message is a call of the desk, or a question; so what is promised of calls holds of
 -- whatever is sent. Proved in proofs/. Assumes nothing.
 use mathlib.Core.Path.{_≡_}
+use mathlib.Core.Logic.{_⊎_}
+use mathlib.Core.Bool.{true}
 use mathlib.Core.List.{List}
-use Prim.Native.Nat.{ℕ}
+use Prim.Native.Nat.{ℕ, _≤_}
 use lib.ListN.{length}
 use Rattle.bits.specs.Bits.{bit}
 use Rattle.floor.specs.Sound.{Sound}
@@ -13,10 +15,13 @@ use Rattle.station.specs.Station.{presentIssue}
 use Rattle.station_laws.specs.Jams.{Picks}
 use Rattle.station_laws.specs.Orders.{Fate}
 use Rattle.station_laws.specs.Runs as station
-use Rattle.service.specs.Service.{answersOn}
+use Rattle.wire.specs.Reads.{lengthAt, kindAt}
+use Rattle.service.specs.Service.{respond, answersOn}
 use Rattle.desk.specs.declared.Desk.{Desk}
+use Rattle.desk.specs.Desk.{deskFit}
 use Rattle.desk_laws.specs.Runs.{request, deskAnswerNumber, deskAfter, callsDesk, DeskBegins, below, stuckAt, finishedRecord, finishedCards}
 use Rattle.desk_laws.specs.Orders.{DeskOrder}
+use Rattle.desk_service.specs.declared.DeskTold.{DeskTold}
 use Rattle.desk_service.specs.declared.DeskTold.the-variants as told
 use Rattle.desk_service.specs.DeskService.{respondDesk}
 use Rattle.desk_runs.specs.Answering.{answersBy, stationAnswering, deskAnswersOn, deskAfterInput}
@@ -68,3 +73,17 @@ DeskAnyOrderSent =
     DeskOrder (presentIssue (s .station)) n fate drives (deskCallsIn (deskHeardIn one))
     → DeskOrder (presentIssue (s .station)) n fate drives (deskCallsIn (deskHeardIn other))
     → deskAfterInput s one ≡ deskAfterInput s other
+
+-- the desk's own numbers: 37, 38 and 39
+abbrev pub ToldItself : DeskTold → Type 0
+ToldItself (told.Answer number place issue) = (37 ≤ number) × (number ≤ 39)
+ToldItself (told.Held bits apart) = ⊥
+ToldItself (told.Place place flag next) = ⊥
+ToldItself (told.Card card) = ⊥
+
+-- the station's messages mean the same to a fit desk: they leave the station that they leave of a station; or the desk refuses by itself,
+-- with 37 to 39, and is as it was
+abbrev pub StationMeansSame : Type 0
+StationMeansSame =
+    (d : Desk) (bytes : List ℕ) → deskFit d ≡ true → lengthAt bytes ≤ 43 → kindAt bytes ≤ 5
+    → (respondDesk d bytes .desk .station ≡ respond (d .station) bytes .station) ⊎ (ToldItself (respondDesk d bytes .told) × (respondDesk d bytes .desk ≡ d))
