@@ -15,11 +15,11 @@ use Rattle.wire_laws.specs.Statements.{AskedAlike, AskedUnknown}
 use Rattle.wire_laws.proofs.Messages.{cut-out}
 
 -- a message whose bytes are exactly m
-alike : (m : List ℕ) → kindAt m ≤ 5 → readWhole kindsAsked m ≡ readWhole kindsKnown m
+pub alike : (m : List ℕ) → kindAt m < 128 → readWhole kindsAsked m ≡ readWhole kindsKnown m
 unfolding readWhole
 alike m h = simp (ne-eqb (kindAt m) 128 (λ e. omega arith), ne-eqb (kindAt m) 129 (λ e. omega arith))
 
-unknown : (m : List ℕ) → 5 < kindAt m → readWhole kindsAsked m ≡ messageRefused UnknownKind (length m)
+pub unknown : (m : List ℕ) → 5 < kindAt m → readWhole kindsAsked m ≡ messageRefused UnknownKind (length m)
 unfolding readWhole
 unknown m h = simp (ne-eqb (kindAt m) 1 (λ e. omega arith), ne-eqb (kindAt m) 2 (λ e. omega arith), ne-eqb (kindAt m) 3 (λ e. omega arith), ne-eqb (kindAt m) 4 (λ e. omega arith), ne-eqb (kindAt m) 5 (λ e. omega arith))
 
@@ -30,7 +30,10 @@ asked-alike s h = go (frameOf s) refl
     go : (f : Frame) → frameOf s ≡ f → readFramed kindsAsked f s ≡ readFramed kindsKnown f s
     go Cut e = refl
     go Wrong e = refl
-    go (Whole n) e = let k = cut-out s n (whole-frame s n e) .kind in alike (take n s) (rw k h)
+    go (Whole n) e =
+        let k = cut-out s n (whole-frame s n e) .kind in
+        let low : kindAt (take n s) ≤ 5 = rw k h in
+        alike (take n s) (omega arith)
 
 pub asked-unknown : AskedUnknown
 unfolding readAsked

@@ -25,12 +25,12 @@ use Rattle.wire_laws.proofs.Messages.{no, taken-message, taken-used, cu
 use Rattle.wire_laws.proofs.Back.{Good}
 
 -- what is to be shown of a message that was read from exactly the bytes m
-record Meant (m : List ℕ) (msg : Message) (n : ℕ) : Type 0 where
-  good : Good msg
-  kind : kindOf (msg .what) ≡ kindAt m
-  body : bodyOf (msg .what) (msg .count) (msg .set) ≡ drop 4 m
-  unused : oneForm msg ≡ msg
-  size : length m ≡ n
+pub record Meant (m : List ℕ) (msg : Message) (n : ℕ) : Type 0 where
+  pub good : Good msg
+  pub kind : kindOf (msg .what) ≡ kindAt m
+  pub body : bodyOf (msg .what) (msg .count) (msg .set) ≡ drop 4 m
+  pub unused : oneForm msg ≡ msg
+  pub size : length m ≡ n
 
 -- ---- kinds whose body has one size
 
@@ -167,11 +167,11 @@ request-meant m msg n kind e =
 -- ---- every message
 
 -- bytes put where they stand
-put-over : (s bytes : List ℕ) (n : ℕ) → take n s ≡ bytes → n ≤ length s → length bytes ≡ n
+pub put-over : (s bytes : List ℕ) (n : ℕ) → take n s ≡ bytes → n ≤ length s → length bytes ≡ n
     → put bytes s ≡ record { says = record { answer = Taken; size = n }; leaves = s }
 put-over s bytes n e h l = rw (l, le-ltb (length s) n h) (ap (λ (r : List ℕ). record { says = record { answer = Taken; size = n }; leaves = r }) (ap (λ (x : List ℕ). x ++ drop n s) (sym e) ∙ take-append-drop n s))
 
-whole-meant : (m : List ℕ) (msg : Message) (n : ℕ) → Bytes m → readWhole kindsKnown m ≡ messageTaken msg n → Meant m msg n
+pub whole-meant : (m : List ℕ) (msg : Message) (n : ℕ) → Bytes m → readWhole kindsKnown m ≡ messageTaken msg n → Meant m msg n
 unfolding readWhole
 whole-meant m msg n b e =
     when (eqb (kindAt m) requestKind) _ _ _ e
@@ -179,7 +179,7 @@ whole-meant m msg n b e =
     (λ _ e. among-meant m b msg n kindsKnown lawful e)
 
 -- a message that can be written, over its own bytes
-formed : (s : List ℕ) (msg : Message) (n : ℕ) → Good msg → oneForm msg ≡ msg → take n s ≡ messageBytes msg → n ≤ length s → Form s msg n
+pub formed : (s : List ℕ) (msg : Message) (n : ℕ) → Good msg → oneForm msg ≡ msg → take n s ≡ messageBytes msg → n ≤ length s → Form s msg n
 unfolding writingMessage
 formed s msg n g u e h =
     let l : length (messageBytes msg) ≡ n = ap length (sym e) ∙ length-take-le n s h in

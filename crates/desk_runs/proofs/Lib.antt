@@ -1,0 +1,2 @@
+pub mod DeskRuns
+pub mod SameMeaning

@@ -1,0 +1,3 @@
+pub mod Answering
+pub mod DeskHeard
+pub mod DeskRuns

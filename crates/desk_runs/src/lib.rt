@@ -1,0 +1,1 @@
+// What is promised of a desk's messages; no code.

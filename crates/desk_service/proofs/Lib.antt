@@ -1,0 +1,3 @@
+pub mod Cards
+pub mod Saying
+pub mod Written

@@ -1,0 +1,2 @@
+pub mod DeskService
+pub mod Private

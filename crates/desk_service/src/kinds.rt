@@ -1,0 +1,214 @@
+// Each kind of message, read from exactly its own bytes and answered on a desk. What they mean stands in specs/.
+ghost use mathlib.Core.Path.{_≡_};
+ghost use mathlib.Core.List.{_++_};
+ghost use Prim.Native.Nat.{_≤_, _-_};
+ghost use lib.ListN.{length, replicate};
+ghost use Rattle.codec.specs.Fours.{foursIn};
+ghost use Rattle.wire.specs.Kinds.{kindsAsked};
+ghost use Rattle.wire.specs.Reads.{lengthAt, readWhole};
+ghost use Rattle.desk_wire.specs.DeskKinds.{mostCards, beginKind, cardsKind, whereKind, leavingKind, shapesAsked};
+ghost use Rattle.desk_wire.specs.DeskReads.{frameUpTo, asReceived, readShape, readShaped};
+ghost use Rattle.desk_service.specs.DeskService.{stationSaid, replyRead};
+ghost use Rattle.desk_service.specs.Private.{cardsRead};
+use super::DeskReply;
+use super::called;
+use super::leaving_told;
+use super::shown;
+use super::unread;
+use super::where_told;
+use answers::Answer;
+use answers::NOWHERE;
+use desk::Desk;
+use station::Picture;
+use station::Report;
+use wire::Frame;
+use wire::What;
+
+// The length that a message gives itself.
+fn length_at(s: &[u8]) -> u16
+    ensures { λ n. ⌜ n ≡ lengthAt (now (s .entry)) ⌝ }
+{
+    let low = wire::byte(s, 0);
+    let high = wire::byte(s, 1);
+    wire::word(low, high)
+}
+
+// How far the first message of s goes, by its length alone.
+pub fn framed(s: &[u8], most: usize) -> Frame
+    ensures { λ r. ⌜ r ≡ frameUpTo most (now (s .entry)) ⌝ }
+{
+    if s.len() < 2 {
+        return Frame::Cut;
+    }
+    let n = length_at(s) as usize;
+    if n < 2 {
+        return Frame::Wrong;
+    }
+    if most < n {
+        return Frame::Wrong;
+    }
+    if s.len() < n + 2 {
+        return Frame::Cut;
+    }
+    Frame::Whole(n + 2)
+}
+
+// ---- the station's kinds
+
+// A message of the station's that holds no instruction.
+fn said(d: Desk, what: What) -> DeskReply
+    ensures { λ r. ⌜ r ≡ stationSaid what d 0 (replicate 40 0) ⌝ }
+{
+    match what {
+        What::Request => called(d.request(0, [0; 40])),
+        What::Event { way } => called(d.event(way, 0)),
+        What::Result {
+            issue,
+            number,
+            ending,
+        } => called(d.result(Report {
+            issue,
+            number,
+            ending,
+        })),
+        What::Image { bits, apart } => called(d.image(Picture { bits, apart }, 0, [0; 31])),
+        What::Ask => shown(d.ask()),
+        What::Answer {
+            number: _,
+            place: _,
+            issue: _,
+        } => unread(d, Answer::UnknownKind),
+        What::Held { bits: _, apart: _ } => unread(d, Answer::UnknownKind),
+    }
+}
+
+// A message of the station's.
+fn of_station(d: Desk, m: &[u8]) -> DeskReply
+    ensures { λ r. ⌜ r ≡ replyRead d (asReceived (readWhole kindsAsked (now (m .entry)))) ⌝ }
+{
+    if wire::kind_at(m) == 1 {
+        let r = wire::request_in(m);
+        let answer = r.answer;
+        if answer.number() != 0 {
+            return unread(d, answer);
+        }
+        let message = r.message;
+        let set = message.set;
+        return called(d.request(message.count, set));
+    }
+    let r = wire::saying(m);
+    let answer = r.answer;
+    if answer.number() != 0 {
+        return unread(d, answer);
+    }
+    let what = r.what;
+    said(d, what)
+}
+
+// ---- the desk's own kinds
+
+// A drive-in begins with a card.
+fn begins(d: Desk, m: &[u8]) -> DeskReply
+    ensures { λ r. ⌜ r ≡ replyRead d (readShape beginKind (now (m .entry))) ⌝ }
+{
+    if m.len() != 8 {
+        return unread(d, Answer::BadLength);
+    }
+    let card = codec::four_at(m, 4);
+    if card == 0 {
+        return unread(d, Answer::BadField(NOWHERE));
+    }
+    called(d.event(1, card))
+}
+
+// Some bytes with zeros behind them.
+fn padded(run: &[u8]) -> [u8; 124]
+    requires { ⌜ length (now run) ≤ 124 ⌝ }
+    ensures { λ b. ⌜ b ≡ now (run .entry) ++ replicate (124 - length (now (run .entry))) 0 ⌝ }
+{
+    let mut b = [0u8; 124];
+    bytes::copy(run, &mut b);
+    b
+}
+
+// The 31 numbers that 124 bytes say.
+fn given(b: [u8; 124]) -> [u32; 31]
+    ensures { λ a. ⌜ a ≡ foursIn mostCards b ⌝ }
+{
+    let mut numbers = [0u32; 31];
+    let mut place: usize = 0;
+    while place < 31 {
+        numbers[place] = codec::four_at(&b, 4 * place);
+        place += 1;
+    }
+    numbers
+}
+
+// The cards that a run of bytes says.
+fn cards_in(run: &[u8]) -> [u32; 31]
+    requires { ⌜ length (now run) ≤ 124 ⌝ }
+    ensures { λ a. ⌜ a ≡ cardsRead (now (run .entry)) ⌝ }
+{
+    let b = padded(run);
+    given(b)
+}
+
+// An image comes with cards.
+fn pictured(d: Desk, m: &[u8]) -> DeskReply
+    ensures { λ r. ⌜ r ≡ replyRead d (readShape cardsKind (now (m .entry))) ⌝ }
+{
+    let count = wire::byte(m, 20);
+    let n = count as usize;
+    if m.len() != 21 + 4 * n {
+        return unread(d, Answer::BadLength);
+    }
+    if n < 1 {
+        return unread(d, Answer::BadField(NOWHERE));
+    }
+    if 31 < n {
+        return unread(d, Answer::BadField(NOWHERE));
+    }
+    let bits = wire::image_of(&m[4..]);
+    let apart = wire::image_of(&m[12..]);
+    let given = cards_in(&m[21..]);
+    called(d.image(Picture { bits, apart }, count, given))
+}
+
+// Where a card's car is.
+fn seeks(d: Desk, m: &[u8]) -> DeskReply
+    ensures { λ r. ⌜ r ≡ replyRead d (readShape whereKind (now (m .entry))) ⌝ }
+{
+    if m.len() != 8 {
+        return unread(d, Answer::BadLength);
+    }
+    let card = codec::four_at(m, 4);
+    let told = where_told(d.whereabouts(card));
+    DeskReply { desk: d, told }
+}
+
+// Which card is leaving.
+fn leaves(d: Desk, m: &[u8]) -> DeskReply
+    ensures { λ r. ⌜ r ≡ replyRead d (readShape leavingKind (now (m .entry))) ⌝ }
+{
+    if 4 < m.len() {
+        return unread(d, Answer::BadLength);
+    }
+    let told = leaving_told(d.leaving());
+    DeskReply { desk: d, told }
+}
+
+// ---- all of them
+
+// The reply to a message whose bytes are exactly m.
+pub fn answered(d: Desk, m: &[u8]) -> DeskReply
+    ensures { λ r. ⌜ r ≡ replyRead d (readShaped kindsAsked shapesAsked (now (m .entry))) ⌝ }
+{
+    let kind = wire::kind_at(m);
+    match kind {
+        6 => begins(d, m),
+        7 => pictured(d, m),
+        8 => seeks(d, m),
+        9 => leaves(d, m),
+        _ => of_station(d, m),
+    }
+}

@@ -1,0 +1,5 @@
+pub mod Shapes
+pub mod DeskKinds
+pub mod DeskReads
+pub mod DeskWrites
+pub mod DeskForms

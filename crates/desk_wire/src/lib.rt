@@ -1,0 +1,1 @@
+// The form of a desk's messages: definitions and laws; no code.
