@@ -88,7 +88,7 @@ enum {
     (DESK_BYTE(room, place, 0) | DESK_BYTE(room, place, 1) | DESK_BYTE(room, place, 2) | DESK_BYTE(room, place, 3))
 
 /* The bytes of stack that a call may take on x86-64, below the frame that makes it. No theorem says so: it is measured on many calls, none
- * with more than 1552, and added up over the archive's instructions for every path, which comes to 1656 for desk_result and less for the
+ * with more than 1840, and added up over the archive's instructions for every path, which comes to 1816 for desk_where and less for the
  * others; the C library's memcpy and the like are left out. */
 enum { DESK_STACK_MOST = 2048 };
 

@@ -103,7 +103,7 @@ static void one(const char *what, Instruction i) {
         before[at] = where(cards[at]);
     uint16_t issue = request(i);
     for (int at = 0; at < CARDS; at++)
-        if (where(cards[at]) != before[at]) stop("a number moved before its car");
+        if (STATION_PLACE(where(cards[at])) != STATION_PLACE(before[at])) stop("a number moved before its car");
     must("result", desk_result(room, sizeof room, issue, 0, STATION_DONE));
     printf("  answer 0 (taken) as set %u, 1 done\n", issue);
     show_desk();

@@ -50,7 +50,12 @@ pub enum Whereabouts {
     /// Its last known place: since a jam a part of it is set apart, and somebody has to look.
     LastKnown(Place),
     /// In motion: an instruction that waits for its result is to bring it from one place to the other.
-    Moving { from: Place, to: Place },
+    Moving {
+        /// Where it was.
+        from: Place,
+        /// Where it would get.
+        to: Place,
+    },
     /// No car in the garage has the number.
     NotHere,
 }
