@@ -154,6 +154,15 @@ pub fn is_synced(fd: i32) -> bool {
     true
 }
 
+// Whether a file that was written and its name are on the disk; where they aren't, that is told. It is closed then.
+pub fn is_settled(fd: i32, name: &[u8]) -> bool {
+    if !is_synced(fd) {
+        return false;
+    }
+    libc::close(fd);
+    sync_folder(name)
+}
+
 // Opens a journal to read and to change it; what has no places, as a pipe, is none.
 pub fn open_update(name: &[u8]) -> i32 {
     let fd = os::open_update(name);
@@ -201,10 +210,10 @@ pub fn is_begun(name: &[u8]) -> bool {
     }
     bytes::copy(name, &mut part);
     let n = beside(&mut part, name.len(), b".part");
-    if is_missing(&part[..n]) {
-        return true;
+    if !is_missing(&part[..n]) {
+        return refused(b"station: the journal is not finished: the file with .part behind its name is there; give --follow once more\n");
     }
-    refused(b"station: the journal is not finished: the file with .part behind its name is there; give --follow once more\n")
+    true
 }
 
 // ---- what is written

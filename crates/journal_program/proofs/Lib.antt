@@ -1,2 +1,2 @@
+mod Recorded
 mod Replaying
-mod Beginning

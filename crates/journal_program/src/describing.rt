@@ -1,5 +1,7 @@
 // Tells what a journal is: a name and a value a line. It takes no lock and changes nothing, also while a station runs on the journal.
+ghost use mathlib.Core.List.{[]};
 ghost use lib.ListN.{length};
+ghost use Rattle.journal_reader.specs.Reading.{BuffersLent, StandsIn};
 ghost use Rattle.journal_program.specs.Telling.{WithinIfWell};
 use crate::reading;
 use journal_reader::Reading;
@@ -141,17 +143,19 @@ fn say_end(t: &[u32], q: Reading, buf: &[u8]) {
 
 // Reads on behind the head.
 fn say_rest(t: &[u32], fd: i32, start: Reading, buf: &mut [u8], room: &mut [u8])
-    requires { ⌜ WithinIfWell start (length (now buf)) ⌝ }
+    requires { ⌜ BuffersLent (now t) (now room) × WithinIfWell start (length (now buf)) × StandsIn [] start (now buf) ⌝ }
 {
-    let q = reading::read_on(t, fd, start, false, buf, room);
+    let q = reading::read_on(t, fd, &[], start, false, buf, room);
     if q.well {
         say_end(t, q, buf);
     }
 }
 
 // Tells what the journal behind a descriptor is; after a write that failed nothing more is written.
-fn tell(t: &[u32], fd: i32, buf: &mut [u8], room: &mut [u8]) {
-    let start = reading::begun(t, fd, buf);
+fn tell(t: &[u32], fd: i32, buf: &mut [u8], room: &mut [u8])
+    requires { ⌜ BuffersLent (now t) (now room) ⌝ }
+{
+    let start = reading::begun(t, fd, &[], buf);
     if !start.well {
         return;
     }

@@ -1,19 +1,27 @@
-// A new journal that follows an old one: its head is the station at the old one's end. In this order, so that power may go at any step: the
-// head is written under the new name with .part behind it; the old journal is closed; the new one gets its name. Each is on the disk before
-// the next begins. So never can both be started, and the same words once more bring it to its end.
+// A new journal that follows an old one: its head is the station at the old one's end. In this order, each step on the disk before the next
+// begins:
+// 1. a copy of the old journal, closed by a mark, is written under the new name with .part behind it;
+// 2. the head is written under the new name: no station starts on a journal while there is a .part of it;
+// 3. the copy gets the old journal's name.
+// One call of the system does the last: it puts a closed journal in the old one's place and takes the .part away from the new one. So at
+// every moment exactly one of the two can be started. Where power went before, the same words once more begin again.
 ghost use mathlib.Core.Path.{_≡_};
 ghost use mathlib.Core.Bool.{true, false};
+ghost use Prim.Native.Nat.{_≤_};
 ghost use lib.ListN.{length};
-ghost use Rattle.journal_program.specs.Telling.{WithinIfWell, EndsIfWell, Ends};
+ghost use Rattle.journal_file.specs.Replaying.{FileJournaled};
+ghost use Rattle.journal_reader.specs.Reading.{BuffersLent};
+ghost use Rattle.journal_program.specs.Telling.{EndsIfWell, Ends};
 use crate::older;
 use crate::reading;
 use station::Station;
-use journal_file::Kind;
 use journal_reader::Reading;
+use streams::Input;
 
-// Where a journal ends: its station, the checksum of its last append, how many bytes it has, whether it is closed, whether version 1.0 wrote
-// it, and whether it can be followed; why not was told.
+// Where a journal ends: the garage's name, its station, the checksum of its last append, how many bytes it has, whether it is closed,
+// whether version 1.0 wrote it, and whether it can be followed; why not was told.
 pub struct End {
+    pub garage: [u8; 40],
     pub station: Station,
     pub sum: u32,
     pub place: usize,
@@ -26,8 +34,10 @@ pub struct End {
 pub fn unended() -> End
     ensures { λ e. ⌜ e .well ≡ false ⌝ }
 {
+    let garage = [0u8; 40];
     let station = Station::start();
     End {
+        garage,
         station,
         sum: 0,
         place: 0,
@@ -37,23 +47,25 @@ pub fn unended() -> End
     }
 }
 
-fn tell(line: &[u8]) {
-    io::write_all(libc::STDERR_FILENO, line);
-}
-
 // ---- the old one
 
 // Where a journal ends that was read to its last append, behind which nothing may stand.
-fn end_at(q: Reading, left: usize) -> End
+fn end_at(t: &[u32], q: Reading, garage: [u8; 40], buf: &[u8]) -> End
+    requires { ⌜ FileJournaled (q .replay) (q .place) ⌝ }
     ensures { λ e. ⌜ EndsIfWell e ⌝ }
 {
-    if 0 < left {
-        tell(b"station: behind the journal's last append are bytes that were never answered: start the station on it once\n");
+    let rest = reading::rest(t, q, buf);
+    if !reading::is_sound(q, rest) {
+        return unended();
+    }
+    if 0 < reading::left_in(q) {
+        journal_files::tell(b"station: behind the journal's last append are bytes that were never answered: start the station on it once\n");
         return unended();
     }
     let r = q.replay;
     let station = r.station;
     End {
+        garage,
         station,
         sum: r.sum,
         place: q.place,
@@ -63,175 +75,6 @@ fn end_at(q: Reading, left: usize) -> End
     }
 }
 
-// The byte behind the last append.
-fn first_left(q: Reading, buf: &[u8]) -> u8 {
-    let at = q.at;
-    if buf.len() <= at {
-        return 0;
-    }
-    buf[at]
-}
-
-// Cuts off what a lost power supply left of the mark that closes the journal, and says how many bytes are left behind the last append. No
-// other append is so short that its first bytes could be taken for the mark's.
-fn cut_mark(fd: i32, place: usize, left: usize, first: u8) -> usize {
-    if (left == 0) | (13 < left) {
-        return left;
-    }
-    if (first != 4) & (first != 0) {
-        return left;
-    }
-    if libc::ftruncate(fd, journal_files::place(place)) != 0 {
-        os::fail(b"station: the journal can't be cut");
-        return left;
-    }
-    0
-}
-
-// Puts the mark that closes it behind the old journal.
-fn add_mark(t: &[u32], fd: i32, e: End) -> bool {
-    if !journal_files::has_length(fd, e.place) {
-        return false;
-    }
-    let a = journal_files::write_append(t, fd, e.sum, 4, &[]);
-    a.well
-}
-
-// Closes the old journal, and waits until that is on the disk.
-fn close_old(t: &[u32], fd: i32, e: End) -> bool {
-    if e.older {
-        if !older::close(fd, e.place) {
-            return false;
-        }
-        return journal_files::is_synced(fd);
-    }
-    if !add_mark(t, fd, e) {
-        return false;
-    }
-    journal_files::is_synced(fd)
-}
-
-// ---- the new one
-
-// Whether no file has this name yet.
-fn is_free(name: &[u8]) -> bool {
-    let fd = os::open_read(name);
-    if 0 <= fd {
-        tell(b"station: the new journal is there already\n");
-        return false;
-    }
-    if os::errno() != libc::ENOENT {
-        os::fail(b"station: the new journal can't be made");
-        return false;
-    }
-    true
-}
-
-// Writes the head that begins with the old journal's end, and waits until it is on the disk.
-fn write_part(t: &[u32], part: &[u8], garage: &[u8], e: End) -> bool
-    requires { ⌜ Ends e ⌝ }
-{
-    let fd = os::open_overwrite(part);
-    if fd < 0 {
-        os::fail(b"station: the new journal can't be made");
-        return false;
-    }
-    let station = e.station;
-    if !journal_files::write_head(t, fd, garage, station) {
-        return false;
-    }
-    if !journal_files::is_synced(fd) {
-        return false;
-    }
-    libc::close(fd);
-    journal_files::sync_folder(part)
-}
-
-// Reads the head of the new journal that is not in its place yet, and says whether it is a good one.
-fn is_part(t: &[u32], name: &[u8], head: &mut [u8]) -> bool {
-    let fd = os::open_read(name);
-    if fd < 0 {
-        return false;
-    }
-    let n = io::read_full(fd, head);
-    libc::close(fd);
-    let h = journal_file::head_of(t, &head[..n]);
-    let kind = h.kind;
-    match kind {
-        Kind::Good => true,
-        _ => false,
-    }
-}
-
-// Whether a good head is that of the garage, and begins with the old journal's end; where it isn't, that is told.
-fn is_its(good: bool, head: &[u8], garage: &[u8], e: End) -> bool {
-    if head.len() < 124 {
-        return false;
-    }
-    let station = rooms::station_bytes(e.station);
-    if good & commands::is_text(&head[24..64], garage) & commands::is_text(&head[64..124], &station) {
-        return true;
-    }
-    tell(b"station: the journal is closed: another one follows it already\n");
-    false
-}
-
-// Whether a good head is another garage's; that is told.
-fn is_others(good: bool, head: &[u8], garage: &[u8]) -> bool {
-    if head.len() < 64 {
-        return false;
-    }
-    if good & !commands::is_text(&head[24..64], garage) {
-        tell(b"station: the file with .part behind the new journal's name is another garage's\n");
-        return true;
-    }
-    false
-}
-
-// Makes the new journal's head and closes the old one.
-fn change_over(t: &[u32], fd: i32, part: &[u8], garage: &[u8], e: End) -> bool
-    requires { ⌜ Ends e ⌝ }
-{
-    if !write_part(t, part, garage, e) {
-        return false;
-    }
-    close_old(t, fd, e)
-}
-
-// Whether the new journal is ready to get its name: it was before, if the old one is closed, and else it is made ready.
-fn is_ready(t: &[u32], fd: i32, part: &[u8], garage: &[u8], e: End) -> bool
-    requires { ⌜ Ends e ⌝ }
-{
-    let mut head = [0u8; 128];
-    let good = is_part(t, part, &mut head);
-    if e.closed {
-        return is_its(good, &head, garage, e);
-    }
-    if is_others(good, &head, garage) {
-        return false;
-    }
-    change_over(t, fd, part, garage, e)
-}
-
-// Gives the new journal its name, once it is ready for that.
-fn go_on(t: &[u32], fd: i32, new: &[u8], part: &[u8], garage: &[u8], e: End)
-    requires { ⌜ EndsIfWell e ⌝ }
-{
-    if !e.well {
-        return;
-    }
-    if !is_ready(t, fd, part, garage, e) {
-        return;
-    }
-    if os::rename(part, new) != 0 {
-        os::fail(b"station: the new journal can't be given its name");
-        return;
-    }
-    journal_files::sync_folder(new);
-}
-
-// ---- both
-
 // Whether a file begins as a journal does.
 fn is_journal(fd: i32) -> bool {
     let mut words = [0u8; 20];
@@ -240,69 +83,206 @@ fn is_journal(fd: i32) -> bool {
     commands::is_text(&words[..n], b"Vargsnida, journal.\n")
 }
 
-// The garage's name that a head has.
-fn name_in(head: &[u8]) -> [u8; 40] {
+// The 40 bytes of a garage's name that stand at this place.
+fn name_at(bytes: &[u8], from: usize) -> [u8; 40] {
     let mut name = [0u8; 40];
-    if 64 <= head.len() {
-        bytes::copy(&head[24..64], &mut name);
+    if from <= bytes.len() {
+        if 40 <= bytes.len() - from {
+            bytes::copy(&bytes[from..from + 40], &mut name);
+        }
     }
     name
 }
 
-// Follows a journal that was read to its last append.
-fn follow_read(t: &[u32], fd: i32, q: Reading, garage: &[u8], new: &[u8], part: &[u8], buf: &[u8]) {
-    let rest = reading::rest(t, q, buf);
-    if !reading::is_sound(q, rest) {
-        return;
-    }
-    let left = cut_mark(fd, q.place, reading::left_in(q), first_left(q, buf));
-    let e = end_at(q, left);
-    go_on(t, fd, new, part, garage, e);
-}
-
-// Follows a journal whose head was read.
-fn follow_appends(t: &[u32], fd: i32, start: Reading, garage: &[u8], new: &[u8], part: &[u8], buf: &mut [u8], room: &mut [u8])
-    requires { ⌜ WithinIfWell start (length (now buf)) ⌝ }
+// Where the journal behind a descriptor ends; where a garage is asked for, it must be its, and a journal of version 1.0 is.
+fn ended(t: &[u32], fd: i32, asked: &[u8], buf: &mut [u8], room: &mut [u8]) -> End
+    requires { ⌜ BuffersLent (now t) (now room) ⌝ }
+    ensures { λ e. ⌜ EndsIfWell e ⌝ }
 {
-    let q = reading::read_on(t, fd, start, false, buf, room);
-    if q.well {
-        follow_read(t, fd, q, garage, new, part, buf);
+    if 0 < asked.len() {
+        if !is_journal(fd) {
+            return older::ended(fd, name_at(asked, 0), buf, room);
+        }
+    }
+    let start = reading::begun(t, fd, asked, buf);
+    if !start.well {
+        return unended();
+    }
+    let garage = name_at(buf, 24);
+    let q = reading::read_on(t, fd, asked, start, false, buf, room);
+    if !q.well {
+        return unended();
+    }
+    end_at(t, q, garage, buf)
+}
+
+// ---- the closed copy
+
+// How much is left to copy, and whether all went well so far.
+struct Left {
+    left: usize,
+    well: bool,
+}
+
+fn least(a: usize, b: usize) -> usize
+    ensures { λ n. ⌜ (n ≤ a) × (n ≤ b) ⌝ }
+{
+    if a < b { a } else { b }
+}
+
+// Copies one piece of what is left.
+fn copy_piece(from: i32, to: i32, left: usize, buf: &mut [u8]) -> Left {
+    let input = streams::fill(from, buf, 0, b"station: the journal can't be read");
+    match input {
+        Input::Bytes(end) => {
+            let n = least(left, end);
+            let well = streams::send(to, buf, n, b"station: the new journal can't be written");
+            Left {
+                left: left - n,
+                well,
+            }
+        }
+        _ => Left { left, well: false },
     }
 }
 
-// Follows the journal behind a descriptor; where a garage is named, it must be its, and a journal of version 1.0 is.
-fn follow_open(t: &[u32], fd: i32, asked: &[u8], named: bool, new: &[u8], part: &[u8], buf: &mut [u8], room: &mut [u8]) {
-    if named {
-        if !is_journal(fd) {
-            let e = older::ended(fd, buf, room);
-            go_on(t, fd, new, part, asked, e);
-            return;
+// Copies the first bytes of the old journal, piece by piece; no file is so long that it takes more.
+fn copy_bytes(from: i32, to: i32, size: usize, buf: &mut [u8]) -> bool {
+    let mut q = Left {
+        left: size,
+        well: true,
+    };
+    let mut pieces = u64::MAX;
+    while 0 < pieces {
+        if q.left == 0 {
+            return q.well;
         }
+        q = copy_piece(from, to, q.left, buf);
+        if !q.well {
+            return false;
+        }
+        pieces -= 1;
     }
-    let start = reading::begun(t, fd, buf);
-    if !start.well {
+    false
+}
+
+// Writes the mark that closes the copy.
+fn write_mark(t: &[u32], to: i32, e: End) -> bool {
+    if e.older {
+        return older::write_mark(to);
+    }
+    let a = journal_files::write_append(t, to, e.sum, 4, &[]);
+    a.well
+}
+
+// Writes the old journal's bytes, and the mark that closes it.
+fn copy_closed(t: &[u32], from: i32, to: i32, e: End, buf: &mut [u8]) -> bool {
+    if libc::lseek(from, 0, libc::SEEK_SET) != 0 {
+        os::fail(b"station: the journal can't be read");
+        return false;
+    }
+    if !copy_bytes(from, to, e.place, buf) {
+        return false;
+    }
+    write_mark(t, to, e)
+}
+
+// Makes a file anew.
+fn made(name: &[u8]) -> i32 {
+    let fd = os::open_overwrite(name);
+    if fd < 0 {
+        os::fail(b"station: the new journal can't be made");
+    }
+    fd
+}
+
+// Makes the closed copy, and waits until it is on the disk.
+fn write_part(t: &[u32], from: i32, part: &[u8], e: End, buf: &mut [u8]) -> bool {
+    let to = made(part);
+    if to < 0 {
+        return false;
+    }
+    if !copy_closed(t, from, to, e, buf) {
+        return false;
+    }
+    journal_files::is_settled(to, part)
+}
+
+// ---- the new one
+
+// Whether the new journal may be made: there is none yet, or only one that was never finished.
+fn is_free(new: &[u8], part: &[u8]) -> bool {
+    if journal_files::is_missing(new) {
+        return true;
+    }
+    if !journal_files::is_missing(part) {
+        return true;
+    }
+    journal_files::tell(b"station: the new journal is there already\n");
+    false
+}
+
+// Writes the head that begins with the old journal's end, and waits until it is on the disk.
+fn write_new(t: &[u32], new: &[u8], garage: &[u8], e: End) -> bool
+    requires { ⌜ Ends e ⌝ }
+{
+    let fd = made(new);
+    if fd < 0 {
+        return false;
+    }
+    let station = e.station;
+    if !journal_files::write_head(t, fd, garage, station) {
+        return false;
+    }
+    journal_files::is_settled(fd, new)
+}
+
+// ---- both
+
+// Puts the closed copy in the old journal's place, and waits until that is on the disk.
+fn put_in_place(old: &[u8], part: &[u8]) {
+    if os::rename(part, old) != 0 {
+        os::fail(b"station: the old journal can't be closed");
         return;
     }
-    let garage = name_in(buf);
-    if named {
-        if !journal_files::is_of(asked, &garage) {
-            return;
-        }
+    if journal_files::sync_folder(old) {
+        journal_files::sync_folder(part);
     }
-    follow_appends(t, fd, start, &garage, new, part, buf, room);
 }
 
-// Follows the old journal by the new one, which is made under the name of its part.
-pub fn follow(old: &[u8], new: &[u8], part: &[u8], asked: &[u8], named: bool) {
+// Follows a journal that can be followed and is not closed yet.
+fn change_over(t: &[u32], fd: i32, old: &[u8], new: &[u8], part: &[u8], e: End, buf: &mut [u8])
+    requires { ⌜ EndsIfWell e ⌝ }
+{
+    if !e.well {
+        return;
+    }
+    if e.closed {
+        journal_files::tell(b"station: the journal is closed: another one follows it already\n");
+        return;
+    }
+    if !write_part(t, fd, part, e, buf) {
+        return;
+    }
+    let garage = e.garage;
+    if !write_new(t, new, &garage, e) {
+        return;
+    }
+    put_in_place(old, part);
+}
+
+// Follows the old journal by the new one; what is closed is made under the name of its part.
+pub fn follow(old: &[u8], new: &[u8], part: &[u8], asked: &[u8]) {
     let fd = journal_files::open_update(old);
     if fd < 0 {
         return;
     }
-    if !is_free(new) {
+    if !is_free(new, part) {
         return;
     }
     let t = checksum::tables();
     let mut buf = [0u8; 131104];
     let mut room = [0u8; 655520];
-    follow_open(&t, fd, asked, named, new, part, &mut buf, &mut room);
+    let e = ended(&t, fd, asked, &mut buf, &mut room);
+    change_over(&t, fd, old, new, part, e, &mut buf);
 }

@@ -49,8 +49,17 @@ fn read_named(tell: bool) {
     describing::describe(&name[..n]);
 }
 
+// Whether a word is the name of a file that is made for a journal, and not a journal's own.
+fn is_part(name: &[u8]) -> bool {
+    if name.len() < 5 {
+        return false;
+    }
+    let from = name.len() - 5;
+    commands::is_text(&name[from..], b".part")
+}
+
 // The journal that argument 2 names is followed by the one that argument 3 names.
-fn follow_named(garage: &[u8], named: bool) {
+fn follow_named(garage: &[u8]) {
     let mut old = io::buffer();
     let n = os::arg(2, &mut old);
     if !is_name(n) {
@@ -61,9 +70,13 @@ fn follow_named(garage: &[u8], named: bool) {
     if !is_name(k) {
         return;
     }
+    if is_part(&old[..n]) | is_part(&new[..k]) {
+        wrong();
+        return;
+    }
     let mut part = new;
     let m = journal_files::beside(&mut part, k, b".part");
-    following::follow(&old[..n], &new[..k], &part[..m], garage, named);
+    following::follow(&old[..n], &new[..k], &part[..m], garage);
 }
 
 // The garage that argument 5 names.
@@ -78,7 +91,7 @@ fn follow_in_garage() {
         wrong();
         return;
     }
-    follow_named(&name, true);
+    follow_named(&name);
 }
 
 fn main() {
@@ -95,7 +108,7 @@ fn main() {
     }
     if count == 4 {
         if is_word(1, b"--follow") {
-            follow_named(&[], false);
+            follow_named(&[]);
             return;
         }
     }

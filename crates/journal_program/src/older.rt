@@ -77,18 +77,18 @@ fn replay_all(fd: i32, buf: &mut [u8], room: &mut [u8]) -> Older
     q
 }
 
-// Whether the length behind so many bytes is the one that closes the journal, or a part of it came to the disk.
+// Whether the length behind so many bytes is the one that closes the journal.
 fn is_closed(fd: i32, whole: usize) -> bool {
     let mut length = [0u8; 2];
     let got = libc::pread(fd, &mut length, journal_files::place(whole));
     if io::count(got, &length) != 2 {
         return false;
     }
-    (length[0] == 255) | (length[1] == 255)
+    (length[0] == 255) & (length[1] == 255)
 }
 
 // Where it ends, unless it is damaged or has no message.
-fn end_of(r: Replay, closed: bool) -> End
+fn end_of(r: Replay, garage: [u8; 40], closed: bool) -> End
     requires { ⌜ Journaled (r .station) (r .whole) ⌝ }
     ensures { λ e. ⌜ EndsIfWell e ⌝ }
 {
@@ -101,6 +101,7 @@ fn end_of(r: Replay, closed: bool) -> End
     }
     let station = r.station;
     End {
+        garage,
         station,
         sum: 0,
         place: r.whole,
@@ -111,7 +112,7 @@ fn end_of(r: Replay, closed: bool) -> End
 }
 
 // Reads it to its end.
-fn read_all(fd: i32, buf: &mut [u8], room: &mut [u8]) -> End
+fn read_all(fd: i32, garage: [u8; 40], buf: &mut [u8], room: &mut [u8]) -> End
     requires { ⌜ RoomToTell (now buf) (now room) ⌝ }
     ensures { λ e. ⌜ EndsIfWell e ⌝ }
 {
@@ -121,11 +122,12 @@ fn read_all(fd: i32, buf: &mut [u8], room: &mut [u8]) -> End
         return unended();
     }
     let closed = is_closed(fd, r.whole);
-    end_of(r, r.damaged & closed)
+    end_of(r, garage, r.damaged & closed)
 }
 
-// Where a journal of version 1.0 ends, or why it can't be followed is told. The room has place for all answers to a full buffer.
-pub fn ended(fd: i32, buf: &mut [u8], room: &mut [u8]) -> End
+// Where a journal of version 1.0 ends, which is taken for this garage's, or why it can't be followed is told. The room has place for all
+// answers to a full buffer.
+pub fn ended(fd: i32, garage: [u8; 40], buf: &mut [u8], room: &mut [u8]) -> End
     ensures { λ e. ⌜ EndsIfWell e ⌝ }
 {
     if buf.len() < 45 {
@@ -134,16 +136,11 @@ pub fn ended(fd: i32, buf: &mut [u8], room: &mut [u8]) -> End
     if room.len() / 5 < buf.len() {
         return unended();
     }
-    read_all(fd, buf, room)
+    read_all(fd, garage, buf, room)
 }
 
-// Closes it: two bytes at the place behind its last whole message.
-pub fn close(fd: i32, whole: usize) -> bool {
+// Writes the length that closes it.
+pub fn write_mark(fd: i32) -> bool {
     let mark = [255u8; 2];
-    let got = libc::pwrite(fd, &mark, journal_files::place(whole));
-    if io::count(got, &mark) != 2 {
-        os::fail(b"station: the journal can't be written");
-        return false;
-    }
-    true
+    streams::send(fd, &mark, 2, b"station: the new journal can't be written")
 }

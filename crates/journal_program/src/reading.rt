@@ -1,8 +1,14 @@
 // Reads a journal from its head to its last append, and writes the messages of each where that is asked for.
 ghost use mathlib.Core.Path.{_≡_};
-ghost use mathlib.Core.Bool.{true, false};
-ghost use lib.ListN.{length};
-ghost use Rattle.journal_program.specs.Telling.{WithinIfWell};
+ghost use mathlib.Core.Bool.{true, false, cond};
+ghost use mathlib.Core.List.{[], _∷_};
+ghost use Prim.Native.Nat.{_-_, _≤_};
+ghost use lib.Dec.{eqb};
+ghost use lib.ListN.{length, getD};
+ghost use Rattle.checksum.specs.Slices.{slices};
+ghost use Rattle.journal_file.specs.Statements.{recordedIn};
+ghost use Rattle.journal_reader.specs.Reading.{BuffersLent, StandsIn};
+ghost use Rattle.journal_program.specs.Telling.{WithinIfWell, IsAppend, ReadsOn};
 use journal_reader::Reading;
 use journal_reader::Rest;
 
@@ -17,7 +23,7 @@ pub fn open(name: &[u8]) -> i32 {
 
 // Nothing more is to be read: why not was told.
 pub fn ended(q: Reading) -> Reading
-    ensures { λ r. ⌜ r .well ≡ false ⌝ }
+    ensures { λ r. ⌜ (r .well ≡ false) × (r .took ≡ false) ⌝ }
 {
     let mut r = q;
     r.took = false;
@@ -25,9 +31,9 @@ pub fn ended(q: Reading) -> Reading
     r
 }
 
-// Reads the head. What is no journal is told, and not read on.
-pub fn begun(t: &[u32], fd: i32, buf: &mut [u8]) -> Reading
-    ensures { λ r. ⌜ WithinIfWell r (length (now (buf .exit))) ⌝ }
+// Reads the head. What is no journal, or not of the garage that is asked for, is told, and not read on.
+pub fn begun(t: &[u32], fd: i32, asked: &[u8], buf: &mut [u8]) -> Reading
+    ensures { λ r. ⌜ WithinIfWell r (length (now (buf .exit))) × (r .well ≡ true → now (t .entry) ≡ slices → StandsIn (now (asked .entry)) r (now (buf .exit))) ⌝ }
 {
     let b = journal_reader::begin(t, fd, buf, b"station: the journal can't be read");
     let q = b.reading;
@@ -38,22 +44,35 @@ pub fn begun(t: &[u32], fd: i32, buf: &mut [u8]) -> Reading
     if !journal_files::is_good(kind, q.end == 0) {
         return ended(q);
     }
-    if (q.end < 128) | (buf.len() < 131099) {
+    if q.end < 128 {
         return ended(q);
+    }
+    if buf.len() < 131099 {
+        return ended(q);
+    }
+    if 0 < asked.len() {
+        if !journal_files::is_of(asked, &buf[24..64]) {
+            return ended(q);
+        }
     }
     q
 }
 
-// Writes the messages that an append carries: none where it is a mark.
-fn say_messages(append: &[u8]) -> bool {
-    if append.len() < 13 {
-        return true;
+// How many bytes of messages an append has: none where it is a mark.
+fn size_in(append: &[u8]) -> usize
+    requires { ⌜ 13 ≤ length (now append) ⌝ }
+    ensures { λ n. ⌜ n ≡ cond (eqb (getD (now (append .entry)) 0 0) 1) (length (now (append .entry)) - 13) 0 ⌝ }
+{
+    if append[0] == 1 {
+        return append.len() - 13;
     }
-    if append[0] != 1 {
-        return true;
-    }
-    let end = append.len() - 5;
-    let messages = &append[8..end];
+    0
+}
+
+// Writes what was recorded in an append.
+fn write_messages(append: &[u8], messages: &[u8]) -> bool
+    requires { ⌜ now messages ≡ recordedIn (now append ∷ []) ⌝ }
+{
     streams::send(
         libc::STDOUT_FILENO,
         messages,
@@ -62,9 +81,18 @@ fn say_messages(append: &[u8]) -> bool {
     )
 }
 
+// Writes the messages that an append carries.
+fn say_messages(append: &[u8]) -> bool
+    requires { ⌜ IsAppend (now append) ⌝ }
+{
+    let n = size_in(append);
+    write_messages(append, &append[8..8 + n])
+}
+
 // Takes the next append, and writes its messages where that is asked for. Where they can't be written nothing more is read.
-fn one_append(t: &[u32], fd: i32, q: Reading, tell: bool, buf: &mut [u8], room: &mut [u8]) -> Reading
-    ensures { λ r. ⌜ WithinIfWell r (length (now (buf .exit))) ⌝ }
+fn one_append(t: &[u32], fd: i32, asked: &[u8], q: Reading, tell: bool, buf: &mut [u8], room: &mut [u8]) -> Reading
+    requires { ⌜ BuffersLent (now t) (now room) × StandsIn (now asked) q (now buf) ⌝ }
+    ensures { λ r. ⌜ ReadsOn (now (asked .entry)) r (now (buf .exit)) ⌝ }
 {
     let r = journal_reader::next(t, fd, q, buf, room, b"station: the journal can't be read");
     if r.well & r.took & tell {
@@ -78,14 +106,14 @@ fn one_append(t: &[u32], fd: i32, q: Reading, tell: bool, buf: &mut [u8], room: 
 }
 
 // Append after append; no file is so long that it takes more.
-pub fn read_on(t: &[u32], fd: i32, start: Reading, tell: bool, buf: &mut [u8], room: &mut [u8]) -> Reading
-    requires { ⌜ WithinIfWell start (length (now buf)) ⌝ }
-    ensures { λ r. ⌜ WithinIfWell r (length (now (buf .exit))) ⌝ }
+pub fn read_on(t: &[u32], fd: i32, asked: &[u8], start: Reading, tell: bool, buf: &mut [u8], room: &mut [u8]) -> Reading
+    requires { ⌜ BuffersLent (now t) (now room) × WithinIfWell start (length (now buf)) × StandsIn (now asked) start (now buf) ⌝ }
+    ensures { λ r. ⌜ WithinIfWell r (length (now (buf .exit))) × (r .well ≡ true → StandsIn (now (asked .entry)) r (now (buf .exit))) ⌝ }
 {
     let mut q = start;
     let mut appends = u64::MAX;
     while 0 < appends {
-        q = one_append(t, fd, q, tell, buf, room);
+        q = one_append(t, fd, asked, q, tell, buf, room);
         if !q.took {
             return q;
         }
@@ -128,12 +156,14 @@ pub fn is_sound(q: Reading, rest: Rest) -> bool {
 }
 
 // Writes the messages that the journal behind a descriptor has recorded.
-fn say_recorded(t: &[u32], fd: i32, buf: &mut [u8], room: &mut [u8]) {
-    let start = begun(t, fd, buf);
+fn say_recorded(t: &[u32], fd: i32, buf: &mut [u8], room: &mut [u8])
+    requires { ⌜ BuffersLent (now t) (now room) ⌝ }
+{
+    let start = begun(t, fd, &[], buf);
     if !start.well {
         return;
     }
-    let q = read_on(t, fd, start, true, buf, room);
+    let q = read_on(t, fd, &[], start, true, buf, room);
     if !q.well {
         return;
     }

@@ -284,9 +284,5 @@ pub fn make(t: &[u32], name: &[u8], garage: &[u8]) -> bool {
     if !journal_files::write_head(t, fd, garage, Station::start()) {
         return false;
     }
-    if !journal_files::is_synced(fd) {
-        return false;
-    }
-    libc::close(fd);
-    journal_files::sync_folder(name)
+    journal_files::is_settled(fd, name)
 }

@@ -61,9 +61,10 @@ fn looked_at(folder: &str) -> Now {
     now
 }
 
-/// The folder with these names, each file with the first contents that are known.
-fn with(names: &BTreeMap<String, u64>, contents: &BTreeMap<u64, Vec<u8>>) -> Folder {
-    names.iter().map(|(name, number)| (name.clone(), contents.get(number).cloned().unwrap_or_default())).collect()
+/// The folder with these names, each file with these contents, or as it was last synced where it has no name any more.
+fn with(names: &BTreeMap<String, u64>, contents: &BTreeMap<u64, Vec<u8>>, synced: &BTreeMap<u64, Vec<u8>>) -> Folder {
+    let of = |number| contents.get(number).or_else(|| synced.get(number)).cloned().unwrap_or_default();
+    names.iter().map(|(name, number)| (name.clone(), of(number))).collect()
 }
 
 /// What a call was asked: its number, and its arguments.
@@ -109,7 +110,7 @@ impl Tracer<'_> {
     fn moment(&mut self, after: &str) {
         for names in [self.now.names.clone(), self.synced.names.clone()] {
             for contents in [self.now.contents.clone(), self.synced.contents.clone()] {
-                self.leaves(after, with(&names, &contents));
+                self.leaves(after, with(&names, &contents, &self.synced.contents));
             }
         }
     }
@@ -124,7 +125,7 @@ impl Tracer<'_> {
             for size in had + 1..bytes.len() {
                 let mut contents = self.now.contents.clone();
                 contents.insert(number, bytes[..size].to_vec());
-                self.leaves("a part of a write", with(&self.now.names.clone(), &contents));
+                self.leaves("a part of a write", with(&self.now.names, &contents, &self.synced.contents));
             }
         }
     }

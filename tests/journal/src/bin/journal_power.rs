@@ -1,7 +1,7 @@
 //! What a lost power supply can leave at every call of the system: `journal_power STATION TOOL DIRECTORY`. The program is followed while it makes
 //! a journal, keeps a session in it, cuts off a tail, and while the tool follows one journal by another (traced.rs says which folders may be
 //! left). In each of them whatever was answered is in the journal, bytes that were cut off are kept, and of an old journal and the one that
-//! follows it never both can be started. Where neither can, the same command once more makes the new one.
+//! follows it exactly one can be started. Where that is the old one, the same command once more makes the new one.
 
 use shared::journal_form::{journal_of, read, End, Read, Written, BAD_LENGTH, CUT_SHORT, MESSAGES};
 use shared::journals::{new, started, Trouble, ASK, GARAGE};
@@ -165,19 +165,27 @@ impl Place<'_> {
         assert!(lines == 0, "{what}: it told {}", run.told);
         let image = serve_on(&mut end.clone(), &ASK, true).0;
         let cut = format!("{}/cut", self.directory);
-        let (mut seen, mut neither) = (BTreeSet::<Folder>::new(), 0);
-        for left in run.left.iter().filter(|left| seen.insert(left.folder.clone())) {
+        let mut seen = BTreeSet::<Folder>::new();
+        // on a journal of version 1.0 no station of this version starts, and one of that version did until it was closed
+        let bare = read(old).is_err();
+        let whole = &old[..read(old).map_or(old.len(), |says| says.whole)];
+        // of the copy's first parts one in 97 bytes is enough, and all that end within its mark
+        let dull = |folder: &Folder| {
+            let part = folder.get(&format!("{NEW}.part")).map_or(0, Vec::len);
+            !folder.contains_key(NEW) && part < whole.len() && part % 97 != 0
+        };
+        for left in run.left.iter().filter(|left| !dull(&left.folder) && seen.insert(left.folder.clone())) {
             let present = |name: &str| {
                 restored(&left.folder, &cut);
                 self.starts(&format!("{cut}/{name}"))
             };
             let (by_old, by_new) = (present(OLD), present(NEW));
-            assert!(by_old.is_none() || by_new.is_none(), "{what}, after {}: both can be started", left.after);
+            let old_starts = if bare { left.folder[OLD] == old } else { by_old.is_some() };
+            assert!(old_starts || by_new.is_some(), "{what}, after {}: neither can be started", left.after);
+            assert!(!old_starts || by_new.is_none(), "{what}, after {}: both can be started", left.after);
+            assert!(left.folder[OLD].starts_with(whole), "{what}, after {}: of the old journal something is lost", left.after);
             for image_now in [&by_old, &by_new].into_iter().flatten() {
                 assert!(*image_now == image, "{what}, after {}: the garage is another", left.after);
-            }
-            if by_old.is_none() && by_new.is_none() {
-                neither += 1;
             }
             if by_new.is_some() {
                 continue;
@@ -204,8 +212,7 @@ impl Place<'_> {
         let (mut station, messages) = (*end, some_messages(9, &mut end.clone(), 200));
         let (old_path, new_path) = (format!("{folder}/{OLD}"), format!("{folder}/{NEW}"));
         assert!(
-            self.starts(&old_path).is_none()
-                && fs::read(&old_path).is_ok_and(|bytes| bytes.starts_with(&old[..read(old).map_or(old.len(), |says| says.whole)])),
+            self.starts(&old_path).is_none() && fs::read(&old_path).is_ok_and(|bytes| bytes.starts_with(whole) && (!bare || bytes != old)),
             "{what}: the old journal"
         );
         assert!(
@@ -213,29 +220,26 @@ impl Place<'_> {
             "{what}: the answers are others"
         );
         assert!(!Path::new(&format!("{new_path}.part")).exists(), "{what}: a part is left");
-        println!(
-            "  {what}: {} calls, {} folders that may be left; in {neither} of them neither starts, in none both",
-            run.calls,
-            seen.len()
-        );
+        println!("  {what}: {} calls, {} folders that may be left; in each exactly one starts", run.calls, seen.len());
     }
 
     /// What can't be followed: nothing changes, and one line says why.
     fn unfollowed(&self, old: &[u8]) {
         let damaged = [&old[..200], &[old[200] ^ 1], &old[201..]].concat();
         let south = journal_of(b"south", &ASK);
-        let cases: [(&str, &[(&str, &[u8])], &[&str]); 6] = [
+        let cases: [(&str, &[(&str, &[u8])], &[&str]); 7] = [
             ("a new journal that is there", &[(OLD, old), (NEW, &south)], &[OLD, NEW]),
             ("a damaged journal", &[(OLD, &damaged)], &[OLD, NEW]),
             ("another garage's journal", &[(OLD, &south)], &[OLD, NEW, "--garage", GARAGE]),
             ("a journal of version 1.0 without a name", &[(OLD, &ASK)], &[OLD, NEW]),
             ("an empty file", &[(OLD, &[])], &[OLD, NEW, "--garage", GARAGE]),
             ("a journal that is to follow itself", &[(OLD, old)], &[OLD, OLD]),
+            ("a journal under the name of a part", &[("new.journal.part", old)], &["new.journal.part", NEW]),
         ];
         for (what, files, words) in cases {
             let folder = self.folder(files);
             let paths: Vec<String> =
-                words.iter().map(|word| if word.ends_with("journal") { format!("{folder}/{word}") } else { (*word).to_string() }).collect();
+                words.iter().map(|word| if word.contains("journal") { format!("{folder}/{word}") } else { (*word).to_string() }).collect();
             let all: Vec<&str> = ["--follow"].into_iter().chain(paths.iter().map(String::as_str)).collect();
             let output = self.run(self.tool, &all, &[]);
             let told = String::from_utf8_lossy(&output.stderr);
@@ -263,5 +267,5 @@ fn main() {
     place.followed("one with a tail", &torn[..torn.len() - 2], &end, &[]);
     place.followed("one of version 1.0", &messages, &end, &["--garage", GARAGE]);
     place.unfollowed(&old.bytes);
-    println!("journal_power: whatever was answered is kept, and never two journals can be started");
+    println!("journal_power: whatever was answered is kept, and of two journals exactly one can be started");
 }

@@ -1,11 +1,11 @@
 -- `journal_program::older::read_all` meets its contract. Assumes nothing.
-use borrow.Author.Needs.{needs}
 use Rattle.bits.proofs.Cases.{clash}
+use borrow.Author.Needs.{needs}
 use Rattle.journal_program.proofs.older.read_all.Statement.{statement}
 use Rattle.journal_program.proofs.older.read_all.Tie as tie
 
 replay-all-requires : tie.Need-replay-all-requires
-replay-all-requires c κs = search needs
+replay-all-requires c κs = c .before .before .before .before .pre
 
 unended-requires : tie.Need-unended-requires
 unended-requires c κs = search needs
@@ -23,7 +23,7 @@ is-closed-requires : tie.Need-is-closed-requires
 is-closed-requires c κs = search needs
 
 end-of-requires : tie.Need-end-of-requires
-end-of-requires c κs = search needs
+end-of-requires c κs = c .before .before .before .before .before .before .before .before .before .replay-all .ensures
 
 same-length-3 : tie.Need-same-length-3
 same-length-3 c = search needs
@@ -32,7 +32,7 @@ same-length-4 : tie.Need-same-length-4
 same-length-4 c = search needs
 
 returns-2 : tie.Need-returns-2
-returns-2 c = search needs
+returns-2 c = c .end-of .ensures
 
 pub read-all-spec : {M : Type 1} → statement M
 read-all-spec =

@@ -151,6 +151,9 @@ fn opened(fault: &Fault, path: &str, garage: Option<&str>) -> (Station, Journal)
         made(fault, path, garage.unwrap_or("none"));
     }
     let file = fault.done(OpenOptions::new().read(true).append(true).open(path), "the journal can't be opened");
+    if Path::new(&format!("{path}.part")).exists() && !fault.is("starts_unfinished") {
+        fault.stops(1, "the journal is not finished: give --follow once more");
+    }
     let bytes = bytes_of(fault, &file);
     let read = judged(fault, &bytes);
     // what a wrong station takes for a journal is one from then on
@@ -294,10 +297,14 @@ fn session(fault: &Fault, mut station: Station, mut journal: Option<Journal>) {
     }
 }
 
-/// A new journal that begins with the end of an old one, which is closed.
+/// A new journal that begins with the end of an old one, which is closed: first a closed copy of the old one, under the new name with `.part`
+/// behind it, then the head under the new name, and then the copy in the old one's place.
 fn follow(fault: &Fault, old: &str, new: &str, garage: Option<&str>) {
     let part = format!("{new}.part");
-    if Path::new(new).exists() {
+    if old.ends_with(".part") || new.ends_with(".part") {
+        fault.stops(2, "usage: no journal's name ends in .part");
+    }
+    if Path::new(new).exists() && (fault.is("never_follows_again") || !Path::new(&part).exists()) {
         fault.stops(1, "the new journal is there already");
     }
     let mut file = fault.done(OpenOptions::new().read(true).append(true).open(old), "the journal can't be opened");
@@ -310,6 +317,9 @@ fn follow(fault: &Fault, old: &str, new: &str, garage: Option<&str>) {
         judged(fault, &bytes)
     };
     named(fault, &read, garage);
+    if read.closed {
+        fault.stops(1, "the journal is closed: another follows it");
+    }
     let mut station = read.station;
     if fault.is("follows_without_set") {
         (station.count, station.answered, station.set) = (0, 0, [0; 40]);
@@ -320,53 +330,32 @@ fn follow(fault: &Fault, old: &str, new: &str, garage: Option<&str>) {
     if fault.is("follows_unapart") {
         station.apart = Ok(Parts::NONE);
     }
-    let head = Written::begun(&read.name, &station).bytes;
-    let place = || {
-        fault.done(fs::rename(&part, new), "the new journal can't be named");
-        synced_folder(fault, new);
-    };
-    if read.closed {
-        if fault.is("never_follows_again") || fs::read(&part).ok() != Some(head) {
-            fault.stops(1, "the journal is closed: another follows it");
-        }
-        return place();
-    }
     if read.whole < bytes.len() && !bare {
         cut_off(fault, old, &file, &bytes, read.whole);
     }
-    let mut close = || {
-        let mark = Written { bytes: Vec::new(), sum: read.sum }.with(CLOSED, &[]).bytes;
-        if fault.is("never_closes") || bare {
-            return;
-        }
-        fault.done(file.write_all(&mark), "the journal can't be closed");
-        if !fault.is("closes_unsynced") {
-            fault.done(file.sync_all(), "the journal can't be synced");
-        }
+    let whole = if bare { read.appends.iter().map(|append| append.carried.len()).sum() } else { read.whole };
+    let mark = match (fault.is("never_closes"), bare) {
+        (true, _) => Vec::new(),
+        (_, true) => vec![255; 2],
+        _ => Written { bytes: Vec::new(), sum: read.sum }.with(CLOSED, &[]).bytes,
     };
+    let made = |name: &str, bytes: &[u8], unsynced: bool| {
+        let written =
+            File::create(name).and_then(|mut file| file.write_all(bytes).and_then(|()| if unsynced { Ok(()) } else { file.sync_all() }));
+        fault.done(written, "the new journal can't be written");
+        synced_folder(fault, name);
+    };
+    let head = Written::begun(&read.name, &station).bytes;
     if fault.is("closes_first") {
-        close();
+        fault.done(file.write_all(&mark).and_then(|()| file.sync_all()), "the journal can't be closed");
     }
-    let written = File::create(&part).and_then(|mut part| {
-        part.write_all(&head)?;
-        if fault.is("follows_unsynced") {
-            Ok(())
-        } else {
-            part.sync_all()
-        }
-    });
-    fault.done(written, "the new journal can't be written");
     if fault.is("names_first") {
-        place();
-    } else {
-        synced_folder(fault, new);
+        made(new, &head, false);
     }
-    if !fault.is("closes_first") {
-        close();
-    }
-    if !fault.is("names_first") {
-        place();
-    }
+    made(&part, &[&bytes[..whole], &mark].concat(), fault.is("closes_unsynced"));
+    made(new, &head, fault.is("follows_unsynced"));
+    fault.done(fs::rename(&part, old), "the old journal can't be closed");
+    synced_folder(fault, old);
 }
 
 /// Tells what a journal is, whatever its end.

@@ -6,7 +6,7 @@ use std::io;
 use std::process::exit;
 
 /// Each fault with the run that finds it out, and what the station then does.
-const FAULTS: [(&str, &str, &str); 57] = [
+const FAULTS: [(&str, &str, &str); 58] = [
     ("power_cuts", "answers_first", "it answers before it appends"),
     ("power_cuts", "appends_late", "it appends what it was sent when the next messages come"),
     ("power_cuts", "never_appends", "it appends nothing"),
@@ -59,11 +59,12 @@ const FAULTS: [(&str, &str, &str); 57] = [
     ("journal_power", "keeps_unsynced", "it does not wait until the bytes that it cuts off are on the disk"),
     ("journal_power", "keeps_unnamed", "it does not wait until the name is on the disk under which they are kept"),
     ("journal_power", "closes_first", "it closes the old journal before the new one is there"),
-    ("journal_power", "names_first", "it names the new journal before the old one is closed"),
-    ("journal_power", "closes_unsynced", "it does not wait until the old journal is closed on the disk"),
+    ("journal_power", "names_first", "it makes the new journal before there is a part of it"),
+    ("journal_power", "starts_unfinished", "it starts on a journal of which there is a part"),
+    ("journal_power", "closes_unsynced", "it does not wait until the closed copy of the old journal is on the disk"),
     ("journal_power", "follows_unsynced", "it does not wait until the new journal is on the disk"),
     ("journal_power", "never_closes", "the old journal stays open"),
-    ("journal_power", "never_follows_again", "after a cut it does not go on with a new journal that was begun"),
+    ("journal_power", "never_follows_again", "after a cut it takes a new journal that was begun for a finished one"),
 ];
 
 /// Those of a journal that is described, recorded or followed by another.
