@@ -1,7 +1,9 @@
-// The entries for a host in C that draws records, and what is set apart, and reads drawings: numbers and runs of bytes alone. An answer is its number plus 256 times
-// a place, and a refused call writes nothing. What each answers and leaves stands in specs/Entries.antt.
+// The entries for a host in C that draws records, and what is set apart, and reads drawings: numbers and runs of bytes alone. An answer is
+// its number plus 256 times a place, and a refused call writes nothing. What each answers and leaves stands in specs/Entries.antt.
 ghost use mathlib.Core.Path.{_≡_};
 ghost use mathlib.Core.Bool.{true, false};
+ghost use Prim.Native.Nat.{_+_, _*_};
+ghost use Rattle.answers.specs.Answers.{nowhere};
 ghost use Rattle.rooms.specs.Rooms.{LeavesRoom};
 ghost use Rattle.drawing_c.specs.Entries.{writtenSaid, drawnInto, readInto};
 use answers::Answer;
@@ -13,11 +15,18 @@ use rooms::tell;
 // The bytes of a record.
 const RECORD: usize = 8;
 
+// A number without a place.
+fn unplaced(number: u8) -> u32
+    ensures { λ r. ⌜ r ≡ number + 256 * nowhere ⌝ }
+{
+    number as u32 + 256 * (NOWHERE as u32)
+}
+
 // What writing says, as one number.
 fn said(w: Written) -> u32
     ensures { λ r. ⌜ r ≡ writtenSaid w ⌝ }
 {
-    w.number as u32 + 256 * (NOWHERE as u32) + 65536 * (w.size as u32)
+    unplaced(w.number) + 65536 * (w.size as u32)
 }
 
 // Writes the drawing of a record: 15 for one that isn't sound, then 17 where it doesn't fit; how many bytes are written is told too.
