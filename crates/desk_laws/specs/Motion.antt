@@ -71,11 +71,11 @@ MovingHappens =
     × UnheardAt startDesk downWithSeven (ofSet 0 ∷ []) × (numbersIn (cardsInFact startDesk downWithSeven (ofSet 0 ∷ [])) 11 ≡ 7)
     × UnheardAt startDesk downWithSeven [] × (numbersIn (cardsInFact startDesk downWithSeven []) 52 ≡ 7)
 
--- the same car, while belts of row 3 are asked to move: it is told for sure, and there it is, whether or not they have
+-- the same car, while belts of row 3 are asked to move
 abbrev pub besideSeven : List DeskCall
 besideSeven = desk.event 1 7 ∷ desk.event 3 0 ∷ desk.request 1 ((1 ∷ 3 ∷ 2 ∷ 0 ∷ 1 ∷ []) ++ replicate 35 0) ∷ []
 
--- such desks there are: a car beside which belts are asked to move is told for sure
+-- a car is told for sure while belts elsewhere are asked to move, and there it is also if they have
 abbrev pub SureHappens : Type 0
 SureHappens =
     (whereabouts (callsDesk startDesk besideSeven) 7 ≡ At 52)
