@@ -35,7 +35,7 @@ fn a_drawing_is_six_lines() {
     let text = "....................\n..........\n..........\nLLT\nLLT\nstreet\n";
     assert_eq!((drawn(START).as_str(), record_in(text.as_bytes()).ok()), (text, Some(START)));
     assert_eq!(record_in(b"...").expect_err("it is cut short").number, 41);
-    assert_eq!((hex_line(START).as_str(), image_in(b"00000000001b0900")), ("00 00 00 00 00 1B 09 00\n", Some(START)));
+    assert_eq!((hex_line(START).as_str(), image_in(b"00000000001b0900")), ("00 00 00 00 00 1B 09 00\n", Some((START, None))));
 }
 
 #[test]
