@@ -9,7 +9,7 @@ use Rattle.station.specs.declared.Station.{Station}
 use Rattle.station.specs.declared.Outcome.{Outcome}
 use Rattle.station.specs.Station.{presentIssue}
 use Rattle.station_laws.specs.Runs as run
-use Rattle.station_laws.specs.Demands.{Waiting}
+use Rattle.station_laws.specs.AnswersRight.{Waiting}
 use Rattle.station_laws.proofs.Calls.{success-has, success-is, failure-has, failure-is, stuck-has, stuck-is}
 use Rattle.cards.specs.declared.Offered.the-variants.{Fine}
 use Rattle.desk.specs.declared.Desk.{Desk}

@@ -5,7 +5,7 @@ use mathlib.Core.Bool.{Bool, true, false, not, cond, _||_, and-comm}
 use mathlib.Core.List.{List, []}
 use Prim.Native.Nat.{ℕ, _%_, _^_, _<_}
 use native.Mathlib.Omega.{arith}
-use lib.Bits.{bitAnd, and-mask, and-mod, and-le-r}
+use lib.Bits.{bitAnd, and-mask}
 use lib.Dec.{eqb, ltb}
 use lib.ListN.{length, drop}
 use Rattle.bits.specs.Bits.{image}
@@ -128,12 +128,11 @@ pair-by-areas one other room room' h k =
 
 -- ---- what is set apart
 
--- a number with no bit above the lift's sees the parts of a mask only
-below : (m apart : ℕ) → apart < 2 ^ 53 → bitAnd (bitAnd m partsMask) apart ≡ bitAnd m apart
+-- a number with no bit above the lift's has parts only
+below : (m apart : ℕ) → apart < 2 ^ 53 → bitAnd m (bitAnd apart partsMask) ≡ bitAnd m apart
 below m apart h =
-    let low : apart ≡ apart % 2 ^ 53 = omega arith in
-    let all : bitAnd m apart % 2 ^ 53 ≡ bitAnd m apart = omega (arith, and-le-r m apart) in
-    ap (λ (y : ℕ). bitAnd y apart) (and-mask m 53) ∙ ap (bitAnd (m % 2 ^ 53)) low ∙ sym (and-mod m apart 53) ∙ all
+    let low : apart % 2 ^ 53 ≡ apart = omega arith in
+    ap (bitAnd m) (and-mask apart 53 ∙ low)
 
 -- the mask that the station has of an instruction is its area
 held-so : (five : List ℕ) (i : Instruction) → readCode (codeFrom five) ≡ Good i → image (area i) ≡ heldMask (codeFrom five)
