@@ -115,7 +115,7 @@ class Desks(unittest.TestCase):
         self.assertEqual(desk.cards, {6: 7001, 8: 7002, 21: 7003, station.RAISED: 7004})
         self.assertEqual(desk.record.places(), list(desk.cards))
         for place, card in desk.cards.items():
-            self.assertEqual(desk.where(card), (place, False))
+            self.assertEqual(desk.where(card), (place, False, None))
         self.assertIsNone(desk.leaving())
         desk.event(Event.BEGIN_OUT)
         self.assertEqual(desk.leaving(), 7004)

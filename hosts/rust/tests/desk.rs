@@ -57,7 +57,7 @@ fn a_set_of_several() {
     let mut d = with_cars(START | 1 << 21 | 1 << 31, &[7001, 7002]);
     assert_eq!((d.request(2, &[row_2, row_2].concat()), d.request(9, &row_2.repeat(9))), (refusal_at(Overlap, 1), refusal(TooMany)));
     assert_eq!((d.request(2, &[row_2, row_3].concat()), d.result(0, 1, 1)), (taken_as(0), TAKEN));
-    assert_eq!((d.whereabouts(7001), d.whereabouts(7002)), (Ok(At(Cell(21))), Ok(At(Cell(32)))));
+    assert_eq!((d.whereabouts(7001), d.whereabouts(7002)), (Ok(Moving { from: Cell(21), to: Cell(22) }), Ok(At(Cell(32)))));
     assert_eq!((d.result(0, 0, 1), d.whereabouts(7001)), (TAKEN, Ok(At(Cell(22)))));
     assert_eq!((d.result(0, 0, 1), d.request(0, &[])), (refusal(NoSet), refusal(EmptySet)));
 }
@@ -66,7 +66,7 @@ fn a_set_of_several() {
 #[test]
 fn acceptance_failure_and_a_jam_move_no_number() {
     let mut d = with_cars(0x0049_1B00_0000_1800, &[7001]);
-    assert_eq!((d.request(1, &LIFT_UP), d.whereabouts(7001)), (taken_as(0), Ok(At(Cell(11)))));
+    assert_eq!((d.request(1, &LIFT_UP), d.whereabouts(7001)), (taken_as(0), Ok(Moving { from: Cell(11), to: Raised })));
     assert_eq!((d.result(0, 0, 0), d.whereabouts(7001)), (TAKEN, Ok(At(Cell(11)))));
     done(&mut d, 1, LIFT_UP);
     assert_eq!(d.whereabouts(7001), Ok(At(Raised)));
