@@ -12,7 +12,7 @@ from .words import Instruction, Said
 
 BEGIN, CARDS, WHERE, LEAVING, LIST, OUTSTANDING, COMPARE = 6, 7, 8, 9, 10, 11, 12
 PLACE, CARD, LISTED, OPEN, COMPARED = 136, 137, 138, 139, 140
-LENGTH_MOST, LINE_SIZE, FIVE = 143, 7, 5
+LENGTH_MOST, LINE_SIZE, FIVE = 143, 8, 5
 LAST_KNOWN, MOVING = 1, 2
 
 
@@ -66,7 +66,7 @@ def lines_of(body: bytes, onward: bool) -> List[Line]:
     """The lines of an answer. Of a comparison every line has the place that the image would bring; of a list only a car in motion has one."""
     found = []
     for at in range(1, len(body), LINE_SIZE):
-        place, flag, then = body[at + 4 : at + LINE_SIZE]
+        place, flag, then, _ = body[at + 4 : at + LINE_SIZE]
         card = int.from_bytes(body[at : at + 4], "little")
         found.append(Line(card, told(place), flag == LAST_KNOWN, told(then) if onward or flag == MOVING else None))
     return found

@@ -34,7 +34,7 @@ class ByCalls:
         found = self.desk.where(card)
         flag = 0 if found is None else 1 if found.last_known else 2 if found.moving_to is not None else 0
         onward = found.moving_to if flag == 2 else 0
-        return desks.card_bytes(card) + bytes([place if found else 255, flag, onward])
+        return desks.card_bytes(card) + bytes([place if found else 255, flag, onward, 0])
 
     def request(self, body: bytes) -> bytes:
         fives = [body[at : at + 5] for at in range(1, len(body), 5)]
@@ -62,7 +62,7 @@ class ByCalls:
         apart = self.desk.apart
         under = {place: place < 40 and (apart >> place & 1 or place < 20 and apart >> place + 1 & 1) or place == 52 and apart >> 52 & 1 for _, place, _ in lines}
         return bytes([len(lines)]) + b"".join(
-            desks.card_bytes(card) + bytes([place, bool(under[place]), onward]) for card, place, onward in lines)
+            desks.card_bytes(card) + bytes([place, bool(under[place]), onward, 0]) for card, place, onward in lines)
 
     def respond(self, message: bytes) -> bytes:
         """The answer to one message that can be read."""
@@ -77,11 +77,11 @@ class ByCalls:
                 return messages.message(messages.HELD, bytes(record) + apart.to_bytes(8, "little"))
             if kind == desks.WHERE:
                 line = self.line(next((place for place, card in desk.cards.items() if card == card_of(body)), 255), card_of(body))
-                return messages.message(desks.PLACE, line[4:])
+                return messages.message(desks.PLACE, line[4:7])
             if kind == desks.LEAVING:
                 return messages.message(desks.CARD, desks.card_bytes(desk.leaving() or 0))
             if kind == desks.LIST:
-                lines = [self.line(place, card) if place != 55 else desks.card_bytes(card) + bytes([55, 0, 0]) for place, card in desk.cards.items()]
+                lines = [self.line(place, card) if place != 55 else desks.card_bytes(card) + bytes([55, 0, 0, 0]) for place, card in desk.cards.items()]
                 return messages.message(desks.LISTED, bytes([len(lines)]) + b"".join(lines))
             if kind == desks.OUTSTANDING:
                 body = self.issue.to_bytes(2, "little") + bytes([self.answered, len(self.set)]) + b"".join(self.set)
