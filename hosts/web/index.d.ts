@@ -222,7 +222,7 @@ export function journalIn(library: Library, bytes: Uint8Array): Journal;
 export function isJournal(bytes: Uint8Array): boolean;
 export class NoJournal extends Error {}
 /** What an append has. */
-export const Append: { readonly Messages: 1; readonly CutShort: 2; readonly BadLength: 3; readonly Closed: 4 };
+export const Append: { readonly Messages: 1; readonly CutShort: 2; readonly BadLength: 3; readonly Closed: 4; readonly Cards: 5 };
 /** The bytes of a journal that grows by appends. */
 export class JournalBytes {
   constructor(name: string, version: [number, number, number], station: Uint8Array);

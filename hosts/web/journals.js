@@ -14,9 +14,10 @@ const END_MARK = 10;
 const CARRIED_MOST = 65536;
 const REST_MOST = Size.STATION_MESSAGE_MOST - 1; // what is left of a message that isn't whole
 const SECTOR = 512;
+const NUMBERS = 168; // those of a desk: 42 of four bytes
 
-/** What an append has: messages, what ended a session (answer 1 or 2), or that another journal follows. */
-export const Append = Object.freeze({ Messages: 1, CutShort: 2, BadLength: 3, Closed: 4 });
+/** What an append has: messages, what ended a session (answer 1 or 2), that another journal follows, or messages behind a desk's numbers. */
+export const Append = Object.freeze({ Messages: 1, CutShort: 2, BadLength: 3, Closed: 4, Cards: 5 });
 
 /** A file that is no journal, or none that can be read, with why: a phrase that goes on from the file's name. */
 export class NoJournal extends Error {}
@@ -139,9 +140,10 @@ export function journalIn(library, bytes) {
   // takes what an append carries; gives whether it may stand there
   const take = (kind, from, to) => {
     if (closed) return false;
-    if (kind === Append.Messages) {
-      const before = [count, size];
-      let place = from;
+    if (kind === Append.Messages || kind === Append.Cards) {
+      const before = [count, size], least = kind === Append.Cards ? 0 : 1;
+      let place = from + (kind === Append.Cards ? NUMBERS : 0);
+      if (place + least > to) return false;
       while (place < to) {
         const end = endOf(bytes, place, to);
         if (end <= 0) {
@@ -151,7 +153,7 @@ export function journalIn(library, bytes) {
         starts[count++] = size;
         for (; place < end; place++) messages[size++] = bytes[place];
       }
-      return to > from;
+      return true;
     }
     if (kind === Append.CutShort || kind === Append.BadLength) {
       if (to - from > REST_MOST) return false;

@@ -10,11 +10,12 @@ from pathlib import Path
 from typing import Iterator, List, NamedTuple, Optional, Tuple, Union
 
 from . import messages
-from .calls import Station
+from .calls import Desk, Station
 
 MAGIC = b"Vargsnida, journal.\n"
 FORMAT, HEAD, NAME_AT, STATION_AT, SUM_AT = 2, 128, 24, 64, 124
 TITLED, AROUND, CARRIED_MOST, LEFT_MOST, SECTOR, END_MARK = 8, 13, 65536, 44, 512, 10
+NUMBERS_SIZE = Desk.SIZE - Station.SIZE
 
 
 def table() -> List[int]:
@@ -55,12 +56,14 @@ class Damaged(ValueError):
 
 
 class Kind(enum.IntEnum):
-    """What an append is: the messages of one read; what was left when a session ended by answer 1, or by 2; the closing mark."""
+    """What an append is: the messages of one read; what was left when a session ended by answer 1, or by 2; the closing mark; messages with
+    the numbers of a desk's cards before them, as they are after these messages."""
 
     MESSAGES = 1
     CUT_SHORT = 2
     BAD_LENGTH = 3
     CLOSED = 4
+    CARDS = 5
 
 
 class Append(NamedTuple):
@@ -69,6 +72,11 @@ class Append(NamedTuple):
     at: int
     kind: Kind
     carried: bytes
+
+    @property
+    def sent(self) -> bytes:
+        """The messages that it carries."""
+        return messages_in(self.kind, self.carried) or b""
 
 
 class Journal(NamedTuple):
@@ -89,8 +97,7 @@ class Journal(NamedTuple):
     def messages(self) -> Iterator[bytes]:
         """The messages that were answered, in their order."""
         for append in self.appends:
-            if append.kind is Kind.MESSAGES:
-                yield from messages.split(append.carried)
+            yield from messages.split(append.sent)
 
     def station(self) -> Station:
         """The station that it makes: every message answered again, from the one that it begins with."""
@@ -99,12 +106,26 @@ class Journal(NamedTuple):
             garage.message(message)
         return garage
 
+    def desk(self) -> Desk:
+        """The desk that it makes, where a desk has kept it: the station with the numbers of the last append that has cards. Refused with 16
+        where these are not the cars'."""
+        carded = [append.carried[:NUMBERS_SIZE] for append in self.appends if append.kind is Kind.CARDS]
+        return Desk.from_bytes(bytes(self.station()) + (carded[-1] if carded else bytes(NUMBERS_SIZE)))
+
+
+def messages_in(kind: int, carried: bytes) -> Optional[bytes]:
+    """The messages that an append of this kind has among the bytes that it carries; None where it has no room for any."""
+    if kind == Kind.CARDS and len(carried) >= NUMBERS_SIZE:
+        return carried[NUMBERS_SIZE:]
+    return carried if kind == Kind.MESSAGES and carried else None
+
 
 def fits(kind: int, carried: bytes) -> bool:
     """Whether an append of this kind can carry these bytes."""
-    if kind == Kind.MESSAGES:
+    among = messages_in(kind, carried)
+    if among is not None:
         try:
-            return len(list(messages.split(carried))) > 0
+            return bool(list(messages.split(among))) or kind == Kind.CARDS
         except ValueError:
             return False
     return kind == Kind.CLOSED and not carried or kind in (Kind.CUT_SHORT, Kind.BAD_LENGTH) and len(carried) <= LEFT_MOST
@@ -158,7 +179,7 @@ def read(file: Union[bytes, str, "os.PathLike[str]"]) -> Journal:
         if not whole or closed or not fits(rest[0], carried):
             raise Damaged(at, len(appends), sent)
         appends.append(Append(at, Kind(rest[0]), carried))
-        sent += len(list(messages.split(carried))) if rest[0] == Kind.MESSAGES else 0
+        sent += len(list(messages.split(appends[-1].sent)))
         at += len(carried) + AROUND
         before = number(rest[len(carried) + TITLED : len(carried) + TITLED + 4])
     version = number(head[21:24])

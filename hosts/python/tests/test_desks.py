@@ -8,9 +8,9 @@ import sys
 import tempfile
 import unittest
 
-from station import RAISED, Desk, Event, Number, Outcome, Record, Refused, Station, desks, messages
+from station import RAISED, Desk, Event, Number, Outcome, Record, Refused, Station, desks, journals, messages
 from station.words import Instruction
-from tree import ROOT, Planner, blocks
+from tree import ROOT, Planner, blocks, run
 
 PROGRAM = os.environ.get("TRY_DESK") or ROOT / "bin/desk"
 
@@ -174,6 +174,10 @@ class PowerCuts(unittest.TestCase):
                         again.result(again.request(step), 0, Outcome.DONE)
             with desks.Desk(PROGRAM, *words) as last:
                 self.assertEqual([(line.card, line.place) for line in last.list()], [(7001, 9), (7003, 11), (7002, 13)])
+            self.assertEqual(journals.read(journal).desk().cards, {9: 7001, 11: 7003, 13: 7002})
+            with open(journal, "rb") as kept:
+                explained = run("bin/explain", given=kept.read()).stdout.decode()
+            self.assertIn("cars: 3; card 7001 at cells 9, 10; card 7003 at cells 11, 12; card 7002 at cells 13, 14\n", explained)
 
 
 class Street(unittest.TestCase):
