@@ -1,0 +1,10 @@
+// A test for planners: whether a drive-in now locks nobody in. What it promises is stated in the crate fetch_laws.
+ghost use mathlib.Core.Path.{_≡_};
+ghost use Rattle.fetch.specs.Room.{locksNobodyIn};
+
+// Row 1 has at most five cars.
+pub fn locks_nobody_in(r: u64) -> bool
+    ensures { λ b. ⌜ b ≡ locksNobodyIn r ⌝ }
+{
+    bits::count(r, 0xFFFFF) <= 10
+}
