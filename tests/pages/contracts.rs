@@ -318,9 +318,9 @@ fn main() {
             for (what, of_law) in spoiled {
                 let proof = format!("proofs/{}/Proof.antt", what.replace("::", "/"));
                 let by_itself = format!("fn {name}::{what}: no proof: ");
-                // of a function without a proof file, the returns that the prover does not close by itself
+                // of a function without a proof file, the needs that the prover does not close by itself
                 let searched = log.lines().filter_map(|line| line.strip_prefix(&by_itself)?.split_once("`search` does not close "));
-                let open = searched.map(|(_, needs)| needs.split('`').filter(|need| need.starts_with("returns")).count()).sum::<usize>();
+                let open = searched.map(|(_, needs)| needs.split(", ").filter(|need| need.starts_with('`')).count()).sum::<usize>();
                 let refuses = |file: &str, words: &str| {
                     if of_law {
                         !file.ends_with("/Proof.antt") && declaration(words) == *what
