@@ -1,53 +1,12 @@
 // Reads a plan from standard input to its end and prints its judgement in one line on standard output: `accepted`, or the number and what it
 // stands for, and the first set refused. What is judged stands in plans, what is tried again and what is told of a failure in streams; no
 // contract can say what is read and written.
-ghost use Prim.Native.Nat.{_≤_};
-ghost use lib.ListN.{length};
-ghost use Rattle.streams.specs.Input.{Fills};
 use plan::Judged;
-use plan::NO_SET;
-use streams::Input;
+use plan::NONE_REFUSED;
 
 // One byte more than the longest plan that there can be: 18 bytes, and 255 sets of 1 + 5 * 255. Of a longer input no more is read: whatever
 // follows, bytes are left over.
 const ROOM: usize = 325399;
-
-// What came: so many bytes at the front of the buffer; or a read failed, and that is told.
-struct Came {
-    have: usize,
-    failed: bool,
-}
-
-// Reads once past the bytes that are held.
-fn read_on(buf: &mut [u8], have: usize) -> Input
-    ensures { λ r. ⌜ Fills (now (buf .entry)) have r (now (buf .exit)) ⌝ }
-{
-    streams::fill(libc::STDIN_FILENO, buf, have, b"plan: standard input")
-}
-
-// Reads to the end of the input, or until the buffer is full.
-fn read_all(buf: &mut [u8]) -> Came
-    ensures { λ r. ⌜ r .have ≤ length (now (buf .exit)) ⌝ }
-{
-    let mut have: usize = 0;
-    loop {
-        let input = read_on(buf, have);
-        match input {
-            Input::Bytes(end) => {
-                have = end;
-            }
-            Input::Failed => {
-                return Came { have, failed: true };
-            }
-            _ => {
-                return Came {
-                    have,
-                    failed: false,
-                };
-            }
-        }
-    }
-}
 
 // Writes some text, and says whether that went well.
 fn say(text: &[u8]) -> bool {
@@ -98,7 +57,7 @@ fn say_of_set(number: u8) -> bool {
 
 // The words, and the set where one is refused.
 fn say_why(j: Judged) -> bool {
-    if j.set == NO_SET {
+    if j.set == NONE_REFUSED {
         return say_of_plan(j.number);
     }
     if !say_of_set(j.number) {
@@ -126,7 +85,7 @@ fn say_judged(j: Judged) -> bool {
 
 // Judges what is read, unless that failed.
 fn session(buf: &mut [u8]) {
-    let came = read_all(buf);
+    let came = standard_input::read_all(buf, b"plan: standard input");
     if came.failed {
         return;
     }

@@ -13,9 +13,10 @@ test('the first session of the README', () => {
   assert.equal(String(refused), '31 (out of turn)');
 });
 
-test('the sessions of EXAMPLES.md', () => {
+test('the sessions of EXAMPLES.md and of the test of pages', () => {
   let sessions = 0;
-  for (const { text } of blocks('docs/EXAMPLES.md').filter(({ word }) => word === 'session')) {
+  const all = ['docs/EXAMPLES.md', 'tests/pages/sessions.md'].flatMap(blocks);
+  for (const { text } of all.filter(({ word }) => word === 'session')) {
     const station = garage.station(), replies = [];
     let ended = false;
     for (const line of text.trim().split('\n').map((one) => one.split('#')[0].trim()).filter((one) => one !== '')) {
