@@ -8,10 +8,10 @@ use mathlib.Core.List.{List, [], _∷_}
 use Prim.Native.Nat.{ℕ, zero, suc, _+_, _-_, _*_, _%_, _≤_, _<_}
 use native.Mathlib.Omega.{arith}
 use lib.Dec.{T, eqb, ltb}
-use borrow.Author.Tests.{eqb-true, eqb-false, ne-eqb, lt-ltb, ltb-true, ltb-false}
+use borrow.Author.Tests.{eqb-true, eqb-false, lt-ltb, ltb-true, ltb-false}
 use Rattle.bits.specs.Bits.{Bits, bit, digit, count}
 use Rattle.bits.specs.Places.{from, elem, isEmpty}
-use Rattle.bits.proofs.Cases.{split, clash, both, and-intro, and-l, and-r, under, T→true, true→T}
+use Rattle.bits.proofs.Cases.{split, clash, both, and-intro, and-l, and-r, under}
 use Rattle.bits.proofs.Counts.{count-le, elem-here}
 use Rattle.floor.specs.Floor.{leftOfLift, rightOfLift}
 use Rattle.floor.proofs.Rows.{below, Whole, count-from}

@@ -3,8 +3,8 @@
 use mathlib.Core.Path.{_≡_, refl, sym, ap, subst, _∙_}
 use mathlib.Core.Logic.{inl, inr, ⊎-elim}
 use mathlib.Core.Bool.{Bool, true, false, not, _&&_, _||_, Bool·beq}
-use mathlib.Core.List.{List, [], _∷_, _++_}
-use Prim.Native.Nat.{ℕ, zero, suc, _+_, _^_, _≤_, _<_}
+use mathlib.Core.List.{List, [], _∷_}
+use Prim.Native.Nat.{ℕ, _+_, _^_, _≤_, _<_}
 use native.Mathlib.Omega.{arith}
 use lib.Dec.{T, eqb, ltb, leb, leb→le, eqb→eq}
 use borrow.Author.Tests.{eqb-true, ltb-true, ltb-false, not-true}
@@ -15,7 +15,7 @@ use Rattle.bits.proofs.Counts.{count-zero, count-agree, elem-from, from-elem}
 use Rattle.bits.proofs.Sharing.{allPass, pass-at}
 use Rattle.floor.specs.Floor.{raisedCar, street, driveIn, driveOut, heightLow, heightHigh, liftCells, drives, leftOfLift, rightOfLift}
 use Rattle.floor.specs.Tests.{holds, heightIs, underWay, atBasement}
-use Rattle.floor.specs.Cars.{Car, Layout}
+use Rattle.floor.specs.Cars.{Car}
 use Rattle.floor.specs.Sound.{Sound, soundRules, sound}
 use Rattle.floor.proofs.Reading.{holds-agree, nth-holds}
 use Rattle.floor.proofs.Standing.{or-else}
@@ -200,9 +200,11 @@ by-places f g r s F = record {
 
 pub fewer-hinder-nobody : FewerHinderNobody
 fewer-hinder-nobody f g r s F is m =
-    let (n, G) = moves-down is f g r s (by-places f g r s F) m in
-    (n, record {
-      cars = λ l k y z x a.
-          among-there (recordAfter is f) (recordAfter is g) l k y z x a (G .cars (anchor x) (car-bears (recordAfter is f) l y x a));
-      parts = G .parts;
-    })
+    let (n, G) = moves-down is f g r s (by-places f g r s F) m in (
+      n,
+      record {
+        cars = λ l k y z x a.
+            among-there (recordAfter is f) (recordAfter is g) l k y z x a (G .cars (anchor x) (car-bears (recordAfter is f) l y x a));
+        parts = G .parts;
+      },
+    )

@@ -3,15 +3,15 @@
 use mathlib.Core.Path.{_≡_, refl, sym, ap, subst, _∙_}
 use mathlib.Core.Logic.{inl}
 use mathlib.Core.Bool.{Bool, true, false, cond, not, _&&_, _||_, Bool·beq}
-use mathlib.Core.List.{List, [], _∷_, _++_, map}
-use Prim.Native.Nat.{ℕ, zero, suc, _+_, _/_, _%_, _^_, _<_}
+use mathlib.Core.List.{List, [], _∷_, map}
+use Prim.Native.Nat.{ℕ, _+_, _/_, _%_, _^_, _<_}
 use native.Mathlib.Omega.{arith}
 use lib.Dec.{T, eqb, ltb, ltb→lt}
 use borrow.Author.Tests.{eqb-true, lt-ltb, le-ltb, not-true}
-use Rattle.bits.specs.Bits.{Bits, bit, image, packed, allSet}
+use Rattle.bits.specs.Bits.{Bits, bit, image, packed}
 use Rattle.bits.specs.Places.{from, elem}
 use Rattle.bits.specs.Search.{every}
-use Rattle.bits.proofs.Cases.{split, both, and-l, and-r, under, T→true, true→T}
+use Rattle.bits.proofs.Cases.{both, and-l, and-r, under, T→true, true→T}
 use Rattle.bits.proofs.Digits.{packed-lt}
 use Rattle.bits.proofs.Search.{each as each-below}
 use Rattle.bits.proofs.Sharing.{allPass}
@@ -25,11 +25,11 @@ use Rattle.rules.specs.declared.Instruction.the-variants.{Belts, Shuttles, Tilt
 use Rattle.rules.specs.Rules.{wellFormed, conditions, allowed, nextRecord}
 use Rattle.rules_laws.specs.Undoing.{recordAfter, Moves}
 use Rattle.rules_laws.proofs.Locked.{next-image}
-use Rattle.cards.specs.Cards.{anchor, Among}
+use Rattle.cards.specs.Cards.{anchor}
 use Rattle.cards.specs.Given.{bears}
 use Rattle.cards_laws.proofs.Anchors.{stands, car-bears}
 use Rattle.fetch_laws.specs.Fetching.{carAfter, CanBeFetched, EachCanBeFetched, fixedParts}
-use Rattle.fetch_laws.proofs.Fetched.{moves-sound, cars-followed, fetched-before}
+use Rattle.fetch_laws.proofs.Fetched.{cars-followed, fetched-before}
 use Rattle.fetch_laws.proofs.Found.{sevenCars, sevenFetched, sixCars, sixFetched, links}
 
 -- ---- a way on a record, by images

@@ -1,5 +1,5 @@
 -- `fetch::locks_nobody_in` meets its contract: the masks name the cells on either side of the lift. Assumes nothing.
-use mathlib.Core.Path.{_≡_, ap₂}
+use mathlib.Core.Path.{ap₂}
 use mathlib.Core.Bool.{_||_}
 use Prim.Native.Nat.{ℕ}
 use lib.Dec.{leb}
