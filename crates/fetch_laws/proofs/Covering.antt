@@ -202,13 +202,13 @@ module _ (f : Bits) (w : Whole 20 f) (no11 : f 11 ≡ false) (no12 : f 12 ≡ fa
       go : (x : ℕ) → (x % 2 ≡ 1 → ⊥) → x % 2 ≡ 0
       go x n = omega arith
 
-  left-even : below f 11 % 2 ≡ 0
+  pub left-even : below f 11 % 2 ≡ 0
   left-even = even-at 11 (omega arith) (λ q. clash (q .1) no11)
 
-  all-even : below f 20 % 2 ≡ 0
+  pub all-even : below f 20 % 2 ≡ 0
   all-even = even-at 20 (omega arith) (λ q. omega (arith, q .0))
 
-  right-from : below f 13 ≡ below f 11
+  pub right-from : below f 13 ≡ below f 11
   right-from = omega (arith, ap digit no11, ap digit no12)
 
   both-sides : (b c : ℕ) → below f 11 ≤ 2 * b → below f 20 ≤ below f 13 + 2 * c → T (covers 11 0 false b goodRecords (rightCovered c)) → Covered f

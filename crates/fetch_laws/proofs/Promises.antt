@@ -7,7 +7,7 @@ use mathlib.Core.List.{List, [], _∷_}
 use Prim.Native.Nat.{ℕ, _+_, _^_, _≤_, _<_}
 use native.Mathlib.Omega.{arith}
 use lib.Dec.{T, eqb, ltb, leb, leb→le, eqb→eq}
-use borrow.Author.Tests.{eqb-true, ltb-true, ltb-false, not-true}
+use borrow.Author.Tests.{eqb-true, ltb-true, ltb-false, leb-false, not-true}
 use Rattle.bits.specs.Bits.{Bits, bit, digit, count}
 use Rattle.bits.specs.Places.{from, elem}
 use Rattle.bits.proofs.Cases.{split, clash, off, both, and-intro, one-of, and-l, and-r, T→true, true→T, beq→eq}
@@ -15,9 +15,10 @@ use Rattle.bits.proofs.Counts.{count-zero, count-agree, elem-from, from-elem}
 use Rattle.bits.proofs.Sharing.{allPass, pass-at}
 use Rattle.floor.specs.Floor.{raisedCar, street, driveIn, driveOut, heightLow, heightHigh, liftCells, drives, leftOfLift, rightOfLift}
 use Rattle.floor.specs.Tests.{holds, heightIs, underWay, atBasement}
-use Rattle.floor.specs.Cars.{Car}
+use Rattle.floor.specs.Cars.{Car, cars}
 use Rattle.floor.specs.Sound.{Sound, soundRules, sound}
 use Rattle.floor.proofs.Reading.{holds-agree, nth-holds}
+use Rattle.floor.proofs.Rows.{count-from}
 use Rattle.floor.proofs.Standing.{or-else}
 use Rattle.rules.specs.declared.Event.the-variants.{BeginIn, EndDone}
 use Rattle.rules.specs.Events.{possible, eventConditions, afterEvent}
@@ -27,12 +28,12 @@ use Rattle.cards.specs.Cards.{anchor, Among}
 use Rattle.cards.specs.Given.{bears}
 use Rattle.cards_laws.proofs.Anchors.{isPlace, bears-place, car-bears, bears-exactly}
 use Rattle.fetch.specs.Room.{locksNobodyIn}
-use Rattle.fetch_laws.specs.Fetching.{carAfter, EachCanBeFetched, NobodyLockedIn, ThreeOnEachSide, fixedParts, FewerCars, FewerHinderNobody}
+use Rattle.fetch_laws.specs.Fetching.{carAfter, EachCanBeFetched, NobodyLockedIn, FiveAlwaysPass, ThreeOnEachSide, fixedParts, FewerCars, FewerHinderNobody}
 use Rattle.fetch_laws.proofs.Fewer.{whole, Fewer, moves-down}
 use Rattle.fetch_laws.proofs.Fetched.{among-there, moves-sound, cars-followed, fetched-before, fetched-down}
 use Rattle.fetch_laws.proofs.Ways.{normal, isFull, full-sound, Good, goods}
 use Rattle.fetch_laws.proofs.Lowering.{Down, down}
-use Rattle.fetch_laws.proofs.Covering.{OneSideFew, Covered, covered-row}
+use Rattle.fetch_laws.proofs.Covering.{OneSideFew, Covered, left-even, all-even, right-from, covered-row}
 
 -- ---- a record with a car on the lift at street, all shuttles lowered and no drive
 
@@ -180,6 +181,45 @@ nobody-locked-in r s p t =
 
         none : (e d c b : Bool) → e ≡ false → d ≡ false → c ≡ false → b ≡ false → T (e || (d || (c || (b || false)))) → ⊥
         none e d c b i j k l t = rw (i, j, k, l) at t
+
+-- ---- with few cars
+
+module _ (r : ℕ) (s : Sound (bit r)) (p : possible BeginIn (bit r) ≡ true) (few : cars (bit r) ≤ 5) where
+  -- at street the lift's cells are free
+  lift-free : (k : ℕ) → T (elem k liftCells) → bit r k ≡ false
+  unfolding possible
+  lift-free k m = off (bit r k) (λ on. clash
+      (both (bit r heightHigh) true
+      (both (eqb (count (heightLow ∷ []) (bit r)) 0) (bit r heightHigh && true)
+      (or-else liftCells atBasement (bit r) (nth-holds (bit r) soundRules (true→T (s .rules)) 6) k m on) .1) .0)
+      (count-zero (heightHigh ∷ []) (bit r) (eqb→eq _ 0
+      (and-r (eqb (count (heightLow ∷ []) (bit r)) 0) _ (nth-holds (bit r) (eventConditions BeginIn) (true→T p) 1))) heightHigh tt))
+
+  -- the cars of row 1 alone are at most five, and there is an even number of half cells on either side
+  one-side : (4 < count leftOfLift (bit r)) → (4 < count rightOfLift (bit r)) → ⊥
+  unfolding cars
+  one-side a b =
+      let w = whole (bit r) s in
+      let x = lift-free 11 tt in
+      let y = lift-free 12 tt in
+      omega (
+        arith,
+        few,
+        left-even (bit r) w x y,
+        all-even (bit r) w x y,
+        right-from (bit r) w x y,
+        count-from (bit r) 11 0,
+        count-from (bit r) 7 13,
+        count-from (bit r) 20 0,
+      )
+
+pub five-always-pass : FiveAlwaysPass
+unfolding locksNobodyIn
+five-always-pass r s p few = split (leb (count leftOfLift (bit r)) 4)
+    (λ e. rw e)
+    (λ e. split (leb (count rightOfLift (bit r)) 4)
+    (λ d. rw (e, d))
+    (λ d. absurd (one-side r s p few (leb-false (count leftOfLift (bit r)) 4 e) (leb-false (count rightOfLift (bit r)) 4 d))))
 
 pub three-on-each-side : ThreeOnEachSide
 unfolding locksNobodyIn

@@ -4,13 +4,13 @@
 use mathlib.Core.Path.{_≡_}
 use mathlib.Core.Bool.{true, false}
 use mathlib.Core.List.{List, [], _∷_, _++_}
-use Prim.Native.Nat.{ℕ}
+use Prim.Native.Nat.{ℕ, _≤_}
 use lib.Dec.{T}
 use Rattle.bits.specs.Bits.{Bits, bit, count}
 use Rattle.bits.specs.Places.{from, elem}
 use Rattle.floor.specs.Floor.{leftOfLift, rightOfLift, street, heightLow, heightHigh, drives}
 use Rattle.floor.specs.Tests.{holds, heightIs}
-use Rattle.floor.specs.Cars.{Car, raised, Layout}
+use Rattle.floor.specs.Cars.{Car, raised, Layout, cars}
 use Rattle.floor.specs.Sound.{Sound}
 use Rattle.rules.specs.declared.Instruction.{Instruction}
 use Rattle.rules.specs.declared.Event.the-variants.{BeginIn, EndDone}
@@ -45,6 +45,10 @@ afterDriveIn f = afterEvent EndDone (afterEvent BeginIn f)
 -- a drive-in that may begin on a sound record which passes the test locks nobody in: after it every car can be fetched, the new one too
 abbrev pub NobodyLockedIn : Type 0
 NobodyLockedIn = (r : ℕ) → Sound (bit r) → possible BeginIn (bit r) ≡ true → locksNobodyIn r ≡ true → EachCanBeFetched (afterDriveIn (bit r))
+
+-- with at most five cars in the garage a record on which a drive-in may begin always passes
+abbrev pub FiveAlwaysPass : Type 0
+FiveAlwaysPass = (r : ℕ) → Sound (bit r) → possible BeginIn (bit r) ≡ true → cars (bit r) ≤ 5 → locksNobodyIn r ≡ true
 
 -- three on each side are too many: so are they on the record on which a drive-in locks the others in, and it does not pass
 abbrev pub ThreeOnEachSide : Type 0
