@@ -2,9 +2,9 @@
 ghost use mathlib.Core.Path.{_≡_};
 ghost use Rattle.fetch.specs.Room.{locksNobodyIn};
 
-// Row 1 has at most five cars.
+// Row 1 has at most two cars on one side of the lift, in cells 0 to 10 or 13 to 19.
 pub fn locks_nobody_in(r: u64) -> bool
     ensures { λ b. ⌜ b ≡ locksNobodyIn r ⌝ }
 {
-    bits::count(r, 0xFFFFF) <= 10
+    (bits::count(r, 0x7FF) <= 4) | (bits::count(r, 0xFE000) <= 4)
 }

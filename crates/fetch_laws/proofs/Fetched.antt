@@ -1,14 +1,11 @@
 -- A car goes where the instructions take it, moves before a way are part of the way, and with fewer cars the way stays. Assumes nothing.
-use mathlib.Core.Path.{_≡_, refl, sym, ap, subst, _∙_}
-use mathlib.Core.Bool.{Bool, true}
+use mathlib.Core.Path.{_≡_, refl, ap, subst, _∙_}
+use mathlib.Core.Bool.{true}
 use mathlib.Core.List.{List, [], _∷_}
-use Prim.Native.Nat.{ℕ, _≤_, _<_}
 use native.Mathlib.Omega.{arith}
-use lib.Dec.{T}
 use Rattle.bits.specs.Bits.{Bits}
-use Rattle.bits.specs.Places.{elem}
 use Rattle.floor.specs.Floor.{street, driveIn}
-use Rattle.floor.specs.Tests.{holds, heightIs}
+use Rattle.floor.specs.Tests.{heightIs}
 use Rattle.floor.specs.Cars.{Car, pair, single, raised, Stands, Layout}
 use Rattle.floor.specs.Sound.{Sound}
 use Rattle.floor.proofs.Reading.{holds-agree}
@@ -19,7 +16,7 @@ use Rattle.rules_laws.proofs.Laws.{stays-sound}
 use Rattle.cards.specs.Cards.{anchor, Among}
 use Rattle.cards.specs.Given.{bears}
 use Rattle.cards.specs.Following.{carMoved}
-use Rattle.cards_laws.proofs.Anchors.{stands, car-bears, bears-car}
+use Rattle.cards_laws.proofs.Anchors.{stands, bears-car}
 use Rattle.cards_laws.proofs.Laws.{next-layout}
 use Rattle.cards_laws.proofs.Moving.{one-layout, followed}
 use Rattle.fetch_laws.specs.Fetching.{carAfter, CanBeFetched, CarsFollowed, fixedParts}

@@ -3,28 +3,28 @@
 use mathlib.Core.Path.{_≡_, refl, sym, ap, subst, _∙_}
 use mathlib.Core.Logic.{inl, inr, ⊎-elim, _⊎_}
 use mathlib.Core.Bool.{Bool, true, false, cond, not, _&&_, _||_, Bool·beq}
-use mathlib.Core.List.{List, [], _∷_, _++_}
+use mathlib.Core.List.{List, [], _∷_}
 use Prim.Native.Nat.{ℕ, zero, suc, _+_, _%_, _≤_, _<_}
 use native.Mathlib.Omega.{arith}
-use lib.Dec.{T, eqb, ltb, leb, leb→le, eqb→eq}
+use lib.Dec.{T, eqb, ltb, leb, leb→le}
 use lib.ListN.{length, getD}
-use borrow.Author.Tests.{eqb-true, eqb-false, eq-eqb, lt-ltb, ltb-true, ltb-false, not-true}
-use Rattle.bits.specs.Bits.{Bits, digit, count, allSet}
+use borrow.Author.Tests.{eqb-true, eqb-false, eq-eqb, lt-ltb, ltb-true}
+use Rattle.bits.specs.Bits.{Bits, digit, count}
 use Rattle.bits.specs.Places.{from, elem}
 use Rattle.bits.specs.Search.{every}
-use Rattle.bits.proofs.Cases.{split, clash, off, both, and-intro, one-of, and-l, and-r, under, T→true, true→T, beq→eq}
-use Rattle.bits.proofs.Counts.{set-agree, count-agree, elem-here, elem-there}
+use Rattle.bits.proofs.Cases.{split, clash, both, and-intro, one-of, and-l, and-r, under, T→true, true→T}
+use Rattle.bits.proofs.Counts.{set-agree, count-agree}
 use Rattle.bits.proofs.Lists.{same, same-eq}
 use Rattle.bits.proofs.Sharing.{allPass, pass-at}
 use Rattle.floor.specs.Floor.{raisedCar, driveIn}
-use Rattle.floor.specs.Tests.{Test, fact, set, exactly, even, no, both as bothTests, either, holds, allHold, underWay, atBasement, changed}
-use Rattle.floor.specs.Cars.{Car, pair, single, raised, Stands, Layout}
+use Rattle.floor.specs.Tests.{Test, fact, set, exactly, even, no, both as bothTests, either, holds, allHold, underWay, atBasement}
+use Rattle.floor.specs.Cars.{Car, pair, single, raised, Stands}
 use Rattle.floor.specs.Sound.{Sound}
 use Rattle.floor.proofs.Reading.{inside, inside-at, readsIn, holds-agree, found, found-law}
 use Rattle.floor.proofs.Rows.{below, Whole, count-from, whole-iff-paired}
 use Rattle.floor.proofs.Promises.{layout-exactly}
 use Rattle.rules.specs.declared.Instruction.{Instruction}
-use Rattle.rules.specs.Rules.{wellFormed, areaOf, area, conditions, changes, allowed, nextRecord}
+use Rattle.rules.specs.Rules.{areaOf, area, conditions, changes, allowed, nextRecord}
 use Rattle.rules.proofs.Every.{everywhere, each}
 use Rattle.rules_laws.specs.Laws.{Clear}
 use Rattle.rules_laws.specs.Undoing.{recordAfter, Moves}
@@ -33,11 +33,11 @@ use Rattle.cards.specs.Cards.{anchor, Among}
 use Rattle.cards.specs.Given.{bears}
 use Rattle.cards.specs.Following.{noSource, takings}
 use Rattle.cards.specs.Private.{source}
-use Rattle.cards_laws.proofs.Anchors.{bears-row, bears-place, stands, car-bears, bears-car, comes}
+use Rattle.cards_laws.proofs.Anchors.{bears-row, bears-place, stands, bears-car, comes}
 use Rattle.cards_laws.proofs.Others.{gapless, is-gapless}
 use Rattle.cards_laws.proofs.Laws.{fine, follows}
 use Rattle.cards_laws.proofs.Torn.{none-torn}
-use Rattle.fetch_laws.specs.Fetching.{fixedParts, FewerCars, FewerHinderNobody}
+use Rattle.fetch_laws.specs.Fetching.{fixedParts}
 
 pub whole : (f : Bits) → Sound f → Whole 20 f
 whole f s = whole-iff-paired f .0 (layout-exactly f .1 (s .layout))

@@ -1,8 +1,8 @@
 -- Every sound record with no drive can be brought to all six shuttles lowered, and nothing else changes: a tilted shuttle goes to the row of
 -- its side that has no lowered one, and is lowered there. That is tried at every setting of the twelve slots. Assumes nothing.
-use mathlib.Core.Path.{_≡_, refl, sym, ap, subst, _∙_}
+use mathlib.Core.Path.{_≡_, refl, sym, _∙_}
 use mathlib.Core.Logic.{inl}
-use mathlib.Core.Bool.{Bool, true, false, cond, not, _&&_, _||_, Bool·beq}
+use mathlib.Core.Bool.{Bool, true, false, cond, not, _&&_, Bool·beq}
 use mathlib.Core.List.{List, [], _∷_, _++_, map}
 use Prim.Native.Nat.{ℕ, _+_, _-_, _^_}
 use lib.Dec.{T, eqb, ltb}
@@ -56,12 +56,14 @@ lowered-so (i ∷ is) f₀ f p e d t =
     let (L, q) = lowered-so is (changed (changes i) f₀) (changed (changes i) f) p
     (changed-agree allSlots f₀ f e (changes i) in-slots)
     (holds-agree drives (changed (changes i) f) f (λ k m. out k (drive-no-slot k m)) underWay tt ∙ d)
-    (and-r (slotsAlone i) _ u) in
-    (record {
-      moves = (ok, inl d, L .moves);
-      slots = L .slots;
-      others = λ k o. L .others k o ∙ out k o;
-    }, q)
+    (and-r (slotsAlone i) _ u) in (
+      record {
+        moves = (ok, inl d, L .moves);
+        slots = L .slots;
+        others = λ k o. L .others k o ∙ out k o;
+      },
+      q,
+    )
   where
     drive-no-slot : (k : ℕ) → T (elem k drives) → elem k allSlots ≡ false
     drive-no-slot k m = not-true (elem k allSlots) (T→true _ (pass-at (λ k. not (elem k allSlots)) drives tt k m))

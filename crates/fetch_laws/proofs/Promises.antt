@@ -1,24 +1,24 @@
--- The promises of specs/Fetching.antt: with all shuttles lowered, a record with at most five cars in row 1 has no car that one of the full
--- records doesn't have, and of those every car can be fetched. Assumes nothing.
+-- The promises of specs/Fetching.antt: with all shuttles lowered, a record with at most two cars of row 1 on one side of the lift has no
+-- car that one of the full records doesn't have, and of those every car can be fetched. Assumes nothing.
 use mathlib.Core.Path.{_≡_, refl, sym, ap, subst, _∙_}
-use mathlib.Core.Logic.{⊎-elim}
+use mathlib.Core.Logic.{inl, inr, ⊎-elim}
 use mathlib.Core.Bool.{Bool, true, false, not, _&&_, _||_, Bool·beq}
-use mathlib.Core.List.{List, [], _∷_, _++_}
-use Prim.Native.Nat.{ℕ, zero, suc, _+_, _^_, _≤_, _<_}
+use mathlib.Core.List.{List, [], _∷_}
+use Prim.Native.Nat.{ℕ, _+_, _^_, _≤_, _<_}
 use native.Mathlib.Omega.{arith}
 use lib.Dec.{T, eqb, ltb, leb, leb→le, eqb→eq}
-use borrow.Author.Tests.{eqb-true, ltb-true, ltb-false, not-true}
+use borrow.Author.Tests.{eqb-true, ltb-true, ltb-false, leb-false, not-true}
 use Rattle.bits.specs.Bits.{Bits, bit, digit, count}
 use Rattle.bits.specs.Places.{from, elem}
-use Rattle.bits.proofs.Cases.{split, clash, off, both, and-intro, and-l, and-r, T→true, true→T, beq→eq}
-use Rattle.bits.proofs.Counts.{count-zero, elem-from, from-elem}
+use Rattle.bits.proofs.Cases.{split, clash, off, both, and-intro, one-of, and-l, and-r, T→true, true→T, beq→eq}
+use Rattle.bits.proofs.Counts.{count-zero, count-agree, elem-from, from-elem}
 use Rattle.bits.proofs.Sharing.{allPass, pass-at}
-use Rattle.floor.specs.Floor.{raisedCar, street, driveIn, driveOut, heightLow, heightHigh, liftCells, drives, rowCells}
+use Rattle.floor.specs.Floor.{raisedCar, street, driveIn, driveOut, heightLow, heightHigh, liftCells, drives, leftOfLift, rightOfLift}
 use Rattle.floor.specs.Tests.{holds, heightIs, underWay, atBasement}
-use Rattle.floor.specs.Cars.{Car, Layout}
+use Rattle.floor.specs.Cars.{Car, cars}
 use Rattle.floor.specs.Sound.{Sound, soundRules, sound}
 use Rattle.floor.proofs.Reading.{holds-agree, nth-holds}
-use Rattle.floor.proofs.Rows.{below, count-from}
+use Rattle.floor.proofs.Rows.{count-from}
 use Rattle.floor.proofs.Standing.{or-else}
 use Rattle.rules.specs.declared.Event.the-variants.{BeginIn, EndDone}
 use Rattle.rules.specs.Events.{possible, eventConditions, afterEvent}
@@ -28,18 +28,14 @@ use Rattle.cards.specs.Cards.{anchor, Among}
 use Rattle.cards.specs.Given.{bears}
 use Rattle.cards_laws.proofs.Anchors.{isPlace, bears-place, car-bears, bears-exactly}
 use Rattle.fetch.specs.Room.{locksNobodyIn}
-use Rattle.fetch_laws.specs.Fetching.{carAfter, EachCanBeFetched, NobodyLockedIn, SixAreTooMany, fixedParts, FewerCars, FewerHinderNobody}
+use Rattle.fetch_laws.specs.Fetching.{carAfter, EachCanBeFetched, NobodyLockedIn, FiveAlwaysPass, ThreeOnEachSide, fixedParts, FewerCars, FewerHinderNobody}
 use Rattle.fetch_laws.proofs.Fewer.{whole, Fewer, moves-down}
 use Rattle.fetch_laws.proofs.Fetched.{among-there, moves-sound, cars-followed, fetched-before, fetched-down}
-use Rattle.fetch_laws.proofs.Ways.{normal, isFull, full-sound, Good, goodRecords, goods}
+use Rattle.fetch_laws.proofs.Ways.{normal, isFull, full-sound, Good, goods}
 use Rattle.fetch_laws.proofs.Lowering.{Down, down}
-use Rattle.fetch_laws.proofs.Covering.{Over, covered-row}
+use Rattle.fetch_laws.proofs.Covering.{OneSideFew, Covered, left-even, all-even, right-from, covered-row}
 
 -- ---- a record with a car on the lift at street, all shuttles lowered and no drive
-
-below-same : (f g : Bits) (n : ℕ) → ((k : ℕ) → k < n → f k ≡ g k) → below f n ≡ below g n
-below-same f g zero e = refl
-below-same f g (suc n) e = omega (arith, below-same f g n (λ k h. e k (omega arith)), ap digit (e n (omega arith)))
 
 -- the parts and places of a full record
 module _ (r : ℕ) (t : T (isFull r)) where
@@ -55,15 +51,15 @@ module _ (r : ℕ) (t : T (isFull r)) where
   full-places k m = T→true (bit r k)
       (pass-at (bit r) (raisedCar ∷ from 20 20) (and-r (allPass (λ k. Bool·beq (bit r k) (normal k)) fixedParts) _ rest) k m)
 
-module _ (g : Bits) (s : Sound g) (parts : (k : ℕ) → T (elem k fixedParts) → g k ≡ normal k) (few : below g 20 ≤ 10) where
+module _ (g : Bits) (s : Sound g) (parts : (k : ℕ) → T (elem k fixedParts) → g k ≡ normal k) (few : OneSideFew g) where
   -- the lift's cells are free
   no-lift : (k : ℕ) → T (elem k liftCells) → g k ≡ false
   no-lift k m = off (g k) (λ on. clash
       (or-else liftCells atBasement g (nth-holds g soundRules (true→T (s .rules)) 6) k m on)
       (holds-agree fixedParts g normal parts atBasement tt))
 
-  over : Over g 0 goodRecords
-  over = covered-row g (whole g s) few (no-lift 11 tt) (no-lift 12 tt)
+  over : Covered g
+  over = covered-row g (whole g s) (no-lift 11 tt) (no-lift 12 tt) few
 
   good : Good (over .one)
   good = goods (over .one) (over .among)
@@ -71,7 +67,7 @@ module _ (g : Bits) (s : Sound g) (parts : (k : ℕ) → T (elem k fixedParts) �
   fewer : Fewer g (bit (over .one))
   fewer = record {
     cars = λ k b. split (ltb k 20)
-        (λ e. over .has k (omega arith) (ltb-true k 20 e) b)
+        (λ e. over .has k (ltb-true k 20 e) b)
         (λ e.
         let (p, on) = both (isPlace k) (g k) (sym (bears-place g k e) ∙ b) in
         bears-place (bit (over .one)) k e ∙ and-intro p (place k (ltb-false k 20 e) p on));
@@ -108,7 +104,7 @@ module _ (g : Bits) (s : Sound g) (parts : (k : ℕ) → T (elem k fixedParts) �
 abbrev lifted : List ℕ
 lifted = heightLow ∷ heightHigh ∷ drives
 
-module _ (h : Bits) (s : Sound h) (idle : (k : ℕ) → T (elem k lifted) → h k ≡ false) (few : below h 20 ≤ 10) where
+module _ (h : Bits) (s : Sound h) (idle : (k : ℕ) → T (elem k lifted) → h k ≡ false) (few : OneSideFew h) where
   quiet : (k : ℕ) → T (elem k lifted) → normal k ≡ false
   quiet k m = not-true (normal k) (T→true _ (pass-at (λ k. not (normal k)) lifted tt k m))
 
@@ -122,10 +118,17 @@ module _ (h : Bits) (s : Sound h) (idle : (k : ℕ) → T (elem k lifted) → h 
       let n = subst (λ (b : Bool). T (b || elem k lifted)) e (pass-at (λ k. elem k (from 40 12) || elem k lifted) fixedParts tt k m) in
       D .others k e ∙ idle k n ∙ sym (quiet k n))
 
-  few-after : below (recordAfter (D .by) h) 20 ≤ 10
-  few-after =
-      omega (arith, few, below-same (recordAfter (D .by) h) h 20
-      (λ k l. D .others k (off (elem k (from 40 12)) (λ e. let q = from-elem k 40 12 (true→T e) in omega (arith, q .0)))))
+  cell-kept : (k : ℕ) → k < 20 → recordAfter (D .by) h k ≡ h k
+  cell-kept k l = D .others k (off (elem k (from 40 12)) (λ e. let q = from-elem k 40 12 (true→T e) in omega (arith, q .0)))
+
+  count-kept : (a n : ℕ) → a + n ≤ 20 → count (from a n) (recordAfter (D .by) h) ≡ count (from a n) h
+  count-kept a n l = count-agree (from a n) (recordAfter (D .by) h) h
+      (λ k m. cell-kept k (let q = from-elem k a n m in omega (arith, q .1)))
+
+  few-after : OneSideFew (recordAfter (D .by) h)
+  few-after = ⊎-elim
+      (λ (q : count leftOfLift h ≤ 4). inl (omega (arith, count-kept 0 11 (omega arith))))
+      (λ (q : count rightOfLift h ≤ 4). inr (omega (arith, count-kept 13 7 (omega arith)))) few
 
   pub each-fetched : EachCanBeFetched h
   each-fetched l y x a =
@@ -143,7 +146,10 @@ nobody-locked-in r s p t =
     each-fetched (afterEvent EndDone (afterEvent BeginIn (bit r)))
     (event-sound EndDone (afterEvent BeginIn (bit r)) (event-sound BeginIn (bit r) s p) (going (bit r driveOut)))
     still
-    (omega (arith, leb→le (count (rowCells 1) (bit r)) 10 (true→T t), count-from (afterEvent EndDone (afterEvent BeginIn (bit r))) 20 0))
+    (⊎-elim
+    (λ (q : leb (count leftOfLift (bit r)) 4 ≡ true). inl (leb→le (count leftOfLift (bit r)) 4 (true→T q)))
+    (λ (q : leb (count rightOfLift (bit r)) 4 ≡ true). inr (leb→le (count rightOfLift (bit r)) 4 (true→T q)))
+    (one-of (leb (count leftOfLift (bit r)) 4) (leb (count rightOfLift (bit r)) 4) t))
   where
     going : (b : Bool) → not (eqb (1 + (digit b + 0)) 0) && true ≡ true
     going true = refl
@@ -176,9 +182,48 @@ nobody-locked-in r s p t =
         none : (e d c b : Bool) → e ≡ false → d ≡ false → c ≡ false → b ≡ false → T (e || (d || (c || (b || false)))) → ⊥
         none e d c b i j k l t = rw (i, j, k, l) at t
 
-pub six-are-too-many : SixAreTooMany
+-- ---- with few cars
+
+module _ (r : ℕ) (s : Sound (bit r)) (p : possible BeginIn (bit r) ≡ true) (few : cars (bit r) ≤ 5) where
+  -- at street the lift's cells are free
+  lift-free : (k : ℕ) → T (elem k liftCells) → bit r k ≡ false
+  unfolding possible
+  lift-free k m = off (bit r k) (λ on. clash
+      (both (bit r heightHigh) true
+      (both (eqb (count (heightLow ∷ []) (bit r)) 0) (bit r heightHigh && true)
+      (or-else liftCells atBasement (bit r) (nth-holds (bit r) soundRules (true→T (s .rules)) 6) k m on) .1) .0)
+      (count-zero (heightHigh ∷ []) (bit r) (eqb→eq _ 0
+      (and-r (eqb (count (heightLow ∷ []) (bit r)) 0) _ (nth-holds (bit r) (eventConditions BeginIn) (true→T p) 1))) heightHigh tt))
+
+  -- the cars of row 1 alone are at most five, and there is an even number of half cells on either side
+  one-side : (4 < count leftOfLift (bit r)) → (4 < count rightOfLift (bit r)) → ⊥
+  unfolding cars
+  one-side a b =
+      let w = whole (bit r) s in
+      let x = lift-free 11 tt in
+      let y = lift-free 12 tt in
+      omega (
+        arith,
+        few,
+        left-even (bit r) w x y,
+        all-even (bit r) w x y,
+        right-from (bit r) w x y,
+        count-from (bit r) 11 0,
+        count-from (bit r) 7 13,
+        count-from (bit r) 20 0,
+      )
+
+pub five-always-pass : FiveAlwaysPass
 unfolding locksNobodyIn
-six-are-too-many = (refl, refl)
+five-always-pass r s p few = split (leb (count leftOfLift (bit r)) 4)
+    (λ e. rw e)
+    (λ e. split (leb (count rightOfLift (bit r)) 4)
+    (λ d. rw (e, d))
+    (λ d. absurd (one-side r s p few (leb-false (count leftOfLift (bit r)) 4 e) (leb-false (count rightOfLift (bit r)) 4 d))))
+
+pub three-on-each-side : ThreeOnEachSide
+unfolding locksNobodyIn
+three-on-each-side = (refl, refl, refl)
 
 -- ---- fewer cars
 
@@ -195,9 +240,11 @@ by-places f g r s F = record {
 
 pub fewer-hinder-nobody : FewerHinderNobody
 fewer-hinder-nobody f g r s F is m =
-    let (n, G) = moves-down is f g r s (by-places f g r s F) m in
-    (n, record {
-      cars = λ l k y z x a.
-          among-there (recordAfter is f) (recordAfter is g) l k y z x a (G .cars (anchor x) (car-bears (recordAfter is f) l y x a));
-      parts = G .parts;
-    })
+    let (n, G) = moves-down is f g r s (by-places f g r s F) m in (
+      n,
+      record {
+        cars = λ l k y z x a.
+            among-there (recordAfter is f) (recordAfter is g) l k y z x a (G .cars (anchor x) (car-bears (recordAfter is f) l y x a));
+        parts = G .parts;
+      },
+    )

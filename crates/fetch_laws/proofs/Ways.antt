@@ -3,15 +3,15 @@
 use mathlib.Core.Path.{_≡_, refl, sym, ap, subst, _∙_}
 use mathlib.Core.Logic.{inl}
 use mathlib.Core.Bool.{Bool, true, false, cond, not, _&&_, _||_, Bool·beq}
-use mathlib.Core.List.{List, [], _∷_, _++_, map}
-use Prim.Native.Nat.{ℕ, zero, suc, _+_, _/_, _%_, _^_, _<_}
+use mathlib.Core.List.{List, [], _∷_, map}
+use Prim.Native.Nat.{ℕ, _+_, _/_, _%_, _^_, _<_}
 use native.Mathlib.Omega.{arith}
 use lib.Dec.{T, eqb, ltb, ltb→lt}
 use borrow.Author.Tests.{eqb-true, lt-ltb, le-ltb, not-true}
-use Rattle.bits.specs.Bits.{Bits, bit, image, packed, allSet}
+use Rattle.bits.specs.Bits.{Bits, bit, image, packed}
 use Rattle.bits.specs.Places.{from, elem}
 use Rattle.bits.specs.Search.{every}
-use Rattle.bits.proofs.Cases.{split, both, and-l, and-r, under, T→true, true→T}
+use Rattle.bits.proofs.Cases.{both, and-l, and-r, under, T→true, true→T}
 use Rattle.bits.proofs.Digits.{packed-lt}
 use Rattle.bits.proofs.Search.{each as each-below}
 use Rattle.bits.proofs.Sharing.{allPass}
@@ -25,12 +25,12 @@ use Rattle.rules.specs.declared.Instruction.the-variants.{Belts, Shuttles, Tilt
 use Rattle.rules.specs.Rules.{wellFormed, conditions, allowed, nextRecord}
 use Rattle.rules_laws.specs.Undoing.{recordAfter, Moves}
 use Rattle.rules_laws.proofs.Locked.{next-image}
-use Rattle.cards.specs.Cards.{anchor, Among}
+use Rattle.cards.specs.Cards.{anchor}
 use Rattle.cards.specs.Given.{bears}
 use Rattle.cards_laws.proofs.Anchors.{stands, car-bears}
 use Rattle.fetch_laws.specs.Fetching.{carAfter, CanBeFetched, EachCanBeFetched, fixedParts}
-use Rattle.fetch_laws.proofs.Fetched.{moves-sound, cars-followed, fetched-before}
-use Rattle.fetch_laws.proofs.Found.{centre, fetches, links}
+use Rattle.fetch_laws.proofs.Fetched.{cars-followed, fetched-before}
+use Rattle.fetch_laws.proofs.Found.{sevenCars, sevenFetched, sixCars, sixFetched, links}
 
 -- ---- a way on a record, by images
 
@@ -100,7 +100,7 @@ pub full-sound : (r : ℕ) → T (isFull r) → Sound (bit r)
 unfolding isFull
 full-sound r t = sound-exactly r .0 (T→true (sound r) (and-l (sound r) _ (and-r (ltb r (2 ^ 64)) _ t)))
 
--- ---- the centre
+-- ---- two of them, from which each car has a way
 
 abbrev carAt : ℕ → Car
 carAt k = cond (ltb k 20) (pair k) (cond (ltb k 40) (single k) raised)
@@ -142,33 +142,32 @@ some-way (w ∷ ws) r x h t = go (isRaised (carAfter (map instruction w) x) && r
         }
     go false e t later = later t
 
-abbrev fetchedAt : ℕ → ℕ → Bool
-fetchedAt r k = cond (bears (bit r) k) (someWay fetches r (carAt k)) true
-
-centre-full : T (isFull (full centre))
-unfolding isFull sound paired
-centre-full = tt
-
-all-fetched : T (every 64 (fetchedAt (full centre)))
-unfolding every someWay runTo carAfter allowed nextRecord packed
-all-fetched = tt
+abbrev fetchedAt : List (List ℕ) → ℕ → ℕ → Bool
+fetchedAt ws r k = cond (bears (bit r) k) (someWay ws r (carAt k)) true
 
 car-at : (x : Car) → Stands x → (carAt (anchor x) ≡ x) × (anchor x < 64)
 car-at (pair c) s = (rw (lt-ltb c 20 (omega arith)), omega arith)
 car-at (single c) s = (rw (le-ltb c 20 (s .0), lt-ltb c 40 (s .1)), omega (arith, s .1))
 car-at raised s = (refl, omega arith)
 
-pub centre-good : Good (full centre)
-centre-good = record {
-  isFull = centre-full;
+all-by-ways : (ws : List (List ℕ)) (r : ℕ) → T (isFull r) → T (every 64 (fetchedAt ws r)) → Good r
+all-by-ways ws r h t = record {
+  isFull = h;
   each = λ l y x a.
       let s = stands l x (y .stand) a in
-      let (e, h) = car-at x s in
-      subst (CanBeFetched (bit (full centre))) e
-      (some-way fetches (full centre) (carAt (anchor x)) (is-small (full centre) centre-full)
-      (under (bears (bit (full centre)) (anchor x)) _ (car-bears (bit (full centre)) l y x a)
-      (each-below 64 (fetchedAt (full centre)) all-fetched (anchor x) h)));
+      let (e, b) = car-at x s in
+      subst (CanBeFetched (bit r)) e
+      (some-way ws r (carAt (anchor x)) (is-small r h)
+      (under (bears (bit r) (anchor x)) _ (car-bears (bit r) l y x a) (each-below 64 (fetchedAt ws r) t (anchor x) b)));
 }
+
+seven-good : Good (full sevenCars)
+unfolding every someWay runTo carAfter allowed nextRecord packed isFull sound paired
+seven-good = all-by-ways sevenFetched (full sevenCars) tt tt
+
+six-good : Good (full sixCars)
+unfolding every someWay runTo carAfter allowed nextRecord packed isFull sound paired
+six-good = all-by-ways sixFetched (full sixCars) tt tt
 
 -- ---- the others, each linked to one before it
 
@@ -202,6 +201,13 @@ good-before is r known g h t =
           (cars-followed is (bit r) s (R .moves) l m y (subst (λ (f : Bits). Layout f m) (sym (R .ends)) z) x a)));
     }
 
+more-good : (q : ℕ) (known : List ℕ) → Good q → AllGood known → AllGood (q ∷ known)
+more-good q known G g r m = go (eqb q r) refl m
+  where
+    go : (b : Bool) → eqb q r ≡ b → T (b || elem r known) → Good r
+    go true e m = subst Good (eqb-true q r e) G
+    go false e m = g r m
+
 all-good : (es : List (List ℕ)) (known : List ℕ) → AllGood known → T (allLink es known) → AllGood (linked es known)
 unfolding linked allLink
 all-good [] known g t = g
@@ -210,29 +216,19 @@ all-good ((p ∷ w) ∷ es) known g t =
     let u = and-r (isFull (full p)) _ t in
     let G = good-before (map instruction w) (full p) known g (and-l (isFull (full p)) _ t)
     (and-l (runTo (map instruction w) (full p) (λ q. elem q known)) _ u) in
-    all-good es (full p ∷ known) (more G) (and-r (runTo (map instruction w) (full p) (λ q. elem q known)) _ u)
-  where
-    more : Good (full p) → AllGood (full p ∷ known)
-    more G r m = go (eqb (full p) r) refl m
-      where
-        go : (b : Bool) → eqb (full p) r ≡ b → T (b || elem r known) → Good r
-        go true e m = subst Good (eqb-true (full p) r e) G
-        go false e m = g r m
+    all-good es (full p ∷ known) (more-good (full p) known G g) (and-r (runTo (map instruction w) (full p) (λ q. elem q known)) _ u)
 
-links-right : T (allLink links (full centre ∷ []))
+abbrev firstTwo : List ℕ
+firstTwo = full sevenCars ∷ full sixCars ∷ []
+
+links-right : T (allLink links firstTwo)
 unfolding allLink isFull sound paired runTo allowed nextRecord packed
 links-right = tt
 
 -- the records of which every car can be fetched
 abbrev pub goodRecords : List ℕ
-goodRecords = linked links (full centre ∷ [])
+goodRecords = linked links firstTwo
 
 pub goods : (r : ℕ) → T (elem r goodRecords) → Good r
-goods = all-good links (full centre ∷ []) first links-right
-  where
-    first : AllGood (full centre ∷ [])
-    first r m = go (eqb (full centre) r) refl m
-      where
-        go : (b : Bool) → eqb (full centre) r ≡ b → T (b || false) → Good r
-        go true e m = subst Good (eqb-true (full centre) r e) centre-good
-        go false e m = absurd m
+goods = all-good links firstTwo
+    (more-good (full sevenCars) (full sixCars ∷ []) seven-good (more-good (full sixCars) [] six-good (λ r m. absurd m))) links-right

@@ -1,16 +1,16 @@
 -- Fetching a car: moves that bring it onto the lift at street, while every other car stays in the garage. In order: where moves take a car,
--- when it can be fetched, and the promises: a record with at most five cars in row 1 takes one more and locks nobody in; six can be too many;
--- and cars that are taken away hinder nobody. Proved in proofs/. Assumes nothing.
+-- when it can be fetched, and the promises: a record with at most two cars of row 1 on one side of the lift takes one more car and locks nobody in; three
+-- on each side can be too many; and cars that are taken away hinder nobody. Proved in proofs/. Assumes nothing.
 use mathlib.Core.Path.{_≡_}
 use mathlib.Core.Bool.{true, false}
 use mathlib.Core.List.{List, [], _∷_, _++_}
-use Prim.Native.Nat.{ℕ}
+use Prim.Native.Nat.{ℕ, _≤_}
 use lib.Dec.{T}
 use Rattle.bits.specs.Bits.{Bits, bit, count}
 use Rattle.bits.specs.Places.{from, elem}
-use Rattle.floor.specs.Floor.{rowCells, street, heightLow, heightHigh, drives}
+use Rattle.floor.specs.Floor.{leftOfLift, rightOfLift, street, heightLow, heightHigh, drives}
 use Rattle.floor.specs.Tests.{holds, heightIs}
-use Rattle.floor.specs.Cars.{Car, raised, Layout}
+use Rattle.floor.specs.Cars.{Car, raised, Layout, cars}
 use Rattle.floor.specs.Sound.{Sound}
 use Rattle.rules.specs.declared.Instruction.{Instruction}
 use Rattle.rules.specs.declared.Event.the-variants.{BeginIn, EndDone}
@@ -46,9 +46,14 @@ afterDriveIn f = afterEvent EndDone (afterEvent BeginIn f)
 abbrev pub NobodyLockedIn : Type 0
 NobodyLockedIn = (r : ℕ) → Sound (bit r) → possible BeginIn (bit r) ≡ true → locksNobodyIn r ≡ true → EachCanBeFetched (afterDriveIn (bit r))
 
--- six are too many: the record on which a drive-in locks the others in has six cars in row 1, and does not pass
-abbrev pub SixAreTooMany : Type 0
-SixAreTooMany = (count (rowCells 1) (bit unlocked) ≡ 12) × (locksNobodyIn unlocked ≡ false)
+-- with at most five cars in the garage a record on which a drive-in may begin always passes
+abbrev pub FiveAlwaysPass : Type 0
+FiveAlwaysPass = (r : ℕ) → Sound (bit r) → possible BeginIn (bit r) ≡ true → cars (bit r) ≤ 5 → locksNobodyIn r ≡ true
+
+-- three on each side are too many: so are they on the record on which a drive-in locks the others in, and it does not pass
+abbrev pub ThreeOnEachSide : Type 0
+ThreeOnEachSide =
+    (count leftOfLift (bit unlocked) ≡ 6) × (count rightOfLift (bit unlocked) ≡ 6) × (locksNobodyIn unlocked ≡ false)
 
 -- carAfter is right: where it says that a car is, there is a car of the last record
 abbrev pub CarsFollowed : Type 0

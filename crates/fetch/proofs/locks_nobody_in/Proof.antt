@@ -1,5 +1,6 @@
--- `fetch::locks_nobody_in` meets its contract: the mask names the cells of row 1. Assumes nothing.
-use mathlib.Core.Path.{_≡_, ap}
+-- `fetch::locks_nobody_in` meets its contract: the masks name the cells on either side of the lift. Assumes nothing.
+use mathlib.Core.Path.{ap₂}
+use mathlib.Core.Bool.{_||_}
 use Prim.Native.Nat.{ℕ}
 use lib.Dec.{leb}
 use borrow.Author.Needs.{needs}
@@ -11,9 +12,12 @@ use Rattle.fetch.proofs.locks_nobody_in.Tie as tie
 count-requires : tie.Need-count-requires
 count-requires c κs = search needs
 
+count-requires-2 : tie.Need-count-requires-2
+count-requires-2 c κs = search needs
+
 returns : tie.Need-returns
 unfolding locksNobodyIn places
-returns c = ap (λ (n : ℕ). leb n 10) (c .count .ensures)
+returns c = ap₂ (λ (m n : ℕ). leb m 4 || leb n 4) (c .before .count .ensures) (c .count2 .ensures)
 
 pub locks-nobody-in-spec : {M : Type 1} → statement M
-locks-nobody-in-spec = tie.close (tie.spec count-requires returns)
+locks-nobody-in-spec = tie.close (tie.spec count-requires count-requires-2 returns)
