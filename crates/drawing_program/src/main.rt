@@ -4,6 +4,7 @@
 ghost use Prim.Native.Nat.{_≤_};
 ghost use lib.ListN.{length};
 use drawing::Hex;
+use streams::Came;
 
 // The longest input that is read as hex: of one byte more no more is read, and a drawing is not so long.
 const LONGEST: usize = 65536;
@@ -26,6 +27,13 @@ const LINES: u8 = 6;
 
 // The place that stands for text after the last line.
 const PAST_LAST: u8 = 6;
+
+// Reads to the end of the input, or until the buffer is full.
+fn read_all(buf: &mut [u8]) -> Came
+    ensures { λ r. ⌜ r .have ≤ length (now (buf .exit)) ⌝ }
+{
+    streams::read_all(libc::STDIN_FILENO, buf, b"draw: standard input")
+}
 
 // Writes the first n bytes of a text; where that fails, it is told.
 fn say(text: &[u8], n: usize) -> bool {
@@ -155,20 +163,7 @@ fn read_both(first: &[u8], second: &[u8]) {
 fn sixth_end(input: &[u8]) -> usize
     ensures { λ n. ⌜ n ≤ length (now (input .entry)) ⌝ }
 {
-    let mut feeds: u8 = 0;
-    let mut i: usize = 0;
-    while i < input.len() {
-        let b = input[i];
-        i += 1;
-        if b != b'\n' {
-            continue;
-        }
-        feeds += 1;
-        if LINES <= feeds {
-            return i;
-        }
-    }
-    i
+    streams::lines_end(input, LINES)
 }
 
 // A second drawing begins with one of its marks; other text after the last line is refused with the first.
@@ -206,7 +201,7 @@ fn answer(input: &[u8]) {
 
 // Answers what is read, unless that failed.
 fn session(buf: &mut [u8]) {
-    let came = standard_input::read_all(buf, b"draw: standard input");
+    let came = read_all(buf);
     if came.failed {
         return;
     }

@@ -1,12 +1,22 @@
 // Reads a plan from standard input to its end and prints its judgement in one line on standard output: `accepted`, or the number and what it
 // stands for, and the first set refused. What is judged stands in plans, what is tried again and what is told of a failure in streams; no
 // contract can say what is read and written.
+ghost use Prim.Native.Nat.{_≤_};
+ghost use lib.ListN.{length};
 use plan::Judged;
 use plan::NONE_REFUSED;
+use streams::Came;
 
 // One byte more than the longest plan that there can be: 18 bytes, and 255 sets of 1 + 5 * 255. Of a longer input no more is read: whatever
 // follows, bytes are left over.
 const ROOM: usize = 325399;
+
+// Reads to the end of the input, or until the buffer is full.
+fn read_all(buf: &mut [u8]) -> Came
+    ensures { λ r. ⌜ r .have ≤ length (now (buf .exit)) ⌝ }
+{
+    streams::read_all(libc::STDIN_FILENO, buf, b"plan: standard input")
+}
 
 // Writes some text, and says whether that went well.
 fn say(text: &[u8]) -> bool {
@@ -35,6 +45,26 @@ fn say_of_plan(number: u8) -> bool {
     }
 }
 
+// Why an instruction is not allowed, by its number from 20 on. Each function has few texts: they are all laid out when it is called.
+fn say_first_reasons(number: u8) -> bool {
+    match number {
+        20 => say(b"nothing named"),
+        21 => say(b"a gap between those named"),
+        22 => say(b"not available"),
+        _ => say(b"no free place to move to"),
+    }
+}
+
+fn say_other_reasons(number: u8) -> bool {
+    match number {
+        24 => say(b"odd count: a car would be torn"),
+        25 => say(b"half move in row 2 or 3"),
+        26 => say(b"already at that height"),
+        27 => say(b"not at rotation height"),
+        _ => say(b"cells not free for the tilt or the rotation"),
+    }
+}
+
 // What it stands for in the answer to a set.
 fn say_of_set(number: u8) -> bool {
     match number {
@@ -42,15 +72,8 @@ fn say_of_set(number: u8) -> bool {
         5 => say(b"more than eight instructions"),
         7 => say(b"empty set"),
         8 => say(b"overlap"),
-        20 => say(b"nothing named"),
-        21 => say(b"a gap between those named"),
-        22 => say(b"not available"),
-        23 => say(b"no free place to move to"),
-        24 => say(b"odd count: a car would be torn"),
-        25 => say(b"half move in row 2 or 3"),
-        26 => say(b"already at that height"),
-        27 => say(b"not at rotation height"),
-        28 => say(b"cells not free for the tilt or the rotation"),
+        20..=23 => say_first_reasons(number),
+        24..=28 => say_other_reasons(number),
         _ => say(b"out of turn: the lift in an area while a drive is under way"),
     }
 }
@@ -85,7 +108,7 @@ fn say_judged(j: Judged) -> bool {
 
 // Judges what is read, unless that failed.
 fn session(buf: &mut [u8]) {
-    let came = standard_input::read_all(buf, b"plan: standard input");
+    let came = read_all(buf);
     if came.failed {
         return;
     }

@@ -5,9 +5,6 @@ use borrow.Author.Needs.{needs}
 use Rattle.drawing_program.proofs.session.Statement.{statement}
 use Rattle.drawing_program.proofs.session.Tie as tie
 
-slice-aggregate-read-all : tie.Need-slice-aggregate-read-all
-slice-aggregate-read-all c = search needs
-
 read-all-requires : tie.Need-read-all-requires
 read-all-requires c κs = search needs
 
@@ -36,7 +33,6 @@ pub session-spec : {M : Type 1} → statement M
 session-spec =
     tie.close
     (tie.spec
-    slice-aggregate-read-all
     read-all-requires
     same-length
     returns

@@ -1,32 +1,30 @@
--- `standard_input::read_all` meets its contract: no more is held than the buffer has, and what is left of it shrinks. Assumes nothing.
+-- `streams::read_all` meets its contract: no more is held than the buffer has, and what is left of it shrinks. Assumes nothing.
 use mathlib.Core.Path.{_≡_}
 use Prim.Native.Nat.{_-_, _≤_, _<_}
 use native.Mathlib.Omega.{arith}
 use borrow.Author.Needs.{needs}
 use lib.ListN.{length}
-use Rattle.standard_input.proofs.Reading.{filled}
-use Rattle.standard_input.proofs.read_all.Statement.{statement}
-use Rattle.standard_input.proofs.read_all.Tie as tie
+use Rattle.streams.proofs.Reading.{filled}
+use Rattle.streams.proofs.read_all.Statement.{statement}
+use Rattle.streams.proofs.read_all.Tie as tie
 
 abbrev Inv-loop : tie.InvT-loop
-Inv-loop buf₀ name₀ have₀ buf have = (length buf ≡ length buf₀) × (have ≤ length buf₀)
+Inv-loop fd buf₀ name have₀ buf have = (length buf ≡ length buf₀) × (have ≤ length buf₀)
 
 abbrev μ-loop : tie.MeasureT-loop
-μ-loop buf₀ name₀ have₀ buf have = length buf₀ - have
+μ-loop fd buf₀ name have₀ buf have = length buf₀ - have
 
 -- what a read has brought
-brought : (c : tie.After-known-told Inv-loop μ-loop)
-    → (c .before .before .before .before .before .before .before .loop .have < c .before .input .given .0 .0)
-    × (c .before .input .given .0 .0 ≤ length (c .before .before .before .before .before .before .before .before .before .before .args .buf .now))
+brought : (c : tie.After-known-told Inv-loop μ-loop) → (c .before .before .before .before .before .before .before .loop .have < c .before .input .given .0 .0) × (c .before .input .given .0 .0 ≤ length (c .before .before .before .before .before .before .before .before .before .before .args .buf .now))
 brought c =
-    let f = filled _ _ _ _ _ (c .before .before .before .before .before .read-on .ensures) (c .before .input .given .1) in
+    let f = filled _ _ _ _ _ (c .before .before .before .before .before .fill .ensures) (c .before .input .given .1) in
     (f .0, omega (arith, f .1, c .before .before .before .before .before .before .before .loop .inv .0))
 
 loop-holds : tie.Need-loop-holds Inv-loop μ-loop
 loop-holds c = search needs
 
-read-on-requires : tie.Need-read-on-requires Inv-loop μ-loop
-read-on-requires c κs = search needs
+fill-requires : tie.Need-fill-requires Inv-loop μ-loop
+fill-requires c κs = search needs
 
 enum-known-input : tie.Need-enum-known-input Inv-loop μ-loop
 enum-known-input c = search needs
@@ -59,7 +57,7 @@ read-all-spec =
     Inv-loop
     μ-loop
     loop-holds
-    read-on-requires
+    fill-requires
     enum-known-input
     loop-less
     loop-again
