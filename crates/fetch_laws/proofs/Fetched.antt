@@ -13,7 +13,7 @@ use Rattle.rules.specs.declared.Instruction.{Instruction}
 use Rattle.rules.specs.Rules.{nextRecord}
 use Rattle.rules_laws.specs.Undoing.{recordAfter, Moves}
 use Rattle.rules_laws.proofs.Laws.{stays-sound}
-use Rattle.cards.specs.Cards.{anchor, Among}
+use Rattle.cars.specs.Lists.{anchor, Among}
 use Rattle.cards.specs.Given.{bears}
 use Rattle.cards.specs.Following.{carMoved}
 use Rattle.cards_laws.proofs.Anchors.{stands, bears-car}

@@ -29,7 +29,7 @@ use Rattle.rules.proofs.Every.{everywhere, each}
 use Rattle.rules_laws.specs.Laws.{Clear}
 use Rattle.rules_laws.specs.Undoing.{recordAfter, Moves}
 use Rattle.rules_laws.proofs.Laws.{stays-sound}
-use Rattle.cards.specs.Cards.{anchor, Among}
+use Rattle.cars.specs.Lists.{anchor, Among}
 use Rattle.cards.specs.Given.{bears}
 use Rattle.cards.specs.Following.{noSource, takings}
 use Rattle.cards.specs.Private.{source}

@@ -24,7 +24,7 @@ use Rattle.rules.specs.declared.Event.the-variants.{BeginIn, EndDone}
 use Rattle.rules.specs.Events.{possible, eventConditions, afterEvent}
 use Rattle.rules_laws.specs.Undoing.{recordAfter}
 use Rattle.rules_laws.proofs.Laws.{event-sound}
-use Rattle.cards.specs.Cards.{anchor, Among}
+use Rattle.cars.specs.Lists.{anchor, Among}
 use Rattle.cards.specs.Given.{bears}
 use Rattle.cards_laws.proofs.Anchors.{isPlace, bears-place, car-bears, bears-exactly}
 use Rattle.fetch.specs.Room.{locksNobodyIn}

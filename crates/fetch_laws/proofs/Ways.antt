@@ -25,7 +25,7 @@ use Rattle.rules.specs.declared.Instruction.the-variants.{Belts, Shuttles, Tilt
 use Rattle.rules.specs.Rules.{wellFormed, conditions, allowed, nextRecord}
 use Rattle.rules_laws.specs.Undoing.{recordAfter, Moves}
 use Rattle.rules_laws.proofs.Locked.{next-image}
-use Rattle.cards.specs.Cards.{anchor}
+use Rattle.cars.specs.Lists.{anchor}
 use Rattle.cards.specs.Given.{bears}
 use Rattle.cards_laws.proofs.Anchors.{stands, car-bears}
 use Rattle.fetch_laws.specs.Fetching.{carAfter, CanBeFetched, EachCanBeFetched, fixedParts}

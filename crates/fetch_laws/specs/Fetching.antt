@@ -17,7 +17,7 @@ use Rattle.rules.specs.declared.Event.the-variants.{BeginIn, EndDone}
 use Rattle.rules.specs.Events.{possible, afterEvent}
 use Rattle.rules_laws.specs.Undoing.{recordAfter, Moves}
 use Rattle.rules_laws.specs.Locked.{unlocked}
-use Rattle.cards.specs.Cards.{Among}
+use Rattle.cars.specs.Lists.{Among}
 use Rattle.cards.specs.Following.{carMoved}
 use Rattle.fetch.specs.Room.{locksNobodyIn}
 
