@@ -55,13 +55,17 @@ unfolding Moves recordAfter
 moves-sound [] f s m = s
 moves-sound (i ∷ is) f s m = moves-sound is (nextRecord i f) (stays-sound i f s (m .1) (m .0)) (m .2)
 
-pub cars-followed : CarsFollowed
+pub along : (is : List Instruction) (f : Bits) → Sound f → Moves is f
+    → (l n : List Car) → Layout f l → Layout (recordAfter is f) n → (x : Car) → Among x l → Among (carAfter is x) n
 unfolding Moves recordAfter carAfter
-cars-followed [] f s m l n y z x a = one-layout f l n y z x a
-cars-followed (i ∷ is) f s m l n y z x a =
+along [] f s m l n y z x a = one-layout f l n y z x a
+along (i ∷ is) f s m l n y z x a =
     let (k, v) = next-layout i f s (m .0) in
-    cars-followed is (nextRecord i f) (stays-sound i f s (m .1) (m .0)) (m .2) k n v z (carMoved i x)
+    along is (nextRecord i f) (stays-sound i f s (m .1) (m .0)) (m .2) k n v z (carMoved i x)
     (followed i f (λ j. 0) s (m .0) l k y v x a .0)
+
+pub cars-followed : CarsFollowed
+cars-followed is f s m l n y z x a = along is f s m l n y z x a
 
 -- what can be fetched after moves can be fetched before them
 pub fetched-before : (is : List Instruction) (f : Bits) (x : Car) → Moves is f → CanBeFetched (recordAfter is f) (carAfter is x) → CanBeFetched f x

@@ -1,5 +1,5 @@
--- Ways that a search has found with the proved engine, as numbers: what proofs/Ways.antt checks, step by step. An instruction is six digits:
--- its opcode, its first field, its second in two digits, its third and its fourth. Assumes nothing.
+-- Ways that bench/ways has found with the proved engine, as numbers: what proofs/Ways.antt checks, step by step. An instruction is six
+-- digits: its opcode, its first field, its second in two digits, its third and its fourth. Assumes nothing.
 use mathlib.Core.List.{List, [], _∷_}
 use Prim.Native.Nat.{ℕ}
 

@@ -30,7 +30,7 @@ use Rattle.cards_laws.proofs.Anchors.{isPlace, bears-place, car-bears, bears-ex
 use Rattle.fetch.specs.Room.{locksNobodyIn}
 use Rattle.fetch_laws.specs.Fetching.{carAfter, EachCanBeFetched, NobodyLockedIn, FiveAlwaysPass, ThreeOnEachSide, fixedParts, FewerCars, FewerHinderNobody}
 use Rattle.fetch_laws.proofs.Fewer.{whole, Fewer, moves-down}
-use Rattle.fetch_laws.proofs.Fetched.{among-there, moves-sound, cars-followed, fetched-before, fetched-down}
+use Rattle.fetch_laws.proofs.Fetched.{among-there, moves-sound, along, fetched-before, fetched-down}
 use Rattle.fetch_laws.proofs.Ways.{normal, isFull, full-sound, Good, goods}
 use Rattle.fetch_laws.proofs.Lowering.{Down, down}
 use Rattle.fetch_laws.proofs.Covering.{OneSideFew, Covered, left-even, all-even, right-from, covered-row}
@@ -136,7 +136,7 @@ module _ (h : Bits) (s : Sound h) (idle : (k : ℕ) → T (elem k lifted) → h 
       let (m, z) = r .layout in
       fetched-before (D .by) h x (D .moves)
       (lowered-each (recordAfter (D .by) h) r parts-after few-after m z (carAfter (D .by) x)
-      (cars-followed (D .by) h s (D .moves) l m y z x a))
+      (along (D .by) h s (D .moves) l m y z x a))
 
 -- ---- after a drive-in
 

@@ -29,7 +29,7 @@ use Rattle.cars.specs.Lists.{anchor}
 use Rattle.cards.specs.Given.{bears}
 use Rattle.cards_laws.proofs.Anchors.{stands, car-bears}
 use Rattle.fetch_laws.specs.Fetching.{carAfter, CanBeFetched, EachCanBeFetched, fixedParts}
-use Rattle.fetch_laws.proofs.Fetched.{cars-followed, fetched-before}
+use Rattle.fetch_laws.proofs.Fetched.{along, fetched-before}
 use Rattle.fetch_laws.proofs.Found.{sevenCars, sevenFetched, sixCars, sixFetched, links}
 
 -- ---- a way on a record, by images
@@ -198,7 +198,7 @@ good-before is r known g h t =
           fetched-before is (bit r) x (R .moves)
           (subst (λ (f : Bits). CanBeFetched f (carAfter is x)) (sym (R .ends))
           (G .each m z (carAfter is x)
-          (cars-followed is (bit r) s (R .moves) l m y (subst (λ (f : Bits). Layout f m) (sym (R .ends)) z) x a)));
+          (along is (bit r) s (R .moves) l m y (subst (λ (f : Bits). Layout f m) (sym (R .ends)) z) x a)));
     }
 
 more-good : (q : ℕ) (known : List ℕ) → Good q → AllGood known → AllGood (q ∷ known)
