@@ -1,17 +1,17 @@
 // A journal's file as bytes: its head, and its appends, each with a checksum that goes on from the one before. Nothing here reads or writes
 // a file. What each byte says, and which bytes are a journal, stands in specs/.
 ghost use mathlib.Core.Path.{_≡_};
-ghost use mathlib.Core.Bool.{not};
+ghost use mathlib.Core.Bool.{cond, not};
 ghost use mathlib.Core.List.{[], _∷_};
-ghost use Prim.Native.Nat.{_+_, _≤_};
-ghost use lib.Dec.{eqb};
+ghost use Prim.Native.Nat.{_+_, _-_, _≤_};
+ghost use lib.Dec.{eqb, ltb};
 ghost use lib.ListN.{length, take, drop};
 ghost use Rattle.codec.specs.Bytes.{fromLittleEndian};
 ghost use Rattle.service.specs.Runs.{serving};
 ghost use Rattle.rooms.specs.Rooms.{lentStation};
 ghost use Rattle.station.specs.declared.Station.{Station};
 ghost use Rattle.checksum.specs.Slices.{crcBy};
-ghost use Rattle.journal_file.specs.Appends.{titleOf, openingOf, sumAfter, closingOf, carriedOf, titled, payloadRight, noFront, wholeFront, frontOf, written, lostFrom, zeroed};
+ghost use Rattle.journal_file.specs.Appends.{titleOf, openingOf, sumAfter, closingOf, carriedOf, leadOf, titled, payloadRight, noFront, wholeFront, frontOf, written, lostFrom, zeroed};
 ghost use Rattle.journal_file.specs.Heads.{titleBytes, headSum, headKind, headOf, nameByte, isGarage};
 ghost use Rattle.journal_file.specs.Replaying.{notTaken, appendTaken, markMost, markTaken, messagesTaken, LeavesStep, stepping};
 use station::Station;
@@ -23,6 +23,8 @@ const AROUND: usize = 13;
 const SECTOR: usize = 512;
 
 const LEFT: usize = 44;
+
+const CARDS: usize = 168;
 
 const END: u8 = 10;
 
@@ -402,14 +404,36 @@ fn take_mark(r: Replay, f: Front) -> Step
     not_taken(r, false)
 }
 
+// How many bytes stand before the messages in an append of this kind: the numbers of cards, where it has any.
+fn lead_of(kind: u8) -> usize
+    ensures { λ n. ⌜ n ≡ leadOf kind ⌝ }
+{
+    if kind == 5 {
+        return CARDS;
+    }
+    0
+}
+
+// So many of the bytes that are carried, if there are so many.
+fn lead_in(f: Front) -> usize
+    ensures { λ n. ⌜ (n ≤ f .carries) × (n ≡ cond (ltb (f .carries) (leadOf (f .kind))) (f .carries) (leadOf (f .kind))) ⌝ }
+{
+    let lead = lead_of(f.kind);
+    if f.carries < lead {
+        return f.carries;
+    }
+    lead
+}
+
 // An append of messages, which carries these.
 fn take_messages(r: Replay, f: Front, bytes: &[u8], room: &mut [u8]) -> Step
-    requires { ⌜ f .carries ≤ 65536 ⌝ }
+    requires { ⌜ (f .carries ≤ 65536) × (length (now bytes) ≡ f .carries - leadOf (f .kind)) ⌝ }
     ensures { λ q. ⌜ (q ≡ messagesTaken r f (serving (r .station) (now (bytes .entry)) (now (room .entry)) .says .used) (serving (r .station) (now (bytes .entry)) (now (room .entry)) .says .station)) × (now (room .exit) ≡ serving (r .station) (now (bytes .entry)) (now (room .entry)) .leaves) ⌝ }
 {
+    let lead = lead_of(f.kind);
     let w = service::serve(r.station, bytes, room);
     let next = w.station;
-    if (f.carries == 0) | (w.used != f.carries) {
+    if (f.carries == 0) | (f.carries < lead) | (w.used != bytes.len()) {
         return not_taken(r, false);
     }
     take(next, f, false)
@@ -426,8 +450,9 @@ pub fn take_append(t: &[u32], r: Replay, m: &[u8], room: &mut [u8]) -> Step
     if r.closed {
         return not_taken(r, false);
     }
-    if f.kind == 1 {
-        return take_messages(r, f, &m[8..8 + f.carries], room);
+    if (f.kind == 1) | (f.kind == 5) {
+        let from = 8 + lead_in(f);
+        return take_messages(r, f, &m[from..8 + f.carries], room);
     }
     take_mark(r, f)
 }
