@@ -13,7 +13,7 @@ use Rattle.checksum.specs.Checksum.{crcOver}
 use Rattle.journal_file.specs.declared.Replay.{Replay}
 use Rattle.journal_file.specs.Appends.{appendOf, payloadOf, carriesMessages, leadOf}
 use Rattle.journal_file.specs.Replaying.{stepOf, Leads}
-use Rattle.journal_file.specs.Cards.{hasCards, someHasCards, numbersBy, numbersOn, noNumbers, numbersAfter, CardsBrought, CardsStay, NoCardsNoNumbers, AllNumbers}
+use Rattle.journal_file.specs.Cards.{hasCards, someHasCards, numbersBy, numbersOn, noNumbers, journalNumbers, CardsBrought, CardsStay, NoCardsNoNumbers, AllNumbers}
 use Rattle.journal_file.proofs.Forms.{kind-back, payload-back}
 use Rattle.journal_file.proofs.Files.{lead-within}
 
@@ -26,13 +26,13 @@ numbers-more before (b ∷ more) a = numbers-more (numbersBy before b) more a
 pub cards-brought : CardsBrought
 cards-brought sum appends bytes small fits =
     numbers-more noNumbers appends (appendOf crcOver sum 5 bytes)
-    ∙ ap₂ (λ (k : ℕ) (p : List ℕ). cond (eqb k 5) (take 168 p) (numbersAfter appends)) (kind-back crcOver sum 5 bytes) (payload-back sum 5 bytes small fits)
+    ∙ ap₂ (λ (k : ℕ) (p : List ℕ). cond (eqb k 5) (take 168 p) (journalNumbers appends)) (kind-back crcOver sum 5 bytes) (payload-back sum 5 bytes small fits)
 
 pub cards-stay : CardsStay
 cards-stay sum kind appends bytes other =
     let a = appendOf crcOver sum kind bytes in
     numbers-more noNumbers appends a
-    ∙ ap (λ (b : Bool). cond b (take 168 (payloadOf a)) (numbersAfter appends)) (ap (λ (k : ℕ). eqb k 5) (kind-back crcOver sum kind bytes) ∙ ne-eqb kind 5 other)
+    ∙ ap (λ (b : Bool). cond b (take 168 (payloadOf a)) (journalNumbers appends)) (ap (λ (k : ℕ). eqb k 5) (kind-back crcOver sum kind bytes) ∙ ne-eqb kind 5 other)
 
 -- ---- all of them
 

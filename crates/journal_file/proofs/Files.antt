@@ -22,7 +22,7 @@ use Rattle.checksum.specs.Checksum.{crcOver}
 use Rattle.journal_file.specs.declared.Front.{Front}
 use Rattle.journal_file.specs.declared.Replay.{Replay}
 use Rattle.journal_file.specs.declared.Step.{Step}
-use Rattle.journal_file.specs.Appends.{around, sumAfter, appendOf, carriedOf, payloadOf, carriesMessages, leadOf, messagesIn, wholeFront, frontOf}
+use Rattle.journal_file.specs.Appends.{around, sumAfter, appendOf, carriedOf, payloadOf, carriesMessages, leadOf, carriedMessages, wholeFront, frontOf}
 use Rattle.journal_file.specs.Replaying.{notTaken, appendTaken, messagesTaken, markMost, markTaken, stepBy, stepOf, Leads}
 use Rattle.journal_file.specs.Statements.{recordedIn, ReplayFollows, FileGoesOn, FileKeepsUp, FileKeepsCards, MarkKind, FileKeepsMark}
 use Rattle.journal_file.proofs.Fronts.{Whole, whole}
@@ -78,20 +78,20 @@ mark-stays false false false s b t u p q r = p
 
 module _ (r : Replay) (a : List ℕ) where
   abbrev w : Ran
-  w = run (r .station) (messagesIn a)
+  w = run (r .station) (carriedMessages a)
 
   abbrev f : Front
   f = frontOf crcOver (r .sum) a
 
   abbrev carried-messages : List ℕ
-  carried-messages = cond (carriesMessages (getD a 0 0)) (messagesIn a) []
+  carried-messages = cond (carriesMessages (getD a 0 0)) (carriedMessages a) []
 
   -- the bytes that a whole append carries are so many
   carried-long : Whole crcOver (r .sum) a → length (payloadOf a) ≡ carriedOf a
   carried-long x = length-take-le (carriedOf a) (drop 8 a) (let l = length-drop 8 a in let h = x .within in omega arith)
 
   -- and its messages are what is behind the numbers
-  messages-long : Whole crcOver (r .sum) a → length (messagesIn a) ≡ carriedOf a - leadOf (getD a 0 0)
+  messages-long : Whole crcOver (r .sum) a → length (carriedMessages a) ≡ carriedOf a - leadOf (getD a 0 0)
   messages-long x = length-drop (leadOf (getD a 0 0)) (payloadOf a) ∙ ap (λ (n : ℕ). n - leadOf (getD a 0 0)) (carried-long x)
 
   of-messages : f .whole ≡ true → carriesMessages (f .kind) ≡ true → 0 < messagesTaken r f (w .used) (w .station) .took
@@ -102,9 +102,9 @@ module _ (r : Replay) (a : List ℕ) where
       let long = f .carries - leadOf (f .kind) in
       let p = passes (first || not (eqb (w .used) long)) (notTaken r false) (appendTaken (w .station) f false) refl h in
       let used : w .used ≡ long = eqb-true (w .used) long (not-false _ (neither first (not (eqb (w .used) long)) (p .0) .1)) in
-      let all : w .used ≡ length (messagesIn a) = used ∙ ap (λ (g : Front). g .carries - leadOf (g .kind)) (x .is) ∙ sym (messages-long x) in
+      let all : w .used ≡ length (carriedMessages a) = used ∙ ap (λ (g : Front). g .carries - leadOf (g .kind)) (x .is) ∙ sym (messages-long x) in
       let kind : carriesMessages (getD a 0 0) ≡ true = ap (λ (g : Front). carriesMessages (g .kind)) (sym (x .is)) ∙ k in
-      rw (kind, ap (λ (q : Step). q .replay .station) (p .1)) (all-follow (r .station) (messagesIn a) all)
+      rw (kind, ap (λ (q : Step). q .replay .station) (p .1)) (all-follow (r .station) (carriedMessages a) all)
 
   of-mark : f .whole ≡ true → carriesMessages (f .kind) ≡ false → Follows (r .station) carried-messages (markTaken r f .replay .station)
   of-mark e k =
@@ -199,11 +199,11 @@ module _ (q : Replay) (kind : ℕ) (bytes : List ℕ) (next : Station) (unclosed
   step-there : stepOf crcOver q written ≡ appendTaken next there false
   unfolding stepOf
   step-there =
-      let p : messagesIn written ≡ drop (leadOf kind) bytes =
+      let p : carriedMessages written ≡ drop (leadOf kind) bytes =
           ap₂ (λ (k : ℕ) (m : List ℕ). drop (leadOf k) m) (kind-back crcOver (q .sum) kind bytes) (payload-back (q .sum) kind bytes small fits) in
       let ran = run-of follows in
-      let used : run (q .station) (messagesIn written) .used ≡ long = ap (λ (m : List ℕ). run (q .station) m .used) p ∙ ran .0 in
-      let station : run (q .station) (messagesIn written) .station ≡ next = ap (λ (m : List ℕ). run (q .station) m .station) p ∙ ran .1 in
+      let used : run (q .station) (carriedMessages written) .used ≡ long = ap (λ (m : List ℕ). run (q .station) m .used) p ∙ ran .0 in
+      let station : run (q .station) (carriedMessages written) .station ≡ next = ap (λ (m : List ℕ). run (q .station) m .station) p ∙ ran .1 in
       rw (front-there, used, station) by-there
 
   keeps : (r : Replay) (appends : List (List ℕ)) → Leads r appends q
@@ -268,7 +268,7 @@ module _ (q : Replay) (kind : ℕ) (bytes : List ℕ) (unclosed : q .closed ≡ 
   step-marked : stepOf crcOver q marked ≡ appendTaken (q .station) mark-there (eqb kind 4)
   unfolding stepOf
   step-marked =
-      let w = run (q .station) (messagesIn marked) in
+      let w = run (q .station) (carriedMessages marked) in
       rw front-marked
       (sym (last-of false (q .closed) (carriesMessages kind) (notTaken q false) (notTaken q false) (messagesTaken q mark-there (w .used) (w .station)) (markTaken q mark-there) refl unclosed no-message)
       ∙ of-kind)

@@ -21,7 +21,7 @@ use Rattle.service.specs.Runs.{run}
 use Rattle.journal_file.specs.declared.Front.{Front}
 use Rattle.journal_file.specs.declared.Replay.{Replay}
 use Rattle.journal_file.specs.declared.Step.{Step}
-use Rattle.journal_file.specs.Appends.{cutShortKind, badLengthKind, closedKind, mostCarried, endMark, carriedOf, payloadOf, carriesMessages, leadOf, messagesIn, titled, payloadRight, wholeFront, frontOf}
+use Rattle.journal_file.specs.Appends.{cutShortKind, badLengthKind, closedKind, mostCarried, endMark, carriedOf, payloadOf, carriesMessages, leadOf, carriedMessages, titled, payloadRight, wholeFront, frontOf}
 use Rattle.journal_file.specs.Replaying.{notTaken, appendTaken, messagesTaken, markMost, markTaken, stepBy, stepOf, fileReplayBegun, Leads}
 use Rattle.journal_file.specs.Damage.{IsJournal, JournalBurstFound}
 use Rattle.journal_file.proofs.Fronts.{Whole, whole, whole-at}
@@ -76,7 +76,7 @@ took : (r : Replay) (a : List ℕ) → 0 < length a → stepOf crcOver r a .took
 unfolding stepOf
 took r a h e =
     let f = frontOf crcOver (r .sum) a in
-    let w = run (r .station) (messagesIn a) in
+    let w = run (r .station) (carriedMessages a) in
     let some : 0 < stepBy r f (w .used) (w .station) .took = omega (arith, e) in
     let v = whole crcOver (r .sum) a (whole-step f r (w .used) (w .station) some) in
     let fair = fair-step f r (w .used) (w .station) some in

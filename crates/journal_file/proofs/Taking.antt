@@ -15,7 +15,7 @@ use Rattle.service.specs.Runs.{Serving, Serves, serving}
 use Rattle.journal_file.specs.declared.Front.{Front}
 use Rattle.journal_file.specs.declared.Replay.{Replay}
 use Rattle.journal_file.specs.declared.Step.{Step}
-use Rattle.journal_file.specs.Appends.{Over, carriedOf, payloadOf, carriesMessages, leadOf, messagesIn, frontOf}
+use Rattle.journal_file.specs.Appends.{Over, carriedOf, payloadOf, carriesMessages, leadOf, carriedMessages, frontOf}
 use Rattle.journal_file.specs.Replaying.{notTaken, appendTaken, messagesTaken, markMost, markTaken, stepBy, LeavesStep, answersMade, stepping}
 use Rattle.journal_file.proofs.Fronts.{Whole, whole, titled-most}
 
@@ -114,7 +114,7 @@ module _ (over : Over) (sum : ℕ) (m : List ℕ) (f : Front) (e : f ≡ frontOf
   kind-is = ap (λ (x : Front). x .kind) (e ∙ w .is)
 
   module _ {n : ℕ} (lead : n ≡ cond (ltb (f .carries) (leadOf (f .kind))) (f .carries) (leadOf (f .kind))) where
-    pub messages-are : take (8 + f .carries - (8 + n)) (drop (8 + n) m) ≡ messagesIn m
+    pub messages-are : take (8 + f .carries - (8 + n)) (drop (8 + n) m) ≡ carriedMessages m
     messages-are =
         behind (f .carries) (leadOf (f .kind)) n m lead
         ∙ ap₂ (λ (k c : ℕ). drop (leadOf k) (take c (drop 8 m))) kind-is carries-is
@@ -158,7 +158,7 @@ module _ (w c k : Bool) (out room : List ℕ) where
 module _ (over : Over) (r : Replay) (m room : List ℕ) where
   -- what the messages would make
   abbrev run-of : Serving
-  run-of = serving (r .station) (messagesIn m) room
+  run-of = serving (r .station) (carriedMessages m) room
 
   abbrev out-of : Front → Step
   out-of f = messagesTaken r f (run-of .says .used) (run-of .says .station)

@@ -30,12 +30,12 @@ abbrev pub closedKind : ℕ
 closedKind = 4
 
 -- the whole messages of one read, behind the numbers of a desk's cards as they are after them
-abbrev pub cardsKind : ℕ
-cardsKind = 5
+abbrev pub numbersKind : ℕ
+numbersKind = 5
 
 -- the numbers of a desk's cards, 42 of four bytes
-abbrev pub cardsSize : ℕ
-cardsSize = 168
+abbrev pub numbersSize : ℕ
+numbersSize = 168
 
 -- an append carries at most so many bytes: a read brings no more
 abbrev pub mostCarried : ℕ
@@ -81,15 +81,15 @@ payloadOf m = take (carriedOf m) (drop 8 m)
 
 -- whether an append of this kind carries messages
 abbrev pub carriesMessages : ℕ → Bool
-carriesMessages kind = eqb kind messagesKind || eqb kind cardsKind
+carriesMessages kind = eqb kind messagesKind || eqb kind numbersKind
 
 -- so many of its bytes stand before them: the numbers, where it has cards
 abbrev pub leadOf : ℕ → ℕ
-leadOf kind = cond (eqb kind cardsKind) cardsSize 0
+leadOf kind = cond (eqb kind numbersKind) numbersSize 0
 
 -- the messages that it carries
-abbrev pub messagesIn : List ℕ → List ℕ
-messagesIn m = drop (leadOf (getD m 0 0)) (payloadOf m)
+abbrev pub carriedMessages : List ℕ → List ℕ
+carriedMessages m = drop (leadOf (getD m 0 0)) (payloadOf m)
 
 -- the title is right: its checksum is the one behind it, and it carries no more than an append may
 abbrev pub titled : Over → ℕ → List ℕ → Bool

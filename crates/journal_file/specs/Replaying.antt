@@ -14,7 +14,7 @@ use Rattle.journal_file.specs.declared.Front.{Front}
 use Rattle.journal_file.specs.declared.Kind.the-variants.{Good}
 use Rattle.journal_file.specs.declared.Replay.{Replay}
 use Rattle.journal_file.specs.declared.Step.{Step}
-use Rattle.journal_file.specs.Appends.{cutShortKind, badLengthKind, closedKind, around, Over, frontOf, carriesMessages, leadOf, messagesIn}
+use Rattle.journal_file.specs.Appends.{cutShortKind, badLengthKind, closedKind, around, Over, frontOf, carriesMessages, leadOf, carriedMessages}
 use Rattle.journal_file.specs.Heads.{headSize, headOf}
 
 -- ---- one append
@@ -60,7 +60,7 @@ stepBy r f used next =
 
 -- by the station's own run
 unfoldable pub stepOf : Over → Replay → List ℕ → Step
-stepOf over r m = let w = run (r .station) (messagesIn m) in stepBy r (frontOf over (r .sum) m) (w .used) (w .station)
+stepOf over r m = let w = run (r .station) (carriedMessages m) in stepBy r (frontOf over (r .sum) m) (w .used) (w .station)
 
 -- ---- in a room for answers that are not written
 
@@ -81,7 +81,7 @@ answersMade r f = f .whole && not (r .closed) && carriesMessages (f .kind)
 unfoldable pub stepping : Over → Replay → List ℕ → List ℕ → Stepping
 stepping over r m room =
     let f = frontOf over (r .sum) m in
-    let w = serving (r .station) (messagesIn m) room in
+    let w = serving (r .station) (carriedMessages m) room in
     record { says = stepBy r f (w .says .used) (w .says .station); leaves = cond (answersMade r f) (w .leaves) room }
 
 -- ---- all of a file

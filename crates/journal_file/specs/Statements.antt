@@ -12,13 +12,13 @@ use Rattle.service.specs.Runs.{run}
 use Rattle.journal.specs.Journal.{Follows}
 use Rattle.checksum.specs.Checksum.{crcOver}
 use Rattle.journal_file.specs.declared.Replay.{Replay}
-use Rattle.journal_file.specs.Appends.{messagesKind, cutShortKind, badLengthKind, closedKind, cardsKind, cardsSize, mostCarried, sumAfter, appendOf, carriesMessages, messagesIn}
+use Rattle.journal_file.specs.Appends.{messagesKind, cutShortKind, badLengthKind, closedKind, numbersKind, numbersSize, mostCarried, sumAfter, appendOf, carriesMessages, carriedMessages}
 use Rattle.journal_file.specs.Replaying.{markMost, Leads}
 
 -- the messages that some appends carry, one behind the other: what the station was sent
 abbrev pub recordedIn : List (List ℕ) → List ℕ
 recordedIn [] = []
-recordedIn (a ∷ more) = cond (carriesMessages (getD a 0 0)) (messagesIn a) [] ++ recordedIn more
+recordedIn (a ∷ more) = cond (carriesMessages (getD a 0 0)) (carriedMessages a) [] ++ recordedIn more
 
 -- replay is the station's own run: the station is the one after the recorded messages, all of which are whole
 abbrev pub ReplayFollows : Type 0
@@ -43,9 +43,9 @@ FileKeepsUp =
 abbrev pub FileKeepsCards : Type 0
 FileKeepsCards =
     (r q : Replay) (appends : List (List ℕ)) (bytes : List ℕ) (next : Station) → Leads r appends q
-    → q .closed ≡ false → q .sum < 2 ^ 32 → Follows (q .station) (drop cardsSize bytes) next → cardsSize ≤ length bytes → length bytes ≤ mostCarried
-    → Leads r (appends ++ (appendOf crcOver (q .sum) cardsKind bytes ∷ []))
-    (record { station = next; sum = sumAfter crcOver (q .sum) cardsKind bytes; closed = false })
+    → q .closed ≡ false → q .sum < 2 ^ 32 → Follows (q .station) (drop numbersSize bytes) next → numbersSize ≤ length bytes → length bytes ≤ mostCarried
+    → Leads r (appends ++ (appendOf crcOver (q .sum) numbersKind bytes ∷ []))
+    (record { station = next; sum = sumAfter crcOver (q .sum) numbersKind bytes; closed = false })
 
 -- the kinds of marks
 abbrev pub MarkKind : ℕ → Type 0

@@ -1,30 +1,31 @@
 // A journal's file as bytes: its head, and its appends, each with a checksum that goes on from the one before. Nothing here reads or writes
 // a file. What each byte says, and which bytes are a journal, stands in specs/.
 ghost use mathlib.Core.Path.{_≡_};
-ghost use mathlib.Core.Bool.{cond, not};
+ghost use mathlib.Core.Bool.{not};
 ghost use mathlib.Core.List.{[], _∷_};
-ghost use Prim.Native.Nat.{_+_, _-_, _≤_};
-ghost use lib.Dec.{eqb, ltb};
+ghost use Prim.Native.Nat.{_+_, _≤_};
+ghost use lib.Dec.{eqb};
 ghost use lib.ListN.{length, take, drop};
 ghost use Rattle.codec.specs.Bytes.{fromLittleEndian};
-ghost use Rattle.service.specs.Runs.{serving};
 ghost use Rattle.rooms.specs.Rooms.{lentStation};
 ghost use Rattle.station.specs.declared.Station.{Station};
 ghost use Rattle.checksum.specs.Slices.{crcBy};
-ghost use Rattle.journal_file.specs.Appends.{titleOf, openingOf, sumAfter, closingOf, carriedOf, leadOf, titled, payloadRight, noFront, wholeFront, frontOf, written, lostFrom, zeroed};
+ghost use Rattle.journal_file.specs.Appends.{titleOf, openingOf, sumAfter, closingOf, carriedOf, titled, payloadRight, noFront, wholeFront, frontOf, written, lostFrom, zeroed};
 ghost use Rattle.journal_file.specs.Heads.{titleBytes, headSum, headKind, headOf, nameByte, isGarage};
-ghost use Rattle.journal_file.specs.Replaying.{notTaken, appendTaken, markMost, markTaken, messagesTaken, LeavesStep, stepping};
+ghost use Rattle.journal_file.specs.Replaying.{LeavesStep, stepping};
+mod steps;
+
 use station::Station;
+use steps::lead_in;
+use steps::not_taken;
+use steps::take_mark;
+use steps::take_messages;
 
 const MOST: usize = 65536;
 
 const AROUND: usize = 13;
 
 const SECTOR: usize = 512;
-
-const LEFT: usize = 44;
-
-const CARDS: usize = 168;
 
 const END: u8 = 10;
 
@@ -348,95 +349,6 @@ pub struct Step {
     pub replay: Replay,
     pub took: usize,
     pub short: bool,
-}
-
-fn not_taken(r: Replay, short: bool) -> Step
-    ensures { λ q. ⌜ q ≡ notTaken r short ⌝ }
-{
-    Step {
-        replay: r,
-        took: 0,
-        short,
-    }
-}
-
-fn take(station: Station, f: Front, closed: bool) -> Step
-    requires { ⌜ f .carries ≤ 65536 ⌝ }
-    ensures { λ q. ⌜ q ≡ appendTaken station f closed ⌝ }
-{
-    let replay = Replay {
-        station,
-        sum: f.sum,
-        closed,
-    };
-    Step {
-        replay,
-        took: f.carries + AROUND,
-        short: false,
-    }
-}
-
-// How many bytes a mark of this kind carries at most.
-fn mark_most(kind: u8) -> usize
-    ensures { λ n. ⌜ n ≡ markMost kind ⌝ }
-{
-    if kind == 4 {
-        return 0;
-    }
-    LEFT
-}
-
-// A mark: what ended a session, or that the journal is closed.
-fn take_mark(r: Replay, f: Front) -> Step
-    requires { ⌜ f .carries ≤ 65536 ⌝ }
-    ensures { λ q. ⌜ q ≡ markTaken r f ⌝ }
-{
-    let station = r.station;
-    if mark_most(f.kind) < f.carries {
-        return not_taken(r, false);
-    }
-    if f.kind == 4 {
-        return take(station, f, true);
-    }
-    if (f.kind == 2) | (f.kind == 3) {
-        return take(station, f, false);
-    }
-    not_taken(r, false)
-}
-
-// How many bytes stand before the messages in an append of this kind: the numbers of cards, where it has any.
-fn lead_of(kind: u8) -> usize
-    ensures { λ n. ⌜ n ≡ leadOf kind ⌝ }
-{
-    if kind == 5 {
-        return CARDS;
-    }
-    0
-}
-
-// So many of the bytes that are carried, if there are so many.
-fn lead_in(f: Front) -> usize
-    ensures { λ n. ⌜ (n ≤ f .carries) × (n ≡ cond (ltb (f .carries) (leadOf (f .kind))) (f .carries) (leadOf (f .kind))) ⌝ }
-{
-    let lead = lead_of(f.kind);
-    if f.carries < lead {
-        return f.carries;
-    }
-    lead
-}
-
-// An append of messages, which carries these.
-fn take_messages(r: Replay, f: Front, bytes: &[u8], room: &mut [u8]) -> Step
-    requires { ⌜ (f .carries ≤ 65536) × (length (now bytes) ≡ f .carries - leadOf (f .kind)) ⌝ }
-    ensures { λ q. ⌜ (q ≡ messagesTaken r f (serving (r .station) (now (bytes .entry)) (now (room .entry)) .says .used) (serving (r .station) (now (bytes .entry)) (now (room .entry)) .says .station)) × (now (room .exit) ≡ serving (r .station) (now (bytes .entry)) (now (room .entry)) .leaves) ⌝ }
-{
-    let lead = lead_of(f.kind);
-    let w = service::serve(r.station, bytes, room);
-    let next = w.station;
-    if (f.carries == 0) | (f.carries < lead) | (w.used != bytes.len()) {
-        return not_taken(r, false);
-    }
-    take(next, f, false)
 }
 
 // Takes the append at the front of some bytes. The room is for answers, which are not to be written.

@@ -6,10 +6,10 @@ use Rattle.journal_file.proofs.take_append.Tie as tie
 use Rattle.journal_file.proofs.take_append.Reads as reads
 use Rattle.journal_file.proofs.take_append.Lts as lts
 use Rattle.journal_file.proofs.front_of.Reads as front-of-reads
-use Rattle.journal_file.proofs.lead_in.Reads as lead-in-reads
-use Rattle.journal_file.proofs.not_taken.Reads as not-taken-reads
-use Rattle.journal_file.proofs.take_mark.Reads as take-mark-reads
-use Rattle.journal_file.proofs.take_messages.Reads as take-messages-reads
+use Rattle.journal_file.proofs.steps.lead_in.Reads as lead-in-reads
+use Rattle.journal_file.proofs.steps.not_taken.Reads as not-taken-reads
+use Rattle.journal_file.proofs.steps.take_mark.Reads as take-mark-reads
+use Rattle.journal_file.proofs.steps.take_messages.Reads as take-messages-reads
 
 front-of-requires : tie.Need-front-of-requires
 front-of-requires c κs = search needs
