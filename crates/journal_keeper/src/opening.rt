@@ -327,6 +327,45 @@ pub fn go_on(f: Found, buf: &[u8], name: &mut [u8], n: usize) -> Journal
     to_append(&name[..n], r, q.place)
 }
 
+// ---- cards
+
+// Whether one of the appends from here on has cards; no file has so many that it takes more.
+fn cards_from(t: &[u32], fd: i32, start: Reading, buf: &mut [u8], room: &mut [u8]) -> bool {
+    let mut q = start;
+    let mut appends = u64::MAX;
+    while 0 < appends {
+        q = journal_reader::next(
+            t,
+            fd,
+            q,
+            buf,
+            room,
+            b"station: the journal can't be read",
+        );
+        if !q.took {
+            return false;
+        }
+        if journal_reader::has_cards(q, buf) {
+            return true;
+        }
+        appends -= 1;
+    }
+    false
+}
+
+// Whether a journal has cards, for those who can't go on with such a one. What else may be wrong with it is not told.
+pub fn has_cards(t: &[u32], name: &[u8], buf: &mut [u8], room: &mut [u8]) -> bool {
+    let fd = os::open_read(name);
+    if fd < 0 {
+        return false;
+    }
+    let b = journal_reader::begin(t, fd, buf, b"station: the journal can't be read");
+    let q = b.reading;
+    let has = cards_from(t, fd, q, buf, room);
+    libc::close(fd);
+    has
+}
+
 // ---- a new one
 
 // Makes the file, and waits until it and its name are on the disk.

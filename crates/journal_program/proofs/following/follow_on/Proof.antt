@@ -1,8 +1,8 @@
--- `journal_program::following::follow` meets its contract. Assumes nothing.
+-- `journal_program::following::follow_on` meets its contract. Assumes nothing.
 use Rattle.journal_program.proofs.Recorded.{room-twice}
 use borrow.Author.Needs.{needs}
-use Rattle.journal_program.proofs.following.follow.Statement.{statement}
-use Rattle.journal_program.proofs.following.follow.Tie as tie
+use Rattle.journal_program.proofs.following.follow_on.Statement.{statement}
+use Rattle.journal_program.proofs.following.follow_on.Tie as tie
 
 open-update-requires : tie.Need-open-update-requires
 open-update-requires c κs = search needs
@@ -43,8 +43,8 @@ change-over-requires c κs = c .before .before .before .before .ended .ensures
 returns-3 : tie.Need-returns-3
 returns-3 c = search needs
 
-pub follow-spec : {M : Type 1} → statement M
-follow-spec =
+pub follow-on-spec : {M : Type 1} → statement M
+follow-on-spec =
     tie.close
     (tie.spec
     open-update-requires
