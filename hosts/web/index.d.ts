@@ -211,6 +211,8 @@ export interface Journal {
   ended: { after: number; answer: 1 | 2; bytes: Uint8Array }[];
   /** Whether another journal follows it. */
   closed: boolean;
+  /** The 168 bytes of the numbers of a desk's cards, as the last append that has them says; null where none has. */
+  numbers: Uint8Array | null;
   /** What a lost power supply has left: where it begins, and how many bytes it has. No answer was given for it. */
   torn: { at: number; bytes: number } | null;
   /** Where it is damaged: the byte, how many appends and how many messages stand before it. What follows is not read. */

@@ -15,7 +15,7 @@ from .calls import Desk, Station
 MAGIC = b"Vargsnida, journal.\n"
 FORMAT, HEAD, NAME_AT, STATION_AT, SUM_AT = 2, 128, 24, 64, 124
 TITLED, AROUND, CARRIED_MOST, LEFT_MOST, SECTOR, END_MARK = 8, 13, 65536, 44, 512, 10
-NUMBERS_SIZE = Desk.SIZE - Station.SIZE
+CARDS, NUMBERS = 42, 168
 
 
 def table() -> List[int]:
@@ -56,8 +56,8 @@ class Damaged(ValueError):
 
 
 class Kind(enum.IntEnum):
-    """What an append is: the messages of one read; what was left when a session ended by answer 1, or by 2; the closing mark; messages with
-    the numbers of a desk's cards before them, as they are after these messages."""
+    """What an append is: the messages of one read; what was left when a session ended by answer 1, or by 2; the closing mark; the numbers of a
+    desk's cards, and behind them the messages of one read or none."""
 
     MESSAGES = 1
     CUT_SHORT = 2
@@ -75,8 +75,8 @@ class Append(NamedTuple):
 
     @property
     def sent(self) -> bytes:
-        """The messages that it carries."""
-        return messages_in(self.kind, self.carried) or b""
+        """The messages that it carries, one behind the other."""
+        return messages_of(self.kind, self.carried)
 
 
 class Journal(NamedTuple):
@@ -99,6 +99,13 @@ class Journal(NamedTuple):
         for append in self.appends:
             yield from messages.split(append.sent)
 
+    @property
+    def numbers(self) -> Tuple[int, ...]:
+        """The numbers of a desk's 42 cards, as its last append that has cards says them; zeros where none has."""
+        kept = [append.carried for append in self.appends if append.kind is Kind.CARDS]
+        given = kept[-1] if kept else bytes(NUMBERS)
+        return tuple(number(given[4 * at : 4 * at + 4]) for at in range(CARDS))
+
     def station(self) -> Station:
         """The station that it makes: every message answered again, from the one that it begins with."""
         garage = Station.from_bytes(bytes(self.begins))
@@ -107,27 +114,23 @@ class Journal(NamedTuple):
         return garage
 
     def desk(self) -> Desk:
-        """The desk that it makes, where a desk has kept it: the station with the numbers of the last append that has cards. Refused with 16
-        where these are not the cars'."""
-        carded = [append.carried[:NUMBERS_SIZE] for append in self.appends if append.kind is Kind.CARDS]
-        return Desk.from_bytes(bytes(self.station()) + (carded[-1] if carded else bytes(NUMBERS_SIZE)))
+        """The desk that it makes, where a desk has kept it: the station with these numbers. Refused with 16 where they are not the cars'."""
+        return Desk.from_bytes(bytes(self.station()) + b"".join(number.to_bytes(4, "little") for number in self.numbers))
 
 
-def messages_in(kind: int, carried: bytes) -> Optional[bytes]:
-    """The messages that an append of this kind has among the bytes that it carries; None where it has no room for any."""
-    if kind == Kind.CARDS and len(carried) >= NUMBERS_SIZE:
-        return carried[NUMBERS_SIZE:]
-    return carried if kind == Kind.MESSAGES and carried else None
+def messages_of(kind: int, carried: bytes) -> bytes:
+    """What of the bytes that an append of this kind carries are messages."""
+    return carried if kind == Kind.MESSAGES else carried[NUMBERS:] if kind == Kind.CARDS else b""
 
 
 def fits(kind: int, carried: bytes) -> bool:
     """Whether an append of this kind can carry these bytes."""
-    among = messages_in(kind, carried)
-    if among is not None:
+    if kind in (Kind.MESSAGES, Kind.CARDS):
         try:
-            return bool(list(messages.split(among))) or kind == Kind.CARDS
+            count = len(list(messages.split(messages_of(kind, carried))))
         except ValueError:
             return False
+        return count > 0 if kind == Kind.MESSAGES else len(carried) >= NUMBERS
     return kind == Kind.CLOSED and not carried or kind in (Kind.CUT_SHORT, Kind.BAD_LENGTH) and len(carried) <= LEFT_MOST
 
 
