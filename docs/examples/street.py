@@ -21,15 +21,16 @@ It needs the package hosts/python/station (docs/PYTHON.md). It ends with its inp
 import sys
 from typing import Callable, Dict, List, Optional, Tuple
 
-from station import RAISED, Ended, Event, Outcome, Record, Refused, desks
+from station import RAISED, Ended, Event, Instruction, Outcome, Record, Refused, desks
 
-WAITS = 55  # the place of a card whose drive-in is under way
+WAITS, NONE = 55, 255  # the place of a card whose drive-in is under way, and that of a card that is not in the garage
+SURE, LAST_KNOWN = 0, 1
 ROWS = [(20, "row 1, cells {0} and {1}"), (30, "row 2, cell {0}"), (40, "row 3, cell {0}")]
 Seen = Tuple[Record, List[int]]
 
 
-def place_in_words(place: Optional[int]) -> str:
-    if place is None:
+def place_in_words(place: int) -> str:
+    if place == NONE:
         return "not in the garage"
     if place == RAISED:
         return "on the raised lift"
@@ -38,11 +39,11 @@ def place_in_words(place: Optional[int]) -> str:
     return next(words.format(place, place + 1) for end, words in ROWS if place < end)
 
 
-def car_in_words(place: Optional[int], last_known: bool, onward: Optional[int]) -> str:
+def car_in_words(place: int, flag: int, onward: int) -> str:
     words = place_in_words(place)
-    if last_known:
+    if flag == LAST_KNOWN:
         return f"last known: {words}. Somebody has to look"
-    return words if onward is None else f"in motion: {words}, to {place_in_words(onward)}"
+    return words if flag == SURE else f"in motion: {words}, to {place_in_words(onward)}"
 
 
 class Street:
@@ -75,11 +76,11 @@ class Street:
         return ["the drive has ended, and nothing has moved"]
 
     def where(self, card: str) -> List[str]:
-        found = self.desk.where(int(card))
-        return [place_in_words(None) if found is None else car_in_words(*found)]
+        lines = [line for line in self.desk.list() if line.card == int(card) and line.place != WAITS]
+        return [car_in_words(*line[1:]) for line in lines] or [place_in_words(NONE)]
 
     def cars(self) -> List[str]:
-        return [f"card {line.card}: {car_in_words(line.place, line.last_known, line.next)}" for line in self.desk.list()]
+        return [f"card {line.card}: {car_in_words(*line[1:])}" for line in self.desk.list()]
 
     # ---- motors
 
@@ -88,7 +89,7 @@ class Street:
         return [f"set {issue} is accepted"]
 
     def ended(self, number: str, outcome: Outcome) -> List[str]:
-        self.desk.result(self.desk.outstanding().issue, int(number), outcome)
+        self.desk.result(self.desk.outstanding()[0], int(number), outcome)
         return self.open()
 
     def done(self, number: str) -> List[str]:
@@ -101,8 +102,8 @@ class Street:
         return self.ended(number, Outcome.STUCK)
 
     def open(self) -> List[str]:
-        now = self.desk.outstanding()
-        waiting = [f"set {now.issue} waits for {i}: {one}" for i, one in enumerate(now.instructions) if i not in now.answered]
+        issue, of_set = self.desk.outstanding()
+        waiting = [f"set {issue} waits for {i}: {Instruction(five)}" for i, (five, answered) in enumerate(of_set) if not answered]
         return waiting or ["nothing is outstanding"]
 
     # ---- after a jam
@@ -113,10 +114,10 @@ class Street:
         with open(file, "x", encoding="ascii") as out:
             out.write(self.desk.ask().record.drawing())
             for line in lines:
-                out.write(f"{line.place} {'?' if line.last_known else line.card}\n")
-        doubtful = [line for line in lines if line.last_known]
+                out.write(f"{line.place} {'?' if line.flag == LAST_KNOWN else line.card}\n")
+        doubtful = [line for line in lines if line.flag == LAST_KNOWN]
         return [f"{file}: mend the drawing, then write each car's place and card", *(
-            f"look for card {line.card}, {car_in_words(line.place, True, None)}" for line in doubtful)]
+            f"look for card {line.card}, {car_in_words(*line[1:])}" for line in doubtful)]
 
     def read_sheet(self, file: str) -> Seen:
         """The record and its cards in the order that an image wants. A ValueError says which line or place is wrong."""

@@ -1,36 +1,20 @@
 """The desk's program as a child with two pipes, and the messages that only a desk has (docs/DESK-MESSAGES.md)."""
 
-from typing import Iterable, List, NamedTuple, Optional, Tuple, Union
+import struct
+from typing import Iterable, List, Optional, Tuple, Union
 
 from . import messages
 from .answers import NOWHERE, Event, Outcome, Refused
-from .calls import CARD_SIZE, COUNT_MOST, Whereabouts
+from .calls import CARD_SIZE, COUNT_MOST, LINE_SIZE, Line, Whereabouts
 from .messages import Answer, Held, message
 from .program import Program
 from .record import Record
-from .words import Instruction, Said
+from .words import Said
 
 BEGIN, CARDS, WHERE, LEAVING, LIST, OUTSTANDING, COMPARE = 6, 7, 8, 9, 10, 11, 12
 PLACE, CARD, LISTED, OPEN, COMPARED = 136, 137, 138, 139, 140
-LENGTH_MOST, LINE_SIZE, FIVE = 143, 8, 5
+LENGTH_MOST, FIVE = 143, 5
 LAST_KNOWN, MOVING = 1, 2
-
-
-class Line(NamedTuple):
-    """A car: its card, its place or None, whether that is only the last known one, and the place that it would get, or None."""
-
-    card: int
-    place: Optional[int]
-    last_known: bool = False
-    next: Optional[int] = None
-
-
-class OpenSet(NamedTuple):
-    """The set that waits for results: its issue, its instructions, and the places of those that have their result."""
-
-    issue: int
-    instructions: Tuple[Instruction, ...]
-    answered: Tuple[int, ...]
 
 
 def card_bytes(card: int) -> bytes:
@@ -58,18 +42,9 @@ def compare(record: Record, cards: Iterable[int], apart: int = 0) -> bytes:
     return message(COMPARE, image_body(record, cards, apart))
 
 
-def told(place: int) -> Optional[int]:
-    return None if place == NOWHERE else place
-
-
-def lines_of(body: bytes, onward: bool) -> List[Line]:
-    """The lines of an answer. Of a comparison every line has the place that the image would bring; of a list only a car in motion has one."""
-    found = []
-    for at in range(1, len(body), LINE_SIZE):
-        place, flag, then, _ = body[at + 4 : at + LINE_SIZE]
-        card = int.from_bytes(body[at : at + 4], "little")
-        found.append(Line(card, told(place), flag == LAST_KNOWN, told(then) if onward or flag == MOVING else None))
-    return found
+def lines_in(body: bytes) -> List[Line]:
+    """The lines of an answer."""
+    return [Line(*struct.unpack_from("<IBBB", body, at)) for at in range(1, len(body), LINE_SIZE)]
 
 
 class Desk(Program):
@@ -114,22 +89,22 @@ class Desk(Program):
     def where(self, card: int) -> Optional[Whereabouts]:
         """Where a card's car is; None where no car in the garage has it."""
         place, flag, onward = self.asked(message(WHERE, card_bytes(card)), PLACE)
-        return None if place == NOWHERE else Whereabouts(place, flag == LAST_KNOWN, told(onward) if flag == MOVING else None)
+        return None if place == NOWHERE else Whereabouts(place, flag == LAST_KNOWN, onward if flag == MOVING else None)
 
     def leaving(self) -> Optional[int]:
         """The card that is leaving, if one is."""
         return int.from_bytes(self.asked(message(LEAVING), CARD), "little") or None
 
     def list(self) -> List[Line]:
-        """Every car, in the order of an image's cards."""
-        return lines_of(self.asked(message(LIST), LISTED), onward=False)
+        """What is told of every car, in the order of an image's cards."""
+        return lines_in(self.asked(message(LIST), LISTED))
 
-    def outstanding(self) -> OpenSet:
-        """The present set, and which of its instructions have their result."""
+    def outstanding(self) -> Tuple[int, List[Tuple[bytes, bool]]]:
+        """The issue of the last set that was accepted, and each instruction that is outstanding, with whether it is answered."""
         body = self.asked(message(OUTSTANDING), OPEN)
-        fives = tuple(Instruction(body[at : at + FIVE]) for at in range(4, len(body), FIVE))
-        return OpenSet(int.from_bytes(body[:2], "little"), fives, tuple(i for i in range(8) if body[2] >> i & 1))
+        issue, answered, count = struct.unpack_from("<HBB", body)
+        return issue, [(body[4 + FIVE * i : 9 + FIVE * i], bool(answered >> i & 1)) for i in range(count)]
 
     def compare(self, record: Record, cards: Iterable[int], apart: int = 0) -> List[Line]:
         """What an image with these cards would change: each card with its place now and its place then. It changes nothing."""
-        return lines_of(self.asked(compare(record, cards, apart), COMPARED), onward=True)
+        return lines_in(self.asked(compare(record, cards, apart), COMPARED))

@@ -8,8 +8,7 @@ import sys
 import tempfile
 import unittest
 
-from station import RAISED, Desk, Event, Number, Outcome, Record, Refused, Station, desks, journals, messages
-from station.words import Instruction
+from station import RAISED, Desk, Event, Number, Outcome, Record, Refused, Station, desks, journals, messages, tilt
 from tree import ROOT, Planner, blocks, run
 
 PROGRAM = os.environ.get("TRY_DESK") or ROOT / "bin/desk"
@@ -167,8 +166,8 @@ class PowerCuts(unittest.TestCase):
                 program.wait()
                 with desks.Desk(PROGRAM, *words) as again:
                     self.assertEqual(again.list(), before)
-                    self.assertEqual(again.outstanding().answered, ())
-                    again.result(again.outstanding().issue, 0, Outcome.DONE)
+                    self.assertEqual([answered for _, answered in again.outstanding()[1]], [False])
+                    again.result(again.outstanding()[0], 0, Outcome.DONE)
                     aside = "belts row 1 left lift, lower, full" if card == 7001 else "belts row 1 lift right, higher, full"
                     for step in (aside, "lift street") if card < 7003 else ():
                         again.result(again.request(step), 0, Outcome.DONE)
@@ -209,6 +208,4 @@ class Forms(unittest.TestCase):
         with desks.Desk(PROGRAM) as program:
             program.request(["lift basement", "tilt left row 3 tilted"])
             program.result(0, 1, Outcome.FAILED)
-            told = program.outstanding()
-            self.assertEqual((told.issue, told.answered), (0, (1,)))
-            self.assertEqual(told.instructions[0], Instruction(bytes([4, 2, 0, 0, 0])))
+            self.assertEqual(program.outstanding(), (0, [(bytes([4, 2, 0, 0, 0]), False), (bytes(tilt("left", 3, "tilted")), True)]))
