@@ -24,7 +24,7 @@ from typing import Callable, Dict, List, Optional, Tuple
 from station import RAISED, Ended, Event, Instruction, Outcome, Record, Refused, desks
 
 WAITS, NONE = 55, 255  # the place of a card whose drive-in is under way, and that of a card that is not in the garage
-SURE, LAST_KNOWN = 0, 1
+SURE, LAST_KNOWN, MOVING = 0, 1, 2
 ROWS = [(20, "row 1, cells {0} and {1}"), (30, "row 2, cell {0}"), (40, "row 3, cell {0}")]
 Seen = Tuple[Record, List[int]]
 
@@ -76,8 +76,11 @@ class Street:
         return ["the drive has ended, and nothing has moved"]
 
     def where(self, card: str) -> List[str]:
-        lines = [line for line in self.desk.list() if line.card == int(card) and line.place != WAITS]
-        return [car_in_words(*line[1:]) for line in lines] or [place_in_words(NONE)]
+        found = self.desk.where(int(card))
+        if found is None:
+            return [place_in_words(NONE)]
+        moving = found.moving_to is not None
+        return [car_in_words(found.place, MOVING if moving else LAST_KNOWN if found.last_known else SURE, found.moving_to or 0)]
 
     def cars(self) -> List[str]:
         return [f"card {line.card}: {car_in_words(*line[1:])}" for line in self.desk.list()]
