@@ -127,6 +127,7 @@ fn open_contract(header: &str, from_c: bool) -> Option<&'static str> {
             "LeavesCounts ",
             "LeavesDrawing ",
             "LeavesMessage ",
+            "LeavesReply ",
             "LeavesRoom ",
             "LeavesStep ",
             "LeavesTotals ",
