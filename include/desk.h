@@ -171,20 +171,21 @@ uint32_t desk_leaving(const uint8_t *room, size_t room_length, uint8_t *card, si
 
 /* Every car: writes DESK_LIST_SIZE bytes to `lines`, a line for each card of the garage in the order in which an image wants its numbers:
  * the cells from 0 on, then the raised lift, then the card of a drive-in under way, at DESK_WAITS. A place and a flag are those of
- * desk_where; the next place is told with DESK_MOVES and is 0 else. 17 where either room is too short, 16; else 0, and DESK_COUNT of the answer is how many lines there are. */
+ * desk_where; the next place is told with DESK_MOVES and is 0 else. 17 where either room is too short, 16; else 0, and DESK_COUNT of the
+ * answer is how many lines there are. */
 uint32_t desk_list(const uint8_t *room, size_t room_length, uint8_t *lines, size_t lines_length);
 
-/* What is outstanding: writes DESK_OPEN_SIZE bytes to `set`: the issue of the last set that was accepted, two bytes, the lowest first; how
- * many instructions are outstanding, 0 if there is no set; a bit for each that is answered; and forty bytes, of which the first five for
- * each instruction are as desk_request was given them. Exactly the results of instructions below that count, with that issue and without
- * their bit, are accepted. 17 where either room is too short, 16. */
+/* What is outstanding: writes DESK_OPEN_SIZE bytes to `set`: the issue of the last set that was accepted (65535 before the first), two
+ * bytes, the lowest first; how many instructions are outstanding, 0 if there is no set; a bit for each that is answered; and forty bytes,
+ * of which the first five for each instruction are as desk_request was given them. Exactly the results of instructions below that count,
+ * with that issue and without their bit, are accepted. 17 where either room is too short, 16. */
 uint32_t desk_outstanding(const uint8_t *room, size_t room_length, uint8_t *set, size_t set_length);
 
 /* What an image with these numbers would change: as desk_image, but the desk stays as it is. It returns what desk_image would return where
  * that is not 0, and writes nothing; else 0, with DESK_COUNT lines, and DESK_CHANGES_SIZE bytes are written to `lines`. First the cards
- * that would leave or change places: the place that each has now, DESK_LAST if that is only the last known one, and as the next place the one that
- * the image has it at, DESK_NOT_HERE if it would leave. Then the cards that would appear: at DESK_NOT_HERE, with the place of the image as
- * the next one. A card that keeps its place has no line. 17 where either room is too short; 1, 16 and the others as desk_image. */
+ * that would leave or change places: the place that each has now, DESK_LAST if that is only the last known one, and as the next place the
+ * one that the image has it at, DESK_NOT_HERE if it would leave. Then the cards that would appear: at DESK_NOT_HERE, with the place of the
+ * image as the next one. A card that keeps its place has no line. 17 where either room is too short; 1, 16 and the others as desk_image. */
 uint32_t desk_compare(const uint8_t *room, size_t room_length, uint64_t image, uint64_t apart, uint8_t count, const uint8_t *cards,
                       size_t cards_length, uint8_t *lines, size_t lines_length);
 

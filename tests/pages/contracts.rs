@@ -142,6 +142,7 @@ fn open_contract(header: &str, from_c: bool) -> Option<&'static str> {
             "LeavesCounts ",
             "LeavesDrawing ",
             "LeavesMessage ",
+            "LeavesReply ",
             "LeavesRoom ",
             "LeavesStep ",
             "LeavesTotals ",
