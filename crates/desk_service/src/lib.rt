@@ -11,7 +11,7 @@ use desk::Reply;
 use desk::Whereabouts;
 use wire::Frame;
 
-mod kinds;
+pub mod kinds;
 pub mod telling;
 
 // What a message is told: an answer, the image, where a car is, or a card.
