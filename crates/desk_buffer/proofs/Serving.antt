@@ -30,7 +30,7 @@ use Rattle.desk_service.specs.declared.DeskReply.{DeskReply}
 use Rattle.desk_service.specs.DeskService.{answerTold, respondDesk, toldBytes}
 use Rattle.desk_buffer.specs.declared.Step.{Step}
 use Rattle.desk_buffer.specs.DeskServing.{numberIn, heldBack, beginForm, imageForm, stationForm, passedOn, DeskRan, deskRunEnds, ifRoom, messageRan, answeredRan, wrongRan, deskStepAt, deskStep, thenRan, deskRunOf, deskRun, DeskServes, servedDesk}
-use Rattle.desk_buffer.specs.Private.{LeavesBytes, stepSaid, Steps, Passes}
+use Rattle.desk_buffer.specs.Private.{LeavesBytes, stepSaid, DeskSteps, DeskPasses}
 
 -- ---- what a write into lent room says
 
@@ -97,7 +97,7 @@ module _ (d : Desk) (m out sent : List ℕ) {r : DeskReply} {w : Written} {last 
 
   pub replied-none : {s : Step} → (numberOf (w .answer) ≡ 0 → ⊥)
       → s ≡ record { desk = d; used = 0; made = 0; passed = 0; on = false; stop = false; full = true }
-      → Passes (answeredRan (length out) d m) s out last sent sent
+      → DeskPasses (answeredRan (length out) d m) s out last sent sent
   replied-none z f = let n = no-room (toldBytes (respondDesk d m .told)) out told-there z in rw (n .0) ((f, n .1), refl)
 
   pub answer-left : numberOf (w .answer) ≡ 0 → (w .size ≤ length last) × (take (w .size) last ≡ toldBytes (respondDesk d m .told))
@@ -110,7 +110,7 @@ module _ (d : Desk) (m out sent : List ℕ) {r : DeskReply} {w : Written} {last 
       (omega arith, ap (take (w .size)) (n .2) ∙ take-at b (drop (length b) out) (w .size) (sym (n .1)))
 
   pub replied-some : {p : ℕ} {gone : List ℕ} → numberOf (w .answer) ≡ 0 → LeavesBytes (passedOn (take (w .size) last) m) p sent gone
-      → Passes (answeredRan (length out) d m) (record { desk = r .desk; used = length m; made = w .size; passed = p; on = true; stop = false; full = false }) out last sent gone
+      → DeskPasses (answeredRan (length out) d m) (record { desk = r .desk; used = length m; made = w .size; passed = p; on = true; stop = false; full = false }) out last sent gone
   replied-some {p} {gone} z h =
       let b = toldBytes (respondDesk d m .told) in
       let n = has-room b out told-there z in
@@ -119,11 +119,11 @@ module _ (d : Desk) (m out sent : List ℕ) {r : DeskReply} {w : Written} {last 
 
 module _ (d : Desk) (out : List ℕ) {w : Written} {last : List ℕ} (l : LeavesMessage (put (toldBytes (answerTold BadLength)) out) w last) where
   pub wrong-none : {s : Step} → (numberOf (w .answer) ≡ 0 → ⊥)
-      → s ≡ record { desk = d; used = 0; made = 0; passed = 0; on = false; stop = false; full = true } → Steps (wrongRan (length out) d) s out last
+      → s ≡ record { desk = d; used = 0; made = 0; passed = 0; on = false; stop = false; full = true } → DeskSteps (wrongRan (length out) d) s out last
   wrong-none z f = let n = no-room (toldBytes (answerTold BadLength)) out l z in rw (n .0) (f, n .1)
 
   pub wrong-some : {s : Step} → numberOf (w .answer) ≡ 0
-      → s ≡ record { desk = d; used = 0; made = w .size; passed = 0; on = false; stop = true; full = false } → Steps (wrongRan (length out) d) s out last
+      → s ≡ record { desk = d; used = 0; made = w .size; passed = 0; on = false; stop = true; full = false } → DeskSteps (wrongRan (length out) d) s out last
   wrong-some z f = let n = has-room (toldBytes (answerTold BadLength)) out l z in rw (n .0) (f ∙ rw (n .1), n .2)
 
 -- a wrong length sends nothing
@@ -133,18 +133,18 @@ none-sent d false = refl
 
 module _ (d : Desk) (s out sent : List ℕ) {r : Step} where
   pub first-cut : frameUpTo 143 s ≡ Cut → r ≡ record { desk = d; used = 0; made = 0; passed = 0; on = false; stop = false; full = false }
-      → Passes (deskStep (length out) d s) r out out sent sent
+      → DeskPasses (deskStep (length out) d s) r out out sent sent
   unfolding deskStep
   first-cut e f = rw e ((f, refl), refl)
 
-  pub first-wrong : {last : List ℕ} → frameUpTo 143 s ≡ Wrong → Steps (wrongRan (length out) d) r out last → Passes (deskStep (length out) d s) r out last sent sent
+  pub first-wrong : {last : List ℕ} → frameUpTo 143 s ≡ Wrong → DeskSteps (wrongRan (length out) d) r out last → DeskPasses (deskStep (length out) d s) r out last sent sent
   unfolding deskStep
   first-wrong e h =
       let z = none-sent d (ltb (length out) (length (toldBytes (answerTold BadLength)))) in
       rw e (h, sym (ap (λ (l : List ℕ). l ++ drop (length l) sent) z))
 
   pub first-whole : (n : ℕ) {last gone : List ℕ} → frameUpTo 143 s ≡ Whole n
-      → Passes (answeredRan (length out) d (take n s)) r out last sent gone → Passes (deskStep (length out) d s) r out last sent gone
+      → DeskPasses (answeredRan (length out) d (take n s)) r out last sent gone → DeskPasses (deskStep (length out) d s) r out last sent gone
   unfolding deskStep
   first-whole n e h = rw e h
 
@@ -297,7 +297,7 @@ parts-fit {input} {out = out} {sent = sent} {at = at} {passed = passed} m h =
 
 module _ {input before kept : List ℕ} {d₀ : Desk} {out sent : List ℕ} {d : Desk} {at made passed : ℕ} (m : DeskMidway input before kept d₀ out sent d at made passed)
     (roomy : length input ≤ length kept) {w : Step} {last gone : List ℕ}
-    (h : Passes (deskStep (length (take (length out - made) (drop made out))) d (take (length input - at) (drop at input))) w
+    (h : DeskPasses (deskStep (length (take (length out - made) (drop made out))) d (take (length input - at) (drop at input))) w
     (take (length out - made) (drop made out)) last (take (length sent - passed) (drop passed sent)) gone) where
   abbrev one : DeskRan
   one = deskStep (length before - made) d (drop at input)
@@ -308,8 +308,8 @@ module _ {input before kept : List ℕ} {d₀ : Desk} {out sent : List ℕ} {d :
   as-one : deskStep (length (take (length out - made) (drop made out))) d (take (length input - at) (drop at input)) ≡ one
   as-one = rw (left-long, from-on input at)
 
-  stepped : Passes one w (take (length out - made) (drop made out)) last (take (length sent - passed) (drop passed sent)) gone
-  stepped = subst (λ (x : DeskRan). Passes x w (take (length out - made) (drop made out)) last (take (length sent - passed) (drop passed sent)) gone) as-one h
+  stepped : DeskPasses one w (take (length out - made) (drop made out)) last (take (length sent - passed) (drop passed sent)) gone
+  stepped = subst (λ (x : DeskRan). DeskPasses x w (take (length out - made) (drop made out)) last (take (length sent - passed) (drop passed sent)) gone) as-one h
 
   bounds : Takes one (length before - made) (drop at input)
   bounds = takes (length before - made) d (drop at input)

@@ -24,9 +24,9 @@ stepSaid r =
     }
 
 -- it is said, and its answer is left in the room
-abbrev pub Steps : DeskRan → Step → List ℕ → List ℕ → Type 0
-Steps w r out last = (r ≡ stepSaid w) × (last ≡ w .bytes ++ drop (length (w .bytes)) out)
+abbrev pub DeskSteps : DeskRan → Step → List ℕ → List ℕ → Type 0
+DeskSteps w r out last = (r ≡ stepSaid w) × (last ≡ w .bytes ++ drop (length (w .bytes)) out)
 
 -- and so is what the station is sent, in a room of its own
-abbrev pub Passes : DeskRan → Step → List ℕ → List ℕ → List ℕ → List ℕ → Type 0
-Passes w r out last sent gone = Steps w r out last × (gone ≡ w .sent ++ drop (length (w .sent)) sent)
+abbrev pub DeskPasses : DeskRan → Step → List ℕ → List ℕ → List ℕ → List ℕ → Type 0
+DeskPasses w r out last sent gone = DeskSteps w r out last × (gone ≡ w .sent ++ drop (length (w .sent)) sent)

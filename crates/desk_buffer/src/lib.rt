@@ -6,7 +6,7 @@ ghost use lib.ListN.{length};
 ghost use Rattle.wire.specs.Kinds.{inRange, plain};
 ghost use Rattle.wire.specs.Writes.{messageBytes};
 ghost use Rattle.desk_buffer.specs.DeskServing.{numberIn, heldBack, beginForm, imageForm, stationForm, passedOn, answeredRan, wrongRan, deskStep, deskRun, DeskServes, servedDesk, deskServing};
-ghost use Rattle.desk_buffer.specs.Private.{LeavesBytes, Steps, Passes};
+ghost use Rattle.desk_buffer.specs.Private.{LeavesBytes, DeskSteps, DeskPasses};
 use answers::Answer;
 use answers::NOWHERE;
 use desk::Desk;
@@ -137,7 +137,7 @@ fn ended(desk: Desk, made: usize, stop: bool, full: bool) -> Step
 
 // Answers a length that is out of range.
 fn refuse(d: Desk, out: &mut [u8]) -> Step
-    ensures { λ r. ⌜ Steps (wrongRan (length (now (out .entry))) d) r (now (out .entry)) (now (out .exit)) ⌝ }
+    ensures { λ r. ⌜ DeskSteps (wrongRan (length (now (out .entry))) d) r (now (out .entry)) (now (out .exit)) ⌝ }
 {
     let told = DeskTold::Answer {
         number: 2,
@@ -155,7 +155,7 @@ fn refuse(d: Desk, out: &mut [u8]) -> Step
 // Answers a message whose bytes are exactly m.
 fn reply(d: Desk, m: &[u8], out: &mut [u8], sent: &mut [u8]) -> Step
     requires { ⌜ length (now m) ≤ length (now sent) ⌝ }
-    ensures { λ r. ⌜ Passes (answeredRan (length (now (out .entry))) d (now (m .entry))) r (now (out .entry)) (now (out .exit)) (now (sent .entry)) (now (sent .exit)) ⌝ }
+    ensures { λ r. ⌜ DeskPasses (answeredRan (length (now (out .entry))) d (now (m .entry))) r (now (out .entry)) (now (out .exit)) (now (sent .entry)) (now (sent .exit)) ⌝ }
 {
     let r = desk_service::respond(d, m);
     let told = r.told;
@@ -181,7 +181,7 @@ fn reply(d: Desk, m: &[u8], out: &mut [u8], sent: &mut [u8]) -> Step
 // Answers the message at the front of some bytes.
 fn first(d: Desk, rest: &[u8], out: &mut [u8], sent: &mut [u8]) -> Step
     requires { ⌜ length (now rest) ≤ length (now sent) ⌝ }
-    ensures { λ r. ⌜ Passes (deskStep (length (now (out .entry))) d (now (rest .entry))) r (now (out .entry)) (now (out .exit)) (now (sent .entry)) (now (sent .exit)) ⌝ }
+    ensures { λ r. ⌜ DeskPasses (deskStep (length (now (out .entry))) d (now (rest .entry))) r (now (out .entry)) (now (out .exit)) (now (sent .entry)) (now (sent .exit)) ⌝ }
 {
     let frame = desk_service::kinds::framed(rest, 143);
     match frame {
