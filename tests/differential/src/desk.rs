@@ -88,7 +88,11 @@ fn served(mut input: &[u8]) -> Vec<u8> {
 
 /// A card, mostly one of few, so that some come twice.
 fn some_card(numbers: &mut Numbers) -> u32 {
-    if numbers.one_in(30) { 0 } else { 1 + numbers.below(60) as u32 }
+    if numbers.one_in(30) {
+        0
+    } else {
+        1 + numbers.below(60) as u32
+    }
 }
 
 /// One message, made for the desk as it is: the station's with cards, or a question.
