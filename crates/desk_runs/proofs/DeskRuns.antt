@@ -87,7 +87,7 @@ desk-message-is-call d bytes =
 -- ---- a refusal
 
 -- the number of an answer, 0 of all else
-abbrev numberTold : DeskSaid → ℕ
+abbrev pub numberTold : DeskSaid → ℕ
 numberTold (briefly (told.Answer number place issue)) = number
 numberTold (briefly (told.Held bits apart)) = 0
 numberTold (briefly (told.Place place flag next)) = 0
@@ -100,14 +100,14 @@ asked-keeps : (d : Desk) → deskAsk d .desk ≡ d
 unfolding deskAsk
 asked-keeps d = split (deskFit d) (λ t. rw t) (λ t. rw t)
 
-fit-keeps : (d : Desk) (x : DeskSaid) → fitSaid d x .desk ≡ d
+pub fit-keeps : (d : Desk) (x : DeskSaid) → fitSaid d x .desk ≡ d
 fit-keeps d x = split (eqb (replyNumber (deskAsk d .reply)) 0) (λ t. rw t) (λ t. rw t (asked-keeps d))
 
-compare-keeps : (d : Desk) (p : Picture) (n : ℕ) (ns : List ℕ) → compareSaid d p n ns .desk ≡ d
+pub compare-keeps : (d : Desk) (p : Picture) (n : ℕ) (ns : List ℕ) → compareSaid d p n ns .desk ≡ d
 unfolding compareSaid
 compare-keeps d p n ns = split (eqb (replyNumber (deskTakeImage d p n ns .reply)) 0) (λ t. rw t) (λ t. rw t)
 
-reply-keeps : (d : Desk) (h : DeskHeard) → (numberTold (deskReplyTo d h .told) ≡ 0 → ⊥) → deskReplyTo d h .desk ≡ d
+pub reply-keeps : (d : Desk) (h : DeskHeard) → (numberTold (deskReplyTo d h .told) ≡ 0 → ⊥) → deskReplyTo d h .desk ≡ d
 reply-keeps d (makes c) z = split (eqb (deskAnswerNumber d c) 0)
     (λ t. absurd (z (taken c t)))
     (λ t. refused-untouched d c (λ e. clash (eq-eqb (deskAnswerNumber d c) 0 e) t))

@@ -12,7 +12,7 @@ use desk::Whereabouts;
 use wire::Frame;
 use wire::Written;
 
-mod kinds;
+pub mod kinds;
 mod telling;
 
 // What a message is told: an answer, the image, where a car is, or a card.
