@@ -179,7 +179,7 @@ fn first(d: Desk, rest: &[u8], out: &mut [u8], sent: &mut [u8]) -> Step
     requires { ⌜ length (now rest) ≤ length (now sent) ⌝ }
     ensures { λ r. ⌜ DeskPasses (deskStep (length (now (out .entry))) d (now (rest .entry))) r (now (out .entry)) (now (out .exit)) (now (sent .entry)) (now (sent .exit)) ⌝ }
 {
-    let frame = desk_service::kinds::framed(rest, 143);
+    let frame = desk_service::framed(rest, 143);
     match frame {
         Frame::Cut => ended(d, 0, false, false),
         Frame::Wrong => refuse(d, rest, out),

@@ -185,7 +185,7 @@ own-question kind ns xs d h =
     (λ t8. split (eqb kind 9) (λ t. rw (t6, t7, t8, t))
     (λ t9. split (eqb kind 10) (λ t. rw (t6, t7, t8, t9, t) (fit-keeps d (inLines 138 (listedCars d))))
     (λ t10. split (eqb kind 11) (λ t. rw (t6, t7, t8, t9, t10, t) (fit-keeps d (inSet (outstanding d))))
-    (λ t11. split (eqb kind 12) (λ t. rw (t6, t7, t8, t9, t10, t11, t) (compare-keeps d _ _ _)) (λ t. rw (t6, t7, t8, t9, t10, t11, t)))))))
+    (λ t11. split (eqb kind 12) (λ t. rw (t6, t7, t8, t9, t10, t11, t) (compare-keeps d _ _ _)) (λ t. rw (t6, t7, t8, t9, t10, t11, t))))))
 
 module _ (d : Desk) (m : List ℕ) where
   shape-same : (k : Shape) → 8 ≤ k .number → replyRead d (readShape k m) .desk ≡ d

@@ -5,9 +5,9 @@ ghost use Prim.Native.Nat.{_≤_, _-_};
 ghost use lib.ListN.{length, replicate};
 ghost use Rattle.codec.specs.Fours.{foursIn};
 ghost use Rattle.wire.specs.Kinds.{kindsAsked};
-ghost use Rattle.wire.specs.Reads.{lengthAt, readWhole};
+ghost use Rattle.wire.specs.Reads.{readWhole};
 ghost use Rattle.desk_wire.specs.DeskKinds.{mostCards, beginKind, cardsKind, whereKind, leavingKind, listKind, openKind, compareKind, shapesAsked};
-ghost use Rattle.desk_wire.specs.DeskReads.{frameUpTo, asReceived, readShape, readShaped};
+ghost use Rattle.desk_wire.specs.DeskReads.{asReceived, readShape, readShaped};
 ghost use Rattle.desk_service.specs.DeskService.{stationSaid, brief, compareSaid, replyRead, LeavesReply};
 ghost use Rattle.desk_service.specs.Private.{cardsRead};
 use super::DeskAnswered;
@@ -26,37 +26,7 @@ use answers::NOWHERE;
 use desk::Desk;
 use station::Picture;
 use station::Report;
-use wire::Frame;
 use wire::What;
-
-// The length that a message gives itself.
-fn length_at(s: &[u8]) -> u16
-    ensures { λ n. ⌜ n ≡ lengthAt (now (s .entry)) ⌝ }
-{
-    let low = wire::byte(s, 0);
-    let high = wire::byte(s, 1);
-    wire::word(low, high)
-}
-
-// How far the first message of s goes, by its length alone.
-pub fn framed(s: &[u8], most: usize) -> Frame
-    ensures { λ r. ⌜ r ≡ frameUpTo most (now (s .entry)) ⌝ }
-{
-    if s.len() < 2 {
-        return Frame::Cut;
-    }
-    let n = length_at(s) as usize;
-    if n < 2 {
-        return Frame::Wrong;
-    }
-    if most < n {
-        return Frame::Wrong;
-    }
-    if s.len() < n + 2 {
-        return Frame::Cut;
-    }
-    Frame::Whole(n + 2)
-}
 
 // ---- the station's kinds
 

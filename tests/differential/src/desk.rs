@@ -112,7 +112,7 @@ fn some_message(numbers: &mut Numbers, desk: &Desk) -> Vec<u8> {
         let body: Vec<u8> = bytes[4..20].iter().copied().chain([cars.min(31) as u8]).chain(cards).collect();
         return message(7, &body);
     }
-    // kinds that are kept for later
+    // the reference desk does not answer these
     if let 10..=12 = bytes[2] {
         bytes[2] = 13;
     }

@@ -22,7 +22,7 @@ enum-told-2 : tie.Need-enum-told-2
 enum-told-2 c = search needs
 
 refuse-requires : tie.Need-refuse-requires
-refuse-requires c κs = search needs
+refuse-requires c κs = sym (c .before .before .before .framed .ensures) ∙ c .before .enum-told2 .given .1
 
 enum-known-frame : tie.Need-enum-known-frame
 enum-known-frame c = search needs

@@ -9,7 +9,7 @@ use Rattle.desk_service.proofs.respond.Tie as tie
 use Rattle.desk_service.proofs.respond.Reads as reads
 use Rattle.desk_service.proofs.respond.Lts as lts
 use Rattle.desk_service.proofs.kinds.answered.Reads as answered-reads
-use Rattle.desk_service.proofs.kinds.framed.Reads as framed-reads
+use Rattle.desk_service.proofs.framed.Reads as framed-reads
 use Rattle.desk_service.proofs.telling.briefly.Reads as briefly-reads
 use Rattle.desk_service.proofs.unread.Reads as unread-reads
 

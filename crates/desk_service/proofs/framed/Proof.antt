@@ -1,7 +1,7 @@
 use borrow.Author.Tests.{lt-ltb, le-ltb}
 use borrow.Author.Needs.{needs}
-use Rattle.desk_service.proofs.kinds.framed.Statement.{statement}
-use Rattle.desk_service.proofs.kinds.framed.Tie as tie
+use Rattle.desk_service.proofs.framed.Statement.{statement}
+use Rattle.desk_service.proofs.framed.Tie as tie
 
 returns : tie.Need-returns
 returns c = simp (lt-ltb _ _ (c .if1 .taken))
