@@ -5,20 +5,20 @@ use mathlib.Core.Bool.{false, cond}
 use mathlib.Core.List.{List, [], _∷_, _++_}
 use Prim.Native.Nat.{ℕ, _^_, _≤_, _<_}
 use lib.Dec.{eqb}
-use lib.ListN.{length, getD}
+use lib.ListN.{length, getD, drop}
 use Rattle.station.specs.declared.Station.{Station}
 use Rattle.service.specs.Service.{answersOn}
 use Rattle.service.specs.Runs.{run}
 use Rattle.journal.specs.Journal.{Follows}
 use Rattle.checksum.specs.Checksum.{crcOver}
 use Rattle.journal_file.specs.declared.Replay.{Replay}
-use Rattle.journal_file.specs.Appends.{messagesKind, cutShortKind, badLengthKind, closedKind, mostCarried, sumAfter, appendOf, payloadOf}
+use Rattle.journal_file.specs.Appends.{messagesKind, cutShortKind, badLengthKind, closedKind, numbersKind, numbersSize, mostCarried, sumAfter, appendOf, carriesMessages, carriedMessages}
 use Rattle.journal_file.specs.Replaying.{markMost, Leads}
 
 -- the messages that some appends carry, one behind the other: what the station was sent
 abbrev pub recordedIn : List (List ℕ) → List ℕ
 recordedIn [] = []
-recordedIn (a ∷ more) = cond (eqb (getD a 0 0) messagesKind) (payloadOf a) [] ++ recordedIn more
+recordedIn (a ∷ more) = cond (carriesMessages (getD a 0 0)) (carriedMessages a) [] ++ recordedIn more
 
 -- replay is the station's own run: the station is the one after the recorded messages, all of which are whole
 abbrev pub ReplayFollows : Type 0
@@ -38,6 +38,14 @@ FileKeepsUp =
     → q .closed ≡ false → q .sum < 2 ^ 32 → Follows (q .station) bytes next → 0 < length bytes → length bytes ≤ mostCarried
     → Leads r (appends ++ (appendOf crcOver (q .sum) messagesKind bytes ∷ []))
     (record { station = next; sum = sumAfter crcOver (q .sum) messagesKind bytes; closed = false })
+
+-- so it is with the numbers of a desk's cards, and behind them the messages of one read or none
+abbrev pub FileKeepsCards : Type 0
+FileKeepsCards =
+    (r q : Replay) (appends : List (List ℕ)) (bytes : List ℕ) (next : Station) → Leads r appends q
+    → q .closed ≡ false → q .sum < 2 ^ 32 → Follows (q .station) (drop numbersSize bytes) next → numbersSize ≤ length bytes → length bytes ≤ mostCarried
+    → Leads r (appends ++ (appendOf crcOver (q .sum) numbersKind bytes ∷ []))
+    (record { station = next; sum = sumAfter crcOver (q .sum) numbersKind bytes; closed = false })
 
 -- the kinds of marks
 abbrev pub MarkKind : ℕ → Type 0
