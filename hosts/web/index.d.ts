@@ -211,6 +211,8 @@ export interface Journal {
   ended: { after: number; answer: 1 | 2; bytes: Uint8Array }[];
   /** Whether another journal follows it. */
   closed: boolean;
+  /** The 168 bytes of the numbers of a desk's cards, as the last append that has them says; null where none has. */
+  numbers: Uint8Array | null;
   /** What a lost power supply has left: where it begins, and how many bytes it has. No answer was given for it. */
   torn: { at: number; bytes: number } | null;
   /** Where it is damaged: the byte, how many appends and how many messages stand before it. What follows is not read. */
@@ -222,7 +224,7 @@ export function journalIn(library: Library, bytes: Uint8Array): Journal;
 export function isJournal(bytes: Uint8Array): boolean;
 export class NoJournal extends Error {}
 /** What an append has. */
-export const Append: { readonly Messages: 1; readonly CutShort: 2; readonly BadLength: 3; readonly Closed: 4 };
+export const Append: { readonly Messages: 1; readonly CutShort: 2; readonly BadLength: 3; readonly Closed: 4; readonly Cards: 5 };
 /** The bytes of a journal that grows by appends. */
 export class JournalBytes {
   constructor(name: string, version: [number, number, number], station: Uint8Array);

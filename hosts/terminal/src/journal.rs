@@ -15,11 +15,15 @@ const MOST: usize = 65_536;
 const AROUND: usize = 13;
 const SECTOR: usize = 512;
 const END_MARK: u8 = 10;
-/// The kinds of appends: messages, what ended a session by answer 1 or by 2, and that another journal follows.
+/// The kinds of appends: messages, what ended a session by answer 1 or by 2, that another journal follows, and messages behind the numbers
+/// of a desk's cards.
 pub const MESSAGES: u8 = 1;
 pub const CUT_SHORT: u8 = 2;
 pub const BAD_LENGTH: u8 = 3;
 pub const CLOSED: u8 = 4;
+pub const CARDS: u8 = 5;
+/// The numbers of 42 cards.
+pub const NUMBERS: usize = 168;
 
 /// Whether an input begins as a journal does; a pipe may bring fewer bytes at first, and a log of messages never begins so.
 pub fn is_journal(input: &mut impl BufRead) -> Result<bool, Wrong> {
@@ -132,10 +136,25 @@ fn titled(sum: u32, bytes: &[u8]) -> bool {
 /// Whether an append of this kind can carry these bytes.
 fn is_known(kind: u8, carried: &[u8]) -> bool {
     match kind {
-        MESSAGES => !carried.is_empty() && messages(carried).map(<[u8]>::len).sum::<usize>() == carried.len(),
+        MESSAGES => !carried.is_empty() && are_whole(carried),
+        CARDS => carried.len() >= NUMBERS && are_whole(&carried[NUMBERS..]),
         CUT_SHORT | BAD_LENGTH => carried.len() <= 44,
         CLOSED => carried.is_empty(),
         _ => false,
+    }
+}
+
+/// Whether some bytes are whole messages and nothing else.
+fn are_whole(bytes: &[u8]) -> bool {
+    messages(bytes).map(<[u8]>::len).sum::<usize>() == bytes.len()
+}
+
+/// Where the messages begin in what an append of this kind carries; nowhere in a mark.
+pub fn messages_at(kind: u8) -> Option<usize> {
+    match kind {
+        MESSAGES => Some(0),
+        CARDS => Some(NUMBERS),
+        _ => None,
     }
 }
 

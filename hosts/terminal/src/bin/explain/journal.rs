@@ -4,7 +4,7 @@ use crate::input::{At, Item, Placed};
 use station::words::Wrong;
 use std::collections::VecDeque;
 use std::io::Read;
-use terminal::journal::{self, messages, Next, CLOSED, MESSAGES};
+use terminal::journal::{self, messages, messages_at, Next, CLOSED};
 
 pub struct Journal<R> {
     appends: journal::Journal<R>,
@@ -29,16 +29,16 @@ impl<R: Read> Journal<R> {
     }
 
     fn append(&mut self, at: usize, kind: u8, carried: &[u8]) {
-        match kind {
-            MESSAGES => {
-                let mut place = at + 8;
-                for message in messages(carried) {
+        match messages_at(kind) {
+            Some(from) => {
+                let mut place = at + 8 + from;
+                for message in messages(&carried[from..]) {
                     self.place(place, Item::Message { bytes: message.to_vec(), answered: false });
                     place += message.len();
                 }
             }
-            CLOSED => self.place(at, Item::Closed),
-            _ => self.place(at + 8, Item::Stopped { bytes: carried.to_vec() }),
+            None if kind == CLOSED => self.place(at, Item::Closed),
+            None => self.place(at + 8, Item::Stopped { bytes: carried.to_vec() }),
         }
     }
 
