@@ -64,11 +64,6 @@ pub fn lost() -> Journal
 {
     given_up(unkept())
 }
-{
-    let mut j = unkept();
-    j.safe = false;
-    j
-}
 
 // The digits of a number below 10,000, and zeros behind them.
 fn digits_of(n: usize) -> [u8; 4] {
