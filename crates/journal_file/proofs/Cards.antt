@@ -13,7 +13,8 @@ use Rattle.checksum.specs.Checksum.{crcOver}
 use Rattle.journal_file.specs.declared.Replay.{Replay}
 use Rattle.journal_file.specs.Appends.{appendOf, payloadOf, carriesMessages, leadOf}
 use Rattle.journal_file.specs.Replaying.{stepOf, Leads}
-use Rattle.journal_file.specs.Cards.{hasCards, someHasCards, numbersBy, numbersOn, noNumbers, journalNumbers, CardsBrought, CardsStay, NoCardsNoNumbers, AllNumbers}
+use Rattle.journal_file.specs.Cards.{hasCards, someHasCards, numbersBy, numbersOn, noNumbers, journalNumbers}
+use Rattle.journal_file.specs.Statements.{CardsBrought, CardsStay, NoCardsNoNumbers, AllNumbers}
 use Rattle.journal_file.proofs.Forms.{kind-back, payload-back}
 use Rattle.journal_file.proofs.Files.{lead-within}
 

@@ -5,7 +5,7 @@ use mathlib.Core.Bool.{false, cond}
 use mathlib.Core.List.{List, [], _∷_, _++_}
 use Prim.Native.Nat.{ℕ, _^_, _≤_, _<_}
 use lib.Dec.{eqb}
-use lib.ListN.{length, getD, drop}
+use lib.ListN.{length, getD, take, drop}
 use Rattle.station.specs.declared.Station.{Station}
 use Rattle.service.specs.Service.{answersOn}
 use Rattle.service.specs.Runs.{run}
@@ -14,6 +14,7 @@ use Rattle.checksum.specs.Checksum.{crcOver}
 use Rattle.journal_file.specs.declared.Replay.{Replay}
 use Rattle.journal_file.specs.Appends.{messagesKind, cutShortKind, badLengthKind, closedKind, numbersKind, numbersSize, mostCarried, sumAfter, appendOf, carriesMessages, carriedMessages}
 use Rattle.journal_file.specs.Replaying.{markMost, Leads}
+use Rattle.journal_file.specs.Cards.{someHasCards, noNumbers, journalNumbers}
 
 -- the messages that some appends carry, one behind the other: what the station was sent
 abbrev pub recordedIn : List (List ℕ) → List ℕ
@@ -58,3 +59,25 @@ FileKeepsMark =
     → q .closed ≡ false → q .sum < 2 ^ 32 → MarkKind kind → length bytes ≤ markMost kind
     → Leads r (appends ++ (appendOf crcOver (q .sum) kind bytes ∷ []))
     (record { station = q .station; sum = sumAfter crcOver (q .sum) kind bytes; closed = eqb kind closedKind })
+
+-- ---- the numbers of a desk's cards
+
+-- an append with cards brings its numbers, whatever they were
+abbrev pub CardsBrought : Type 0
+CardsBrought =
+    (sum : ℕ) (appends : List (List ℕ)) (bytes : List ℕ) → sum < 2 ^ 32 → length bytes ≤ mostCarried
+    → journalNumbers (appends ++ (appendOf crcOver sum numbersKind bytes ∷ [])) ≡ take numbersSize bytes
+
+-- one of another kind leaves them
+abbrev pub CardsStay : Type 0
+CardsStay =
+    (sum kind : ℕ) (appends : List (List ℕ)) (bytes : List ℕ) → (kind ≡ numbersKind → ⊥)
+    → journalNumbers (appends ++ (appendOf crcOver sum kind bytes ∷ [])) ≡ journalNumbers appends
+
+-- where no append has cards there are none
+abbrev pub NoCardsNoNumbers : Type 0
+NoCardsNoNumbers = (appends : List (List ℕ)) → someHasCards appends ≡ false → journalNumbers appends ≡ noNumbers
+
+-- all numbers are there: an append with cards that is taken has them all
+abbrev pub AllNumbers : Type 0
+AllNumbers = (r q : Replay) (appends : List (List ℕ)) → Leads r appends q → length (journalNumbers appends) ≡ numbersSize

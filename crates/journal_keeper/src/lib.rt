@@ -26,11 +26,10 @@ pub struct Journal {
     pub safe: bool,
 }
 
-// No journal is kept: the station is the start's.
-pub fn unkept() -> Journal
-    ensures { λ j. ⌜ (j .station ≡ startOf) × (j .kept ≡ false) ⌝ }
+// A station without a journal.
+fn without(station: Station) -> Journal
+    ensures { λ j. ⌜ (j .station ≡ station) × (j .kept ≡ false) ⌝ }
 {
-    let station = Station::start();
     Journal {
         station,
         sum: 0,
@@ -43,13 +42,27 @@ pub fn unkept() -> Journal
     }
 }
 
+// No journal is kept: the station is the start's.
+pub fn unkept() -> Journal
+    ensures { λ j. ⌜ (j .station ≡ startOf) × (j .kept ≡ false) ⌝ }
+{
+    without(Station::start())
+}
+
+// What can't be gone on with is not safe.
+fn given_up(found: Journal) -> Journal
+    ensures { λ j. ⌜ j .safe ≡ false ⌝ }
+{
+    let mut j = found;
+    j.safe = false;
+    j
+}
+
 // There is no journal that could be gone on with: why not was told.
 pub fn lost() -> Journal
     ensures { λ j. ⌜ j .safe ≡ false ⌝ }
 {
-    let mut j = unkept();
-    j.safe = false;
-    j
+    given_up(unkept())
 }
 
 // The digits of a number below 10,000, and zeros behind them.

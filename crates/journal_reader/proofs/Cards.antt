@@ -16,7 +16,8 @@ use Rattle.journal_file.specs.Replaying.{stepOf}
 use Rattle.journal_file.specs.Cards.{hasCards, numbersBy}
 use Rattle.journal_file.proofs.Files.{lead-within}
 use Rattle.journal_reader.specs.declared.Reading.{Reading}
-use Rattle.journal_reader.specs.Reading.{lastIn, numbersFound, FoundNumbers}
+use Rattle.journal_reader.specs.Reading.{lastIn, numbersFound}
+use Rattle.journal_reader.specs.Statements.{FoundNumbers}
 use Rattle.journal_reader.proofs.Filling.{cut-inside}
 
 positive : (k : ℕ) → (k ≡ 0 → ⊥) → 0 < k

@@ -15,7 +15,7 @@ use Rattle.journal_file.specs.declared.Replay.{Replay}
 use Rattle.journal_file.specs.Appends.{numbersSize, Over, frontOf, zeroed}
 use Rattle.journal_file.specs.Heads.{headSize, headOf, headName}
 use Rattle.journal_file.specs.Replaying.{fileReplayBegun, stepOf, Leads}
-use Rattle.journal_file.specs.Cards.{hasCards, someHasCards, numbersBy, journalNumbers}
+use Rattle.journal_file.specs.Cards.{hasCards, someHasCards, journalNumbers}
 use Rattle.journal_reader.specs.declared.Reading.{Reading}
 use Rattle.journal_reader.specs.declared.Beginning.{Beginning}
 use Rattle.journal_reader.specs.declared.Rest.{Rest}
@@ -86,11 +86,6 @@ Next t room q before r after =
 -- the numbers of cards after an append, as they are found in its bytes: its own where it has cards, else those before
 abbrev pub numbersFound : List ℕ → List ℕ → List ℕ
 numbersFound before a = cond (ltb (length a) 176) before (cond (hasCards a) (take numbersSize (drop 8 a)) before)
-
--- of an append that is taken they are the numbers after it
-abbrev pub FoundNumbers : Type 0
-FoundNumbers =
-    (r : Replay) (before a : List ℕ) → 0 < length a → stepOf crcOver r a .took ≡ length a → numbersFound before a ≡ numbersBy before a
 
 -- ---- the end
 

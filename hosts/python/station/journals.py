@@ -123,6 +123,11 @@ def messages_of(kind: int, carried: bytes) -> bytes:
     return carried if kind == Kind.MESSAGES else carried[NUMBERS:] if kind == Kind.CARDS else b""
 
 
+def messages_of(kind: int, carried: bytes) -> bytes:
+    """What of the bytes that an append of this kind carries are messages."""
+    return carried if kind == Kind.MESSAGES else carried[NUMBERS:] if kind == Kind.CARDS else b""
+
+
 def fits(kind: int, carried: bytes) -> bool:
     """Whether an append of this kind can carry these bytes."""
     if kind in (Kind.MESSAGES, Kind.CARDS):

@@ -55,7 +55,14 @@ pub fn named_cars(record: Record) -> usize {
 
 impl Follower {
     fn start() -> Self {
-        Follower { desk: *Desk::new().bytes(), endings: [None; 8], stuck: Vec::new(), cards: BTreeMap::new(), ahead: BTreeMap::new(), last: 0 }
+        Follower {
+            desk: *Desk::new().bytes(),
+            endings: [None; 8],
+            stuck: Vec::new(),
+            cards: BTreeMap::new(),
+            ahead: BTreeMap::new(),
+            last: 0,
+        }
     }
 
     /// From a sound record on, with what is set apart there, the issue that the next set will have, and the cards of its cars.

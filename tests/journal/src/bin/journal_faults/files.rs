@@ -133,7 +133,10 @@ impl Place<'_> {
         let damaged = [&whole.bytes[..size - 9], &[whole.bytes[size - 9] ^ 1], &whole.bytes[size - 8..]].concat();
         let both = [&messages[..], &ASK].concat();
         let numbers: Vec<u8> = (0..NUMBERS).map(|at| at as u8).collect();
-        let cards = Written::begun(GARAGE.as_bytes(), &start).with(CARDS, &[&numbers[..], &messages].concat()).with(CARDS, &numbers).with(MESSAGES, &ASK);
+        let cards = Written::begun(GARAGE.as_bytes(), &start)
+            .with(CARDS, &[&numbers[..], &messages].concat())
+            .with(CARDS, &numbers)
+            .with(MESSAGES, &ASK);
         let files: [(&str, &[u8], String, &[u8]); 5] = [
             ("whole", &whole.bytes, format!("start 71 3 {size} whole"), &both),
             ("torn", &whole.bytes[..size - 1], format!("start 70 2 {} torn 16 bytes", size - 1), &messages),
