@@ -1,6 +1,6 @@
 #!/usr/bin/env python3
 """street.py DESK [WORDS..]: a street desk at a terminal. It starts DESK (bin/desk) with the other words as its child, and keeps no card itself:
-what it tells is what the desk tells, also after a power cut. One line is one command:
+what it tells is what the desk tells. One line is one command:
 
     comes CARD          a driver comes with this card: may the car drive into the lift?
     leaves              the car on the lift wants out: whose is it? Read the card before the door is opened

@@ -1,17 +1,18 @@
-"""The desk's program over two pipes: a long run held against the library's desk, power cuts, and the street desk of docs/PYTHON.md."""
+"""The desk's program over two pipes: a long run held against the library's desk, the street desk of docs/PYTHON.md, and cards in a journal."""
 
 import os
 import random
-import signal
 import subprocess
 import sys
 import tempfile
 import unittest
 
-from station import RAISED, Desk, Event, Number, Outcome, Record, Refused, Station, desks, journals, messages, tilt
+from station import Desk, Event, Number, Outcome, Record, Refused, Station, desks, journals, messages, tilt
+from test_journals import grown
+from test_journals import head as journal_head
 from tree import ROOT, Planner, blocks, run
 
-PROGRAM = os.environ.get("TRY_DESK") or ROOT / "bin/desk"
+PROGRAM = ROOT / "bin/desk"
 
 
 def answer(number: int, place=None, issue: int = 0) -> bytes:
@@ -149,58 +150,39 @@ class LongRun(unittest.TestCase):
         self.assertLessEqual({Number.ZERO_NUMBER, Number.KNOWN_NUMBER, Number.WRONG_COUNT, Number.SET_APART, Number.LATE}, came)
 
 
-class PowerCuts(unittest.TestCase):
-    def test_every_card_is_at_its_car_after_a_cut(self):
-        with tempfile.TemporaryDirectory() as folder:
-            journal = os.path.join(folder, "north.journal")
-            words = ["--new", journal, "--garage", "north"]
-            for card in range(7001, 7004):
-                program = desks.Desk(PROGRAM, *words)
-                words = ["--garage", "north", journal]
-                program.event(Event.BEGIN_IN, card)
-                program.event(Event.END_DONE)
-                self.assertEqual(program.where(card), (RAISED, False, None))
-                program.request("lift basement")
-                before = program.list()
-                program.child.send_signal(signal.SIGKILL)
-                program.wait()
-                with desks.Desk(PROGRAM, *words) as again:
-                    self.assertEqual(again.list(), before)
-                    self.assertEqual([answered for _, answered in again.outstanding()[1]], [False])
-                    again.result(again.outstanding()[0], 0, Outcome.DONE)
-                    aside = "belts row 1 left lift, lower, full" if card == 7001 else "belts row 1 lift right, higher, full"
-                    for step in (aside, "lift street") if card < 7003 else ():
-                        again.result(again.request(step), 0, Outcome.DONE)
-            with desks.Desk(PROGRAM, *words) as last:
-                self.assertEqual([(line.card, line.place) for line in last.list()], [(7001, 9), (7003, 11), (7002, 13)])
-            self.assertEqual(journals.read(journal).desk().cards, {9: 7001, 11: 7003, 13: 7002})
-            with open(journal, "rb") as kept:
-                explained = run("bin/explain", given=kept.read()).stdout.decode()
-            self.assertIn("cars: 3; card 7001 at cells 9, 10; card 7003 at cells 11, 12; card 7002 at cells 13, 14\n", explained)
-
-
 class Street(unittest.TestCase):
-    """The street desk of docs/PYTHON.md: lines with `>` are typed, the others are shown; at `!` the power is cut."""
+    """The street desk of docs/PYTHON.md: lines with `>` are typed, the others are shown."""
 
     def test_the_session(self):
         [(_, session)] = [block for block in blocks("docs/PYTHON.md") if block[0] == "street"]
-        parts = session.split("!\n")
-        self.assertGreater(len(parts), 1)
+        typed = "".join(line[2:] + "\n" for line in session.splitlines() if line.startswith("> "))
         with tempfile.TemporaryDirectory() as folder:
-            words = ["--new", "north.journal", "--garage", "north"]
-            for part in parts:
-                street = [sys.executable, str(ROOT / "docs/examples/street.py"), str(PROGRAM), *words]
-                child = subprocess.Popen(street, stdin=subprocess.PIPE, stdout=subprocess.PIPE, text=True, cwd=folder, start_new_session=True,
-                                         env={**os.environ, "PYTHONPATH": str(ROOT / "hosts/python")})
-                for line in part.splitlines():
-                    if line.startswith("> "):
-                        child.stdin.write(line[2:] + "\n")
-                        child.stdin.flush()
-                    else:
-                        self.assertEqual(child.stdout.readline(), line + "\n")
-                os.killpg(child.pid, signal.SIGKILL)
-                self.assertEqual(child.communicate()[0], "")
-                words = ["--garage", "north", "north.journal"]
+            street = [sys.executable, str(ROOT / "docs/examples/street.py"), str(PROGRAM)]
+            paths = {**os.environ, "PYTHONPATH": str(ROOT / "hosts/python")}
+            told = subprocess.run(street, input=typed, capture_output=True, text=True, cwd=folder, env=paths, check=False)
+        self.assertEqual((told.returncode, told.stderr), (0, ""))
+        self.assertEqual(told.stdout, "".join(f"{line}\n" for line in session.splitlines() if not line.startswith("> ")))
+
+
+class Explained(unittest.TestCase):
+    """A journal with cards, as bin/explain shows it: each append has what the station was sent and the numbers after it."""
+
+    def test_cards_are_where_the_desk_has_them(self):
+        held, journal = ByCalls(), journal_head()
+        # two cars in the garage, whose cards only the first append with cards says, then one that comes in and is moved
+        record = Record(0x00091B0001000600)
+        held.respond(desks.image(record, [12, 13]))
+        steps = [messages.image(record), messages.event(Event.BEGIN_IN), messages.event(Event.END_DONE), messages.request("lift basement")]
+        for at, step in enumerate([*steps, messages.result(0, 0, Outcome.DONE)]):
+            if at:
+                held.respond(desks.begin_in(7001) if at == 1 else step)
+            journal = grown(journal, (journals.Kind.CARDS, bytes(held.desk)[Station.SIZE :] + step))
+            self.assertEqual(journals.read(journal).desk(), held.desk)
+            shown = run("bin/explain", given=journal).stdout.decode()
+            for card, place in ((12, "at cells 9, 10"), (13, "at cell 24"), (7001, (None, None, "on the raised lift", "on the raised lift", "at cells 11, 12")[at])):
+                self.assertEqual(place is not None, f"card {card} {place}" in shown.rsplit("cars: ", 1)[-1], (at, card))
+            self.assertEqual(", in motion to cells 11, 12" in shown.rsplit("cars: ", 1)[-1], at == 3)
+            self.assertEqual("a drive-in is under way, card 7001" in shown, at == 1)
 
 
 class Forms(unittest.TestCase):
