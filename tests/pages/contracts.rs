@@ -141,6 +141,7 @@ fn open_contract(header: &str, from_c: bool) -> Option<&'static str> {
             "Replays ",
             "LeavesCounts ",
             "LeavesDrawing ",
+            "DeskServes ",
             "LeavesMessage ",
             "LeavesReply ",
             "LeavesRoom ",

@@ -10,6 +10,7 @@ use Rattle.desk.specs.declared.Desk.{Desk}
 use Rattle.desk.specs.Desk.{deskFit}
 use Rattle.desk_buffer.specs.DeskServing.{deskRun}
 
+-- what is written for the station makes it
 abbrev pub DeskSends : Type 0
 DeskSends =
     (room : ℕ) (d : Desk) (input : List ℕ) → deskFit d ≡ true → Bytes input

@@ -8,5 +8,6 @@ use Rattle.desk.specs.declared.Desk.{Desk}
 use Rattle.desk.specs.Desk.{deskFit}
 use Rattle.desk_buffer.specs.DeskServing.{deskRun}
 
+-- a run leaves a fit desk fit
 abbrev pub DeskStaysFit : Type 0
 DeskStaysFit = (room : ℕ) (d : Desk) (input : List ℕ) → deskFit d ≡ true → deskFit (deskRun room d input .desk) ≡ true

@@ -28,7 +28,7 @@ class ByCalls:
 
     def __init__(self):
         self.desk = Desk()
-        self.issue, self.set, self.answered = 0, [], 0
+        self.issue, self.set, self.answered = 65535, [], 0
 
     def line(self, place: int, card: int) -> bytes:
         found = self.desk.where(card)
@@ -182,7 +182,7 @@ class Explained(unittest.TestCase):
             for card, place in ((12, "at cells 9, 10"), (13, "at cell 24"), (7001, (None, None, "on the raised lift", "on the raised lift", "at cells 11, 12")[at])):
                 self.assertEqual(place is not None, f"card {card} {place}" in shown.rsplit("cars: ", 1)[-1], (at, card))
             self.assertEqual(", in motion to cells 11, 12" in shown.rsplit("cars: ", 1)[-1], at == 3)
-            self.assertEqual("a drive-in is under way, card 7001" in shown, at == 1)
+            self.assertEqual("a drive-in is under way, card 7001" in shown, at >= 1)
 
 
 class Forms(unittest.TestCase):
