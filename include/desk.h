@@ -4,11 +4,11 @@
  * begins; from then on the number follows the car: with each instruction that is reported done it goes where the car goes, and with
  * nothing else. A drive-in that ends without its car drops its number; a car that has driven out takes its own along, and that number may
  * come again. The desk answers where the car with a number is, which card is leaving, where all cars are, what is outstanding, and what an
- * image would change. The entries below are proved to answer what the
- * definitions in crates/desk_c/specs/Entries.antt say, on every input; nothing proves this header or its caller right, so what a caller
- * must see to is what station.h says of its own entries: pointers valid for the lengths that follow them, bytes lent for writing that
- * overlap nothing else that is lent to the call, one thread at a time on one desk. Any numbers and any bytes may be passed. No entry
- * allocates, prints, waits, or keeps anything between calls; none takes more stack than DESK_STACK_MOST.
+ * image would change. The entries below are proved to answer what the definitions in crates/desk_c/specs/Entries.antt say, on every input;
+ * nothing proves this header or its caller right, so what a caller must see to is what station.h says of its own entries: pointers valid for
+ * the lengths that follow them, bytes lent for writing that overlap nothing else that is lent to the call, one thread at a time on one desk.
+ * Any numbers and any bytes may be passed. No entry allocates, prints, waits, or keeps anything between calls; none takes more stack than
+ * DESK_STACK_MOST, but desk_list and desk_compare, which take no more than DESK_LISTS_STACK_MOST.
  *
  * A desk is all that a host needs: each of its calls but those that ask of cards or sets is the station's call of that name, made on the
  * station inside the desk, and is told what the station says. Where the station refuses, that is the answer. Where it would take a begin of
@@ -118,10 +118,13 @@ enum {
 #define DESK_CARD(room, place) \
     (DESK_BYTE(room, place, 0) | DESK_BYTE(room, place, 1) | DESK_BYTE(room, place, 2) | DESK_BYTE(room, place, 3))
 
-/* The bytes of stack that a call may take on x86-64, below the frame that makes it. No theorem says so: it is measured on many calls, none
- * with more than 1840 but desk_list and desk_compare, and added up over the archive's instructions for every path, which comes to 6216 for
- * desk_compare, 4888 for desk_list and at most 1928 for the others; the C library's memcpy and the like are left out. */
-enum { DESK_STACK_MOST = 7168 };
+/* The bytes of stack that a call may take on x86-64, below the frame that makes it. No theorem says so: it is measured on many calls, and
+ * added up over the archive's instructions for every path, which comes to 6216 for desk_compare, 4888 for desk_list and at most 1928 for
+ * the others; the C library's memcpy and the like are left out. */
+enum {
+    DESK_STACK_MOST = 2048,      /* every entry's but two */
+    DESK_LISTS_STACK_MOST = 7168 /* those two: desk_list and desk_compare, which hold their lines there */
+};
 
 /* ---- calls on a lent desk
  *

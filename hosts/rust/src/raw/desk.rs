@@ -23,7 +23,14 @@ unsafe extern "C" {
     pub fn desk_outstanding(room: *const u8, room_length: usize, set: *mut u8, set_length: usize) -> u32;
     /// What an image would change, a line for each card.
     pub fn desk_compare(
-        room: *const u8, room_length: usize, image: u64, apart: u64, count: u8, cards: *const u8, cards_length: usize, lines: *mut u8,
+        room: *const u8,
+        room_length: usize,
+        image: u64,
+        apart: u64,
+        count: u8,
+        cards: *const u8,
+        cards_length: usize,
+        lines: *mut u8,
         lines_length: usize,
     ) -> u32;
 }
