@@ -1,5 +1,5 @@
-//! What the reference desk tells of all its cards, of what is outstanding, and of what an image would change; written from the desk's page
-//! alone, over the cars that stand somewhere.
+//! What the reference desk tells of all its cards, of what is outstanding, and of what an image would change: by the words of the desk's page,
+//! its bytes by those of the header, over the cars that stand somewhere.
 
 use crate::desk::{Car, Desk};
 use crate::{Answer, NO_PLACE};
