@@ -41,6 +41,9 @@ export interface RawEntries {
   desk_ask(room: Address, room_length: bigint, image: Address, image_length: bigint): number;
   desk_where(room: Address, room_length: bigint, card: number): number;
   desk_leaving(room: Address, room_length: bigint, card: Address, card_length: bigint): number;
+  desk_list(room: Address, room_length: bigint, lines: Address, lines_length: bigint): number;
+  desk_outstanding(room: Address, room_length: bigint, set: Address, set_length: bigint): number;
+  desk_compare(room: Address, room_length: bigint, image: bigint, apart: bigint, count: number, cards: Address, cards_length: bigint, lines: Address, lines_length: bigint): number;
   plan_judge(plan: Address, plan_length: bigint): number;
   plan_explain(plan: Address, plan_length: bigint, room: Address, room_length: bigint): number;
   drawing_write(image: bigint, text: Address, text_length: bigint): number;
@@ -157,6 +160,17 @@ export class Desk extends Held {
   image(record: bigint, cards: number[], apart?: bigint): Answer;
   where(card: number): { answer: Answer; place: number | null; lastKnown: boolean };
   leaving(): { answer: Answer; card: number };
+  compare(record: bigint, cards: number[], apart?: bigint): { answer: Answer; lines: Line[] };
+  list(): { answer: Answer; lines: Line[] };
+  outstanding(): { answer: Answer; issue: number; set: { five: Five; answered: boolean }[] };
+}
+
+/** What is told of a card: its place, 0 sure, 1 last known or 2 in motion, and the place that it would get. */
+export interface Line {
+  card: number;
+  place: number;
+  flag: 0 | 1 | 2;
+  next: number;
 }
 
 export class Totals {
