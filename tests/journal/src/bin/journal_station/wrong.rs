@@ -6,7 +6,7 @@ use std::io;
 use std::process::exit;
 
 /// Each fault with the run that finds it out, and what the station then does.
-const FAULTS: [(&str, &str, &str); 58] = [
+const FAULTS: [(&str, &str, &str); 59] = [
     ("power_cuts", "answers_first", "it answers before it appends"),
     ("power_cuts", "appends_late", "it appends what it was sent when the next messages come"),
     ("power_cuts", "never_appends", "it appends nothing"),
