@@ -90,7 +90,7 @@ function cardBytes(cards) {
 }
 
 /** The lines that an answer counts: a card, its place, a flag (0 sure, 1 last known, 2 in motion), and the place that it would get. */
-function told(answer, room) {
+function linesIn(answer, room) {
   const view = new DataView(room.buffer), count = answer.taken ? answer.place : 0;
   const line = (_, at) => {
     const from = Size.DESK_LINE_SIZE * at;
@@ -141,13 +141,13 @@ export class Desk extends Held {
   /** What such an image would change: each card with its place now and its place then. The desk stays as it is. */
   compare(record, cards, apart = 0n) {
     const room = new Uint8Array(Size.DESK_CHANGES_SIZE);
-    return told(this.called('desk_compare', record, apart, Math.min(cards.length, 255), cardBytes(cards), room), room);
+    return linesIn(this.called('desk_compare', record, apart, Math.min(cards.length, 255), cardBytes(cards), room), room);
   }
 
   /** Every car, in the order of an image's cards; the card of a drive-in under way is last, at DESK_WAITS. */
   list() {
     const room = new Uint8Array(Size.DESK_LIST_SIZE);
-    return told(this.called('desk_list', room), room);
+    return linesIn(this.called('desk_list', room), room);
   }
 
   /** The issue of the last set that was accepted, and the instructions that are outstanding, with whether each is answered. */
