@@ -153,7 +153,7 @@ enum {
 
 /* The bytes of stack that a call may take on x86-64, below the frame that makes it. No theorem says so: it is measured on many calls, and
  * added up over the archive's instructions for every path, which comes to 920 for station_message and less for the others; the C library's
- * memcpy and the like are left out. The desk's entries and the report's take more: DESK_STACK_MOST and REPORT_STACK_MOST. */
+ * memcpy and the like are left out. The desk's entries and the report's take more, as desk.h and report.h say. */
 enum { STATION_STACK_MOST = 1024 };
 
 /* The record of the start: no cars, rows 1 and 2 lowered and row 3 tilted on both sides, the lift at street height. */

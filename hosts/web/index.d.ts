@@ -41,6 +41,9 @@ export interface RawEntries {
   desk_ask(room: Address, room_length: bigint, image: Address, image_length: bigint): number;
   desk_where(room: Address, room_length: bigint, card: number): number;
   desk_leaving(room: Address, room_length: bigint, card: Address, card_length: bigint): number;
+  desk_list(room: Address, room_length: bigint, lines: Address, lines_length: bigint): number;
+  desk_outstanding(room: Address, room_length: bigint, set: Address, set_length: bigint): number;
+  desk_compare(room: Address, room_length: bigint, image: bigint, apart: bigint, count: number, cards: Address, cards_length: bigint, lines: Address, lines_length: bigint): number;
   plan_judge(plan: Address, plan_length: bigint): number;
   plan_explain(plan: Address, plan_length: bigint, room: Address, room_length: bigint): number;
   drawing_write(image: bigint, text: Address, text_length: bigint): number;
@@ -157,6 +160,17 @@ export class Desk extends Held {
   image(record: bigint, cards: number[], apart?: bigint): Answer;
   where(card: number): { answer: Answer; place: number | null; lastKnown: boolean };
   leaving(): { answer: Answer; card: number };
+  compare(record: bigint, cards: number[], apart?: bigint): { answer: Answer; lines: Line[] };
+  list(): { answer: Answer; lines: Line[] };
+  outstanding(): { answer: Answer; issue: number; set: { five: Five; answered: boolean }[] };
+}
+
+/** What is told of a card: its place, 0 sure, 1 last known or 2 in motion, and the place that it would get. */
+export interface Line {
+  card: number;
+  place: number;
+  flag: 0 | 1 | 2;
+  next: number;
 }
 
 export class Totals {
@@ -211,6 +225,8 @@ export interface Journal {
   ended: { after: number; answer: 1 | 2; bytes: Uint8Array }[];
   /** Whether another journal follows it. */
   closed: boolean;
+  /** The 168 bytes of the numbers of a desk's cards, as the last append that has them says; null where none has. */
+  numbers: Uint8Array | null;
   /** What a lost power supply has left: where it begins, and how many bytes it has. No answer was given for it. */
   torn: { at: number; bytes: number } | null;
   /** Where it is damaged: the byte, how many appends and how many messages stand before it. What follows is not read. */
@@ -222,7 +238,7 @@ export function journalIn(library: Library, bytes: Uint8Array): Journal;
 export function isJournal(bytes: Uint8Array): boolean;
 export class NoJournal extends Error {}
 /** What an append has. */
-export const Append: { readonly Messages: 1; readonly CutShort: 2; readonly BadLength: 3; readonly Closed: 4 };
+export const Append: { readonly Messages: 1; readonly CutShort: 2; readonly BadLength: 3; readonly Closed: 4; readonly Cards: 5 };
 /** The bytes of a journal that grows by appends. */
 export class JournalBytes {
   constructor(name: string, version: [number, number, number], station: Uint8Array);

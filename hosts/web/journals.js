@@ -14,9 +14,10 @@ const END_MARK = 10;
 const CARRIED_MOST = 65536;
 const REST_MOST = Size.STATION_MESSAGE_MOST - 1; // what is left of a message that isn't whole
 const SECTOR = 512;
+const CARD_NUMBERS = 168; // 42 numbers of four bytes, before the messages of an append with cards
 
-/** What an append has: messages, what ended a session (answer 1 or 2), or that another journal follows. */
-export const Append = Object.freeze({ Messages: 1, CutShort: 2, BadLength: 3, Closed: 4 });
+/** What an append has: messages, what ended a session (answer 1 or 2), that another journal follows, or a desk's cards and messages. */
+export const Append = Object.freeze({ Messages: 1, CutShort: 2, BadLength: 3, Closed: 4, Cards: 5 });
 
 /** A file that is no journal, or none that can be read, with why: a phrase that goes on from the file's name. */
 export class NoJournal extends Error {}
@@ -135,13 +136,15 @@ function zeroed(bytes, at, titled) {
 /** Reads a journal's file: its head, the messages that it holds, what ended sessions, and how it ends. Throws NoJournal for its head. */
 export function journalIn(library, bytes) {
   const { name, version, station, sum: first } = headOf(library, bytes), messages = new Uint8Array(bytes.length - HEAD), ended = [];
-  let starts = new Uint32Array(1 + Math.floor(messages.length / 4)), count = 0, size = 0, at = HEAD, sum = first, appends = 0, closed = false;
+  let starts = new Uint32Array(1 + Math.floor(messages.length / 4)), count = 0, size = 0, at = HEAD, sum = first, appends = 0, closed = false,
+    numbers = null;
   // takes what an append carries; gives whether it may stand there
   const take = (kind, from, to) => {
     if (closed) return false;
-    if (kind === Append.Messages) {
-      const before = [count, size];
-      let place = from;
+    if (kind === Append.Messages || kind === Append.Cards) {
+      const before = [count, size], lead = kind === Append.Cards ? CARD_NUMBERS : 0;
+      if (to - from < lead) return false;
+      let place = from + lead;
       while (place < to) {
         const end = endOf(bytes, place, to);
         if (end <= 0) {
@@ -151,6 +154,7 @@ export function journalIn(library, bytes) {
         starts[count++] = size;
         for (; place < end; place++) messages[size++] = bytes[place];
       }
+      if (lead) numbers = bytes.slice(from, from + lead);
       return to > from;
     }
     if (kind === Append.CutShort || kind === Append.BadLength) {
@@ -181,5 +185,5 @@ export function journalIn(library, bytes) {
   }
   starts = starts.slice(0, count + 1);
   starts[count] = size;
-  return { name, version, station, messages: messages.subarray(0, size), starts, count, appends, ended, closed, torn, damage };
+  return { name, version, station, messages: messages.subarray(0, size), starts, count, appends, ended, closed, numbers, torn, damage };
 }

@@ -82,6 +82,23 @@ export class Station extends Held {
   }
 }
 
+/** The numbers of cards in bytes. */
+function cardBytes(cards) {
+  const bytes = new Uint8Array(Size.DESK_CARD_SIZE * cards.length), view = new DataView(bytes.buffer);
+  cards.forEach((card, at) => view.setUint32(Size.DESK_CARD_SIZE * at, card, true));
+  return bytes;
+}
+
+/** The lines that an answer counts: a card, its place, a flag (0 sure, 1 last known, 2 in motion), and the place that it would get. */
+function linesIn(answer, room) {
+  const view = new DataView(room.buffer), count = answer.taken ? answer.place : 0;
+  const line = (_, at) => {
+    const from = Size.DESK_LINE_SIZE * at;
+    return { card: view.getUint32(from, true), place: room[from + 4], flag: room[from + 5], next: room[from + 6] };
+  };
+  return { answer, lines: Array.from({ length: count }, line) };
+}
+
 /** A station whose cars have card numbers of 32 bits. */
 export class Desk extends Held {
   constructor(entries, bytes) {
@@ -118,9 +135,26 @@ export class Desk extends Held {
 
   /** Takes an image with the cards of its cars, in the order of the cells. */
   image(record, cards, apart = 0n) {
-    const bytes = new Uint8Array(Size.DESK_CARD_SIZE * cards.length), view = new DataView(bytes.buffer);
-    cards.forEach((card, at) => view.setUint32(Size.DESK_CARD_SIZE * at, card, true));
-    return this.called('desk_image', record, apart, Math.min(cards.length, 255), bytes);
+    return this.called('desk_image', record, apart, Math.min(cards.length, 255), cardBytes(cards));
+  }
+
+  /** What such an image would change: each card with its place now and its place then. The desk stays as it is. */
+  compare(record, cards, apart = 0n) {
+    const room = new Uint8Array(Size.DESK_CHANGES_SIZE);
+    return linesIn(this.called('desk_compare', record, apart, Math.min(cards.length, 255), cardBytes(cards), room), room);
+  }
+
+  /** Every car, in the order of an image's cards; the card of a drive-in under way is last, at DESK_WAITS. */
+  list() {
+    const room = new Uint8Array(Size.DESK_LIST_SIZE);
+    return linesIn(this.called('desk_list', room), room);
+  }
+
+  /** The issue of the last set that was accepted, and the instructions that are outstanding, with whether each is answered. */
+  outstanding() {
+    const room = new Uint8Array(Size.DESK_OPEN_SIZE), answer = this.called('desk_outstanding', room);
+    const of = (_, at) => ({ five: room.slice(4 + 5 * at, 9 + 5 * at), answered: Boolean((room[3] >> at) & 1) });
+    return { answer, issue: room[0] | (room[1] << 8), set: Array.from({ length: room[2] }, of) };
   }
 
   ask() {

@@ -2,7 +2,7 @@
 //! that counts each call's instructions.
 
 use reference::command::{self, ENTRIES};
-use shared::trials::{self, Given, Trial};
+use shared::trials::{self, Given, Limits, Trial};
 
 /// The command that these bytes are.
 fn read(bytes: &[u8]) -> Given {
@@ -34,7 +34,7 @@ pub fn trial<T>(given: Given, of_it: T) -> Trial<T> {
 /// Runs all of them, each answer as the reference's, and gives the instructions that each took; `counts` is the file that the emulator's
 /// plugin writes.
 pub fn counted<T>(trials: &[Trial<T>], stack: u32, counts: &str, program: &[String]) -> Vec<u32> {
-    trials::run(&ENTRIES, trials, stack, program, |_, _| {});
+    trials::run(&ENTRIES, trials, &Limits::read(&stack.to_string()), program, |_, _| {});
     let bytes = std::fs::read(counts).expect("the counts");
     assert_eq!(bytes.len(), 4 * trials.len(), "a count for each call");
     bytes.chunks_exact(4).map(|four| u32::from_le_bytes(four.try_into().expect("four"))).collect()

@@ -1,7 +1,7 @@
 /* The calls of the station's entries that the fuzzer's programs make (tests/fuzz/seeds), as commands for the host that makes calls as it is
  * told to (tests/entries/entries.c): `corpus` takes programs on standard input, one to a line, in hexadecimal, and writes a line for each
  * call. The programs are read by the fuzzer's own harness; where that asks the reference, this writes the call and makes it. A call
- * with a run of more than 255 bytes has no form as a command. */
+ * with a run of 255 bytes or more has no form as a command here. */
 #include "../fuzz/harness.c"
 
 static void write_number(uint64_t number, int size) {
@@ -14,7 +14,7 @@ uint32_t reference_call(uint8_t side, const struct command *command) {
     const struct lent runs[RUNS] = {command->room, command->in, command->out};
     bool fits = command->entry < ENTRIES;
     for (int run = 0; run < RUNS; run++)
-        fits &= runs[run].size <= 255;
+        fits &= runs[run].size < 255;
     if (fits) {
         printf("%02x%02x%02x", command->entry, command->first, command->second);
         write_number(command->issue, 2);

@@ -40,13 +40,17 @@ static void ask(uint64_t *record, uint64_t *apart) {
     }
 }
 
+static void draw(uint32_t answer, const uint8_t *text) {
+    accepted("draw", DRAWING_NUMBER(answer));
+    printf("%.*s", (int)DRAWING_LENGTH(answer), (const char *)text);
+}
+
 static void show(void) {
     uint64_t record, apart;
     uint8_t text[DRAWING_MOST];
     ask(&record, &apart);
-    uint32_t answer = drawing_write(record, text, sizeof text);
-    accepted("draw", DRAWING_NUMBER(answer));
-    printf("cars: %u\n%.*s", garage_cars(record), (int)DRAWING_LENGTH(answer), (const char *)text);
+    printf("cars: %u\n", garage_cars(record));
+    draw(drawing_write(record, text, sizeof text), text);
 }
 
 /* Somebody looks at what is set apart, and sends what is there: here nothing had moved. */
@@ -54,9 +58,7 @@ static void look(void) {
     uint64_t record, apart;
     uint8_t text[DRAWING_APART_MOST];
     ask(&record, &apart);
-    uint32_t answer = drawing_write_apart(apart, text, sizeof text);
-    accepted("draw", DRAWING_NUMBER(answer));
-    printf("%.*s", (int)DRAWING_LENGTH(answer), (const char *)text);
+    draw(drawing_write_apart(apart, text, sizeof text), text);
     accepted("image", station_image(garage, sizeof garage, record, 0));
     printf("image: accepted\n");
 }

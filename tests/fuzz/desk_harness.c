@@ -6,7 +6,7 @@
 #include "compare.h"
 #include "desk_command.h"
 
-enum { NUMBERS = DESK_WRONG_COUNT + 1, SORTS = 32, DRIVE_IN = 55 };
+enum { NUMBERS = DESK_WRONG_COUNT + 1, SORTS = 32, DRIVE_IN = 55, UNWRITTEN = 0xA5 };
 
 /* ---- what was reached */
 
@@ -75,7 +75,7 @@ static uint32_t call_any(const struct command *c) { return call_desk(c); }
 
 /* A call that isn't taken writes nothing, and a question never writes the desk. */
 static bool may_write(uint8_t entry, int run, uint32_t answer) {
-    bool asks = entry == DESK_ASK || entry == DESK_WHERE || entry == DESK_LEAVING;
+    bool asks = entry >= DESK_ASK;
     return STATION_NUMBER(answer) == STATION_TAKEN && ((run == 0 && !asks) || (run == 2 && asks));
 }
 
@@ -115,8 +115,8 @@ static size_t bearing(uint64_t image, uint8_t *places) {
 }
 
 /* The numbers for an image: the kept desk's where it has one at that place, else one of the place's own. By a byte of bits some are
- * changed: one more, one less, one a zero, one like another, another count, fewer bytes. Gives the count; the size is how many bytes are
- * lent. */
+ * changed: one more, one less, one a zero, one like another, two exchanged, one another card, another count, fewer bytes. Gives the count;
+ * the size is how many bytes are lent. */
 static uint8_t take_cards(uint64_t image, uint8_t *cards, size_t *size) {
     uint8_t places[DESK_PLACES], which = take();
     size_t count = bearing(image, places);
@@ -131,6 +131,16 @@ static uint8_t take_cards(uint64_t image, uint8_t *cards, size_t *size) {
         size_t from = take() % count, to = take() % count;
         memmove(cards + DESK_CARD_SIZE * to, cards + DESK_CARD_SIZE * from, DESK_CARD_SIZE);
     }
+    if (which & 64 && count > 0) {
+        uint8_t *one = cards + DESK_CARD_SIZE * (take() % count), *other = cards + DESK_CARD_SIZE * (take() % count), four[DESK_CARD_SIZE];
+        memcpy(four, one, sizeof four);
+        memmove(one, other, sizeof four);
+        memcpy(other, four, sizeof four);
+    }
+    if (which & 128 && count > 0) {
+        uint8_t *one = cards + DESK_CARD_SIZE * (take() % count);
+        put_card(one, take_card());
+    }
     *size = DESK_CARD_SIZE * count;
     uint8_t given = which & 16 ? take() : (uint8_t)count;
     if (which & 32) *size = take_size();
@@ -139,11 +149,29 @@ static uint8_t take_cards(uint64_t image, uint8_t *cards, size_t *size) {
 
 /* ---- the steps of a program */
 
+/* The question that is asked before a call, with all that the call is given: before an image what it would change, before the record what is
+ * outstanding, and before the card that is leaving all of them. */
+static void ask_before(const struct command *command, unsigned places, bool any_size) {
+    static const struct {
+        uint8_t entry;
+        size_t size;
+    } asked[DESK_ENTRIES] = {
+        [DESK_IMAGE] = {DESK_COMPARE, DESK_CHANGES_SIZE}, [DESK_ASK] = {DESK_OUTSTANDING, DESK_OPEN_SIZE}, [DESK_LEAVING] = {DESK_LIST, DESK_LIST_SIZE}};
+    struct command question = *command;
+    question.entry = asked[command->entry].entry;
+    if (question.entry == DESK_START)
+        return;
+    if (!any_size) question.out.size = asked[command->entry].size;
+    compare(&question, places);
+    memset(question.out.bytes, UNWRITTEN, question.out.size);
+}
+
 /* One call of an entry on the kept desk. An unusual one is given any bytes and any lengths. */
 static void one_call(uint8_t entry, unsigned places, bool unusual) {
     uint8_t in[RUN_MOST] = {0}, out[RUN_MOST];
     struct command command = {.entry = entry, .room = {kept, DESK_SIZE}, .in = {in, 0}, .out = {out, 0}};
-    memset(out, 0xA5, sizeof out);
+    bool any_size = false;
+    memset(out, UNWRITTEN, sizeof out);
     switch (entry) {
     case DESK_REQUEST:
         command.first = take_set(in);
@@ -185,7 +213,9 @@ static void one_call(uint8_t entry, unsigned places, bool unusual) {
         if (which & 32) damage(in, 64);
         if (which & 64) damage(kept, STATION_SIZE);
         if (which & 128) command.apart = take_number();
+        any_size = which & 4;
     }
+    ask_before(&command, places, any_size);
     compare(&command, places);
 }
 
@@ -210,8 +240,9 @@ static void ask_all(unsigned places) {
     }
 }
 
-/* Damage that no call does, numbers among it, and calls in a row; numbered behind the entries. */
-enum { NEW_RECORD = DESK_ENTRIES, NEW_SET, NEW_APART, NEW_NUMBER, ALL_NUMBERS, SETTLE, STICK, ASK_ALL };
+/* Damage that no call does, numbers among it, and calls in a row; numbered behind the entries that a byte picks, the last of which is
+ * DESK_LEAVING. */
+enum { NEW_RECORD = DESK_LEAVING + 1, NEW_SET, NEW_APART, NEW_NUMBER, ALL_NUMBERS, SETTLE, STICK, ASK_ALL };
 
 static void one_step(void) {
     uint8_t pick = take(), fitting[DESK_PLACES];
@@ -221,8 +252,7 @@ static void one_step(void) {
         put_number(kept, take_image());
         break;
     case NEW_SET:
-        memset(kept + SET_AT, 0, ISSUE_AT - SET_AT);
-        kept[SET_AT] = take_set(kept + CODES_AT) % (STATION_MOST + 1);
+        put_set();
         break;
     case NEW_APART:
         put_number(kept + APART_AT, pick >> 7 ? take_number() : UINT64_C(1) << take() % 64);

@@ -293,8 +293,7 @@ static void one_step(void) {
         put_number(kept, take_image());
         break;
     case NEW_SET:
-        memset(kept + SET_AT, 0, ISSUE_AT - SET_AT);
-        kept[SET_AT] = take_set(kept + CODES_AT) % (STATION_MOST + 1);
+        put_set();
         break;
     case NEW_MARKS:
         if (pick >> 7)

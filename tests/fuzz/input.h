@@ -118,6 +118,12 @@ static inline uint8_t take_set(uint8_t *set) {
     return count;
 }
 
+/* A set that no request opened, in place of the kept one. */
+static inline void put_set(void) {
+    memset(kept + SET_AT, 0, ISSUE_AT - SET_AT);
+    kept[SET_AT] = take_set(kept + CODES_AT) % (STATION_MOST + 1);
+}
+
 static inline uint16_t present_issue(void) { return (uint16_t)((kept[ISSUE_AT] | kept[ISSUE_AT + 1] << 8) - 1); }
 
 /* The issue of a result: the present one's, one that lies behind it by a distance that counts, or any two bytes. */

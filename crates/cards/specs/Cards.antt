@@ -1,27 +1,17 @@
 -- Which car stands where: card numbers at places, and when they are the numbers of a record's cars. Assumes nothing.
 use mathlib.Core.Path.{_≡_}
-use mathlib.Core.Logic.{_⊎_, _↔_}
+use mathlib.Core.Logic.{_↔_}
 use mathlib.Core.Bool.{false}
-use mathlib.Core.List.{List, [], _∷_}
+use mathlib.Core.List.{List}
 use Prim.Native.Nat.{ℕ}
 use Rattle.bits.specs.Bits.{Bits}
-use Rattle.floor.specs.Floor.{raisedCar, driveIn}
-use Rattle.floor.specs.Cars.{Car, pair, single, raised, Layout}
+use Rattle.floor.specs.Floor.{driveIn}
+use Rattle.floor.specs.Cars.{Car, Layout}
+use Rattle.cars.specs.Lists.{anchor, Among}
 
 -- a numbering: the card number at each place, 0 for none; that of a car which is being driven in waits at the drive's own bit
 abbrev pub Numbers : Type 0
 Numbers = ℕ → ℕ
-
--- the place where a car's number stands: the lower of its two cells, its one cell, or the raised lift
-abbrev pub anchor : Car → ℕ
-anchor (pair c) = c
-anchor (single c) = c
-anchor raised = raisedCar
-
--- a car is one of a list
-unfoldable pub Among : Car → List Car → Type 0
-Among x [] = ⊥
-Among x (y ∷ l) = (x ≡ y) ⊎ Among x l
 
 -- the numbers n are those of the cars l of the record f: each car has one, one waits exactly while a drive-in is under way, no other place
 -- has any, and none stands at two places

@@ -15,7 +15,8 @@ use Rattle.rules.specs.declared.Instruction.the-variants.{Belts, Shuttles, Tilt
 use Rattle.rules.specs.declared.Event.{Event}
 use Rattle.rules.specs.declared.Event.the-variants.{BeginIn, BeginOut, EndDone, EndNotDone}
 use Rattle.rules.specs.Named.{higher, cells, step, rowsOf, onward}
-use Rattle.cards.specs.Cards.{Numbers, anchor}
+use Rattle.cars.specs.Lists.{anchor}
+use Rattle.cards.specs.Cards.{Numbers}
 
 -- no place: nothing comes from there
 abbrev pub noSource : ℕ

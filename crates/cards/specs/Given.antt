@@ -2,7 +2,7 @@
 -- under way. Assumes nothing.
 use mathlib.Core.Path.{_≡_}
 use mathlib.Core.Bool.{Bool, not, cond, _&&_, _||_}
-use mathlib.Core.List.{List, [], _∷_}
+use mathlib.Core.List.{List}
 use Prim.Native.Nat.{ℕ, _+_, _%_, _<_}
 use lib.Dec.{eqb, ltb}
 use lib.ListN.{length, getD}
@@ -10,11 +10,10 @@ use Rattle.bits.specs.Bits.{Bits, bit, digit, count}
 use Rattle.bits.specs.Places.{from}
 use Rattle.bits.specs.Search.{some}
 use Rattle.floor.specs.Floor.{raisedCar, driveIn}
-use Rattle.floor.specs.Cars.{Car}
 use Rattle.floor.specs.Sound.{total, carsIn}
 use Rattle.cards.specs.declared.Offered.{Offered}
 use Rattle.cards.specs.declared.Offered.the-variants.{Fine, WrongCount, ZeroNumber, TwiceGiven}
-use Rattle.cards.specs.Cards.{Numbers, anchor, Among}
+use Rattle.cards.specs.Cards.{Numbers}
 
 -- a number stands at place k: in row 1 at an occupied cell with an even number of occupied cells below it, in rows 2 and 3 at each occupied
 -- cell, on the raised lift if a car is there, and waiting while a drive-in is under way
@@ -52,8 +51,3 @@ givenAs r n ns =
 pub record AllNew (ns : List ℕ) : Type 0 where
   pub nonzero : (i : ℕ) → i < length ns → getD ns i 0 ≡ 0 → ⊥
   pub once : (i j : ℕ) → i < length ns → j < length ns → getD ns i 0 ≡ getD ns j 0 → i ≡ j
-
--- the cars of a list stand in the order of their places
-abbrev pub Rising : List Car → Type 0
-Rising [] = Unit {0}
-Rising (x ∷ l) = ((y : Car) → Among y l → anchor x < anchor y) × Rising l

@@ -15,8 +15,9 @@ use Rattle.floor.specs.Floor.{raisedCar, driveIn}
 use Rattle.floor.specs.Cars.{Car, pair, single, raised, Stands, at, covered, AllStand, Layout}
 use Rattle.floor.proofs.Layouts.{at-same, at-other}
 use Rattle.floor.proofs.Rows.{below}
+use Rattle.cars.specs.Lists.{anchor, Among}
 use Rattle.rules_laws.proofs.Moves.{row-count}
-use Rattle.cards.specs.Cards.{Numbers, anchor, Among, Cards, Has}
+use Rattle.cards.specs.Cards.{Numbers, Cards, Has}
 use Rattle.cards.specs.Given.{bears}
 use Rattle.cards.specs.Following.{noSource, numberAt}
 use Rattle.cards_laws.specs.Statements.{BearsExactly}

@@ -17,9 +17,9 @@ use Rattle.floor.specs.Floor.{driveIn}
 use Rattle.floor.specs.Cars.{Car, pair, single, raised, Stands, AllStand, at, Layout}
 use Rattle.floor.proofs.Rows.{below}
 use Rattle.floor.proofs.Promises.{layout-cars}
+use Rattle.cars.specs.Lists.{anchor, Among, Rising}
 use Rattle.rules_laws.proofs.Moves.{row-count}
-use Rattle.cards.specs.Cards.{anchor, Among}
-use Rattle.cards.specs.Given.{bears, numbersGiven, Rising}
+use Rattle.cards.specs.Given.{bears, numbersGiven}
 use Rattle.cards_laws.specs.Statements.{GivenCards, GivenPadded, GivenInOrder}
 use Rattle.cards_laws.proofs.Anchors.{anchorsAt, told, stands, car-bears, marked-cards}
 

@@ -17,11 +17,11 @@ use Rattle.floor.specs.Tests.{holds, free, allHold, atBasement}
 use Rattle.floor.specs.Cars.{Car, pair, single, raised, Stands}
 use Rattle.floor.specs.Sound.{Sound, soundRules}
 use Rattle.floor.proofs.Reading.{nth-holds}
+use Rattle.cars.specs.Lists.{anchor, Among}
 use Rattle.rules.specs.declared.Instruction.{Instruction}
 use Rattle.rules.specs.declared.Instruction.the-variants.{Belts, Shuttles, Tilt, Lift, Rotate}
 use Rattle.rules.specs.Rules.{wellFormed, allowed, nextRecord}
 use Rattle.rules.proofs.Every.{everywhere, each}
-use Rattle.cards.specs.Cards.{anchor, Among}
 use Rattle.cards.specs.Given.{bears}
 use Rattle.cards.specs.Following.{noSource, liftNumberAt, Taking, takings, numberAt, numbersAfter, carMoved}
 use Rattle.cards.specs.Private.{source}

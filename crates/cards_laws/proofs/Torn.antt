@@ -26,6 +26,7 @@ use Rattle.floor.specs.Sound.{Sound, soundRules}
 use Rattle.floor.proofs.Reading.{inside, inside-at, nth-holds}
 use Rattle.floor.proofs.Rows.{below, Whole, count-from, whole-iff-paired}
 use Rattle.floor.proofs.Promises.{layout-exactly}
+use Rattle.cars.specs.Lists.{Among}
 use Rattle.rules.specs.declared.Instruction.{Instruction}
 use Rattle.rules.specs.declared.Instruction.the-variants.{Belts, Shuttles, Tilt, Lift, Rotate}
 use Rattle.rules.specs.Named.{higher, cells, step, end}
@@ -36,7 +37,6 @@ use Rattle.rules_laws.proofs.CarsKept.{other, pairAt, touches}
 use Rattle.rules_laws.proofs.Moves.{belts-named, other-kept}
 use Rattle.rules_laws.proofs.RulesKept.{both-lists}
 use Rattle.rules_laws.proofs.Tried.{tried, tried-law}
-use Rattle.cards.specs.Cards.{Among}
 use Rattle.cards.specs.Following.{firstPlace}
 use Rattle.cards_laws.specs.Statements.{NoneTorn}
 use Rattle.cards_laws.proofs.Anchors.{bears-row, stands, car-bears}

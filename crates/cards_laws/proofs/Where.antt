@@ -9,7 +9,7 @@ use Rattle.bits.proofs.Cases.{split}
 use Rattle.bits.proofs.Least.{least-is, least-none}
 use Rattle.floor.specs.Floor.{driveIn}
 use Rattle.floor.specs.Cars.{Car, pair, single, raised, Stands}
-use Rattle.cards.specs.Cards.{anchor, Among}
+use Rattle.cars.specs.Lists.{anchor, Among}
 use Rattle.cards.specs.Given.{bears}
 use Rattle.cards.specs.Following.{noSource}
 use Rattle.cards.specs.Held.{placeOfElement, numbersIn, elementOf, whereIs}

@@ -10,6 +10,7 @@ use Rattle.bits.specs.Bits.{Bits, bit, digit}
 use Rattle.floor.specs.Floor.{raisedCar, driveIn, driveOut}
 use Rattle.floor.specs.Cars.{Car, pair, Layout, cars}
 use Rattle.floor.specs.Sound.{Sound}
+use Rattle.cars.specs.Lists.{anchor, Among, Rising}
 use Rattle.rules.specs.declared.Instruction.{Instruction}
 use Rattle.rules.specs.declared.Event.{Event}
 use Rattle.rules.specs.declared.Event.the-variants.{BeginIn, BeginOut, EndDone, EndNotDone}
@@ -17,9 +18,9 @@ use Rattle.rules.specs.Rules.{wellFormed, area, allowed, nextRecord}
 use Rattle.rules.specs.Events.{possible, afterEvent}
 use Rattle.rules_laws.specs.Laws.{Agree, liftArea, Clear}
 use Rattle.rules_laws.specs.Undoing.{recordAfter}
-use Rattle.cards.specs.Cards.{Numbers, anchor, Among, Cards, Has}
+use Rattle.cards.specs.Cards.{Numbers, Cards, Has}
 use Rattle.cards.specs.declared.Offered.the-variants.{Fine}
-use Rattle.cards.specs.Given.{bears, numbersGiven, givenAs, AllNew, Rising}
+use Rattle.cards.specs.Given.{bears, numbersGiven, givenAs, AllNew}
 use Rattle.cards.specs.Held.{numbersIn, cardsFit, isKnown, whereIs}
 use Rattle.cards.specs.Following.{noSource, numbersAfter, numbersDriven, carMoved}
 

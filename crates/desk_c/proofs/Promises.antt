@@ -3,20 +3,20 @@ use mathlib.Core.Path.{_≡_, refl, sym, ap, ap₂, _∙_}
 use mathlib.Core.Bool.{_||_}
 use mathlib.Core.Logic.{_⊎_, inl, inr}
 use mathlib.Core.List.{List, _++_, append-assoc}
-use Prim.Native.Nat.{ℕ, _+_, _%_}
+use Prim.Native.Nat.{ℕ, _+_, _*_, _%_}
 use native.Mathlib.Omega.{arith}
 use borrow.Author.Tests.{ne-eqb}
-use lib.Dec.{ltb}
-use lib.ListN.{length, drop, length-append, length-drop}
+use lib.Dec.{eqb, ltb}
+use lib.ListN.{length, take, drop, length-append, length-drop}
 use lib.Seq.{take-add, drop-at}
 use Rattle.bits.proofs.Cases.{split}
-use Rattle.answers.specs.declared.Answer.the-variants.{NoRoom}
+use Rattle.answers.specs.declared.Answer.the-variants.{Taken, NoRoom}
 use Rattle.station.specs.declared.Station.{Station}
 use Rattle.codec.proofs.Numbers.{bytes-drop}
 use Rattle.codec.specs.Fours.{foursIn, foursBytes}
 use Rattle.codec.proofs.Fours.{bytesTo, bytes-length}
 use Rattle.codec.proofs.Forms.{fours-read-back, fours-one-form}
-use Rattle.rooms.specs.Rooms.{stationBytes, imageBytes, writes}
+use Rattle.rooms.specs.Rooms.{stationBytes, imageBytes, writes, telling}
 use Rattle.rooms.proofs.Promises.{station-fits, station-reads-back, station-one-form}
 use Rattle.desk.specs.declared.Desk.{Desk}
 use Rattle.desk.specs.Desk.{replyNumber}
@@ -28,7 +28,8 @@ use Rattle.desk.specs.declared.Leaving.{Leaving}
 use Rattle.desk.specs.declared.Leaving.the-variants.{Card, Nobody}
 use Rattle.desk.specs.Calls.{deskAsk}
 use Rattle.desk.specs.Questions.{whereabouts, leaving}
-use Rattle.desk_c.specs.Entries.{deskBytes, deskOf, replied, shows, deskEntry, deskAsking, whereSaid, finding, leavingEntry, parting}
+use Rattle.desk.specs.Lines.{heldLines, listedCars, outstanding}
+use Rattle.desk_c.specs.Entries.{deskBytes, deskOf, replied, shows, deskEntry, deskAsking, whereSaid, finding, leavingEntry, parting, countTold, listing, openBytes, openShown, comparing}
 use Rattle.desk_c.specs.Promises.{DeskFits, DeskReadsBack, DeskOneForm, RepliedReadsBack, WhereReadsBack, DeskEntryUntouched, OfDesk, DeskNumbersReturned}
 use Rattle.desk_c.proofs.Rooms.{reply-byte, reply-number}
 
@@ -103,8 +104,12 @@ refused-leaving (Card c) out h = absurd (h refl)
 refused-leaving Nobody out h = absurd (h refl)
 refused-leaving Leaving.Unfit out h = refl
 
+refused-telling : (n : ℕ) (bytes out : List ℕ) → (telling n bytes out .says % 256 ≡ 0 → ⊥) → telling n bytes out .leaves ≡ out
+unfolding telling
+refused-telling n bytes out h = split (ltb (length out) (length bytes)) (λ t. rw t) (λ t. rw t (rw (ne-eqb (n % 256) 0 (λ z. h (rw t z)))))
+
 pub refused-untouched : DeskEntryUntouched
-unfolding deskEntry deskAsking parting shows
+unfolding deskEntry deskAsking parting listing openShown comparing shows
 refused-untouched = (
   λ call room h. split (ltb (length room) 228)
       (λ t. rw t)
@@ -115,6 +120,12 @@ refused-untouched = (
   λ room out h. split (ltb (length room) 228 || ltb (length out) 4)
       (λ t. rw t)
       (λ t. rw t (refused-leaving (leaving (deskOf room)) out (λ z. h (rw t z)))),
+  λ room out h. let d = deskOf room in
+      split (ltb (length room) 228) (λ t. rw t) (λ t. rw t (refused-telling _ (take 248 (heldLines (listedCars d) .bytes)) out (λ z. h (rw t z)))),
+  λ room out h. let d = deskOf room in
+      split (ltb (length room) 228 || ltb (length out) 44) (λ t. rw t) (λ t. rw t (refused-shows (deskAsk d .reply) (openBytes (outstanding d)) out (λ z. h (rw t z)))),
+  λ compare room out h. let c = compare (deskOf room) in
+      split (ltb (length room) 228) (λ t. rw t) (λ t. rw t (refused-telling _ (c .lines .bytes) out (λ z. h (rw t z)))),
 )
 
 -- ---- the numbers that are returned
@@ -138,8 +149,20 @@ leaving-number (Card c) out = inl refl
 leaving-number Nobody out = inl refl
 leaving-number Leaving.Unfit out = inr (inl refl)
 
+-- of lines: a count is told as taken
+count-number : (a : Reply) (n : ℕ) → OfDesk (countTold a n % 256)
+unfolding countTold
+count-number a n = split (eqb (replyNumber a) 0) (λ t. rw t (inl (Taken, zero-byte n))) (λ t. rw t (of-desk a))
+  where
+    zero-byte : (n : ℕ) → 256 * n % 256 ≡ 0
+    zero-byte n = omega arith
+
+lines-number : (a : Reply) (n : ℕ) (bytes out : List ℕ) → OfDesk (telling (countTold a n) bytes out .says % 256)
+unfolding telling
+lines-number a n bytes out = split (ltb (length out) (length bytes)) (λ t. rw t (of-desk (Told NoRoom))) (λ t. rw t (count-number a n))
+
 pub numbers-returned : DeskNumbersReturned
-unfolding deskEntry deskAsking finding parting shows
+unfolding deskEntry deskAsking finding parting listing openShown comparing shows
 numbers-returned = (
   λ call room. split (ltb (length room) 228) (λ t. rw t (of-desk (Told NoRoom))) (λ t. rw t (of-desk (call (deskOf room) .reply))),
   λ room image. split (ltb (length room) 228 || ltb (length image) 16)
@@ -149,4 +172,12 @@ numbers-returned = (
   λ room out. split (ltb (length room) 228 || ltb (length out) 4)
       (λ t. rw t (inr (inr refl)))
       (λ t. rw t (leaving-number (leaving (deskOf room)) out)),
+  λ room out. let d = deskOf room in
+      let all = heldLines (listedCars d) in
+      split (ltb (length room) 228) (λ t. rw t (of-desk (Told NoRoom))) (λ t. rw t (lines-number (deskAsk d .reply) (all .count) (take 248 (all .bytes)) out)),
+  λ room out. split (ltb (length room) 228 || ltb (length out) 44)
+      (λ t. rw t (of-desk (Told NoRoom)))
+      (λ t. rw t (of-desk (deskAsk (deskOf room) .reply))),
+  λ compare room out. let c = compare (deskOf room) in
+      split (ltb (length room) 228) (λ t. rw t (of-desk (Told NoRoom))) (λ t. rw t (lines-number (c .reply) (c .lines .count) (c .lines .bytes) out)),
 )

@@ -1,14 +1,15 @@
 -- What is lent, a desk laid out in bytes, and what an entry leaves, case by case: one pair of laws serves every call. Assumes nothing.
 use mathlib.Core.Bool.{false}
 use mathlib.Core.Path.{_≡_, refl, sym, ap, ap₂, _∙_}
-use mathlib.Core.List.{List, [], _++_, append-nil}
-use Prim.Native.Nat.{ℕ, _*_, _-_, _%_, _^_, _≤_, _<_}
+use mathlib.Core.List.{List, [], _∷_, _++_, map, append-nil}
+use Prim.Native.Nat.{ℕ, _+_, _*_, _-_, _/_, _%_, _^_, _≤_, _<_}
 use native.Mathlib.Nat.{mul-le-mul-right}
 use native.Mathlib.Omega.{arith}
-use borrow.Author.Tests.{lt-ltb, le-ltb, ltb-false}
+use borrow.Author.Tests.{lt-ltb, le-ltb, ltb-false, eq-eqb, ne-eqb}
 use lib.Dec.{eqb, ltb}
-use lib.ListN.{length, take, drop, replicate}
+use lib.ListN.{length, take, drop, replicate, length-append, length-replicate}
 use lib.Seq.{take-length}
+use Rattle.bits.specs.Places.{join}
 use Rattle.bits.proofs.Cases.{split}
 use Rattle.codec.specs.Bytes.{littleEndian}
 use Rattle.answers.specs.declared.Answer.the-variants.{Taken, TooFewBytes, NoRoom, Unfit}
@@ -24,10 +25,15 @@ use Rattle.desk.specs.declared.Reply.{Reply}
 use Rattle.desk.specs.declared.Reply.the-variants.{Told, ZeroNumber, KnownNumber, WrongCount}
 use Rattle.desk.specs.declared.Whereabouts.{Whereabouts}
 use Rattle.desk.specs.declared.Leaving.{Leaving}
+use Rattle.desk.specs.declared.Lines.{Lines}
+use Rattle.desk.specs.declared.OpenSet.{OpenSet}
+use Rattle.desk.specs.declared.Comparison.{Comparison}
 use Rattle.desk.specs.Desk.{replyNumber}
 use Rattle.desk.specs.Calls.{deskRefused, deskRequest, deskTakeImage, deskAsk}
 use Rattle.desk.specs.Questions.{whereabouts, leaving}
-use Rattle.desk_c.specs.Entries.{deskBytes, deskOf, replied, shows, deskEntry, lentBytes, deskRequestOf, deskImageOf, deskAsking, whereSaid, finding, leavingEntry, parting}
+use Rattle.desk.specs.Lines.{lineBytes, heldLines, listedCars, outstanding, compared}
+use Rattle.desk.proofs.Laying.{bytes-length}
+use Rattle.desk_c.specs.Entries.{deskBytes, deskOf, replied, shows, deskEntry, lentBytes, deskRequestOf, deskImageOf, deskAsking, whereSaid, finding, leavingEntry, parting, countTold, listing, openBytes, openShown, comparisonOf, comparing}
 
 -- ---- what is lent
 
@@ -172,3 +178,86 @@ module _ (room out : List ℕ) {r : ℕ} where
     pub unfit-parted : x ≡ Leaving.Unfit → r ≡ returned Unfit → LeavesRoom (parting room out) r out
     unfolding writes
     unfit-parted g k = parted Leaving.Unfit g (k, refl)
+
+-- ---- lines
+
+-- a reply with a count, refused or taken
+module _ (a : Reply) (n : ℕ) where
+  pub refused-count : {r : ℕ} → (replyNumber a ≡ 0 → ⊥) → r ≡ replied a → r ≡ countTold a n
+  unfolding countTold
+  refused-count h e = e ∙ rw (ne-eqb _ _ h)
+
+  pub taken-count : replyNumber a ≡ 0 → 256 * n ≡ countTold a n
+  unfolding countTold
+  taken-count h = rw (eq-eqb _ _ h)
+
+-- lines have at least as many bytes as all cars are told in
+pub lines-long : (d : Desk) (ls : Lines) → ls ≡ heldLines (listedCars d) → 248 ≤ length (ls .bytes)
+unfolding heldLines
+lines-long d ls e =
+    let xs = listedCars d in
+    let n = length xs in
+    let z : length (ls .bytes) ≡ 8 * n + 8 * (62 - n) =
+    ap (λ (m : Lines). length (m .bytes)) e
+    ∙ length-append (join (map lineBytes xs)) (replicate (8 * (62 - n)) 0)
+    ∙ ap₂ (λ (a b : ℕ). a + b) (bytes-length xs) (length-replicate (8 * (62 - n)) 0) in
+    omega arith
+
+-- every car
+module _ (room out : List ℕ) {r : ℕ} where
+  pub list-short : length room < 228 → r ≡ returned NoRoom → LeavesRoom (listing room out) r out
+  unfolding listing
+  list-short h e = rw (lt-ltb _ _ h) (e, refl)
+
+  pub listed : {d : Desk} {o : DeskOutcome} {ls : Lines} {n : ℕ} {last : List ℕ} → 228 ≤ length room → d ≡ deskOf room → o ≡ deskAsk d
+      → ls ≡ heldLines (listedCars d) → n ≡ countTold (o .reply) (ls .count) → LeavesRoom (telling n (take 248 (ls .bytes)) out) r last → LeavesRoom (listing room out) r last
+  unfolding listing
+  listed h e f g q w = rw (le-ltb _ _ h, ← e, ← f, ← g, ← q) w
+
+-- what is outstanding
+module _ (room out : List ℕ) {r : ℕ} where
+  pub open-short : length room < 228 → r ≡ returned NoRoom → LeavesRoom (openShown room out) r out
+  unfolding openShown
+  open-short h e = rw (lt-ltb _ _ h) (e, refl)
+
+  pub open-no-room : 228 ≤ length room → length out < 44 → r ≡ returned NoRoom → LeavesRoom (openShown room out) r out
+  unfolding openShown
+  open-no-room h l e = rw (le-ltb _ _ h, lt-ltb _ _ l) (e, refl)
+
+  pub opened : {d : Desk} {o : DeskOutcome} {s : OpenSet} {b last : List ℕ} {n : ℕ} → 228 ≤ length room → 44 ≤ length out → d ≡ deskOf room → o ≡ deskAsk d
+      → s ≡ outstanding d → b ≡ openBytes s → length b ≡ 44 → n ≡ replied (o .reply) → LeavesRoom (telling n b out) r last → LeavesRoom (openShown room out) r last
+  unfolding openShown
+  opened {d} {o} {s} h l e f g k size q w = rw (le-ltb _ _ h, le-ltb _ _ l, ← e, ← f, ← g) (as-shows (o .reply) (openBytes s) out k (omega arith) q w)
+
+-- the bytes of what is outstanding: the set behind four others
+pub open-laid : (o : OpenSet) (last : List ℕ) → o .issue < 2 ^ 16 → last ++ [] ≡ o .set
+    → o .issue % 256 ∷ o .issue / 256 ∷ o .count ∷ o .answered ∷ (last ++ []) ≡ openBytes o
+open-laid o last l e =
+    let high : o .issue / 256 ≡ o .issue / 256 % 256 = omega arith in
+    ap₂ (λ (k : ℕ) (b : List ℕ). o .issue % 256 ∷ k ∷ o .count ∷ o .answered ∷ b) high e
+
+-- an image that is compared, and too few bytes of it
+module _ (r apart n : ℕ) (run : List ℕ) (d : Desk) {size : ℕ} {c : Comparison} (e : size ≡ lentBytes 31 4 n) where
+  pub few-compared : length run < size → c ≡ record { reply = Told TooFewBytes; lines = heldLines [] } → c ≡ comparisonOf r apart n run d
+  unfolding comparisonOf
+  few-compared h f = f ∙ rw (← e, lt-ltb _ _ h)
+
+  pub all-compared : {b numbers : List ℕ} → size ≤ length run → b ≡ take size run ++ replicate (124 - length (take size run)) 0
+      → numbers ≡ foursIn 31 b → c ≡ compared d (record { bits = r; apart = apart }) n numbers → c ≡ comparisonOf r apart n run d
+  unfolding comparisonOf
+  all-compared h g k f = f ∙ rw (← e, le-ltb _ _ h, k, g)
+
+-- no line, in zeros
+pub no-lines : _≡_ {A = Lines} (record { count = 0; bytes = replicate 496 0 }) (heldLines [])
+unfolding heldLines
+no-lines = refl
+
+module _ (compare : Desk → Comparison) (room out : List ℕ) {r : ℕ} where
+  pub compare-short : length room < 228 → r ≡ returned NoRoom → LeavesRoom (comparing compare room out) r out
+  unfolding comparing
+  compare-short h e = rw (lt-ltb _ _ h) (e, refl)
+
+  pub was-compared : {d : Desk} {c : Comparison} {n : ℕ} {last : List ℕ} → 228 ≤ length room → d ≡ deskOf room → c ≡ compare d
+      → n ≡ countTold (c .reply) (c .lines .count) → LeavesRoom (telling n (c .lines .bytes) out) r last → LeavesRoom (comparing compare room out) r last
+  unfolding comparing
+  was-compared h e f q w = rw (le-ltb _ _ h, ← e, ← f, ← q) w

@@ -1,6 +1,6 @@
 -- A desk in bytes, and what the entries for a host in C or Rust answer and leave in the room that is lent to them. Assumes nothing.
 use mathlib.Core.Bool.{cond, _||_}
-use mathlib.Core.List.{List, _++_}
+use mathlib.Core.List.{List, [], _∷_, _++_}
 use Prim.Native.Nat.{ℕ, _+_, _*_, _-_}
 use lib.Dec.{eqb, ltb}
 use lib.ListN.{length, take, drop, replicate}
@@ -10,16 +10,19 @@ use Rattle.answers.specs.Answers.{nowhere}
 use Rattle.rules.specs.Codes.{mostInSet}
 use Rattle.wire.specs.Kinds.{setOf}
 use Rattle.codec.specs.Fours.{foursIn, foursBytes}
-use Rattle.rooms.specs.Rooms.{stationSize, stationBytes, stationOf, imageBytes, returned, Entry, writes, noRoom}
+use Rattle.rooms.specs.Rooms.{stationSize, stationBytes, stationOf, imageBytes, returned, Entry, writes, noRoom, telling}
 use Rattle.desk.specs.declared.Desk.{Desk}
 use Rattle.desk.specs.declared.DeskOutcome.{DeskOutcome}
 use Rattle.desk.specs.declared.Reply.{Reply}
 use Rattle.desk.specs.declared.Reply.the-variants.{Told}
 use Rattle.desk.specs.declared.Whereabouts.{Whereabouts}
 use Rattle.desk.specs.declared.Leaving.{Leaving}
+use Rattle.desk.specs.declared.OpenSet.{OpenSet}
+use Rattle.desk.specs.declared.Comparison.{Comparison}
 use Rattle.desk.specs.Desk.{replyNumber, replyPlace, replyIssue}
 use Rattle.desk.specs.Calls.{deskRefused, deskRequest, deskTakeImage, deskAsk}
 use Rattle.desk.specs.Questions.{whereabouts, leaving}
+use Rattle.desk.specs.Lines.{heldLines, listedCars, outstanding, compared}
 
 -- ---- a desk in bytes
 
@@ -107,3 +110,43 @@ leavingEntry Leaving.Unfit out = writes Unfit (littleEndian 4 0) out
 
 unfoldable pub parting : List ℕ → List ℕ → Entry
 parting room out = cond (ltb (length room) deskSize || ltb (length out) 4) (noRoom out) (leavingEntry (leaving (deskOf room)) out)
+
+-- ---- all cars, what is outstanding, and what an image would change
+
+-- how many bytes all cars are told in, eight each: a garage has at most 31
+abbrev pub listSize : ℕ
+listSize = 248
+
+-- a reply with n lines: taken, how many they are is at the place of an answer
+unfoldable pub countTold : Reply → ℕ → ℕ
+countTold a n = cond (eqb (replyNumber a) 0) (256 * n) (replied a)
+
+-- every car of a desk, to a room of its own
+unfoldable pub listing : List ℕ → List ℕ → Entry
+listing room out =
+    let d = deskOf room in
+    let all = heldLines (listedCars d) in
+    cond (ltb (length room) deskSize) (noRoom out) (telling (countTold (deskAsk d .reply) (all .count)) (take listSize (all .bytes)) out)
+
+-- what is outstanding in bytes: the issue, how many instructions there are, which are answered, and the set
+abbrev pub openBytes : OpenSet → List ℕ
+openBytes o = littleEndian 2 (o .issue) ++ (o .count ∷ o .answered ∷ o .set)
+
+-- it is written to a room of its own
+unfoldable pub openShown : List ℕ → List ℕ → Entry
+openShown room out =
+    let d = deskOf room in
+    cond (ltb (length room) deskSize || ltb (length out) 44) (noRoom out) (shows (deskAsk d .reply) (openBytes (outstanding d)) out)
+
+-- an image whose n numbers are lent as a run of bytes is compared: 1 where it is shorter than that
+unfoldable pub comparisonOf : ℕ → ℕ → ℕ → List ℕ → Desk → Comparison
+comparisonOf r apart n run d =
+    let size = lentBytes mostNumbers 4 n in
+    cond (ltb (length run) size) (record { reply = Told TooFewBytes; lines = heldLines [] })
+    (compared d (record { bits = r; apart = apart }) n (numbersOf (take size run)))
+
+-- what it would change, to a room of its own
+unfoldable pub comparing : (Desk → Comparison) → List ℕ → List ℕ → Entry
+comparing compare room out =
+    let c = compare (deskOf room) in
+    cond (ltb (length room) deskSize) (noRoom out) (telling (countTold (c .reply) (c .lines .count)) (c .lines .bytes) out)

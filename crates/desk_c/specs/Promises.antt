@@ -10,10 +10,11 @@ use Rattle.rooms.specs.Promises as station
 use Rattle.desk.specs.declared.Desk.{Desk}
 use Rattle.desk.specs.declared.DeskOutcome.{DeskOutcome}
 use Rattle.desk.specs.declared.Reply.{Reply}
+use Rattle.desk.specs.declared.Comparison.{Comparison}
 use Rattle.desk.specs.declared.Whereabouts.{Whereabouts}
 use Rattle.desk.specs.declared.Whereabouts.the-variants.{At, LastKnown, Moving, NotHere}
 use Rattle.desk.specs.Desk.{replyNumber, replyPlace, replyIssue}
-use Rattle.desk_c.specs.Entries.{deskNumbers, deskSize, deskBytes, deskOf, replied, deskEntry, deskAsking, whereSaid, finding, parting}
+use Rattle.desk_c.specs.Entries.{deskNumbers, deskSize, deskBytes, deskOf, replied, deskEntry, deskAsking, whereSaid, finding, parting, listing, openShown, comparing}
 
 -- a desk as code holds it: its station is, and it has 42 numbers of 32 bits
 pub record DeskTyped (d : Desk) : Type 0 where
@@ -58,15 +59,21 @@ DeskEntryUntouched =
     ((call : Desk → DeskOutcome) (room : List ℕ) → (deskEntry call room .says % 256 ≡ 0 → ⊥) → deskEntry call room .leaves ≡ room)
     × ((room image : List ℕ) → (deskAsking room image .says % 256 ≡ 0 → ⊥) → deskAsking room image .leaves ≡ image)
     × ((room out : List ℕ) → (parting room out .says % 256 ≡ 0 → ⊥) → parting room out .leaves ≡ out)
+    × ((room out : List ℕ) → (listing room out .says % 256 ≡ 0 → ⊥) → listing room out .leaves ≡ out)
+    × ((room out : List ℕ) → (openShown room out .says % 256 ≡ 0 → ⊥) → openShown room out .leaves ≡ out)
+    × ((compare : Desk → Comparison) (room out : List ℕ) → (comparing compare room out .says % 256 ≡ 0 → ⊥) → comparing compare room out .leaves ≡ out)
 
 -- a number of the station's table, or one of the desk's own
 abbrev pub OfDesk : ℕ → Type 0
 OfDesk n = OfTable n ⊎ ((37 ≤ n) × (n ≤ 39))
 
--- an entry returns a number of the table or 37 to 39, and the two questions 0, 16 or 17
+-- an entry returns a number of the table or 37 to 39, and the questions for one card 0, 16 or 17
 abbrev pub DeskNumbersReturned : Type 0
 DeskNumbersReturned =
     ((call : Desk → DeskOutcome) (room : List ℕ) → OfDesk (deskEntry call room .says % 256))
     × ((room image : List ℕ) → OfDesk (deskAsking room image .says % 256))
     × ((room : List ℕ) (c : ℕ) → let n = finding room c % 256 in (n ≡ 0) ⊎ (n ≡ 16) ⊎ (n ≡ 17))
     × ((room out : List ℕ) → let n = parting room out .says % 256 in (n ≡ 0) ⊎ (n ≡ 16) ⊎ (n ≡ 17))
+    × ((room out : List ℕ) → OfDesk (listing room out .says % 256))
+    × ((room out : List ℕ) → OfDesk (openShown room out .says % 256))
+    × ((compare : Desk → Comparison) (room out : List ℕ) → OfDesk (comparing compare room out .says % 256))

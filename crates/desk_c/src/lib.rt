@@ -26,6 +26,8 @@ use station::Picture;
 use station::Report;
 use station::Station;
 
+mod listing;
+
 // The bytes of a lent desk, and of its station.
 const DESK: usize = 228;
 

@@ -16,6 +16,7 @@ use Rattle.floor.specs.Cars.{Car, pair, single, raised, Stands, covers, covered
 use Rattle.floor.specs.Sound.{Sound, sound, soundRules}
 use Rattle.floor.proofs.Promises.{sound-exactly}
 use Rattle.floor.proofs.Reading.{nth-holds}
+use Rattle.cars.specs.Lists.{anchor, Among}
 use Rattle.rules.specs.declared.Code.{Code}
 use Rattle.rules.specs.declared.Instruction.{Instruction}
 use Rattle.rules.specs.declared.Reading.{Reading}
@@ -37,7 +38,7 @@ use Rattle.station_laws.proofs.Instance.{possibleAs}
 use Rattle.station_laws.proofs.Fits.{fit-has, waits-allowed}
 use Rattle.station_laws.proofs.Calls.{event-has, image-has}
 use Rattle.cards.specs.declared.Offered.the-variants.{Fine}
-use Rattle.cards.specs.Cards.{Numbers, anchor, Among, Cards}
+use Rattle.cards.specs.Cards.{Numbers, Cards}
 use Rattle.cards.specs.Given.{bears}
 use Rattle.cards.specs.Following.{numbersTaken, numbersAfter, numbersDriven}
 use Rattle.cards.specs.Following as goes

@@ -19,11 +19,11 @@ use Rattle.floor.specs.Floor.{raisedCar, heightLow, heightHigh, liftCells, base
 use Rattle.floor.specs.Tests.{Test, fact, set, exactly, even, no, both, either, choose, holds, atBasement, Change, _≔_, changed}
 use Rattle.floor.specs.Cars.{Car, pair, single, raised, Stands, covers, Layout}
 use Rattle.floor.specs.Sound.{Sound}
+use Rattle.cars.specs.Lists.{anchor, Among}
 use Rattle.rules.specs.declared.Instruction.{Instruction}
 use Rattle.rules.specs.declared.Instruction.the-variants.{Belts, Shuttles, Tilt, Lift, Rotate}
 use Rattle.rules.specs.Rules.{wellFormed, areaOf, area, changes, allowed, nextRecord}
 use Rattle.rules.proofs.Every.{everywhere, each}
-use Rattle.cards.specs.Cards.{anchor, Among}
 use Rattle.cards.specs.Following.{takings, numbersTaken, numbersAfter, carMoved}
 use Rattle.cards_laws.proofs.Anchors.{stands}
 use Rattle.cards_laws.proofs.Sources.{or-else}

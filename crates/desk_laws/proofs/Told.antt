@@ -16,10 +16,10 @@ use Rattle.floor.specs.Sound.{sound, soundRules}
 use Rattle.floor.proofs.Promises.{sound-exactly}
 use Rattle.floor.proofs.Reading.{nth-holds}
 use Rattle.floor.proofs.Standing.{or-else}
+use Rattle.cars.specs.Lists.{anchor}
 use Rattle.station.specs.declared.Station.{Station}
 use Rattle.station.specs.Station.{marked}
 use Rattle.station_laws.proofs.Fits.{fit-has}
-use Rattle.cards.specs.Cards.{anchor}
 use Rattle.cards.specs.Following.{noSource}
 use Rattle.cards.specs.Held.{numbersIn, cardsFit, whereIs}
 use Rattle.cards_laws.proofs.Anchors.{stands}

@@ -10,6 +10,7 @@ use Rattle.bits.specs.Bits.{Bits, bit}
 use Rattle.bits.specs.Places.{elem}
 use Rattle.floor.specs.Floor.{raisedCar, driveIn, driveOut}
 use Rattle.floor.specs.Cars.{Car, covers, Place, Layout}
+use Rattle.cars.specs.Lists.{anchor, Among}
 use Rattle.rules.specs.declared.Instruction.{Instruction}
 use Rattle.rules.specs.declared.Reading.the-variants.{Good}
 use Rattle.rules.specs.declared.Event.{Event}
@@ -20,7 +21,7 @@ use Rattle.rules.specs.Rules.{wellFormed, area, nextRecord}
 use Rattle.rules.specs.Codes.{readCode, readEvent}
 use Rattle.station.specs.declared.Report.{Report}
 use Rattle.station.specs.Held.{codeAt}
-use Rattle.cards.specs.Cards.{Numbers, anchor, Among, Cards}
+use Rattle.cards.specs.Cards.{Numbers, Cards}
 use Rattle.cards.specs.Held.{numbersIn}
 use Rattle.desk.specs.declared.Desk.{Desk}
 use Rattle.desk.specs.Desk.{startDesk}

@@ -8,12 +8,12 @@ use Prim.Native.Nat.{ℕ, _<_}
 use lib.ListN.{replicate}
 use Rattle.bits.specs.Bits.{bit, image}
 use Rattle.floor.specs.Cars.{Car, Layout}
+use Rattle.cars.specs.Lists.{Among}
 use Rattle.rules.specs.declared.Code.{Code}
 use Rattle.station.specs.Held.{heldNext}
 use Rattle.station.specs.Station.{marked}
 use Rattle.station_laws.specs.Motion as run
 use Rattle.station_laws.specs.Motion.{ofSet, movingCode, isAmong, Unheard}
-use Rattle.cards.specs.Cards.{Among}
 use Rattle.cards.specs.Held.{numbersIn, codeCards}
 use Rattle.desk.specs.declared.Desk.{Desk}
 use Rattle.desk.specs.declared.Whereabouts.the-variants.{At, Moving}

@@ -13,6 +13,7 @@ use Rattle.bits.specs.Search.{least}
 use Rattle.floor.specs.Floor.{raisedCar, driveOut}
 use Rattle.floor.specs.Cars.{Car, pair, single, raised, Layout}
 use Rattle.floor.specs.Sound.{Sound}
+use Rattle.cars.specs.Lists.{anchor, Among}
 use Rattle.station.specs.declared.Picture.{Picture}
 use Rattle.station.specs.declared.Station.{Station}
 use Rattle.station.specs.Held.{codeAt, heldArea}
@@ -20,7 +21,7 @@ use Rattle.station.specs.Station.{presentIssue, marked}
 use Rattle.station_laws.specs.Runs as run
 use Rattle.station_laws.specs.Jams.{Picks}
 use Rattle.station_laws.specs.Orders.{Fate}
-use Rattle.cards.specs.Cards.{anchor, Among, Cards, Has}
+use Rattle.cards.specs.Cards.{Cards, Has}
 use Rattle.cards.specs.Given.{AllNew}
 use Rattle.cards.specs.Held.{numbersIn}
 use Rattle.cards_laws.specs.Statements.{ThatMany}

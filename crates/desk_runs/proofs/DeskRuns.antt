@@ -17,7 +17,11 @@ use Rattle.wire.specs.declared.Frame.{Frame}
 use Rattle.wire.specs.declared.Frame.the-variants.{Cut, Wrong, Whole}
 use Rattle.wire.specs.Reads.{frameOf}
 use Rattle.service.specs.Service.{respond, answerBytes, noBytes, goOn, answersFor}
+use Rattle.station.specs.declared.Picture.{Picture}
 use Rattle.desk.specs.declared.Desk.{Desk}
+use Rattle.desk.specs.Desk.{deskFit, replyNumber}
+use Rattle.desk.specs.Calls.{deskTakeImage, deskAsk}
+use Rattle.desk.specs.Lines.{listedCars, outstanding}
 use Rattle.desk_laws.specs.Runs as run
 use Rattle.desk_laws.specs.Runs.{DeskCall, deskAnswerNumber, deskAfter, callsDesk}
 use Rattle.desk_laws.specs.Orders.{DeskOrder}
@@ -26,12 +30,10 @@ use Rattle.desk_laws.proofs.Calls.{refused-untouched}
 use Rattle.desk_laws.proofs.Fits.{station-below}
 use Rattle.desk_laws.proofs.Jams.{desk-always}
 use Rattle.desk_wire.specs.DeskReads.{DeskMessage, ofStation, shaped, frameUpTo, mostLength, readDeskAsked}
-use Rattle.desk_service.specs.declared.DeskTold.{DeskTold}
 use Rattle.desk_service.specs.declared.DeskTold.the-variants as told
-use Rattle.desk_service.specs.declared.DeskReply.{DeskReply}
-use Rattle.desk_service.specs.DeskService.{toldBytes, stationSaid, ownSaid, saidTo, respondDesk}
+use Rattle.desk_service.specs.DeskService.{DeskSaid, briefly, inLines, inSet, DeskReplied, brief, fitSaid, compareSaid, toldBytes, stationSaid, ownSaid, saidTo, respondDesk}
 use Rattle.desk_runs.specs.Answering.{answersBy, stateOn, stateBy, stationAnswering, deskAnswering, deskAfterInput}
-use Rattle.desk_runs.specs.DeskHeard.{DeskHeard, makes, seeks, parts, refuses, stationHeard, ownHeard, messageHeard, deskHeard, deskReplyTo, deskHeardFor, deskHeardIn, deskCallsIn, deskRepliesIn}
+use Rattle.desk_runs.specs.DeskHeard.{DeskHeard, makes, seeks, parts, lists, opens, compares, refuses, stationHeard, ownHeard, messageHeard, deskHeard, deskReplyTo, deskHeardFor, deskHeardIn, deskCallsIn, deskRepliesIn}
 use Rattle.desk_runs.specs.DeskRuns.{StationAnswering, DeskMessageIsCall, DeskRefusedKeeps, DeskRunsAreCalls, DeskAlwaysSent, StationSent, DeskAnyOrderSent}
 
 -- ---- the station's definition is this one
@@ -53,7 +55,7 @@ station-answering s input = station-for (length input) s input
 
 -- ---- one message
 
-station-same : (w : What) (d : Desk) (count : ℕ) (set : List ℕ) → stationSaid w d count set ≡ deskReplyTo d (stationHeard w count set)
+station-same : (w : What) (d : Desk) (count : ℕ) (set : List ℕ) → brief (stationSaid w d count set) ≡ deskReplyTo d (stationHeard w count set)
 station-same Request d count set = refl
 station-same (Event way) d count set = refl
 station-same (Result issue number ending) d count set = refl
@@ -67,7 +69,10 @@ own-same kind ns xs d =
     split (eqb kind 6) (λ t. rw t)
     (λ t6. split (eqb kind 7) (λ t. rw (t6, t))
     (λ t7. split (eqb kind 8) (λ t. rw (t6, t7, t))
-    (λ t8. split (eqb kind 9) (λ t. rw (t6, t7, t8, t)) (λ t. rw (t6, t7, t8, t)))))
+    (λ t8. split (eqb kind 9) (λ t. rw (t6, t7, t8, t))
+    (λ t9. split (eqb kind 10) (λ t. rw (t6, t7, t8, t9, t))
+    (λ t10. split (eqb kind 11) (λ t. rw (t6, t7, t8, t9, t10, t))
+    (λ t11. split (eqb kind 12) (λ t. rw (t6, t7, t8, t9, t10, t11, t)) (λ t. rw (t6, t7, t8, t9, t10, t11, t))))))))
 
 said-same : (d : Desk) (m : DeskMessage) → saidTo d m ≡ deskReplyTo d (messageHeard m)
 said-same d (ofStation m) = station-same (m .what) d (m .count) (m .set)
@@ -82,13 +87,27 @@ desk-message-is-call d bytes =
 -- ---- a refusal
 
 -- the number of an answer, 0 of all else
-abbrev numberTold : DeskTold → ℕ
-numberTold (told.Answer number place issue) = number
-numberTold (told.Held bits apart) = 0
-numberTold (told.Place place flag next) = 0
-numberTold (told.Card card) = 0
+abbrev pub numberTold : DeskSaid → ℕ
+numberTold (briefly (told.Answer number place issue)) = number
+numberTold (briefly (told.Held bits apart)) = 0
+numberTold (briefly (told.Place place flag next)) = 0
+numberTold (briefly (told.Card card)) = 0
+numberTold (inLines kind xs) = 0
+numberTold (inSet o) = 0
 
-reply-keeps : (d : Desk) (h : DeskHeard) → (numberTold (deskReplyTo d h .told) ≡ 0 → ⊥) → deskReplyTo d h .desk ≡ d
+-- a question leaves the desk as it was, whatever it is told
+asked-keeps : (d : Desk) → deskAsk d .desk ≡ d
+unfolding deskAsk
+asked-keeps d = split (deskFit d) (λ t. rw t) (λ t. rw t)
+
+pub fit-keeps : (d : Desk) (x : DeskSaid) → fitSaid d x .desk ≡ d
+fit-keeps d x = split (eqb (replyNumber (deskAsk d .reply)) 0) (λ t. rw t) (λ t. rw t (asked-keeps d))
+
+pub compare-keeps : (d : Desk) (p : Picture) (n : ℕ) (ns : List ℕ) → compareSaid d p n ns .desk ≡ d
+unfolding compareSaid
+compare-keeps d p n ns = split (eqb (replyNumber (deskTakeImage d p n ns .reply)) 0) (λ t. rw t) (λ t. rw t)
+
+pub reply-keeps : (d : Desk) (h : DeskHeard) → (numberTold (deskReplyTo d h .told) ≡ 0 → ⊥) → deskReplyTo d h .desk ≡ d
 reply-keeps d (makes c) z = split (eqb (deskAnswerNumber d c) 0)
     (λ t. absurd (z (taken c t)))
     (λ t. refused-untouched d c (λ e. clash (eq-eqb (deskAnswerNumber d c) 0 e) t))
@@ -101,13 +120,16 @@ reply-keeps d (makes c) z = split (eqb (deskAnswerNumber d c) 0)
     taken run.ask t = rw t
 reply-keeps d (seeks c) z = refl
 reply-keeps d parts z = refl
+reply-keeps d lists z = fit-keeps d (inLines 138 (listedCars d))
+reply-keeps d opens z = fit-keeps d (inSet (outstanding d))
+reply-keeps d (compares p n ns) z = compare-keeps d p n ns
 reply-keeps d (refuses a) z = refl
 
 pub desk-refused-keeps : DeskRefusedKeeps
 desk-refused-keeps d bytes number place issue e z =
     let same = desk-message-is-call d bytes in
-    let number-is : numberTold (deskReplyTo d (deskHeard bytes) .told) ≡ number = ap (λ (r : DeskReply). numberTold (r .told)) (sym same) ∙ ap numberTold e in
-    ap (λ (r : DeskReply). r .desk) same ∙ reply-keeps d (deskHeard bytes) (λ q. z (sym number-is ∙ q))
+    let number-is : numberTold (deskReplyTo d (deskHeard bytes) .told) ≡ number = ap (λ (r : DeskReplied). numberTold (r .told)) (sym same) ∙ ap numberTold e in
+    ap (λ (r : DeskReplied). r .desk) same ∙ reply-keeps d (deskHeard bytes) (λ q. z (sym number-is ∙ q))
 
 -- ---- a whole input
 
@@ -122,8 +144,8 @@ unfolding answersBy deskHeardFor
 answers-for zero d input = refl
 answers-for (suc k) d input = split (noBytes input) (λ t. rw t)
     (λ t. rw t
-    (ap₂ (λ (r : DeskReply) (l : List ℕ). toldBytes (r .told) ++ l) (desk-message-is-call d input)
-    (ap (λ (r : DeskReply). goOn (frameUpTo mostLength input) (λ n. answersBy deskAnswering k (r .desk) (drop n input))) (desk-message-is-call d input)
+    (ap₂ (λ (r : DeskReplied) (l : List ℕ). toldBytes (r .told) ++ l) (desk-message-is-call d input)
+    (ap (λ (r : DeskReplied). goOn (frameUpTo mostLength input) (λ n. answersBy deskAnswering k (r .desk) (drop n input))) (desk-message-is-call d input)
     ∙ replies-on (deskReplyTo d (deskHeard input) .desk) (λ n. answersBy deskAnswering k (deskReplyTo d (deskHeard input) .desk) (drop n input)) (λ n. deskHeardFor k (drop n input))
     (λ n. answers-for k (deskReplyTo d (deskHeard input) .desk) (drop n input)) (frameUpTo mostLength input))))
 
@@ -132,6 +154,9 @@ call-first : (d : Desk) (h : DeskHeard) (l : List DeskHeard) → callsDesk (desk
 call-first d (makes c) l = refl
 call-first d (seeks c) l = refl
 call-first d parts l = refl
+call-first d lists l = ap (λ (x : Desk). callsDesk x (deskCallsIn l)) (fit-keeps d (inLines 138 (listedCars d)))
+call-first d opens l = ap (λ (x : Desk). callsDesk x (deskCallsIn l)) (fit-keeps d (inSet (outstanding d)))
+call-first d (compares p n ns) l = ap (λ (x : Desk). callsDesk x (deskCallsIn l)) (compare-keeps d p n ns)
 call-first d (refuses a) l = refl
 
 -- the desk after what comes behind a message
@@ -146,7 +171,7 @@ unfolding stateBy deskHeardFor
 state-for zero d input = refl
 state-for (suc k) d input = split (noBytes input) (λ t. rw t)
     (λ t. rw t
-    (ap (λ (r : DeskReply). stateOn (frameUpTo mostLength input) (r .desk) (λ n. stateBy deskAnswering k (r .desk) (drop n input))) (desk-message-is-call d input)
+    (ap (λ (r : DeskReplied). stateOn (frameUpTo mostLength input) (r .desk) (λ n. stateBy deskAnswering k (r .desk) (drop n input))) (desk-message-is-call d input)
     ∙ states-on (deskReplyTo d (deskHeard input) .desk) (λ n. stateBy deskAnswering k (deskReplyTo d (deskHeard input) .desk) (drop n input)) (λ n. deskHeardFor k (drop n input))
     (λ n. state-for k (deskReplyTo d (deskHeard input) .desk) (drop n input)) (frameUpTo mostLength input)
     ∙ call-first d (deskHeard input) (goOn (frameUpTo mostLength input) (λ n. deskHeardFor k (drop n input)))))

@@ -1,2 +1,4 @@
 pub mod DeskRuns
+pub mod DeskStays
 pub mod SameMeaning
+pub mod DeskSent

@@ -24,16 +24,15 @@ use Rattle.desk_laws.specs.Runs.{DeskCall, under}
 use Rattle.desk_laws.proofs.Calls.{refused-untouched, as-station}
 use Rattle.desk_wire.specs.DeskReads.{asReceived, readDeskAsked}
 use Rattle.desk_wire.proofs.DeskForms.{station-kinds-same}
-use Rattle.desk_service.specs.declared.DeskReply.{DeskReply}
-use Rattle.desk_service.specs.DeskService.{noCards, deskCalled, stationSaid, respondDesk}
+use Rattle.desk_service.specs.DeskService.{DeskReplied, brief, noCards, deskCalled, stationSaid, respondDesk}
 use Rattle.desk_runs.specs.DeskRuns.{ToldItself, StationMeansSame}
 
 -- what is to be shown of a reply beside the station's
-abbrev Same : Desk → Station → DeskReply → Type 0
+abbrev Same : Desk → Station → DeskReplied → Type 0
 Same d s r = (r .desk .station ≡ s) ⊎ (ToldItself (r .told) × (r .desk ≡ d))
 
 -- a call that is told as it is answered
-call-same : (d : Desk) (c : DeskCall) → deskFit d ≡ true → Same d (station.stationAfter (d .station) (under c)) (deskCalled (run.callDesk d c))
+call-same : (d : Desk) (c : DeskCall) → deskFit d ≡ true → Same d (station.stationAfter (d .station) (under c)) (brief (deskCalled (run.callDesk d c)))
 call-same d c f =
     ⊎-elim (λ p. inl (p .1)) (λ p. inr ((p .1, p .2), refused-untouched d c (λ e. let low = p .1 in absurd (omega arith)))) (as-station d c f)
 
@@ -42,12 +41,12 @@ ask-keeps : (s : Station) → calls.ask s .station ≡ s
 unfolding calls.ask
 ask-keeps s = split (fit s) (λ t. rw t) (λ t. rw t)
 
-ask-same : (d : Desk) (count : ℕ) (set : List ℕ) → deskFit d ≡ true → Same d (calls.ask (d .station) .station) (stationSaid Ask d count set)
+ask-same : (d : Desk) (count : ℕ) (set : List ℕ) → deskFit d ≡ true → Same d (calls.ask (d .station) .station) (brief (stationSaid Ask d count set))
 unfolding deskAsk
 ask-same d count set f = rw f (inl (sym (ask-keeps (d .station))))
 
 said-same : (w : What) (d : Desk) (count : ℕ) (set : List ℕ) → deskFit d ≡ true
-    → Same d (replyOf w (called w (d .station) count set) .station) (stationSaid w d count set)
+    → Same d (replyOf w (called w (d .station) count set) .station) (brief (stationSaid w d count set))
 said-same Request d count set f = call-same d (run.request count set) f
 said-same (Event way) d count set f = call-same d (run.event way 0) f
 said-same (Result issue number ending) d count set f = call-same d (run.reports (record { issue = issue; number = number; ending = ending })) f

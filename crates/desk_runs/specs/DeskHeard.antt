@@ -10,17 +10,18 @@ use Rattle.answers.specs.declared.Answer.the-variants.{UnknownKind}
 use Rattle.answers.specs.Answers.{numberOf}
 use Rattle.wire.specs.declared.What.{What}
 use Rattle.wire.specs.declared.What.the-variants.{Request, Event, Result, Image, Ask}
+use Rattle.station.specs.declared.Picture.{Picture}
 use Rattle.service.specs.Service.{noBytes, goOn}
 use Rattle.desk.specs.declared.Desk.{Desk}
 use Rattle.desk.specs.Questions.{whereabouts, leaving}
+use Rattle.desk.specs.Lines.{listedCars, outstanding}
 use Rattle.desk_laws.specs.Runs as run
 use Rattle.desk_laws.specs.Runs.{DeskCall, callDesk, deskAnswerNumber, deskAfter}
-use Rattle.desk_wire.specs.DeskKinds.{beginKind, cardsKind, whereKind, leavingKind}
+use Rattle.desk_wire.specs.DeskKinds.{beginKind, cardsKind, whereKind, leavingKind, listKind, openKind, compareKind, carsKind}
 use Rattle.desk_wire.specs.DeskReads.{DeskMessage, ofStation, shaped, frameUpTo, mostLength, readDeskAsked}
 use Rattle.desk_service.specs.declared.DeskTold.{DeskTold}
 use Rattle.desk_service.specs.declared.DeskTold.the-variants as told
-use Rattle.desk_service.specs.declared.DeskReply.{DeskReply}
-use Rattle.desk_service.specs.DeskService.{replyTold, deskUnread, whereTold, leavingTold, noCards, cardsBrought, toldBytes}
+use Rattle.desk_service.specs.DeskService.{DeskReplied, brief, inLines, inSet, replyTold, deskUnread, whereTold, leavingTold, fitSaid, compareSaid, noCards, cardsBrought, imageIn, toldBytes}
 
 -- ---- one message
 
@@ -29,6 +30,9 @@ pub data DeskHeard : Type 0 where
   makes : DeskCall → DeskHeard
   seeks : ℕ → DeskHeard
   parts : DeskHeard
+  lists : DeskHeard
+  opens : DeskHeard
+  compares : Picture → ℕ → List ℕ → DeskHeard
   refuses : Answer → DeskHeard
 
 -- what one of the station's makes: a drive-in that begins brings the number 0, an image none
@@ -45,9 +49,12 @@ stationHeard (What.Held bits apart) count set = refuses UnknownKind
 abbrev pub ownHeard : ℕ → List ℕ → List (List ℕ) → DeskHeard
 ownHeard kind ns xs =
     cond (eqb kind (beginKind .number)) (makes (run.event 1 (getD ns 0 0)))
-    (cond (eqb kind (cardsKind .number)) (makes (run.pictures (record { bits = getD ns 0 0; apart = getD ns 1 0 }) (length xs) (cardsBrought xs)))
+    (cond (eqb kind (cardsKind .number)) (makes (run.pictures (imageIn ns) (length xs) (cardsBrought xs)))
     (cond (eqb kind (whereKind .number)) (seeks (getD ns 0 0))
-    (cond (eqb kind (leavingKind .number)) parts (refuses UnknownKind))))
+    (cond (eqb kind (leavingKind .number)) parts
+    (cond (eqb kind (listKind .number)) lists
+    (cond (eqb kind (openKind .number)) opens
+    (cond (eqb kind (compareKind .number)) (compares (imageIn ns) (length xs) (cardsBrought xs)) (refuses UnknownKind)))))))
 
 abbrev pub messageHeard : DeskMessage → DeskHeard
 messageHeard (ofStation m) = stationHeard (m .what) (m .count) (m .set)
@@ -72,11 +79,14 @@ callTold d c =
     (replyTold (callDesk d c .reply))
 
 -- the reply: the call's, or the question's with the desk as it was, or the refusal
-abbrev pub deskReplyTo : Desk → DeskHeard → DeskReply
-deskReplyTo d (makes c) = record { desk = deskAfter d c; told = callTold d c }
-deskReplyTo d (seeks c) = record { desk = d; told = whereTold (whereabouts d c) }
-deskReplyTo d parts = record { desk = d; told = leavingTold (leaving d) }
-deskReplyTo d (refuses a) = deskUnread d a
+abbrev pub deskReplyTo : Desk → DeskHeard → DeskReplied
+deskReplyTo d (makes c) = brief (record { desk = deskAfter d c; told = callTold d c })
+deskReplyTo d (seeks c) = brief (record { desk = d; told = whereTold (whereabouts d c) })
+deskReplyTo d parts = brief (record { desk = d; told = leavingTold (leaving d) })
+deskReplyTo d lists = fitSaid d (inLines (carsKind .number) (listedCars d))
+deskReplyTo d opens = fitSaid d (inSet (outstanding d))
+deskReplyTo d (compares p n ns) = compareSaid d p n ns
+deskReplyTo d (refuses a) = brief (deskUnread d a)
 
 -- ---- a whole input
 
@@ -95,6 +105,9 @@ deskCallsIn [] = []
 deskCallsIn (makes c ∷ l) = c ∷ deskCallsIn l
 deskCallsIn (seeks c ∷ l) = deskCallsIn l
 deskCallsIn (parts ∷ l) = deskCallsIn l
+deskCallsIn (lists ∷ l) = deskCallsIn l
+deskCallsIn (opens ∷ l) = deskCallsIn l
+deskCallsIn (compares p n ns ∷ l) = deskCallsIn l
 deskCallsIn (refuses a ∷ l) = deskCallsIn l
 
 -- what they are answered with, each on the desk that those before it have left

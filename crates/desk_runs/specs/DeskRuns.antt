@@ -21,9 +21,8 @@ use Rattle.desk.specs.declared.Desk.{Desk}
 use Rattle.desk.specs.Desk.{deskFit}
 use Rattle.desk_laws.specs.Runs.{request, deskAnswerNumber, deskAfter, callsDesk, DeskBegins, below, stuckAt, finishedRecord, finishedCards}
 use Rattle.desk_laws.specs.Orders.{DeskOrder}
-use Rattle.desk_service.specs.declared.DeskTold.{DeskTold}
 use Rattle.desk_service.specs.declared.DeskTold.the-variants as told
-use Rattle.desk_service.specs.DeskService.{respondDesk}
+use Rattle.desk_service.specs.DeskService.{DeskSaid, briefly, inLines, inSet, respondDesk}
 use Rattle.desk_runs.specs.Answering.{answersBy, stationAnswering, deskAnswersOn, deskAfterInput}
 use Rattle.desk_runs.specs.DeskHeard.{deskHeard, deskReplyTo, deskHeardIn, deskCallsIn, deskRepliesIn}
 
@@ -39,7 +38,7 @@ DeskMessageIsCall = (d : Desk) (bytes : List ℕ) → respondDesk d bytes ≡ de
 abbrev pub DeskRefusedKeeps : Type 0
 DeskRefusedKeeps =
     (d : Desk) (bytes : List ℕ) (number place issue : ℕ)
-    → respondDesk d bytes .told ≡ told.Answer number place issue → (number ≡ 0 → ⊥) → respondDesk d bytes .desk ≡ d
+    → respondDesk d bytes .told ≡ briefly (told.Answer number place issue) → (number ≡ 0 → ⊥) → respondDesk d bytes .desk ≡ d
 
 -- an input is a list of calls and questions: its answers are theirs, with the reader's refusals between them, and the desk is the one that
 -- the calls leave
@@ -75,11 +74,13 @@ DeskAnyOrderSent =
     → deskAfterInput s one ≡ deskAfterInput s other
 
 -- the desk's own numbers: 37, 38 and 39
-abbrev pub ToldItself : DeskTold → Type 0
-ToldItself (told.Answer number place issue) = (37 ≤ number) × (number ≤ 39)
-ToldItself (told.Held bits apart) = ⊥
-ToldItself (told.Place place flag next) = ⊥
-ToldItself (told.Card card) = ⊥
+abbrev pub ToldItself : DeskSaid → Type 0
+ToldItself (briefly (told.Answer number place issue)) = (37 ≤ number) × (number ≤ 39)
+ToldItself (briefly (told.Held bits apart)) = ⊥
+ToldItself (briefly (told.Place place flag next)) = ⊥
+ToldItself (briefly (told.Card card)) = ⊥
+ToldItself (inLines kind xs) = ⊥
+ToldItself (inSet o) = ⊥
 
 -- the station's messages mean the same to a fit desk: they leave the station that they leave of a station; or the desk refuses by itself,
 -- with 37 to 39, and is as it was

@@ -1,3 +1,4 @@
 pub mod Cards
 pub mod Saying
 pub mod Written
+pub mod Lined

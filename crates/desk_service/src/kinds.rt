@@ -5,15 +5,20 @@ ghost use Prim.Native.Nat.{_≤_, _-_};
 ghost use lib.ListN.{length, replicate};
 ghost use Rattle.codec.specs.Fours.{foursIn};
 ghost use Rattle.wire.specs.Kinds.{kindsAsked};
-ghost use Rattle.wire.specs.Reads.{lengthAt, readWhole};
-ghost use Rattle.desk_wire.specs.DeskKinds.{mostCards, beginKind, cardsKind, whereKind, leavingKind, shapesAsked};
-ghost use Rattle.desk_wire.specs.DeskReads.{frameUpTo, asReceived, readShape, readShaped};
-ghost use Rattle.desk_service.specs.DeskService.{stationSaid, replyRead};
+ghost use Rattle.wire.specs.Reads.{readWhole};
+ghost use Rattle.desk_wire.specs.DeskKinds.{mostCards, beginKind, cardsKind, whereKind, leavingKind, listKind, openKind, compareKind, shapesAsked};
+ghost use Rattle.desk_wire.specs.DeskReads.{asReceived, readShape, readShaped};
+ghost use Rattle.desk_service.specs.DeskService.{stationSaid, brief, compareSaid, replyRead, LeavesReply};
 ghost use Rattle.desk_service.specs.Private.{cardsRead};
+use super::DeskAnswered;
 use super::DeskReply;
 use super::called;
 use super::leaving_told;
+use super::reply_told;
 use super::shown;
+use super::telling::briefly;
+use super::telling::put_lines;
+use super::telling::put_set;
 use super::unread;
 use super::where_told;
 use answers::Answer;
@@ -21,37 +26,7 @@ use answers::NOWHERE;
 use desk::Desk;
 use station::Picture;
 use station::Report;
-use wire::Frame;
 use wire::What;
-
-// The length that a message gives itself.
-fn length_at(s: &[u8]) -> u16
-    ensures { λ n. ⌜ n ≡ lengthAt (now (s .entry)) ⌝ }
-{
-    let low = wire::byte(s, 0);
-    let high = wire::byte(s, 1);
-    wire::word(low, high)
-}
-
-// How far the first message of s goes, by its length alone.
-pub fn framed(s: &[u8], most: usize) -> Frame
-    ensures { λ r. ⌜ r ≡ frameUpTo most (now (s .entry)) ⌝ }
-{
-    if s.len() < 2 {
-        return Frame::Cut;
-    }
-    let n = length_at(s) as usize;
-    if n < 2 {
-        return Frame::Wrong;
-    }
-    if most < n {
-        return Frame::Wrong;
-    }
-    if s.len() < n + 2 {
-        return Frame::Cut;
-    }
-    Frame::Whole(n + 2)
-}
 
 // ---- the station's kinds
 
@@ -84,7 +59,7 @@ fn said(d: Desk, what: What) -> DeskReply
 
 // A message of the station's.
 fn of_station(d: Desk, m: &[u8]) -> DeskReply
-    ensures { λ r. ⌜ r ≡ replyRead d (asReceived (readWhole kindsAsked (now (m .entry)))) ⌝ }
+    ensures { λ r. ⌜ brief r ≡ replyRead d (asReceived (readWhole kindsAsked (now (m .entry)))) ⌝ }
 {
     if wire::kind_at(m) == 1 {
         let r = wire::request_in(m);
@@ -109,7 +84,7 @@ fn of_station(d: Desk, m: &[u8]) -> DeskReply
 
 // A drive-in begins with a card.
 fn begins(d: Desk, m: &[u8]) -> DeskReply
-    ensures { λ r. ⌜ r ≡ replyRead d (readShape beginKind (now (m .entry))) ⌝ }
+    ensures { λ r. ⌜ brief r ≡ replyRead d (readShape beginKind (now (m .entry))) ⌝ }
 {
     if m.len() != 8 {
         return unread(d, Answer::BadLength);
@@ -155,7 +130,7 @@ fn cards_in(run: &[u8]) -> [u32; 31]
 
 // An image comes with cards.
 fn pictured(d: Desk, m: &[u8]) -> DeskReply
-    ensures { λ r. ⌜ r ≡ replyRead d (readShape cardsKind (now (m .entry))) ⌝ }
+    ensures { λ r. ⌜ brief r ≡ replyRead d (readShape cardsKind (now (m .entry))) ⌝ }
 {
     let count = wire::byte(m, 20);
     let n = count as usize;
@@ -176,7 +151,7 @@ fn pictured(d: Desk, m: &[u8]) -> DeskReply
 
 // Where a card's car is.
 fn seeks(d: Desk, m: &[u8]) -> DeskReply
-    ensures { λ r. ⌜ r ≡ replyRead d (readShape whereKind (now (m .entry))) ⌝ }
+    ensures { λ r. ⌜ brief r ≡ replyRead d (readShape whereKind (now (m .entry))) ⌝ }
 {
     if m.len() != 8 {
         return unread(d, Answer::BadLength);
@@ -188,7 +163,7 @@ fn seeks(d: Desk, m: &[u8]) -> DeskReply
 
 // Which card is leaving.
 fn leaves(d: Desk, m: &[u8]) -> DeskReply
-    ensures { λ r. ⌜ r ≡ replyRead d (readShape leavingKind (now (m .entry))) ⌝ }
+    ensures { λ r. ⌜ brief r ≡ replyRead d (readShape leavingKind (now (m .entry))) ⌝ }
 {
     if 4 < m.len() {
         return unread(d, Answer::BadLength);
@@ -197,18 +172,89 @@ fn leaves(d: Desk, m: &[u8]) -> DeskReply
     DeskReply { desk: d, told }
 }
 
+// Every car.
+fn lists(d: Desk, m: &[u8], room: &mut [u8]) -> DeskAnswered
+    ensures { λ r. ⌜ LeavesReply (replyRead d (readShape listKind (now (m .entry)))) (now (room .entry)) r (now (room .exit)) ⌝ }
+{
+    if 4 < m.len() {
+        return briefly(unread(d, Answer::BadLength), room);
+    }
+    let o = d.ask();
+    let reply = o.reply;
+    if reply.number() != 0 {
+        return briefly(called(o), room);
+    }
+    let all = d.list();
+    let written = put_lines(138, all, room);
+    DeskAnswered { desk: d, written }
+}
+
+// What is outstanding.
+fn opens(d: Desk, m: &[u8], room: &mut [u8]) -> DeskAnswered
+    ensures { λ r. ⌜ LeavesReply (replyRead d (readShape openKind (now (m .entry)))) (now (room .entry)) r (now (room .exit)) ⌝ }
+{
+    if 4 < m.len() {
+        return briefly(unread(d, Answer::BadLength), room);
+    }
+    let o = d.ask();
+    let reply = o.reply;
+    if reply.number() != 0 {
+        return briefly(called(o), room);
+    }
+    let s = d.outstanding();
+    let set = s.set;
+    let written = put_set(s.issue, s.answered, s.count, set, room);
+    DeskAnswered { desk: d, written }
+}
+
+// What an image would change, in lines.
+fn changes(d: Desk, picture: Picture, count: u8, given: [u32; 31], room: &mut [u8]) -> DeskAnswered
+    ensures { λ r. ⌜ LeavesReply (compareSaid d picture count given) (now (room .entry)) r (now (room .exit)) ⌝ }
+{
+    let c = d.compare(picture, count, given);
+    let reply = c.reply;
+    if reply.number() != 0 {
+        let told = reply_told(reply);
+        return briefly(DeskReply { desk: d, told }, room);
+    }
+    let lines = c.lines;
+    let written = put_lines(140, lines, room);
+    DeskAnswered { desk: d, written }
+}
+
+// What an image would change.
+fn compares(d: Desk, m: &[u8], room: &mut [u8]) -> DeskAnswered
+    ensures { λ r. ⌜ LeavesReply (replyRead d (readShape compareKind (now (m .entry)))) (now (room .entry)) r (now (room .exit)) ⌝ }
+{
+    let count = wire::byte(m, 20);
+    let n = count as usize;
+    if m.len() != 21 + 4 * n {
+        return briefly(unread(d, Answer::BadLength), room);
+    }
+    if 31 < n {
+        return briefly(unread(d, Answer::BadField(NOWHERE)), room);
+    }
+    let bits = wire::image_of(&m[4..]);
+    let apart = wire::image_of(&m[12..]);
+    let given = cards_in(&m[21..]);
+    changes(d, Picture { bits, apart }, count, given, room)
+}
+
 // ---- all of them
 
-// The reply to a message whose bytes are exactly m.
-pub fn answered(d: Desk, m: &[u8]) -> DeskReply
-    ensures { λ r. ⌜ r ≡ replyRead d (readShaped kindsAsked shapesAsked (now (m .entry))) ⌝ }
+// Answers a message whose bytes are exactly m.
+pub fn answered(d: Desk, m: &[u8], room: &mut [u8]) -> DeskAnswered
+    ensures { λ r. ⌜ LeavesReply (replyRead d (readShaped kindsAsked shapesAsked (now (m .entry)))) (now (room .entry)) r (now (room .exit)) ⌝ }
 {
     let kind = wire::kind_at(m);
     match kind {
-        6 => begins(d, m),
-        7 => pictured(d, m),
-        8 => seeks(d, m),
-        9 => leaves(d, m),
-        _ => of_station(d, m),
+        6 => briefly(begins(d, m), room),
+        7 => briefly(pictured(d, m), room),
+        8 => briefly(seeks(d, m), room),
+        9 => briefly(leaves(d, m), room),
+        10 => lists(d, m, room),
+        11 => opens(d, m, room),
+        12 => compares(d, m, room),
+        _ => briefly(of_station(d, m), room),
     }
 }

@@ -1,7 +1,9 @@
 // Messages answered on a desk. What they are answered with stands in specs/.
 ghost use mathlib.Core.Path.{_≡_};
 ghost use Rattle.desk.specs.Lines.{placeTold};
-ghost use Rattle.desk_service.specs.DeskService.{answerTold, replyTold, deskUnread, deskCalled, deskShown, whereTold, leavingTold, respondDesk};
+ghost use Rattle.wire.specs.Reads.{lengthAt};
+ghost use Rattle.desk_wire.specs.DeskReads.{frameUpTo};
+ghost use Rattle.desk_service.specs.DeskService.{answerTold, replyTold, deskUnread, deskCalled, deskShown, whereTold, leavingTold, respondDesk, LeavesReply};
 use answers::Answer;
 use answers::NOWHERE;
 use desk::Desk;
@@ -10,9 +12,10 @@ use desk::Leaving;
 use desk::Reply;
 use desk::Whereabouts;
 use wire::Frame;
+use wire::Written;
 
 mod kinds;
-pub mod telling;
+mod telling;
 
 // What a message is told: an answer, the image, where a car is, or a card.
 pub enum DeskTold {
@@ -26,6 +29,12 @@ pub enum DeskTold {
 pub struct DeskReply {
     pub desk: Desk,
     pub told: DeskTold,
+}
+
+// What an answered message leaves: the next desk, and what was written.
+pub struct DeskAnswered {
+    pub desk: Desk,
+    pub written: Written,
 }
 
 // ---- what a message is told
@@ -139,14 +148,43 @@ fn leaving_told(l: Leaving) -> DeskTold
 
 // ---- one message
 
-// The reply to the first message of m.
-pub fn respond(d: Desk, m: &[u8]) -> DeskReply
-    ensures { λ r. ⌜ r ≡ respondDesk d (now (m .entry)) ⌝ }
+// The length that a message gives itself.
+fn length_at(s: &[u8]) -> u16
+    ensures { λ n. ⌜ n ≡ lengthAt (now (s .entry)) ⌝ }
 {
-    let frame = kinds::framed(m, 143);
+    let low = wire::byte(s, 0);
+    let high = wire::byte(s, 1);
+    wire::word(low, high)
+}
+
+// How far the first message of s goes, by its length alone.
+pub fn framed(s: &[u8], most: usize) -> Frame
+    ensures { λ r. ⌜ r ≡ frameUpTo most (now (s .entry)) ⌝ }
+{
+    if s.len() < 2 {
+        return Frame::Cut;
+    }
+    let n = length_at(s) as usize;
+    if n < 2 {
+        return Frame::Wrong;
+    }
+    if most < n {
+        return Frame::Wrong;
+    }
+    if s.len() < n + 2 {
+        return Frame::Cut;
+    }
+    Frame::Whole(n + 2)
+}
+
+// Answers the first message of m: what it is told is written to the start of room, or 17 is said and nothing is written.
+pub fn respond(d: Desk, m: &[u8], room: &mut [u8]) -> DeskAnswered
+    ensures { λ r. ⌜ LeavesReply (respondDesk d (now (m .entry))) (now (room .entry)) r (now (room .exit)) ⌝ }
+{
+    let frame = framed(m, 143);
     match frame {
-        Frame::Cut => unread(d, Answer::TooFewBytes),
-        Frame::Wrong => unread(d, Answer::BadLength),
-        Frame::Whole(n) => kinds::answered(d, &m[..n]),
+        Frame::Cut => telling::briefly(unread(d, Answer::TooFewBytes), room),
+        Frame::Wrong => telling::briefly(unread(d, Answer::BadLength), room),
+        Frame::Whole(n) => kinds::answered(d, &m[..n], room),
     }
 }

@@ -17,7 +17,7 @@ use Rattle.wire_laws.proofs.Back.{reads-back}
 use Rattle.wire_laws.proofs.Form.{one-form}
 use Rattle.desk_wire.specs.Shapes.{Shape}
 use Rattle.desk_wire.specs.DeskKinds.{shapesAsked, shapesAnswered, shapesKnown}
-use Rattle.desk_wire.specs.DeskReads.{deskMessageRefused, frameUpTo, mostLength, asReceived, readShape, readShaped, readShapedIn, readDesk, readDeskAsked}
+use Rattle.desk_wire.specs.DeskReads.{deskMessageRefused, frameUpTo, mostLength, mostAnswered, asReceived, readShape, readShaped, readShapedIn, readDesk, readDeskAsked}
 use Rattle.desk_wire.specs.DeskWrites.{isShaped, writingDesk}
 use Rattle.desk_wire.specs.DeskForms.{StationForms, ShapesForms, KindsFit, DeskMessagesReadBack, DeskMessagesOneForm, StationKindsSame, DeskAskedAlike, DeskAskedUnknown, DeskMessagesExample}
 use Rattle.desk_wire.proofs.Framing.{whole-up, cut-up}
@@ -35,11 +35,11 @@ known-fit = search arith
 
 pub desk-messages-read-back : DeskMessagesReadBack
 unfolding writingDesk readDesk
-desk-messages-read-back = any-reads-back mostLength shapesKnown (omega arith) (omega arith) known-fit
+desk-messages-read-back = any-reads-back mostAnswered shapesKnown (omega arith) (omega arith) known-fit
 
 pub desk-messages-one-form : DeskMessagesOneForm
 unfolding writingDesk readDesk
-desk-messages-one-form = any-one-form mostLength shapesKnown
+desk-messages-one-form = any-one-form mostAnswered shapesKnown
 
 -- ---- the desk's reader
 
@@ -59,6 +59,9 @@ station-kinds-same s h low =
           ne-eqb (kindAt m) 7 (λ e. omega arith),
           ne-eqb (kindAt m) 8 (λ e. omega arith),
           ne-eqb (kindAt m) 9 (λ e. omega arith),
+          ne-eqb (kindAt m) 10 (λ e. omega arith),
+          ne-eqb (kindAt m) 11 (λ e. omega arith),
+          ne-eqb (kindAt m) 12 (λ e. omega arith),
         )
 
     go : (f : Frame) → frameUpTo 43 s ≡ f → readShapedIn kindsAsked shapesAsked f s ≡ asReceived (readFramed kindsAsked f s)
@@ -72,24 +75,29 @@ with-more : (ks js : List SizedKind) (shapes rest : List Shape) (m : List ℕ) �
 with-more ks js [] rest m e = e
 with-more ks js (k ∷ shapes) rest m e = ap (cond (eqb (kindAt m) (k .number)) (readShape k m)) (with-more ks js shapes rest m e)
 
-answers-none : (m : List ℕ) → kindAt m ≤ 9 → isShaped shapesAnswered (kindAt m) ≡ false
+answers-none : (m : List ℕ) → kindAt m ≤ 12 → isShaped shapesAnswered (kindAt m) ≡ false
 answers-none m h =
     simp (
       ne-eqb (kindAt m) 128 (λ e. omega arith),
       ne-eqb (kindAt m) 136 (λ e. omega arith),
       ne-eqb (kindAt m) 137 (λ e. omega arith),
+      ne-eqb (kindAt m) 138 (λ e. omega arith),
+      ne-eqb (kindAt m) 139 (λ e. omega arith),
+      ne-eqb (kindAt m) 140 (λ e. omega arith),
     )
 
 pub desk-asked-alike : DeskAskedAlike
 unfolding readDeskAsked readDesk
-desk-asked-alike s low = go (frameUpTo mostLength s) refl
+desk-asked-alike s h low =
+    go (frameUpTo mostLength s) refl
+    ∙ ap (λ (f : Frame). readShapedIn kindsKnown shapesKnown f s) (same-frame mostLength mostAnswered s h (omega arith))
   where
     go : (f : Frame) → frameUpTo mostLength s ≡ f → readShapedIn kindsAsked shapesAsked f s ≡ readShapedIn kindsKnown shapesKnown f s
     go Cut e = refl
     go Wrong e = refl
     go (Whole n) e =
         let c = cut-up mostLength s n (whole-up mostLength s n e) .kind in
-        let b : kindAt (take n s) ≤ 9 = rw c low in
+        let b : kindAt (take n s) ≤ 12 = rw c low in
         with-more kindsAsked kindsKnown shapesAsked shapesAnswered (take n s)
         (ap asReceived (alike (take n s) (omega arith)) ∙ sym (not-shaped shapesAnswered kindsKnown (take n s) (answers-none (take n s) b)))
 
@@ -97,22 +105,25 @@ pub desk-asked-unknown : DeskAskedUnknown
 unfolding readDeskAsked
 desk-asked-unknown s n e h =
     let c = cut-up mostLength s n (whole-up mostLength s n e) in
-    let b : 9 < kindAt (take n s) = rw (c .kind) h in
+    let b : 12 < kindAt (take n s) = rw (c .kind) h in
     ap (λ (f : Frame). readShapedIn kindsAsked shapesAsked f s) e
     ∙ not-shaped shapesAsked kindsAsked (take n s) (none (take n s) b)
     ∙ ap asReceived (unknown (take n s) (omega arith)) ∙ ap (deskMessageRefused UnknownKind) (c .size)
   where
-    none : (m : List ℕ) → 9 < kindAt m → isShaped shapesAsked (kindAt m) ≡ false
+    none : (m : List ℕ) → 12 < kindAt m → isShaped shapesAsked (kindAt m) ≡ false
     none m h =
         simp (
           ne-eqb (kindAt m) 6 (λ e. omega arith),
           ne-eqb (kindAt m) 7 (λ e. omega arith),
           ne-eqb (kindAt m) 8 (λ e. omega arith),
           ne-eqb (kindAt m) 9 (λ e. omega arith),
+          ne-eqb (kindAt m) 10 (λ e. omega arith),
+          ne-eqb (kindAt m) 11 (λ e. omega arith),
+          ne-eqb (kindAt m) 12 (λ e. omega arith),
         )
 
 -- ---- that there are such messages
 
 pub desk-messages-example : DeskMessagesExample
-unfolding readDeskAsked readShape
-desk-messages-example = (refl, refl, refl, refl)
+unfolding readDeskAsked readDesk readShape
+desk-messages-example = (refl, refl, refl, refl, refl, refl)

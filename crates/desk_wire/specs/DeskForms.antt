@@ -74,21 +74,24 @@ DeskMessagesOneForm = OneFormBy writingDesk readDesk deskMessageTaken deskOneFor
 abbrev pub StationKindsSame : Type 0
 StationKindsSame = (s : List ℕ) → lengthAt s ≤ 43 → kindAt s ≤ 5 → readDeskAsked s ≡ asReceived (readAsked s)
 
--- on kinds up to 9 it says what the library's says
+-- on kinds up to 12, of its own lengths, it says what the library's says
 abbrev pub DeskAskedAlike : Type 0
-DeskAskedAlike = (s : List ℕ) → kindAt s ≤ 9 → readDeskAsked s ≡ readDesk s
+DeskAskedAlike = (s : List ℕ) → lengthAt s ≤ mostLength → kindAt s ≤ 12 → readDeskAsked s ≡ readDesk s
 
--- any kind above 9 is unknown to it, whatever its length
+-- any kind above 12 is unknown to it, whatever its length
 abbrev pub DeskAskedUnknown : Type 0
-DeskAskedUnknown = (s : List ℕ) (n : ℕ) → frameUpTo mostLength s ≡ Whole n → 9 < kindAt s → readDeskAsked s ≡ deskMessageRefused UnknownKind n
+DeskAskedUnknown = (s : List ℕ) (n : ℕ) → frameUpTo mostLength s ≡ Whole n → 12 < kindAt s → readDeskAsked s ≡ deskMessageRefused UnknownKind n
 
 -- ---- that there are such messages
 
--- a drive-in begins with the card 7001; an empty record but for one car on the raised lift comes with the card 7002; what is leaving is asked
+-- a drive-in begins with the card 7001; an empty record but for one car on the raised lift comes with the card 7002; what is leaving
+-- and all cars are asked for; one car is told, in motion from the raised lift to cell 11
 abbrev pub DeskMessagesExample : Type 0
 DeskMessagesExample =
     (readDeskAsked (6 ∷ 0 ∷ 6 ∷ 0 ∷ 89 ∷ 27 ∷ 0 ∷ 0 ∷ []) ≡ deskMessageTaken (shaped 6 (7001 ∷ []) []) 8)
     × (readDeskAsked (23 ∷ 0 ∷ 7 ∷ 0 ∷ 0 ∷ 0 ∷ 0 ∷ 0 ∷ 0 ∷ 0 ∷ 16 ∷ 0 ∷ 0 ∷ 0 ∷ 0 ∷ 0 ∷ 0 ∷ 0 ∷ 0 ∷ 0 ∷ 1 ∷ 90 ∷ 27 ∷ 0 ∷ 0 ∷ [])
     ≡ deskMessageTaken (shaped 7 (4503599627370496 ∷ 0 ∷ []) ((7002 ∷ []) ∷ [])) 25)
     × (readDeskAsked (2 ∷ 0 ∷ 9 ∷ 0 ∷ []) ≡ deskMessageTaken (shaped 9 [] []) 4)
+    × (readDeskAsked (2 ∷ 0 ∷ 10 ∷ 0 ∷ []) ≡ deskMessageTaken (shaped 10 [] []) 4)
+    × (readDesk (11 ∷ 0 ∷ 138 ∷ 0 ∷ 1 ∷ 89 ∷ 27 ∷ 0 ∷ 0 ∷ 52 ∷ 2 ∷ 11 ∷ 0 ∷ []) ≡ deskMessageTaken (shaped 138 [] ((7001 ∷ 52 ∷ 2 ∷ 11 ∷ 0 ∷ []) ∷ [])) 13)
     × (readDeskAsked (6 ∷ 0 ∷ 6 ∷ 0 ∷ 0 ∷ 0 ∷ 0 ∷ 0 ∷ []) ≡ deskMessageRefused (BadField nowhere) 8)

@@ -30,6 +30,18 @@ whereKind = record { number = 8; fields = 4 ∷ []; each = []; ranged = λ ns xs
 abbrev pub leavingKind : Shape
 leavingKind = record { number = 9; fields = []; each = []; ranged = λ ns xs. true }
 
+-- 10: every car
+abbrev pub listKind : Shape
+listKind = record { number = 10; fields = []; each = []; ranged = λ ns xs. true }
+
+-- 11: what is outstanding
+abbrev pub openKind : Shape
+openKind = record { number = 11; fields = []; each = []; ranged = λ ns xs. true }
+
+-- 12: what an image would change: the record, what is set apart, and its cards, also none
+abbrev pub compareKind : Shape
+compareKind = record { number = 12; fields = 8 ∷ 8 ∷ []; each = 4 ∷ []; ranged = λ ns xs. leb (length xs) mostCards }
+
 -- ---- what is answered
 
 -- the desk's own numbers: 37 number zero, 38 number already in the garage, 39 not that many numbers
@@ -54,15 +66,36 @@ placeKind = record { number = 136; fields = 1 ∷ 1 ∷ 1 ∷ []; each = []; ran
 abbrev pub cardKind : Shape
 cardKind = record { number = 137; fields = 4 ∷ []; each = []; ranged = λ ns xs. true }
 
+-- lines as their range: a card, its place, its flag, the place that it would get, and a zero
+abbrev pub linesRanged : List (List ℕ) → Bool
+linesRanged [] = true
+linesRanged (x ∷ xs) = leb (getD x 2 0) 2 && eqb (getD x 4 0) 0 && linesRanged xs
+
+-- the widths of a line
+abbrev pub lineWidths : List ℕ
+lineWidths = 4 ∷ 1 ∷ 1 ∷ 1 ∷ 1 ∷ []
+
+-- 138: every car, a line each
+abbrev pub carsKind : Shape
+carsKind = record { number = 138; fields = []; each = lineWidths; ranged = λ ns xs. leb (length xs) mostCards && linesRanged xs }
+
+-- 139: what is outstanding: the present issue, a bit for each instruction that is answered, and the instructions, five bytes each
+abbrev pub setKind : Shape
+setKind = record { number = 139; fields = 2 ∷ 1 ∷ []; each = 1 ∷ 1 ∷ 1 ∷ 1 ∷ 1 ∷ []; ranged = λ ns xs. leb (length xs) 8 }
+
+-- 140: what an image would change, a line for each card: where it is, none as 255, and where the image has it
+abbrev pub changesKind : Shape
+changesKind = record { number = 140; fields = []; each = lineWidths; ranged = λ ns xs. leb (length xs) 62 && linesRanged xs }
+
 -- ---- all of them
 
 -- those that a desk reads besides the station's
 abbrev pub shapesAsked : List Shape
-shapesAsked = beginKind ∷ cardsKind ∷ whereKind ∷ leavingKind ∷ []
+shapesAsked = beginKind ∷ cardsKind ∷ whereKind ∷ leavingKind ∷ listKind ∷ openKind ∷ compareKind ∷ []
 
 -- those that it answers with
 abbrev pub shapesAnswered : List Shape
-shapesAnswered = toldKind ∷ placeKind ∷ cardKind ∷ []
+shapesAnswered = toldKind ∷ placeKind ∷ cardKind ∷ carsKind ∷ setKind ∷ changesKind ∷ []
 
 -- those that the library reads besides the station's
 abbrev pub shapesKnown : List Shape

@@ -43,9 +43,13 @@ frameUpTo most s =
     (cond (ltb most (lengthAt s)) Wrong
     (cond (ltb (length s) (lengthAt s + 2)) Cut (Whole (lengthAt s + 2)))))
 
--- the greatest length that a message gives itself: an image with 31 cards
+-- the greatest length that a message to a desk gives itself: an image with 31 cards
 abbrev pub mostLength : ℕ
 mostLength = 143
+
+-- and of an answer: 62 lines
+abbrev pub mostAnswered : ℕ
+mostAnswered = 499
 
 -- what the station's reader says, as a desk's
 abbrev pub asReceived : Received → DeskReceived
@@ -78,7 +82,7 @@ readUpTo most ks shapes s = readShapedIn ks shapes (frameUpTo most s) s
 
 -- the library's reader
 unfoldable pub readDesk : List ℕ → DeskReceived
-readDesk s = readUpTo mostLength kindsKnown shapesKnown s
+readDesk s = readUpTo mostAnswered kindsKnown shapesKnown s
 
 -- the desk's reader
 unfoldable pub readDeskAsked : List ℕ → DeskReceived

@@ -11,7 +11,7 @@ use Rattle.wire.specs.Kinds.{kindOf}
 use Rattle.wire.specs.Writes.{Writing, nothingWritten, put, writingMessage, oneForm}
 use Rattle.desk_wire.specs.Shapes.{Shape, shapedBody}
 use Rattle.desk_wire.specs.DeskKinds.{shapesKnown}
-use Rattle.desk_wire.specs.DeskReads.{DeskMessage, ofStation, shaped, mostLength}
+use Rattle.desk_wire.specs.DeskReads.{DeskMessage, ofStation, shaped, mostAnswered}
 
 -- a message of this shape in bytes: its length, which counts what follows it, its kind, its body
 abbrev pub shapedBytes : Shape → List ℕ → List (List ℕ) → List ℕ
@@ -42,7 +42,7 @@ writingWith most shapes (shaped kind ns xs) room = writingShaped most shapes kin
 
 -- the library's writer
 unfoldable pub writingDesk : DeskMessage → List ℕ → Writing
-writingDesk m room = writingWith mostLength shapesKnown m room
+writingDesk m room = writingWith mostAnswered shapesKnown m room
 
 -- the one form of a message: the station's, or as it is
 abbrev pub deskOneForm : DeskMessage → DeskMessage

@@ -60,7 +60,7 @@ const UNSOUND: u8 = 15;
 
 const NO_ROOM: u8 = 17;
 
-const NO_DRAWING: u8 = 41;
+const BAD_LINE: u8 = 41;
 
 const NOWHERE: u8 = 255;
 
@@ -313,7 +313,7 @@ pub fn read(apart: bool, text: &[u8]) -> Found
     let lift = lift_line::last_in(apart, text);
     let bad = first_bad(apart, text, lift);
     if bad < 7 {
-        return unread(NO_DRAWING, bad);
+        return unread(BAD_LINE, bad);
     }
     let g = grid::grid_in(text);
     let bits = image_in(apart, g, text, lift);

@@ -61,7 +61,9 @@ last-ended false f =
     let words = carWord (f raisedCar) ++ driveWord (driveOf f) in
     record {
       word = heightName (drawnHeight f) ++ words;
-      plain = word-append (heightName (drawnHeight f)) words (name-word (drawnHeight f)) (word-append (carWord (f raisedCar)) (driveWord (driveOf f)) (car-word (f raisedCar)) (drive-word (driveOf f)));
+      plain =
+          word-append (heightName (drawnHeight f)) words (name-word (drawnHeight f))
+          (word-append (carWord (f raisedCar)) (driveWord (driveOf f)) (car-word (f raisedCar)) (drive-word (driveOf f)));
       whole = refl;
     }
 
@@ -170,7 +172,8 @@ module _ (w : Bool) (s : List ℕ) where
     pub upper-line : (j : ℕ) → j < 5 → isLine w j (lineAt j s) ≡ true → lineAt j s ≡ lineOf w j f
     unfolding isLine floorLine shuttleLine
     upper-line zero h e =
-        each-lined (marks w f) (isMark w) 0 20 (lineAt 0 s) e (λ j l g. mark-told w (byteAt j (lineAt 0 s)) (f (0 + j)) g (has (0 + j) (omega arith) ∙ row-one (0 + j) (omega arith) ∙ ap (λ (n : ℕ). eqb (byteAt n (lineAt 0 s)) (mark w true)) (zero-add j)))
+        each-lined (marks w f) (isMark w) 0 20 (lineAt 0 s) e
+        (λ j l g. mark-told w (byteAt j (lineAt 0 s)) (f (0 + j)) g (has (0 + j) (omega arith) ∙ row-one (0 + j) (omega arith) ∙ ap (λ (n : ℕ). eqb (byteAt n (lineAt 0 s)) (mark w true)) (zero-add j)))
     upper-line (suc zero) h e =
         each-lined (marks w f) (isMark w) 20 10 (lineAt 1 s) e (λ j l g. mark-told w (byteAt j (lineAt 1 s)) (f (20 + j)) g (has (20 + j) (omega arith) ∙ row-two j l))
     upper-line (suc (suc zero)) h e =

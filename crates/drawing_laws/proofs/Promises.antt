@@ -167,7 +167,8 @@ drawings-apart s r a e d = cases false s
     (λ t u v. cases true s
     (λ x y. other y d (λ z. omega arith))
     (λ x z y. other y d (λ z. omega arith))
-    (λ x z y. no-both (lineAt 5 s) (last-is false s (line-is false s 5 (omega arith) (good false s t 5 (omega arith)))) (last-is true s (line-is true s 5 (omega arith) (good true s x 5 (omega arith))))))
+    (λ x z y. no-both (lineAt 5 s) (last-is false s (line-is false s 5 (omega arith) (good false s t 5 (omega arith))))
+    (last-is true s (line-is true s 5 (omega arith) (good true s x 5 (omega arith))))))
 
 pub drawings-differ : DrawingsDiffer
 drawings-differ w r q h k s t e = ap bits (sym (drawn-reads-back w r h s) ∙ ap (reading w) e ∙ drawn-reads-back w q k t)

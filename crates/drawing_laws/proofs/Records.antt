@@ -151,7 +151,9 @@ drawn-length r s =
     let rules : T (kept (f heightLow) (f heightHigh) (f driveIn) (f driveOut) (f raisedCar)) =
     and-T (heightKept (f heightLow) (f heightHigh)) (drivesKept (f heightLow) (f heightHigh) (f driveIn) (f driveOut) && carKept (f heightLow) (f heightHigh) (f raisedCar)) (sound-rule r s 10)
     (and-T (drivesKept (f heightLow) (f heightHigh) (f driveIn) (f driveOut)) (carKept (f heightLow) (f heightHigh) (f raisedCar)) (sound-rule r s 13) (sound-rule r s 7)) in
-    let t : T (short n) = under (kept (f heightLow) (f heightHigh) (f driveIn) (f driveOut) (f raisedCar)) (short n) (T→true (kept (f heightLow) (f heightHigh) (f driveIn) (f driveOut) (f raisedCar)) rules) (fits (f heightLow) (f heightHigh) (f driveIn) (f driveOut) (f raisedCar)) in
+    let t : T (short n) = under (kept (f heightLow) (f heightHigh) (f driveIn) (f driveOut) (f raisedCar)) (short n)
+    (T→true (kept (f heightLow) (f heightHigh) (f driveIn) (f driveOut) (f raisedCar)) rules)
+    (fits (f heightLow) (f heightHigh) (f driveIn) (f driveOut) (f raisedCar)) in
     let a : 7 ≤ n = leb→le 7 n (and-l (leb 7 n) (leb n 15) t) in
     let b : n ≤ 15 = leb→le n 15 (and-r (leb 7 n) (leb n 15) t) in
     let e : length (drawn false f) ≡ 51 + n = drawing.drawn-length false f in

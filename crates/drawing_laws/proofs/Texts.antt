@@ -192,10 +192,12 @@ module _ (w : Bool) (f : Bits) where
 
   -- slots
   module _ (side i : ℕ) (is : (j : ℕ) → j < 3 → byteAt j (lineAt i (drawn w f)) ≡ letters side f (1 + j)) where
-    low-back : (j : ℕ) → j < 3 → bitsIn w (drawn w f) (slot side lowered (1 + j)) ≡ isLowered (byteAt j (lineAt i (drawn w f))) → bitsIn w (drawn w f) (slot side lowered (1 + j)) ≡ f (slot side lowered (1 + j))
+    low-back : (j : ℕ) → j < 3 → bitsIn w (drawn w f) (slot side lowered (1 + j)) ≡ isLowered (byteAt j (lineAt i (drawn w f))) → bitsIn w
+        (drawn w f) (slot side lowered (1 + j)) ≡ f (slot side lowered (1 + j))
     low-back j h e = e ∙ ap isLowered (is j h) ∙ letter-lowered (f (slot side lowered (1 + j))) (f (slot side tilted (1 + j)))
 
-    tilt-back : (j : ℕ) → j < 3 → bitsIn w (drawn w f) (slot side tilted (1 + j)) ≡ isTilted (byteAt j (lineAt i (drawn w f))) → bitsIn w (drawn w f) (slot side tilted (1 + j)) ≡ f (slot side tilted (1 + j))
+    tilt-back : (j : ℕ) → j < 3 → bitsIn w (drawn w f) (slot side tilted (1 + j)) ≡ isTilted (byteAt j (lineAt i (drawn w f))) → bitsIn w
+        (drawn w f) (slot side tilted (1 + j)) ≡ f (slot side tilted (1 + j))
     tilt-back j h e = e ∙ ap isTilted (is j h) ∙ letter-tilted (f (slot side lowered (1 + j))) (f (slot side tilted (1 + j)))
 
   left-letters : (j : ℕ) → j < 3 → byteAt j (lineAt 3 (drawn w f)) ≡ letters 0 f (1 + j)

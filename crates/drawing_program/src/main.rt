@@ -3,9 +3,8 @@
 // failure in streams; no contract can say what comes in and goes out.
 ghost use Prim.Native.Nat.{_≤_};
 ghost use lib.ListN.{length};
-ghost use Rattle.streams.specs.Input.{Fills};
 use drawing::Hex;
-use streams::Input;
+use streams::Came;
 
 // The longest input that is read as hex: of one byte more no more is read, and a drawing is not so long.
 const LONGEST: usize = 65536;
@@ -21,7 +20,7 @@ const LONGEST_APART: usize = 56;
 // The numbers of what is read.
 const TAKEN: u8 = 0;
 
-const NO_DRAWING: u8 = 41;
+const BAD_LINE: u8 = 41;
 
 // The lines of a drawing.
 const LINES: u8 = 6;
@@ -29,41 +28,11 @@ const LINES: u8 = 6;
 // The place that stands for text after the last line.
 const PAST_LAST: u8 = 6;
 
-// What came: so many bytes at the front of the buffer; or a read failed, and that is told.
-struct Came {
-    have: usize,
-    failed: bool,
-}
-
-// Reads once past the bytes that are held.
-fn read_on(buf: &mut [u8], have: usize) -> Input
-    ensures { λ r. ⌜ Fills (now (buf .entry)) have r (now (buf .exit)) ⌝ }
-{
-    streams::fill(libc::STDIN_FILENO, buf, have, b"draw: standard input")
-}
-
 // Reads to the end of the input, or until the buffer is full.
 fn read_all(buf: &mut [u8]) -> Came
     ensures { λ r. ⌜ r .have ≤ length (now (buf .exit)) ⌝ }
 {
-    let mut have: usize = 0;
-    loop {
-        let input = read_on(buf, have);
-        match input {
-            Input::Bytes(end) => {
-                have = end;
-            }
-            Input::Failed => {
-                return Came { have, failed: true };
-            }
-            _ => {
-                return Came {
-                    have,
-                    failed: false,
-                };
-            }
-        }
-    }
+    streams::read_all(libc::STDIN_FILENO, buf, b"draw: standard input")
 }
 
 // Writes the first n bytes of a text; where that fails, it is told.
@@ -156,7 +125,7 @@ fn say_hex(number: u64) -> bool {
 
 // Tells why a drawing is refused.
 fn tell_refused(number: u8, place: u8) {
-    if number == NO_DRAWING {
+    if number == BAD_LINE {
         tell_bad_line(place, 0);
         return;
     }
@@ -194,20 +163,7 @@ fn read_both(first: &[u8], second: &[u8]) {
 fn sixth_end(input: &[u8]) -> usize
     ensures { λ n. ⌜ n ≤ length (now (input .entry)) ⌝ }
 {
-    let mut feeds: u8 = 0;
-    let mut i: usize = 0;
-    while i < input.len() {
-        let b = input[i];
-        i += 1;
-        if b != b'\n' {
-            continue;
-        }
-        feeds += 1;
-        if LINES <= feeds {
-            return i;
-        }
-    }
-    i
+    streams::lines_end(input, LINES)
 }
 
 // A second drawing begins with one of its marks; other text after the last line is refused with the first.

@@ -42,6 +42,11 @@ module _ (i : Instruction) (r : ℕ) (w : wellFormed i ≡ true) (v : Verdict) (
   unfolding movedOf
   unread q = ap (λ (u : Verdict). movedBy u (image (nextRecord i (bit r)))) (is-verdict i r w (sym q ∙ p))
 
+  -- at once, where the next record is there already
+  pub decided : (x : ℕ) → x ≡ image (nextRecord i (bit r)) → movedBy v x ≡ movedOf i r
+  unfolding movedOf
+  decided x e = ap₂ {A = Verdict} {B = ℕ} {C = Moved} movedBy (is-verdict i r w p) e
+
   -- and where they all hold, nothing is missing between its belts or rows
   pub no-gap : v ≡ Verdict.Allowed → whole i ≡ true
   unfolding allowed

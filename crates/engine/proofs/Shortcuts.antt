@@ -19,7 +19,7 @@ use Rattle.rules.specs.declared.Code.{Code}
 use Rattle.rules.specs.declared.Reading.the-variants.{Good}
 use Rattle.rules.specs.declared.Verdict.{Verdict}
 use Rattle.rules.specs.Named.{step}
-use Rattle.rules.specs.Rules.{wellFormed, beltsNamed, area, clauses}
+use Rattle.rules.specs.Rules.{wellFormed, beltsNamed, area, clauses, nextRecord}
 use Rattle.rules.specs.Codes.{readCode}
 use Rattle.rules.specs.Verdicts.{judged}
 use Rattle.rules.proofs.Every.{everywhere, each}
@@ -28,7 +28,7 @@ use Rattle.areas.specs.Located.{locate}
 use Rattle.areas.proofs.Areas.{area-right}
 use Rattle.rows.specs.Private.{judgedRow, looksAsked, beltsRow, beltsMove, moveRow, gaps, firstIn}
 use Rattle.engine.specs.Judged.{judge, judgedAs, codeNext}
-use Rattle.engine.specs.Private.{runs, codeRuns, roomIn, fitting}
+use Rattle.engine.specs.Private.{runs, codeRuns, roomIn, fitting, codeLifts}
 use Rattle.engine.proofs.Answers.{area-is, code-judged, code-next}
 use Rattle.engine.proofs.Ruling.{belts-judge, belts-move}
 use Rattle.engine.proofs.Lifting.{lift-law}
@@ -125,21 +125,43 @@ row-told x r row a o c d e q half f h t =
 
 -- ---- the lift
 
-pub lift-told : (x : Code) (r : ℕ) {still below : Bool} → still ≡ holds (heightIs (x .a)) (bit r) → below ≡ holds (heightIs 2) (bit r)
-    → eqb (x .op) 4 && leb (x .a) 2 && eqb (x .b) 0 && eqb (x .c) 0 && eqb (x .d) 0 && not still && not below ≡ true
-    → judgedAs 0x70000000001800 Verdict.Allowed ≡ judge x r
-unfolding readCode areaMask
-lift-told x r {still} {below} f g e =
-    let o = eqb (x .op) 4 in
-    let p = leb (x .a) 2 in
-    let b = eqb (x .b) 0 in
-    let c = eqb (x .c) 0 in
-    let d = eqb (x .d) 0 in
-    let (e₆, l) = both (o && p && b && c && d && not still) (not below) e in
-    let (e₅, s) = both (o && p && b && c && d) (not still) e₆ in
-    let (e₄, d₁) = both (o && p && b && c) d e₅ in
-    let (e₃, c₁) = both (o && p && b) c e₄ in
-    let (e₂, b₁) = both (o && p) b e₃ in
-    let (o₁, p₁) = both o p e₂ in
-    at-once x (Lift (x .a)) p₁ (rw (eqb-true (x .op) 4 o₁, b₁, c₁, d₁, p₁)) 0x70000000001800 (area-right (Lift (x .a)) p₁) r
-    (sym (lift-law (x .a) (bit r) false false _ _ (sym (not-true still s) ∙ f) (sym (not-true below l) ∙ g) refl refl))
+module _ (x : Code) (e : codeLifts x ≡ true) where
+  fields : (eqb (x .op) 4 ≡ true) × (leb (x .a) 2 ≡ true) × (eqb (x .b) 0 ≡ true) × (eqb (x .c) 0 ≡ true) × (eqb (x .d) 0 ≡ true)
+  fields =
+      let o = eqb (x .op) 4 in
+      let p = leb (x .a) 2 in
+      let b = eqb (x .b) 0 in
+      let c = eqb (x .c) 0 in
+      let (e₄, d₁) = both (o && p && b && c) (eqb (x .d) 0) e in
+      let (e₃, c₁) = both (o && p && b) c e₄ in
+      let (e₂, b₁) = both (o && p) b e₃ in
+      let (o₁, p₁) = both o p e₂ in
+      (o₁, p₁, b₁, c₁, d₁)
+
+  pub lift-well : wellFormed (Lift (x .a)) ≡ true
+  lift-well = fields .1
+
+  lift-said : readCode x ≡ Good (Lift (x .a))
+  unfolding readCode
+  lift-said = rw (eqb-true (x .op) 4 (fields .0), fields .2, fields .3, fields .4, fields .1)
+
+  lift-placed : 0x70000000001800 ≡ image (area (Lift (x .a)))
+  unfolding areaMask
+  lift-placed = area-right (Lift (x .a)) lift-well
+
+  pub lift-left : (r n : ℕ) → n ≡ image (nextRecord (Lift (x .a)) (bit r)) → n ≡ codeNext x r
+  lift-left r n m =
+      code-next x (locate x) refl r (Lift (x .a)) (read x (Lift (x .a)) lift-well lift-said 0x70000000001800 lift-placed r) refl n m
+
+  risen : (r : ℕ) {still below : Bool} → still ≡ holds (heightIs (x .a)) (bit r) → below ≡ holds (heightIs 2) (bit r) → not still ≡ true → not below ≡ true
+      → judgedAs 0x70000000001800 Verdict.Allowed ≡ judge x r
+  risen r {still} {below} f g s l =
+      at-once x (Lift (x .a)) lift-well lift-said 0x70000000001800 lift-placed r
+      (sym (lift-law (x .a) (bit r) false false _ _ (sym (not-true still s) ∙ f) (sym (not-true below l) ∙ g) refl refl))
+
+pub lift-told : (x : Code) (r : ℕ) {runs still below : Bool} → runs ≡ codeLifts x → still ≡ holds (heightIs (x .a)) (bit r) → below ≡ holds (heightIs 2) (bit r)
+    → runs && not still && not below ≡ true → judgedAs 0x70000000001800 Verdict.Allowed ≡ judge x r
+lift-told x r {runs} {still} {below} q f g e =
+    let (d, l) = both (runs && not still) (not below) e in
+    let (k, s) = both runs (not still) d in
+    risen x (sym q ∙ k) r f g s l

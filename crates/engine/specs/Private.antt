@@ -37,3 +37,7 @@ abbrev pub fitting : ℕ → ℕ → ℕ → ℕ → Bool
 fitting a toward n r =
     eqb (bitAnd r (bitAnd a 0x6FFF0000000000)) (bitAnd a 0x4FFF0000000000) && eqb (bitAnd r (roomIn a toward n)) 0
     && eqb (count (places (firstIn a)) (bit r) % 2) 0
+
+-- five bytes say a run of the lift
+abbrev pub codeLifts : Code → Bool
+codeLifts x = eqb (x .op) 4 && leb (x .a) 2 && eqb (x .b) 0 && eqb (x .c) 0 && eqb (x .d) 0

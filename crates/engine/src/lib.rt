@@ -5,7 +5,7 @@ ghost use Rattle.bits.specs.Bits.{bit, image};
 ghost use Rattle.rules.specs.declared.Event.the-variants.{EndDone};
 ghost use Rattle.rules.specs.Rules.{wellFormed, area, clauses, nextRecord};
 ghost use Rattle.rules.specs.Events.{inTurn, possible, placesOpen, afterEvent};
-ghost use Rattle.rules.specs.Verdicts.{judged, verdictOf, movedOf, drivenOf, codeVerdict, codeMoved};
+ghost use Rattle.rules.specs.Verdicts.{judged, verdictOf, movedBy, movedOf, drivenOf, codeVerdict, codeMoved};
 ghost use Rattle.rows.specs.Private.{whole};
 ghost use Rattle.engine.specs.Judged.{judge, judgedAs, codeNext};
 use rules::Area;
@@ -98,15 +98,34 @@ fn next(i: Instruction, a: u64, r: u64) -> u64
     }
 }
 
-// The record after a well-formed instruction, where it is allowed.
+// A verdict with the record that is next where it allows.
+fn decided(verdict: Verdict, next: u64) -> Moved
+    ensures { λ m. ⌜ m ≡ movedBy verdict next ⌝ }
+{
+    match verdict {
+        Verdict::Allowed => Moved::Record(next),
+        Verdict::NotAllowed(why) => Moved::NotAllowed(why),
+        Verdict::IllFormed => Moved::IllFormed,
+    }
+}
+
+// The record after a well-formed instruction, where it is allowed. What takes few steps is done at once.
 fn stepped(i: Instruction, a: u64, r: u64) -> Moved
     requires { ⌜ (wellFormed i ≡ true) × (a ≡ image (area i)) ⌝ }
     ensures { λ m. ⌜ m ≡ movedOf i r ⌝ }
 {
-    match told(i, a, r) {
-        Verdict::Allowed => Moved::Record(next(i, a, r)),
-        Verdict::NotAllowed(why) => Moved::NotAllowed(why),
-        Verdict::IllFormed => Moved::IllFormed,
+    match i {
+        Instruction::Tilt {
+            side: _,
+            row: _,
+            orientation,
+        } => decided(tilt_judged(r, a, orientation), tilt_next(r, a, orientation)),
+        Instruction::Lift { height } => decided(lift_judged(r, height), lift_next(r, height)),
+        _ => match told(i, a, r) {
+            Verdict::Allowed => Moved::Record(next(i, a, r)),
+            Verdict::NotAllowed(why) => Moved::NotAllowed(why),
+            Verdict::IllFormed => Moved::IllFormed,
+        },
     }
 }
 
@@ -250,6 +269,9 @@ pub fn code_next(x: Code, r: u64) -> u64
     let named = swift::named(x);
     if named != 0 {
         return belts_next(r, named, x.a, x.c, x.d);
+    }
+    if swift::runs_lift(x) {
+        return lift_next(r, x.a);
     }
     let l = areas::locate(x);
     let a = l.area;

@@ -4,7 +4,7 @@ ghost use mathlib.Core.Path.{_≡_};
 ghost use mathlib.Core.Bool.{true};
 ghost use Prim.Native.Nat.{_<_};
 ghost use Rattle.engine.specs.Judged.{judge};
-ghost use Rattle.engine.specs.Private.{runs, codeRuns, fitting};
+ghost use Rattle.engine.specs.Private.{runs, codeRuns, fitting, codeLifts};
 use super::judging::within;
 use super::masks::CELLS;
 use super::masks::NEEDED;
@@ -147,17 +147,18 @@ fn belts(x: Code, r: u64) -> u64
     0
 }
 
+// Five bytes say a run of the lift.
+pub fn runs_lift(x: Code) -> bool
+    ensures { λ b. ⌜ b ≡ codeLifts x ⌝ }
+{
+    (x.op == 4) & (x.a <= 2) & (x.b == 0) & (x.c == 0) & (x.d == 0)
+}
+
 // A lift that is not in the basement runs to another height.
 fn rises(x: Code, r: u64) -> bool
     ensures { λ b. ⌜ (b ≡ true → record { area = 0x70000000001800; good = true; allowed = true } ≡ judge x r) ⌝ }
 {
-    (x.op == 4)
-        & (x.a <= 2)
-        & (x.b == 0)
-        & (x.c == 0)
-        & (x.d == 0)
-        & !height_is(r, x.a)
-        & !height_is(r, 2)
+    runs_lift(x) & !height_is(r, x.a) & !height_is(r, 2)
 }
 
 // The area of what the record is seen to allow.

@@ -169,14 +169,17 @@ module _ (s : Station) (T : StationTyped s) where
   by-step : (c : Call) → NoImages (c ∷ []) → AsMade c → StationTyped (stationAfter s c)
   by-step c p m =
       let q = steps s c p in
-      record { image = small-step s (stationAfter s c) c q (T .image); places = places-step s (stationAfter s c) c q m (T .places); issue = next-small c; apart = apart-step s (stationAfter s c) c q (T .apart) }
+      record { image = small-step s (stationAfter s c) c q (T .image); places = places-step s
+      (stationAfter s c) c q m (T .places); issue = next-small c; apart = apart-step s (stationAfter s c) c q (T .apart) }
 
   pub typed-call : (c : Call) → AsMade c → StationTyped (stationAfter s c)
   typed-call (run.request n set) m = by-step (run.request n set) tt m
   typed-call (run.reports r) m = by-step (run.reports r) tt m
   typed-call (run.event e) m = by-step (run.event e) tt m
   typed-call (run.pictures p) m = split (eqb (answerNumber s (run.pictures p)) 0)
-      (λ t. let w = image-has s (p .bits) (p .apart) (eqb-true _ 0 t) in subst StationTyped (sym (ap (λ (o : Outcome). o .station) (image-is s (p .bits) (p .apart) w))) (record { image = m; places = T .places; issue = T .issue; apart = omega arith }))
+      (λ t. let w = image-has s (p .bits) (p .apart) (eqb-true _ 0 t) in subst StationTyped
+      (sym (ap (λ (o : Outcome). o .station) (image-is s (p .bits) (p .apart) w)))
+      (record { image = m; places = T .places; issue = T .issue; apart = omega arith }))
       (λ t. subst StationTyped (sym (untouched s (run.pictures p) (eqb-false _ 0 t))) T)
   typed-call run.ask m = by-step run.ask tt m
 

@@ -59,21 +59,24 @@ fn odd(name: &[u8], m: &[u8]) {
     text(b"\n");
 }
 
-fn odd_inputs() {
+fn cut_short() {
     odd(b"no bytes", b"");
-    odd(b"one byte", &[2]);
-    odd(b"FF FF", &[0xFF, 0xFF]);
-    odd(b"03 00 63 00", &[3, 0, 0x63, 0]);
-    odd(b"03 00 63 00 00", &[3, 0, 0x63, 0, 0]);
-    odd(b"04 00 03 00 07 01", &[4, 0, 3, 0, 7, 1]);
-    odd(b"06 00 03 00 FF FF 07 01", &[6, 0, 3, 0, 0xFF, 0xFF, 7, 1]);
-    odd(b"06 00 03 00 FF FF 07 02", &[6, 0, 3, 0, 0xFF, 0xFF, 7, 2]);
-    odd(b"06 00 03 00 FF FF 07 03", &[6, 0, 3, 0, 0xFF, 0xFF, 7, 3]);
-    odd(b"04 00 80 00 00 FF", &[4, 0, 0x80, 0, 0, 0xFF]);
-    odd(
-        b"06 00 80 00 00 FF FF FF",
-        &[6, 0, 0x80, 0, 0, 0xFF, 0xFF, 0xFF],
-    );
+    odd(b"one byte", b"\x02");
+    odd(b"FF FF", b"\xFF\xFF");
+    odd(b"03 00 63 00", b"\x03\x00\x63\x00");
+    odd(b"03 00 63 00 00", b"\x03\x00\x63\x00\x00");
+}
+
+fn results() {
+    odd(b"04 00 03 00 07 01", b"\x04\x00\x03\x00\x07\x01");
+    odd(b"06 00 03 00 FF FF 07 01", b"\x06\x00\x03\x00\xFF\xFF\x07\x01");
+    odd(b"06 00 03 00 FF FF 07 02", b"\x06\x00\x03\x00\xFF\xFF\x07\x02");
+    odd(b"06 00 03 00 FF FF 07 03", b"\x06\x00\x03\x00\xFF\xFF\x07\x03");
+}
+
+fn told_answers() {
+    odd(b"04 00 80 00 00 FF", b"\x04\x00\x80\x00\x00\xFF");
+    odd(b"06 00 80 00 00 FF FF FF", b"\x06\x00\x80\x00\x00\xFF\xFF\xFF");
 }
 
 fn images() {
@@ -127,15 +130,21 @@ fn kind(kind: u8) {
     text(b"\n");
 }
 
-// Writes all.
-pub fn all() {
-    odd_inputs();
-    images();
+fn to_station() {
     kind(1);
     kind(2);
     kind(3);
     kind(4);
     kind(5);
+}
+
+// Writes all.
+pub fn all() {
+    cut_short();
+    results();
+    told_answers();
+    images();
+    to_station();
     kind(128);
     kind(129);
 }

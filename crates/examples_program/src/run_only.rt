@@ -4,59 +4,6 @@ use crate::examples::told;
 use station::Outcome;
 use station::Station;
 
-// No two overlap, and each is allowed on the start record.
-const EIGHT: [u8; 45] = [
-    // its length, its kind and the count
-    43,
-    0,
-    1,
-    0,
-    8,
-    // belts of row 1 at the left and at the right, of row 2 and of row 3
-    1,
-    1,
-    3,
-    0,
-    1,
-    1,
-    1,
-    8,
-    1,
-    0,
-    1,
-    2,
-    2,
-    0,
-    1,
-    1,
-    3,
-    2,
-    1,
-    1,
-    // left shuttles, lowered and tilted
-    2,
-    0,
-    2,
-    0,
-    1,
-    2,
-    0,
-    4,
-    1,
-    0,
-    // right shuttles, lowered and tilted
-    2,
-    1,
-    3,
-    0,
-    1,
-    2,
-    1,
-    4,
-    1,
-    0,
-];
-
 // A message of a request, and what it is answered: by the reader, or by the station.
 fn sent(name: &[u8], m: &[u8]) {
     text(b"run");
@@ -84,10 +31,15 @@ fn nine(name: &[u8], length: u8) {
 
 // Writes a line for each.
 pub fn all() {
-    sent(b"eight instructions", &EIGHT);
+    // its length, its kind and the count; belts of row 1 at the left and at the right, of row 2 and of row 3; left shuttles, lowered and
+    // tilted, and right ones. No two overlap, and each is allowed on the start record
+    sent(
+        b"eight instructions",
+        b"\x2B\x00\x01\x00\x08\x01\x01\x03\x00\x01\x01\x01\x08\x01\x00\x01\x02\x02\x00\x01\x01\x03\x02\x01\x01\x02\x00\x02\x00\x01\x02\x00\x04\x01\x00\x02\x01\x03\x00\x01\x02\x01\x04\x01\x00",
+    );
     nine(b"nine at length 43", 43);
     nine(b"nine at length 48", 48);
     nine(b"length 44", 44);
-    sent(b"mask 5 in row 3", &[8, 0, 1, 0, 1, 1, 3, 5, 1, 1]);
-    sent(b"half in row 2", &[8, 0, 1, 0, 1, 1, 2, 2, 1, 0]);
+    sent(b"mask 5 in row 3", b"\x08\x00\x01\x00\x01\x01\x03\x05\x01\x01");
+    sent(b"half in row 2", b"\x08\x00\x01\x00\x01\x01\x02\x02\x01\x00");
 }

@@ -7,7 +7,7 @@ use Prim.Native.Nat.{ℕ, zero, suc, _+_, _-_, _^_, _≤_, _<_}
 use native.Mathlib.Omega.{arith}
 use borrow.Author.Tests.{le-leb}
 use lib.Dec.{eqb, leb}
-use lib.ListN.{length, getD, take, drop, length-take}
+use lib.ListN.{length, getD, take, drop, length-take, length-drop}
 use lib.Seq.{length-take-le}
 use Rattle.bits.proofs.Cases.{split}
 use Rattle.codec.specs.Bytes.{Bytes}
@@ -20,11 +20,11 @@ use Rattle.checksum.proofs.Promises.{by-slices}
 use Rattle.journal_file.specs.declared.Front.{Front}
 use Rattle.journal_file.specs.declared.Replay.{Replay}
 use Rattle.journal_file.specs.declared.Step.{Step}
-use Rattle.journal_file.specs.Appends.{Over, around, sumAfter, appendOf, carriedOf, payloadOf, frontOf}
+use Rattle.journal_file.specs.Appends.{Over, around, sumAfter, appendOf, carriedOf, payloadOf, leadOf, carriedMessages, frontOf}
 use Rattle.journal_file.specs.Heads.{headKind, headOf}
 use Rattle.journal_file.specs.Replaying.{notTaken, stepBy, stepOf, stepping}
 use Rattle.journal_file.proofs.Fronts.{Whole, whole, titled-most}
-use Rattle.journal_file.proofs.Forms.{append-reads-back, payload-back, front-by-tables}
+use Rattle.journal_file.proofs.Forms.{append-reads-back, payload-back, kind-back, front-by-tables}
 use Rattle.journal_file.proofs.OneForm.{append-one-form}
 use Rattle.journal_file.proofs.OneFile.{fair-step, whole-step}
 
@@ -53,23 +53,26 @@ module _ (r : Replay) (m : List ℕ) (small : r .sum < 2 ^ 32) (b : Bytes m) whe
   payload-fits : Whole crcOver (r .sum) m → length (payloadOf m) ≤ 65536
   payload-fits w = let l = length-take (carriedOf m) (drop 8 m) in let h = titled-most crcOver (r .sum) m (w .title) in omega arith
 
+  messages-fit : Whole crcOver (r .sum) m → length (carriedMessages m) ≤ 65536
+  messages-fit w = let l = length-drop (leadOf (getD m 0 0)) (payloadOf m) in let h = payload-fits w in omega (arith, l, h)
+
   pub stepping-is : (room : List ℕ) → 327680 ≤ length room → stepping (crcBy slices) r m room .says ≡ stepOf crcOver r m
   unfolding stepping stepOf
   stepping-is room h =
       rw (front-by-tables (r .sum) m small b)
       (split (f .whole)
       (λ t. ap (λ (w : Serving). stepBy r f (w .says .used) (w .says .station))
-      (all-served (r .station) (payloadOf m) room (let p = payload-fits (whole crcOver (r .sum) m t) in omega arith)))
+      (all-served (r .station) (carriedMessages m) room (let p = messages-fit (whole crcOver (r .sum) m t) in omega arith)))
       (λ t. unwhole (f .whole) (notTaken r (f .short)) _ _ t))
 
   module _ (took : 0 < stepOf crcOver r m .took) where
     w : Whole crcOver (r .sum) m
     unfolding stepOf
-    w = whole crcOver (r .sum) m (whole-step f r (run (r .station) (payloadOf m) .used) (run (r .station) (payloadOf m) .station) took)
+    w = whole crcOver (r .sum) m (whole-step f r (run (r .station) (carriedMessages m) .used) (run (r .station) (carriedMessages m) .station) took)
 
     took-is : stepOf crcOver r m .took ≡ carriedOf m + 13
     unfolding stepOf
-    took-is = fair-step f r (run (r .station) (payloadOf m) .used) (run (r .station) (payloadOf m) .station) took .0 ∙ ap (λ (x : Front). x .carries + 13) (w .is)
+    took-is = fair-step f r (run (r .station) (carriedMessages m) .used) (run (r .station) (carriedMessages m) .station) took .0 ∙ ap (λ (x : Front). x .carries + 13) (w .is)
 
     pub took-within : stepOf crcOver r m .took ≤ length m
     took-within = let e = took-is in let h = w .within in omega arith
@@ -101,11 +104,14 @@ module _ (r : Replay) (m : List ℕ) (small : r .sum < 2 ^ 32) (b : Bytes m) whe
     payload-alone : payloadOf a ≡ payloadOf m
     payload-alone = ap payloadOf form ∙ payload-back (r .sum) kind (payloadOf m) small (payload-fits w)
 
+    messages-alone : carriedMessages a ≡ carriedMessages m
+    messages-alone = ap₂ (λ (k : ℕ) (p : List ℕ). drop (leadOf k) p) (ap (λ (l : List ℕ). getD l 0 0) form ∙ kind-back crcOver (r .sum) kind (payloadOf m)) payload-alone
+
     -- the append alone makes the same step
     pub step-alone : stepOf crcOver r a ≡ stepOf crcOver r m
     unfolding stepOf
     step-alone =
-        ap₂ (λ (g : Front) (p : List ℕ). stepBy r g (run (r .station) p .used) (run (r .station) p .station)) (front-alone ∙ sym front-more) payload-alone
+        ap₂ (λ (g : Front) (p : List ℕ). stepBy r g (run (r .station) p .used) (run (r .station) p .station)) (front-alone ∙ sym front-more) messages-alone
 
     pub alone-long : length a ≡ stepOf crcOver r m .took
     alone-long = length-take-le (stepOf crcOver r m .took) m took-within
@@ -116,7 +122,7 @@ pub took-room : (over : Over) (r : Replay) (m room : List ℕ) → 0 < stepping 
 unfolding stepping
 took-room over r m room h =
     let f = frontOf over (r .sum) m in
-    let s = serving (r .station) (payloadOf m) room .says in
+    let s = serving (r .station) (carriedMessages m) room .says in
     let w = whole over (r .sum) m (whole-step f r (s .used) (s .station) h) in
     let e = fair-step f r (s .used) (s .station) h .0 ∙ ap (λ (x : Front). x .carries + 13) (w .is) in
     let i = w .within in

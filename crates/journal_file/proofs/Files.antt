@@ -4,14 +4,14 @@ use mathlib.Core.Path.{_≡_, refl, sym, ap, ap₂, subst, _∙_}
 use mathlib.Core.Logic.{_⊎_, inl, inr, ⊎-elim}
 use mathlib.Core.Bool.{Bool, true, false, cond, not, _||_}
 use mathlib.Core.List.{List, [], _∷_, _++_, append-nil}
-use Prim.Native.Nat.{ℕ, _+_, _^_, _≤_, _<_}
+use Prim.Native.Nat.{ℕ, _+_, _-_, _^_, _≤_, _<_}
 use native.Mathlib.Omega.{arith}
-use borrow.Author.Tests.{not-false, eqb-true, eq-eqb, ne-eqb, le-ltb}
+use borrow.Author.Tests.{not-false, eqb-true, eq-eqb, ne-eqb, le-ltb, ltb-false}
 use lib.Dec.{eqb, ltb}
 use lib.ListN.{length, getD, take, drop, length-drop}
 use lib.Seq.{take-length, length-take-le}
 use Rattle.bits.specs.Places.{join}
-use Rattle.bits.proofs.Cases.{neither}
+use Rattle.bits.proofs.Cases.{neither, clash}
 use Rattle.station.specs.declared.Station.{Station}
 use Rattle.service.specs.Service.{answersOn}
 use Rattle.service.specs.Runs.{Ran, run}
@@ -22,12 +22,12 @@ use Rattle.checksum.specs.Checksum.{crcOver}
 use Rattle.journal_file.specs.declared.Front.{Front}
 use Rattle.journal_file.specs.declared.Replay.{Replay}
 use Rattle.journal_file.specs.declared.Step.{Step}
-use Rattle.journal_file.specs.Appends.{around, sumAfter, appendOf, carriedOf, payloadOf, wholeFront, frontOf}
+use Rattle.journal_file.specs.Appends.{around, sumAfter, appendOf, carriedOf, payloadOf, carriesMessages, leadOf, carriedMessages, wholeFront, frontOf}
 use Rattle.journal_file.specs.Replaying.{notTaken, appendTaken, messagesTaken, markMost, markTaken, stepBy, stepOf, Leads}
-use Rattle.journal_file.specs.Statements.{recordedIn, ReplayFollows, FileGoesOn, FileKeepsUp, MarkKind, FileKeepsMark}
+use Rattle.journal_file.specs.Statements.{recordedIn, ReplayFollows, FileGoesOn, FileKeepsUp, FileKeepsCards, MarkKind, FileKeepsMark}
 use Rattle.journal_file.proofs.Fronts.{Whole, whole}
 use Rattle.journal_file.proofs.Taking.{third-of, last-of}
-use Rattle.journal_file.proofs.Forms.{append-reads-back, payload-back, append-long}
+use Rattle.journal_file.proofs.Forms.{append-reads-back, payload-back, kind-back, append-long}
 
 -- ---- whole messages
 
@@ -78,32 +78,38 @@ mark-stays false false false s b t u p q r = p
 
 module _ (r : Replay) (a : List ℕ) where
   abbrev w : Ran
-  w = run (r .station) (payloadOf a)
+  w = run (r .station) (carriedMessages a)
 
   abbrev f : Front
   f = frontOf crcOver (r .sum) a
 
   abbrev carried-messages : List ℕ
-  carried-messages = cond (eqb (getD a 0 0) 1) (payloadOf a) []
+  carried-messages = cond (carriesMessages (getD a 0 0)) (carriedMessages a) []
 
   -- the bytes that a whole append carries are so many
   carried-long : Whole crcOver (r .sum) a → length (payloadOf a) ≡ carriedOf a
   carried-long x = length-take-le (carriedOf a) (drop 8 a) (let l = length-drop 8 a in let h = x .within in omega arith)
 
-  of-messages : f .whole ≡ true → eqb (f .kind) 1 ≡ true → 0 < messagesTaken r f (w .used) (w .station) .took
+  -- and its messages are what is behind the numbers
+  messages-long : Whole crcOver (r .sum) a → length (carriedMessages a) ≡ carriedOf a - leadOf (getD a 0 0)
+  messages-long x = length-drop (leadOf (getD a 0 0)) (payloadOf a) ∙ ap (λ (n : ℕ). n - leadOf (getD a 0 0)) (carried-long x)
+
+  of-messages : f .whole ≡ true → carriesMessages (f .kind) ≡ true → 0 < messagesTaken r f (w .used) (w .station) .took
       → Follows (r .station) carried-messages (messagesTaken r f (w .used) (w .station) .replay .station)
   of-messages e k h =
       let x = whole crcOver (r .sum) a e in
-      let p = passes (eqb (f .carries) 0 || not (eqb (w .used) (f .carries))) (notTaken r false) (appendTaken (w .station) f false) refl h in
-      let used : w .used ≡ f .carries = eqb-true (w .used) (f .carries) (not-false _ (neither (eqb (f .carries) 0) (not (eqb (w .used) (f .carries))) (p .0) .1)) in
-      let all : w .used ≡ length (payloadOf a) = used ∙ ap (λ (g : Front). g .carries) (x .is) ∙ sym (carried-long x) in
-      let kind : eqb (getD a 0 0) 1 ≡ true = ap (λ (g : Front). eqb (g .kind) 1) (sym (x .is)) ∙ k in
-      rw (kind, ap (λ (q : Step). q .replay .station) (p .1)) (all-follow (r .station) (payloadOf a) all)
+      let first = eqb (f .carries) 0 || ltb (f .carries) (leadOf (f .kind)) in
+      let long = f .carries - leadOf (f .kind) in
+      let p = passes (first || not (eqb (w .used) long)) (notTaken r false) (appendTaken (w .station) f false) refl h in
+      let used : w .used ≡ long = eqb-true (w .used) long (not-false _ (neither first (not (eqb (w .used) long)) (p .0) .1)) in
+      let all : w .used ≡ length (carriedMessages a) = used ∙ ap (λ (g : Front). g .carries - leadOf (g .kind)) (x .is) ∙ sym (messages-long x) in
+      let kind : carriesMessages (getD a 0 0) ≡ true = ap (λ (g : Front). carriesMessages (g .kind)) (sym (x .is)) ∙ k in
+      rw (kind, ap (λ (q : Step). q .replay .station) (p .1)) (all-follow (r .station) (carriedMessages a) all)
 
-  of-mark : f .whole ≡ true → eqb (f .kind) 1 ≡ false → Follows (r .station) carried-messages (markTaken r f .replay .station)
+  of-mark : f .whole ≡ true → carriesMessages (f .kind) ≡ false → Follows (r .station) carried-messages (markTaken r f .replay .station)
   of-mark e k =
       let x = whole crcOver (r .sum) a e in
-      let kind : eqb (getD a 0 0) 1 ≡ false = ap (λ (g : Front). eqb (g .kind) 1) (sym (x .is)) ∙ k in
+      let kind : carriesMessages (getD a 0 0) ≡ false = ap (λ (g : Front). carriesMessages (g .kind)) (sym (x .is)) ∙ k in
       let stays : markTaken r f .replay .station ≡ r .station =
       mark-stays (ltb (markMost (f .kind)) (f .carries)) (eqb (f .kind) 4) (eqb (f .kind) 2 || eqb (f .kind) 3) (r .station) (notTaken r false) (appendTaken (r .station) f true)
       (appendTaken (r .station) f false) refl refl refl in
@@ -112,8 +118,26 @@ module _ (r : Replay) (a : List ℕ) where
   pub one-follows : 0 < stepOf crcOver r a .took → Follows (r .station) carried-messages (stepOf crcOver r a .replay .station)
   unfolding stepOf
   one-follows h =
-      by-kind (f .whole) (r .closed) (eqb (f .kind) 1) (notTaken r (f .short)) (notTaken r false) (messagesTaken r f (w .used) (w .station)) (markTaken r f)
+      by-kind (f .whole) (r .closed) (carriesMessages (f .kind)) (notTaken r (f .short)) (notTaken r false) (messagesTaken r f (w .used) (w .station)) (markTaken r f)
       refl refl h (λ e k t q. rw (ap (λ (x : Step). x .replay .station) q) (of-messages e k t)) (λ e k q. rw (ap (λ (x : Step). x .replay .station) q) (of-mark e k))
+
+  -- an append of messages that is taken has all that stands before them
+  pub lead-within : 0 < stepOf crcOver r a .took → carriesMessages (getD a 0 0) ≡ true → leadOf (getD a 0 0) ≤ length (payloadOf a)
+  unfolding stepOf
+  lead-within h k =
+      by-kind (f .whole) (r .closed) (carriesMessages (f .kind)) (notTaken r (f .short)) (notTaken r false) (messagesTaken r f (w .used) (w .station)) (markTaken r f)
+      refl refl h (λ e j t q. has-lead e t) (λ e j q. clash k (ap (λ (g : Front). carriesMessages (g .kind)) (sym (whole crcOver (r .sum) a e .is)) ∙ j))
+    where
+      has-lead : f .whole ≡ true → 0 < messagesTaken r f (w .used) (w .station) .took → leadOf (getD a 0 0) ≤ length (payloadOf a)
+      has-lead e t =
+          let x = whole crcOver (r .sum) a e in
+          let first = eqb (f .carries) 0 || ltb (f .carries) (leadOf (f .kind)) in
+          let last = not (eqb (w .used) (f .carries - leadOf (f .kind))) in
+          let p = passes (first || last) (notTaken r false) (appendTaken (w .station) f false) refl t in
+          let n = neither (eqb (f .carries) 0) (ltb (f .carries) (leadOf (f .kind))) (neither first last (p .0) .0) .1 in
+          let g : leadOf (getD a 0 0) ≤ carriedOf a = subst (λ (y : Front). leadOf (y .kind) ≤ y .carries) (x .is) (ltb-false (f .carries) (leadOf (f .kind)) n) in
+          let l = carried-long x in
+          omega (arith, g, l)
 
 -- ---- all of them
 
@@ -142,43 +166,61 @@ leads-more r q next [] a l h t e =
     subst (λ (x : Replay). (0 < length a) × (stepOf crcOver x a .took ≡ length a) × (next ≡ stepOf crcOver x a .replay)) l (h, t, e)
 leads-more r q next (b ∷ more) a (x, y, l) h t e = (x, y, leads-more (stepOf crcOver r b .replay) q next more a l h t e)
 
-module _ (q : Replay) (bytes : List ℕ) (next : Station) (unclosed : q .closed ≡ false) (small : q .sum < 2 ^ 32) (follows : Follows (q .station) bytes next)
-    (some : 0 < length bytes) (fits : length bytes ≤ 65536) where
+-- whichever kind of append has the messages
+module _ (q : Replay) (kind : ℕ) (bytes : List ℕ) (next : Station) (unclosed : q .closed ≡ false) (small : q .sum < 2 ^ 32)
+    (has : carriesMessages kind ≡ true) (follows : Follows (q .station) (drop (leadOf kind) bytes) next)
+    (some : 0 < length bytes) (enough : leadOf kind ≤ length bytes) (fits : length bytes ≤ 65536) where
   abbrev written : List ℕ
-  written = appendOf crcOver (q .sum) 1 bytes
+  written = appendOf crcOver (q .sum) kind bytes
 
   abbrev there : Front
-  there = record { whole = true; short = false; kind = 1; carries = length bytes; sum = sumAfter crcOver (q .sum) 1 bytes }
+  there = record { whole = true; short = false; kind = kind; carries = length bytes; sum = sumAfter crcOver (q .sum) kind bytes }
+
+  abbrev long : ℕ
+  long = length (drop (leadOf kind) bytes)
 
   front-there : frontOf crcOver (q .sum) written ≡ there
-  front-there = ap (frontOf crcOver (q .sum)) (sym (append-nil written)) ∙ append-reads-back (q .sum) 1 bytes [] small fits
+  front-there = ap (frontOf crcOver (q .sum)) (sym (append-nil written)) ∙ append-reads-back (q .sum) kind bytes [] small fits
 
-  all-used : eqb (length bytes) 0 || not (eqb (length bytes) (length bytes)) ≡ false
-  all-used = ap₂ (λ (x y : Bool). x || not y) (ne-eqb (length bytes) 0 (λ (e : length bytes ≡ 0). omega (arith, some, e))) (eq-eqb (length bytes) (length bytes) refl)
+  all-used : (eqb (length bytes) 0 || ltb (length bytes) (leadOf kind)) || not (eqb long (length bytes - leadOf kind)) ≡ false
+  all-used =
+      ap₂ (λ (x y : Bool). x || not y)
+      (ap₂ _||_ (ne-eqb (length bytes) 0 (λ (e : length bytes ≡ 0). omega (arith, some, e))) (le-ltb (length bytes) (leadOf kind) enough))
+      (eq-eqb long (length bytes - leadOf kind) (length-drop (leadOf kind) bytes))
 
-  messages-there : messagesTaken q there (length bytes) next ≡ appendTaken next there false
+  messages-there : messagesTaken q there long next ≡ appendTaken next there false
   messages-there = ap (λ (x : Bool). cond x (notTaken q false) (appendTaken next there false)) all-used
 
-  by-there : stepBy q there (length bytes) next ≡ appendTaken next there false
+  by-there : stepBy q there long next ≡ appendTaken next there false
   by-there =
-      sym (third-of false (q .closed) true (notTaken q false) (notTaken q false) (messagesTaken q there (length bytes) next) (markTaken q there) refl unclosed refl)
+      sym (third-of false (q .closed) (carriesMessages kind) (notTaken q false) (notTaken q false) (messagesTaken q there long next) (markTaken q there) refl unclosed has)
       ∙ messages-there
 
   step-there : stepOf crcOver q written ≡ appendTaken next there false
   unfolding stepOf
   step-there =
-      let p = payload-back (q .sum) 1 bytes small fits in
+      let p : carriedMessages written ≡ drop (leadOf kind) bytes =
+          ap₂ (λ (k : ℕ) (m : List ℕ). drop (leadOf k) m) (kind-back crcOver (q .sum) kind bytes) (payload-back (q .sum) kind bytes small fits) in
       let ran = run-of follows in
-      let used : run (q .station) (payloadOf written) .used ≡ length bytes = ap (λ (m : List ℕ). run (q .station) m .used) p ∙ ran .0 in
-      let station : run (q .station) (payloadOf written) .station ≡ next = ap (λ (m : List ℕ). run (q .station) m .station) p ∙ ran .1 in
+      let used : run (q .station) (carriedMessages written) .used ≡ long = ap (λ (m : List ℕ). run (q .station) m .used) p ∙ ran .0 in
+      let station : run (q .station) (carriedMessages written) .station ≡ next = ap (λ (m : List ℕ). run (q .station) m .station) p ∙ ran .1 in
       rw (front-there, used, station) by-there
+
+  keeps : (r : Replay) (appends : List (List ℕ)) → Leads r appends q
+      → Leads r (appends ++ (written ∷ [])) (record { station = next; sum = sumAfter crcOver (q .sum) kind bytes; closed = false })
+  keeps r appends l =
+      let e = step-there in
+      let n = append-long (q .sum) kind bytes small fits in
+      leads-more r q (record { station = next; sum = sumAfter crcOver (q .sum) kind bytes; closed = false }) appends written l (omega (arith, n))
+      (ap (λ (x : Step). x .took) e ∙ sym n) (sym (ap (λ (x : Step). x .replay) e))
 
 pub file-keeps-up : FileKeepsUp
 file-keeps-up r q appends bytes next l unclosed small follows some fits =
-    let e = step-there q bytes next unclosed small follows some fits in
-    let n = append-long (q .sum) 1 bytes small fits in
-    leads-more r q (record { station = next; sum = sumAfter crcOver (q .sum) 1 bytes; closed = false }) appends (appendOf crcOver (q .sum) 1 bytes) l (omega (arith, n))
-    (ap (λ (x : Step). x .took) e ∙ sym n) (sym (ap (λ (x : Step). x .replay) e))
+    keeps q 1 bytes next unclosed small refl follows some (omega arith) fits r appends l
+
+pub file-keeps-cards : FileKeepsCards
+file-keeps-cards r q appends bytes next l unclosed small follows enough fits =
+    keeps q 5 bytes next unclosed small refl follows (omega (arith, enough)) enough fits r appends l
 
 -- ---- a mark
 
@@ -198,8 +240,14 @@ module _ (q : Replay) (kind : ℕ) (bytes : List ℕ) (unclosed : q .closed ≡ 
       cond-most true = omega arith
       cond-most false = omega arith
 
-  no-message : eqb kind 1 ≡ false
-  no-message = ne-eqb kind 1 (λ (e : kind ≡ 1). ⊎-elim (λ (k : kind ≡ 2). omega (arith, e, k)) (⊎-elim (λ (k : kind ≡ 3). omega (arith, e, k)) (λ (k : kind ≡ 4). omega (arith, e, k))) mark)
+  no-other : (n : ℕ) → (2 ≡ n → ⊥) → (3 ≡ n → ⊥) → (4 ≡ n → ⊥) → eqb kind n ≡ false
+  no-other n x y z =
+      ne-eqb kind n (λ (e : kind ≡ n). ⊎-elim (λ (k : kind ≡ 2). x (sym k ∙ e)) (⊎-elim (λ (k : kind ≡ 3). y (sym k ∙ e)) (λ (k : kind ≡ 4). z (sym k ∙ e))) mark)
+
+  no-message : carriesMessages kind ≡ false
+  no-message =
+      ap₂ _||_ (no-other 1 (λ (e : 2 ≡ 1). omega (arith, e)) (λ (e : 3 ≡ 1). omega (arith, e)) (λ (e : 4 ≡ 1). omega (arith, e)))
+      (no-other 5 (λ (e : 2 ≡ 5). omega (arith, e)) (λ (e : 3 ≡ 5). omega (arith, e)) (λ (e : 4 ≡ 5). omega (arith, e)))
 
   front-marked : frontOf crcOver (q .sum) marked ≡ mark-there
   front-marked = ap (frontOf crcOver (q .sum)) (sym (append-nil marked)) ∙ append-reads-back (q .sum) kind bytes [] small few
@@ -220,9 +268,9 @@ module _ (q : Replay) (kind : ℕ) (bytes : List ℕ) (unclosed : q .closed ≡ 
   step-marked : stepOf crcOver q marked ≡ appendTaken (q .station) mark-there (eqb kind 4)
   unfolding stepOf
   step-marked =
-      let w = run (q .station) (payloadOf marked) in
+      let w = run (q .station) (carriedMessages marked) in
       rw front-marked
-      (sym (last-of false (q .closed) (eqb kind 1) (notTaken q false) (notTaken q false) (messagesTaken q mark-there (w .used) (w .station)) (markTaken q mark-there) refl unclosed no-message)
+      (sym (last-of false (q .closed) (carriesMessages kind) (notTaken q false) (notTaken q false) (messagesTaken q mark-there (w .used) (w .station)) (markTaken q mark-there) refl unclosed no-message)
       ∙ of-kind)
 
 pub file-keeps-mark : FileKeepsMark

@@ -124,7 +124,11 @@ append-titled sum kind bytes small fits =
     let e = sym (append-nil (appendOf crcOver sum kind bytes)) ∙ laid sum kind bytes [] small fits in
     (ap (titled crcOver sum) e ∙ is-titled sum kind bytes [] small fits, ap carriedOf e ∙ carries sum kind bytes [] small fits)
 
--- what is carried, and how long it is
+-- its kind, what is carried, and how long it is
+pub kind-back : (over : Over) (sum kind : ℕ) (bytes : List ℕ) → getD (appendOf over sum kind bytes) 0 0 ≡ kind
+unfolding appendOf
+kind-back over sum kind bytes = refl
+
 pub payload-back : (sum kind : ℕ) (bytes : List ℕ) → sum < 2 ^ 32 → length bytes ≤ 65536 → payloadOf (appendOf crcOver sum kind bytes) ≡ bytes
 payload-back sum kind bytes small fits =
     ap payloadOf (sym (append-nil (appendOf crcOver sum kind bytes)) ∙ laid sum kind bytes [] small fits) ∙ payload sum kind bytes [] small fits

@@ -5,6 +5,7 @@ pub mod Heading
 pub mod Forms
 pub mod Determined
 pub mod Files
+pub mod Cards
 pub mod Cuts
 pub mod HeadForms
 pub mod OneForm

@@ -21,7 +21,7 @@ use Rattle.service.specs.Runs.{run}
 use Rattle.journal_file.specs.declared.Front.{Front}
 use Rattle.journal_file.specs.declared.Replay.{Replay}
 use Rattle.journal_file.specs.declared.Step.{Step}
-use Rattle.journal_file.specs.Appends.{messagesKind, cutShortKind, badLengthKind, closedKind, mostCarried, endMark, carriedOf, payloadOf, titled, payloadRight, wholeFront, frontOf}
+use Rattle.journal_file.specs.Appends.{cutShortKind, badLengthKind, closedKind, mostCarried, endMark, carriedOf, payloadOf, carriesMessages, leadOf, carriedMessages, titled, payloadRight, wholeFront, frontOf}
 use Rattle.journal_file.specs.Replaying.{notTaken, appendTaken, messagesTaken, markMost, markTaken, stepBy, stepOf, fileReplayBegun, Leads}
 use Rattle.journal_file.specs.Damage.{IsJournal, JournalBurstFound}
 use Rattle.journal_file.proofs.Fronts.{Whole, whole, whole-at}
@@ -52,13 +52,13 @@ module _ (f : Front) where
 
   fair-messages : (r : Replay) (used : ℕ) (next : Station) → Fair f (messagesTaken r f used next)
   fair-messages r used next =
-      fair-of (eqb (f .carries) 0 || not (eqb used (f .carries))) _ _ (fair-none r false) (fair-taken next false)
+      fair-of ((eqb (f .carries) 0 || ltb (f .carries) (leadOf (f .kind))) || not (eqb used (f .carries - leadOf (f .kind)))) _ _ (fair-none r false) (fair-taken next false)
 
   pub fair-step : (r : Replay) (used : ℕ) (next : Station) → Fair f (stepBy r f used next)
   fair-step r used next =
       fair-of (not (f .whole)) _ _ (fair-none r (f .short))
       (fair-of (r .closed) _ _ (fair-none r false)
-      (fair-of (eqb (f .kind) messagesKind) _ _ (fair-messages r used next) (fair-mark r)))
+      (fair-of (carriesMessages (f .kind)) _ _ (fair-messages r used next) (fair-mark r)))
 
   pub whole-step : (r : Replay) (used : ℕ) (next : Station) → 0 < stepBy r f used next .took → f .whole ≡ true
   whole-step r used next h = split (f .whole) (λ t. t) (λ t. absurd (none t (rw t at h)))
@@ -76,7 +76,7 @@ took : (r : Replay) (a : List ℕ) → 0 < length a → stepOf crcOver r a .took
 unfolding stepOf
 took r a h e =
     let f = frontOf crcOver (r .sum) a in
-    let w = run (r .station) (payloadOf a) in
+    let w = run (r .station) (carriedMessages a) in
     let some : 0 < stepBy r f (w .used) (w .station) .took = omega (arith, e) in
     let v = whole crcOver (r .sum) a (whole-step f r (w .used) (w .station) some) in
     let fair = fair-step f r (w .used) (w .station) some in

@@ -1,6 +1,6 @@
 -- An append: what a journal's file has for the messages of one read, or for what ended a session. Read in this order: its bytes as they
 -- are written, what stands at the front of some bytes, and when an append was cut off by a lost power supply. Assumes nothing.
-use mathlib.Core.Bool.{Bool, true, false, cond, not, _&&_}
+use mathlib.Core.Bool.{Bool, true, false, cond, not, _&&_, _||_}
 use mathlib.Core.List.{List, [], _∷_, _++_}
 use Prim.Native.Nat.{ℕ, zero, suc, _+_, _-_, _%_}
 use lib.Dec.{eqb, leb, ltb}
@@ -28,6 +28,14 @@ badLengthKind = 3
 
 abbrev pub closedKind : ℕ
 closedKind = 4
+
+-- the whole messages of one read, behind the numbers of a desk's cards as they are after them
+abbrev pub numbersKind : ℕ
+numbersKind = 5
+
+-- the numbers of a desk's cards, 42 of four bytes
+abbrev pub numbersSize : ℕ
+numbersSize = 168
 
 -- an append carries at most so many bytes: a read brings no more
 abbrev pub mostCarried : ℕ
@@ -70,6 +78,18 @@ carriedOf m = fromLittleEndian 3 1 m
 -- the bytes that it carries
 abbrev pub payloadOf : List ℕ → List ℕ
 payloadOf m = take (carriedOf m) (drop 8 m)
+
+-- whether an append of this kind carries messages
+abbrev pub carriesMessages : ℕ → Bool
+carriesMessages kind = eqb kind messagesKind || eqb kind numbersKind
+
+-- so many of its bytes stand before them: the numbers, where it has cards
+abbrev pub leadOf : ℕ → ℕ
+leadOf kind = cond (eqb kind numbersKind) numbersSize 0
+
+-- the messages that it carries
+abbrev pub carriedMessages : List ℕ → List ℕ
+carriedMessages m = drop (leadOf (getD m 0 0)) (payloadOf m)
 
 -- the title is right: its checksum is the one behind it, and it carries no more than an append may
 abbrev pub titled : Over → ℕ → List ℕ → Bool

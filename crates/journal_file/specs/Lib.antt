@@ -4,3 +4,4 @@ pub mod Replaying
 pub mod Promises
 pub mod Statements
 pub mod Damage
+pub mod Cards

@@ -2,7 +2,7 @@
 use mathlib.Core.Path.{_≡_}
 use mathlib.Core.Bool.{Bool, true, false, cond, not, _&&_, _||_}
 use mathlib.Core.List.{List, [], _∷_, _++_}
-use Prim.Native.Nat.{ℕ, _+_, _<_}
+use Prim.Native.Nat.{ℕ, _+_, _-_, _<_}
 use lib.Dec.{eqb, ltb}
 use lib.ListN.{length}
 use Rattle.bits.specs.Places.{join}
@@ -14,7 +14,7 @@ use Rattle.journal_file.specs.declared.Front.{Front}
 use Rattle.journal_file.specs.declared.Kind.the-variants.{Good}
 use Rattle.journal_file.specs.declared.Replay.{Replay}
 use Rattle.journal_file.specs.declared.Step.{Step}
-use Rattle.journal_file.specs.Appends.{messagesKind, cutShortKind, badLengthKind, closedKind, around, Over, frontOf, payloadOf}
+use Rattle.journal_file.specs.Appends.{cutShortKind, badLengthKind, closedKind, around, Over, frontOf, carriesMessages, leadOf, carriedMessages}
 use Rattle.journal_file.specs.Heads.{headSize, headOf}
 
 -- ---- one append
@@ -31,9 +31,12 @@ notTaken r short = record { replay = r; took = 0; short = short }
 abbrev pub appendTaken : Station → Front → Bool → Step
 appendTaken s f closed = record { replay = record { station = s; sum = f .sum; closed = closed }; took = f .carries + around; short = false }
 
--- the messages of one read: all of the bytes are whole messages, one at least, and the station is the one after them
+-- the messages of one read: all of the bytes, one at least, or all behind the numbers are whole messages, and the station is the one after
+-- them
 abbrev pub messagesTaken : Replay → Front → ℕ → Station → Step
-messagesTaken r f used next = cond (eqb (f .carries) 0 || not (eqb used (f .carries))) (notTaken r false) (appendTaken next f false)
+messagesTaken r f used next =
+    cond ((eqb (f .carries) 0 || ltb (f .carries) (leadOf (f .kind))) || not (eqb used (f .carries - leadOf (f .kind))))
+    (notTaken r false) (appendTaken next f false)
 
 -- a mark carries at most so many bytes: what was left of the input where a session ended, less than a message, and nothing where the journal
 -- is closed
@@ -47,17 +50,17 @@ markTaken r f =
     (cond (eqb (f .kind) closedKind) (appendTaken (r .station) f true)
     (cond (eqb (f .kind) cutShortKind || eqb (f .kind) badLengthKind) (appendTaken (r .station) f false) (notTaken r false)))
 
--- what the append at the front of some bytes does, where a run of what it carries used so much and left this station; behind a closed
--- journal there is none
+-- what the append at the front of some bytes does, where a run of its messages used so much and left this station; behind a closed journal
+-- there is none
 abbrev pub stepBy : Replay → Front → ℕ → Station → Step
 stepBy r f used next =
     cond (not (f .whole)) (notTaken r (f .short))
     (cond (r .closed) (notTaken r false)
-    (cond (eqb (f .kind) messagesKind) (messagesTaken r f used next) (markTaken r f)))
+    (cond (carriesMessages (f .kind)) (messagesTaken r f used next) (markTaken r f)))
 
 -- by the station's own run
 unfoldable pub stepOf : Over → Replay → List ℕ → Step
-stepOf over r m = let w = run (r .station) (payloadOf m) in stepBy r (frontOf over (r .sum) m) (w .used) (w .station)
+stepOf over r m = let w = run (r .station) (carriedMessages m) in stepBy r (frontOf over (r .sum) m) (w .used) (w .station)
 
 -- ---- in a room for answers that are not written
 
@@ -72,13 +75,13 @@ LeavesStep w q room = (q ≡ w .says) × (room ≡ w .leaves)
 
 -- the answers are made only where the append has messages
 abbrev pub answersMade : Replay → Front → Bool
-answersMade r f = f .whole && not (r .closed) && eqb (f .kind) messagesKind
+answersMade r f = f .whole && not (r .closed) && carriesMessages (f .kind)
 
 -- in a room that is too short for them nothing is taken
 unfoldable pub stepping : Over → Replay → List ℕ → List ℕ → Stepping
 stepping over r m room =
     let f = frontOf over (r .sum) m in
-    let w = serving (r .station) (payloadOf m) room in
+    let w = serving (r .station) (carriedMessages m) room in
     record { says = stepBy r f (w .says .used) (w .says .station); leaves = cond (answersMade r f) (w .leaves) room }
 
 -- ---- all of a file

@@ -5,20 +5,21 @@ use mathlib.Core.Bool.{false, cond}
 use mathlib.Core.List.{List, [], _∷_, _++_}
 use Prim.Native.Nat.{ℕ, _^_, _≤_, _<_}
 use lib.Dec.{eqb}
-use lib.ListN.{length, getD}
+use lib.ListN.{length, getD, take, drop}
 use Rattle.station.specs.declared.Station.{Station}
 use Rattle.service.specs.Service.{answersOn}
 use Rattle.service.specs.Runs.{run}
 use Rattle.journal.specs.Journal.{Follows}
 use Rattle.checksum.specs.Checksum.{crcOver}
 use Rattle.journal_file.specs.declared.Replay.{Replay}
-use Rattle.journal_file.specs.Appends.{messagesKind, cutShortKind, badLengthKind, closedKind, mostCarried, sumAfter, appendOf, payloadOf}
+use Rattle.journal_file.specs.Appends.{messagesKind, cutShortKind, badLengthKind, closedKind, numbersKind, numbersSize, mostCarried, sumAfter, appendOf, carriesMessages, carriedMessages}
 use Rattle.journal_file.specs.Replaying.{markMost, Leads}
+use Rattle.journal_file.specs.Cards.{someHasCards, noNumbers, journalNumbers}
 
 -- the messages that some appends carry, one behind the other: what the station was sent
 abbrev pub recordedIn : List (List ℕ) → List ℕ
 recordedIn [] = []
-recordedIn (a ∷ more) = cond (eqb (getD a 0 0) messagesKind) (payloadOf a) [] ++ recordedIn more
+recordedIn (a ∷ more) = cond (carriesMessages (getD a 0 0)) (carriedMessages a) [] ++ recordedIn more
 
 -- replay is the station's own run: the station is the one after the recorded messages, all of which are whole
 abbrev pub ReplayFollows : Type 0
@@ -39,6 +40,14 @@ FileKeepsUp =
     → Leads r (appends ++ (appendOf crcOver (q .sum) messagesKind bytes ∷ []))
     (record { station = next; sum = sumAfter crcOver (q .sum) messagesKind bytes; closed = false })
 
+-- so it is with the numbers of a desk's cards, and behind them the messages of one read or none
+abbrev pub FileKeepsCards : Type 0
+FileKeepsCards =
+    (r q : Replay) (appends : List (List ℕ)) (bytes : List ℕ) (next : Station) → Leads r appends q
+    → q .closed ≡ false → q .sum < 2 ^ 32 → Follows (q .station) (drop numbersSize bytes) next → numbersSize ≤ length bytes → length bytes ≤ mostCarried
+    → Leads r (appends ++ (appendOf crcOver (q .sum) numbersKind bytes ∷ []))
+    (record { station = next; sum = sumAfter crcOver (q .sum) numbersKind bytes; closed = false })
+
 -- the kinds of marks
 abbrev pub MarkKind : ℕ → Type 0
 MarkKind kind = (kind ≡ cutShortKind) ⊎ ((kind ≡ badLengthKind) ⊎ (kind ≡ closedKind))
@@ -50,3 +59,25 @@ FileKeepsMark =
     → q .closed ≡ false → q .sum < 2 ^ 32 → MarkKind kind → length bytes ≤ markMost kind
     → Leads r (appends ++ (appendOf crcOver (q .sum) kind bytes ∷ []))
     (record { station = q .station; sum = sumAfter crcOver (q .sum) kind bytes; closed = eqb kind closedKind })
+
+-- ---- the numbers of a desk's cards
+
+-- an append with cards brings its numbers, whatever they were
+abbrev pub CardsBrought : Type 0
+CardsBrought =
+    (sum : ℕ) (appends : List (List ℕ)) (bytes : List ℕ) → sum < 2 ^ 32 → length bytes ≤ mostCarried
+    → journalNumbers (appends ++ (appendOf crcOver sum numbersKind bytes ∷ [])) ≡ take numbersSize bytes
+
+-- one of another kind leaves them
+abbrev pub CardsStay : Type 0
+CardsStay =
+    (sum kind : ℕ) (appends : List (List ℕ)) (bytes : List ℕ) → (kind ≡ numbersKind → ⊥)
+    → journalNumbers (appends ++ (appendOf crcOver sum kind bytes ∷ [])) ≡ journalNumbers appends
+
+-- where no append has cards there are none
+abbrev pub NoCardsNoNumbers : Type 0
+NoCardsNoNumbers = (appends : List (List ℕ)) → someHasCards appends ≡ false → journalNumbers appends ≡ noNumbers
+
+-- all numbers are there: an append with cards that is taken has them all
+abbrev pub AllNumbers : Type 0
+AllNumbers = (r q : Replay) (appends : List (List ℕ)) → Leads r appends q → length (journalNumbers appends) ≡ numbersSize

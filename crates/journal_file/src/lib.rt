@@ -7,22 +7,25 @@ ghost use Prim.Native.Nat.{_+_, _≤_};
 ghost use lib.Dec.{eqb};
 ghost use lib.ListN.{length, take, drop};
 ghost use Rattle.codec.specs.Bytes.{fromLittleEndian};
-ghost use Rattle.service.specs.Runs.{serving};
 ghost use Rattle.rooms.specs.Rooms.{lentStation};
 ghost use Rattle.station.specs.declared.Station.{Station};
 ghost use Rattle.checksum.specs.Slices.{crcBy};
 ghost use Rattle.journal_file.specs.Appends.{titleOf, openingOf, sumAfter, closingOf, carriedOf, titled, payloadRight, noFront, wholeFront, frontOf, written, lostFrom, zeroed};
 ghost use Rattle.journal_file.specs.Heads.{titleBytes, headSum, headKind, headOf, nameByte, isGarage};
-ghost use Rattle.journal_file.specs.Replaying.{notTaken, appendTaken, markMost, markTaken, messagesTaken, LeavesStep, stepping};
+ghost use Rattle.journal_file.specs.Replaying.{LeavesStep, stepping};
+mod steps;
+
 use station::Station;
+use steps::lead_in;
+use steps::not_taken;
+use steps::take_mark;
+use steps::take_messages;
 
 const MOST: usize = 65536;
 
 const AROUND: usize = 13;
 
 const SECTOR: usize = 512;
-
-const LEFT: usize = 44;
 
 const END: u8 = 10;
 
@@ -348,73 +351,6 @@ pub struct Step {
     pub short: bool,
 }
 
-fn not_taken(r: Replay, short: bool) -> Step
-    ensures { λ q. ⌜ q ≡ notTaken r short ⌝ }
-{
-    Step {
-        replay: r,
-        took: 0,
-        short,
-    }
-}
-
-fn take(station: Station, f: Front, closed: bool) -> Step
-    requires { ⌜ f .carries ≤ 65536 ⌝ }
-    ensures { λ q. ⌜ q ≡ appendTaken station f closed ⌝ }
-{
-    let replay = Replay {
-        station,
-        sum: f.sum,
-        closed,
-    };
-    Step {
-        replay,
-        took: f.carries + AROUND,
-        short: false,
-    }
-}
-
-// How many bytes a mark of this kind carries at most.
-fn mark_most(kind: u8) -> usize
-    ensures { λ n. ⌜ n ≡ markMost kind ⌝ }
-{
-    if kind == 4 {
-        return 0;
-    }
-    LEFT
-}
-
-// A mark: what ended a session, or that the journal is closed.
-fn take_mark(r: Replay, f: Front) -> Step
-    requires { ⌜ f .carries ≤ 65536 ⌝ }
-    ensures { λ q. ⌜ q ≡ markTaken r f ⌝ }
-{
-    let station = r.station;
-    if mark_most(f.kind) < f.carries {
-        return not_taken(r, false);
-    }
-    if f.kind == 4 {
-        return take(station, f, true);
-    }
-    if (f.kind == 2) | (f.kind == 3) {
-        return take(station, f, false);
-    }
-    not_taken(r, false)
-}
-
-// An append of messages, which carries these.
-fn take_messages(r: Replay, f: Front, bytes: &[u8], room: &mut [u8]) -> Step
-    requires { ⌜ f .carries ≤ 65536 ⌝ }
-    ensures { λ q. ⌜ (q ≡ messagesTaken r f (serving (r .station) (now (bytes .entry)) (now (room .entry)) .says .used) (serving (r .station) (now (bytes .entry)) (now (room .entry)) .says .station)) × (now (room .exit) ≡ serving (r .station) (now (bytes .entry)) (now (room .entry)) .leaves) ⌝ }
-{
-    let w = service::serve(r.station, bytes, room);
-    let next = w.station;
-    if (f.carries == 0) | (w.used != f.carries) {
-        return not_taken(r, false);
-    }
-    take(next, f, false)
-}
-
 // Takes the append at the front of some bytes. The room is for answers, which are not to be written.
 pub fn take_append(t: &[u32], r: Replay, m: &[u8], room: &mut [u8]) -> Step
     ensures { λ q. ⌜ LeavesStep (stepping (crcBy (now (t .entry))) r (now (m .entry)) (now (room .entry))) q (now (room .exit)) ⌝ }
@@ -426,8 +362,9 @@ pub fn take_append(t: &[u32], r: Replay, m: &[u8], room: &mut [u8]) -> Step
     if r.closed {
         return not_taken(r, false);
     }
-    if f.kind == 1 {
-        return take_messages(r, f, &m[8..8 + f.carries], room);
+    if (f.kind == 1) | (f.kind == 5) {
+        let from = 8 + lead_in(f);
+        return take_messages(r, f, &m[from..8 + f.carries], room);
     }
     take_mark(r, f)
 }

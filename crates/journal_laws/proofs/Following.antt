@@ -4,7 +4,6 @@ use mathlib.Core.Bool.{Bool, true, false, cond, not}
 use mathlib.Core.List.{List, [], _∷_, _++_, append-nil}
 use Prim.Native.Nat.{ℕ, _+_, _^_, _≤_, _<_}
 use native.Mathlib.Omega.{arith}
-use lib.Dec.{eqb}
 use lib.ListN.{length, replicate}
 use Rattle.bits.specs.Bits.{bit, packed}
 use Rattle.bits.specs.Search.{some, every, least}
@@ -34,7 +33,7 @@ use Rattle.journal_file.specs.declared.Front.{Front}
 use Rattle.journal_file.specs.declared.Head.{Head}
 use Rattle.journal_file.specs.declared.Replay.{Replay}
 use Rattle.journal_file.specs.declared.Step.{Step}
-use Rattle.journal_file.specs.Appends.{Over, closedKind, payloadOf, sumAfter, appendOf, frontOf}
+use Rattle.journal_file.specs.Appends.{Over, closedKind, carriesMessages, carriedMessages, sumAfter, appendOf, frontOf}
 use Rattle.journal_file.specs.Heads.{titleBytes, headSum, headOf}
 use Rattle.journal_file.specs.Replaying.{notTaken, appendTaken, messagesTaken, markTaken, stepBy, stepOf, fileReplayBegun, Leads}
 use Rattle.journal_file.specs.Statements.{recordedIn}
@@ -107,7 +106,7 @@ module _ (q : Replay) (open-still : q .closed ≡ false) (small : q .sum < 2 ^ 3
   closes : stepOf crcOver q (closingMark (q .sum)) ≡ appendTaken (q .station) mark true
   unfolding stepOf
   closes =
-      let w = run (q .station) (payloadOf (closingMark (q .sum))) in
+      let w = run (q .station) (carriedMessages (closingMark (q .sum))) in
       rw mark-there (by-mark (w .used) (w .station))
 
 pub mark-closes : MarkCloses
@@ -126,9 +125,11 @@ pub closed-takes-nothing : ClosedTakesNothing
 unfolding stepOf
 closed-takes-nothing over r m e =
     let f = frontOf over (r .sum) m in
-    let w = run (r .station) (payloadOf m) in
-    subst (λ (c : Bool). (said (f .whole) (eqb (f .kind) 1) r (f .short) (messagesTaken r f (w .used) (w .station)) (markTaken r f) c .took ≡ 0) × (said (f .whole) (eqb (f .kind) 1) r (f .short) (messagesTaken r f (w .used) (w .station)) (markTaken r f) c .replay ≡ r))
-    (sym e) (none-behind (f .whole) (eqb (f .kind) 1) r (f .short) (messagesTaken r f (w .used) (w .station)) (markTaken r f))
+    let w = run (r .station) (carriedMessages m) in
+    let k = carriesMessages (f .kind) in
+    let t = messagesTaken r f (w .used) (w .station) in
+    subst (λ (c : Bool). (said (f .whole) k r (f .short) t (markTaken r f) c .took ≡ 0) × (said (f .whole) k r (f .short) t (markTaken r f) c .replay ≡ r))
+    (sym e) (none-behind (f .whole) k r (f .short) t (markTaken r f))
 
 pub closed-is-last : ClosedIsLast
 closed-is-last r q [] e l = refl

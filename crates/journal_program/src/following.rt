@@ -271,8 +271,28 @@ fn change_over(t: &[u32], fd: i32, old: &[u8], new: &[u8], part: &[u8], e: End, 
     put_in_place(old, part);
 }
 
-// Follows the old journal by the new one; what is closed is made under the name of its part.
+// Whether the journal of this name has cards, which the new one would not have; then that is told.
+fn loses_cards(old: &[u8]) -> bool {
+    let t = checksum::tables();
+    let mut buf = [0u8; 131104];
+    let mut room = [0u8; 327680];
+    if journal_keeper::opening::has_cards(&t, old, &mut buf, &mut room) {
+        journal_files::tell(b"station: the journal has cards: it can't be followed\n");
+        return true;
+    }
+    false
+}
+
+// Follows the old journal by the new one, unless that would lose cards.
 pub fn follow(old: &[u8], new: &[u8], part: &[u8], asked: &[u8]) {
+    if loses_cards(old) {
+        return;
+    }
+    follow_on(old, new, part, asked);
+}
+
+// What is closed is made under the name of its part.
+fn follow_on(old: &[u8], new: &[u8], part: &[u8], asked: &[u8]) {
     let fd = journal_files::open_update(old);
     if fd < 0 {
         return;

@@ -3,9 +3,9 @@ ghost use mathlib.Core.Path.{_≡_};
 ghost use mathlib.Core.Bool.{true, false, cond};
 ghost use mathlib.Core.List.{[], _∷_};
 ghost use Prim.Native.Nat.{_-_, _≤_};
-ghost use lib.Dec.{eqb};
 ghost use lib.ListN.{length, getD};
 ghost use Rattle.checksum.specs.Slices.{slices};
+ghost use Rattle.journal_file.specs.Appends.{carriesMessages, leadOf};
 ghost use Rattle.journal_file.specs.Statements.{recordedIn};
 ghost use Rattle.journal_reader.specs.Reading.{BuffersLent, StandsIn};
 ghost use Rattle.journal_program.specs.Telling.{WithinIfWell, IsAppend, ReadsOn};
@@ -58,13 +58,24 @@ pub fn begun(t: &[u32], fd: i32, asked: &[u8], buf: &mut [u8]) -> Reading
     q
 }
 
-// How many bytes of messages an append has: none where it is a mark.
+// How many bytes an append carries: none are looked at where it is a mark.
 fn size_in(append: &[u8]) -> usize
     requires { ⌜ 13 ≤ length (now append) ⌝ }
-    ensures { λ n. ⌜ n ≡ cond (eqb (getD (now (append .entry)) 0 0) 1) (length (now (append .entry)) - 13) 0 ⌝ }
+    ensures { λ n. ⌜ n ≡ cond (carriesMessages (getD (now (append .entry)) 0 0)) (length (now (append .entry)) - 13) 0 ⌝ }
 {
-    if append[0] == 1 {
+    if (append[0] == 1) | (append[0] == 5) {
         return append.len() - 13;
+    }
+    0
+}
+
+// How many of these stand before the messages: the numbers of cards, where it has any.
+fn lead_in(append: &[u8]) -> usize
+    requires { ⌜ 13 ≤ length (now append) ⌝ }
+    ensures { λ n. ⌜ n ≡ leadOf (getD (now (append .entry)) 0 0) ⌝ }
+{
+    if append[0] == 5 {
+        return 168;
     }
     0
 }
@@ -86,7 +97,8 @@ fn say_messages(append: &[u8]) -> bool
     requires { ⌜ IsAppend (now append) ⌝ }
 {
     let n = size_in(append);
-    write_messages(append, &append[8..8 + n])
+    let lead = lead_in(append);
+    write_messages(append, &append[8 + lead..8 + n])
 }
 
 // Takes the next append, and writes its messages where that is asked for. Where they can't be written nothing more is read.

@@ -1,4 +1,5 @@
 mod Filling
 mod Resting
 pub mod Standing
+pub mod Cards
 mod Taking

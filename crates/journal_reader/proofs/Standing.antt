@@ -1,6 +1,6 @@
 -- A journal that is read append by append stands in the buffer as a head and appends make it. Assumes nothing.
-use mathlib.Core.Path.{_≡_, refl, sym, ap, subst, _∙_}
-use mathlib.Core.Bool.{Bool, true, false, cond}
+use mathlib.Core.Path.{_≡_, refl, sym, ap, ap₂, subst, _∙_}
+use mathlib.Core.Bool.{Bool, true, false, cond, _||_}
 use mathlib.Core.List.{List, [], _∷_, _++_, append-nil}
 use Prim.Native.Nat.{ℕ, _+_, _-_, _≤_, _<_, _%_, _^_}
 use native.Mathlib.Omega.{arith}
@@ -24,11 +24,14 @@ use Rattle.journal_file.specs.Appends.{Over}
 use Rattle.journal_file.specs.Heads.{headSize, headOf}
 use Rattle.journal_file.specs.Replaying.{fileReplayBegun, Leads}
 use Rattle.journal_file.proofs.Alone.{head-by-tables}
+use Rattle.journal_file.specs.Cards.{hasCards, someHasCards, noNumbers, numbersBy, journalNumbers}
 use Rattle.journal_file.proofs.Files.{leads-more}
+use Rattle.journal_file.proofs.Cards.{numbers-more}
 use Rattle.journal_reader.specs.declared.Reading.{Reading}
 use Rattle.journal_reader.specs.declared.Beginning.{Beginning}
 use Rattle.journal_reader.proofs.Filling.{cut-inside}
-use Rattle.journal_reader.specs.Reading.{lastIn, headIn, ReadingBegins, BuffersLent, AppendTakes, Stays, Next, lastAppend, HeadOfGarage, ReplayStands, StandsIn}
+use Rattle.journal_reader.proofs.Cards.{found-numbers}
+use Rattle.journal_reader.specs.Reading.{lastIn, headIn, ReadingBegins, BuffersLent, AppendTakes, Stays, Next, lastAppend, HeadOfGarage, ReplayStands, StandsIn, numbersFound, CardsStand}
 
 -- ---- the head
 
@@ -76,22 +79,30 @@ module _ (t buf : List ℕ) (b : Beginning) (begins : ReadingBegins (crcBy t) b 
   named-in asked n some =
       ap (λ (k : ℕ). take 40 (drop 24 (take k buf))) size-is ∙ cut-inside 24 40 128 buf (omega arith) ∙ n some
 
-  pub begins-stands : (asked : List ℕ) → (0 < length asked → take 40 (drop 24 buf) ≡ asked) → StandsIn asked (b .reading) buf
-  begins-stands asked named =
+  -- no append is read, and there are no cards
+  pub begins-cards : (asked : List ℕ) → (0 < length asked → take 40 (drop 24 buf) ≡ asked) → CardsStand asked (b .reading) false noNumbers buf
+  begins-cards asked named =
       let h = ltb-false end 128 enough-bytes in
       let long : length head ≡ 128 = length-take-le (cond (ltb end 128) end 128) buf (omega (arith, size-is, h, begins .0)) ∙ size-is in
       let n = length-append head [] in
       let z : 128 ≡ counted (length (head ++ [])) = omega (arith, long, n) in
       let w : b .reading .at - b .reading .from ≡ 128 = omega (arith, begins .4, begins .5) in
       record {
-        head = head;
-        appends = [];
-        headed = (long, good-head);
-        named = named-in asked named;
-        leads = begins .2 ∙ ap (λ (x : Head). let r : Replay = record { station = x .station; sum = x .sum; closed = false } in r) by-tables;
-        long = begins .3 ∙ z;
-        last-is = ap (λ (k : ℕ). take (b .reading .at - b .reading .from) (drop k buf)) (begins .4) ∙ ap (λ (k : ℕ). take k buf) (w ∙ sym size-is);
+        stands = record {
+          head = head;
+          appends = [];
+          headed = (long, good-head);
+          named = named-in asked named;
+          leads = begins .2 ∙ ap (λ (x : Head). let r : Replay = record { station = x .station; sum = x .sum; closed = false } in r) by-tables;
+          long = begins .3 ∙ z;
+          last-is = ap (λ (k : ℕ). take (b .reading .at - b .reading .from) (drop k buf)) (begins .4) ∙ ap (λ (k : ℕ). take k buf) (w ∙ sym size-is);
+        };
+        cards-are = refl;
+        numbers-are = refl;
       }
+
+  pub begins-stands : (asked : List ℕ) → (0 < length asked → take 40 (drop 24 buf) ≡ asked) → StandsIn asked (b .reading) buf
+  begins-stands asked named = begins-cards asked named .stands
 
 -- ---- one step
 
@@ -111,32 +122,67 @@ more-long head appends a =
 counted-more : (n m k place : ℕ) → n ≡ counted m → place ≡ counted (n + k) → place ≡ counted (m + k)
 counted-more n m k place e p = omega (arith, e, p)
 
-module _ {asked : List ℕ} (t room before after : List ℕ) (q r : Reading) (next : Next t room q before r after) (lent : BuffersLent t room)
-    (was : StandsIn asked q before) where
-  stayed : Stays q before r after → StandsIn asked r after
-  stayed s =
-      record {
-        head = was .head;
-        appends = was .appends;
-        headed = was .headed;
-        named = was .named;
-        leads = subst (λ (x : Replay). Leads (fileReplayBegun crcOver (was .head)) (was .appends) x) (sym (s .0)) (was .leads);
-        long = s .1 ∙ was .long;
-        last-is = s .2 ∙ was .last-is;
-      }
+-- one that has cards, or not, behind others
+some-more : (appends : List (List ℕ)) (a : List ℕ) → someHasCards (appends ++ (a ∷ [])) ≡ someHasCards appends || hasCards a
+some-more [] a = last (hasCards a)
+  where
+    last : (x : Bool) → x || false ≡ x
+    last true = refl
+    last false = refl
+some-more (b ∷ more) a = ap (_||_ (hasCards b)) (some-more more a) ∙ grouped (hasCards b) (someHasCards more) (hasCards a)
+  where
+    grouped : (x y z : Bool) → x || (y || z) ≡ (x || y) || z
+    grouped true y z = refl
+    grouped false y z = refl
 
-  went : AppendTakes q r after → StandsIn asked r after
-  went k =
-      let a = lastIn r after in
-      record {
-        head = was .head;
-        appends = was .appends ++ (a ∷ []);
-        headed = was .headed;
-        named = was .named;
-        leads = leads-more (fileReplayBegun crcOver (was .head)) (q .replay) (r .replay) (was .appends) a (was .leads) (k .0) (k .1) (k .2);
-        long = counted-more (q .place) (length (was .head ++ join (was .appends))) (length a) (r .place) (was .long) (k .3) ∙ ap counted (sym (more-long (was .head) (was .appends) a));
-        last-is = last-more (was .head) (was .appends) a;
-      }
+module _ {asked : List ℕ} (t room before after : List ℕ) (q r : Reading) (next : Next t room q before r after) (lent : BuffersLent t room) where
+  module _ {cards : Bool} {numbers : List ℕ} (cards-stood : CardsStand asked q cards numbers before) where
+    abbrev was : StandsIn asked q before
+    was = cards-stood .stands
 
-  pub next-stands : StandsIn asked r after
-  next-stands = split (r .took) (λ y. went (next .2 y lent)) (λ n. stayed (next .1 n))
+    stayed : Stays q before r after → CardsStand asked r cards numbers after
+    stayed s =
+        record {
+          stands = record {
+            head = was .head;
+            appends = was .appends;
+            headed = was .headed;
+            named = was .named;
+            leads = subst (λ (x : Replay). Leads (fileReplayBegun crcOver (was .head)) (was .appends) x) (sym (s .0)) (was .leads);
+            long = s .1 ∙ was .long;
+            last-is = s .2 ∙ was .last-is;
+          };
+          cards-are = cards-stood .cards-are;
+          numbers-are = cards-stood .numbers-are;
+        }
+
+    went : AppendTakes q r after → CardsStand asked r (cards || hasCards (lastIn r after)) (numbersFound numbers (lastIn r after)) after
+    went k =
+        let a = lastIn r after in
+        record {
+          stands = record {
+            head = was .head;
+            appends = was .appends ++ (a ∷ []);
+            headed = was .headed;
+            named = was .named;
+            leads = leads-more (fileReplayBegun crcOver (was .head)) (q .replay) (r .replay) (was .appends) a (was .leads) (k .0) (k .1) (k .2);
+            long = counted-more (q .place) (length (was .head ++ join (was .appends))) (length a) (r .place) (was .long) (k .3) ∙ ap counted (sym (more-long (was .head) (was .appends) a));
+            last-is = last-more (was .head) (was .appends) a;
+          };
+          cards-are = ap (λ (x : Bool). x || hasCards a) (cards-stood .cards-are) ∙ sym (some-more (was .appends) a);
+          numbers-are =
+              found-numbers (q .replay) numbers a (k .0) (k .1) ∙ ap (λ (x : List ℕ). numbersBy x a) (cards-stood .numbers-are)
+              ∙ sym (numbers-more noNumbers (was .appends) a);
+        }
+
+    -- an append was taken, or none was
+    pub next-cards : r .took ≡ true → CardsStand asked r (cards || hasCards (lastIn r after)) (numbersFound numbers (lastIn r after)) after
+    next-cards y = went (next .2 y lent)
+
+    pub still-cards : r .took ≡ false → CardsStand asked r cards numbers after
+    still-cards n = stayed (next .1 n)
+
+  pub next-stands : StandsIn asked q before → StandsIn asked r after
+  next-stands was =
+      let w : CardsStand asked q (someHasCards (was .appends)) (journalNumbers (was .appends)) before = record { stands = was; cards-are = refl; numbers-are = refl } in
+      split (r .took) (λ y. next-cards w y .stands) (λ n. still-cards w n .stands)

@@ -1,7 +1,7 @@
 -- A journal that is read append by append, through a buffer: what a reading knows of the bytes that stand in the buffer after each step.
 -- Which bytes a read brings no contract can say; all that is said here is of the bytes that it left. Assumes nothing.
 use mathlib.Core.Path.{_≡_}
-use mathlib.Core.Bool.{true, false, cond, _||_}
+use mathlib.Core.Bool.{Bool, true, false, cond, _||_}
 use mathlib.Core.List.{List, [], _∷_, _++_}
 use Prim.Native.Nat.{ℕ, _+_, _-_, _≤_, _<_}
 use lib.Dec.{eqb, ltb}
@@ -12,9 +12,10 @@ use Rattle.checksum.specs.Checksum.{crcOver}
 use Rattle.checksum.specs.Slices.{slices}
 use Rattle.journal_file.specs.declared.Kind.the-variants.{Good}
 use Rattle.journal_file.specs.declared.Replay.{Replay}
-use Rattle.journal_file.specs.Appends.{Over, frontOf, zeroed}
+use Rattle.journal_file.specs.Appends.{numbersSize, Over, frontOf, zeroed}
 use Rattle.journal_file.specs.Heads.{headSize, headOf, headName}
 use Rattle.journal_file.specs.Replaying.{fileReplayBegun, stepOf, Leads}
+use Rattle.journal_file.specs.Cards.{hasCards, someHasCards, journalNumbers}
 use Rattle.journal_reader.specs.declared.Reading.{Reading}
 use Rattle.journal_reader.specs.declared.Beginning.{Beginning}
 use Rattle.journal_reader.specs.declared.Rest.{Rest}
@@ -80,6 +81,12 @@ Next t room q before r after =
     × (r .took ≡ false → Stays q before r after)
     × (r .took ≡ true → BuffersLent t room → AppendTakes q r after)
 
+-- ---- cards
+
+-- the numbers of cards after an append, as they are found in its bytes: its own where it has cards, else those before
+abbrev pub numbersFound : List ℕ → List ℕ → List ℕ
+numbersFound before a = cond (ltb (length a) 176) before (cond (hasCards a) (take numbersSize (drop 8 a)) before)
+
 -- ---- the end
 
 -- what the bytes up to the file's end are, behind an append with this checksum at this place
@@ -111,3 +118,9 @@ pub record ReplayStands (asked : List ℕ) (r : Replay) (n : ℕ) (last : List �
 -- so it is with what was read, as it stands in the buffer
 abbrev pub StandsIn : List ℕ → Reading → List ℕ → Type 0
 StandsIn asked q buf = ReplayStands asked (q .replay) (q .place) (lastIn q buf)
+
+-- and with these numbers of cards, where an append has any
+pub record CardsStand (asked : List ℕ) (q : Reading) (cards : Bool) (numbers buf : List ℕ) : Type 0 where
+  pub stands : StandsIn asked q buf
+  pub cards-are : cards ≡ someHasCards (stands .appends)
+  pub numbers-are : numbers ≡ journalNumbers (stands .appends)

@@ -3,11 +3,12 @@
 // contract can say.
 ghost use mathlib.Core.Path.{_≡_};
 ghost use mathlib.Core.Bool.{true, false, cond};
-ghost use Prim.Native.Nat.{_+_, _≤_};
+ghost use Prim.Native.Nat.{_+_, _≤_, _<_};
 ghost use lib.Dec.{ltb};
 ghost use lib.ListN.{length};
 ghost use Rattle.checksum.specs.Slices.{crcBy};
-ghost use Rattle.journal_reader.specs.Reading.{ReadingWithin, ReadingBegins, Next, restOf};
+ghost use Rattle.journal_file.specs.Cards.{hasCards};
+ghost use Rattle.journal_reader.specs.Reading.{ReadingWithin, ReadingBegins, Next, lastIn, numbersFound, restOf};
 ghost use Rattle.journal_reader.specs.Private.{FilledUp, stoppedAt, ReadingBrought, Steps};
 use journal_file::Kind;
 use journal_file::Replay;
@@ -197,10 +198,16 @@ fn messages_in(m: &[u8]) -> usize {
 fn messages_of(buf: &[u8], from: usize, to: usize) -> usize
     requires { ⌜ (from + 13 ≤ to) × (to ≤ length (now buf)) ⌝ }
 {
-    if buf[from] != 1 {
+    if buf[from] == 1 {
+        return messages_in(&buf[from + 8..to - 5]);
+    }
+    if buf[from] != 5 {
         return 0;
     }
-    messages_in(&buf[from + 8..to - 5])
+    if to - from < 181 {
+        return 0;
+    }
+    messages_in(&buf[from + 176..to - 5])
 }
 
 // Nothing was taken.
@@ -263,6 +270,53 @@ pub fn next(t: &[u32], fd: i32, q: Reading, buf: &mut [u8], room: &mut [u8], nam
     let r = b.replay;
     take(t, b, r.sum, b.end, buf, room)
 }
+
+// ---- cards
+
+// How many bytes the append has that stands in the buffer.
+fn last_size(q: Reading, buf: &[u8]) -> usize
+    ensures { λ n. ⌜ (n ≡ length (lastIn q (now (buf .entry)))) × (0 < n → q .from + n ≤ length (now (buf .entry))) ⌝ }
+{
+    if q.at <= q.from {
+        return 0;
+    }
+    if buf.len() <= q.from {
+        return 0;
+    }
+    if buf.len() - q.from < q.at - q.from {
+        return buf.len() - q.from;
+    }
+    q.at - q.from
+}
+
+// Whether the append that stands in the buffer has cards.
+pub fn has_cards(q: Reading, buf: &[u8]) -> bool
+    ensures { λ b. ⌜ b ≡ hasCards (lastIn q (now (buf .entry))) ⌝ }
+{
+    let from = q.from;
+    if last_size(q, buf) == 0 {
+        return false;
+    }
+    buf[from] == 5
+}
+
+// The numbers of cards after the append that stands in the buffer: its own where it has cards, else those before.
+pub fn numbers_after(was: [u8; 168], q: Reading, buf: &[u8]) -> [u8; 168]
+    ensures { λ n. ⌜ n ≡ numbersFound was (lastIn q (now (buf .entry))) ⌝ }
+{
+    if last_size(q, buf) < 176 {
+        return was;
+    }
+    if !has_cards(q, buf) {
+        return was;
+    }
+    let from = q.from;
+    let mut numbers = [0u8; 168];
+    bytes::copy(&buf[from + 8..from + 176], &mut numbers);
+    numbers
+}
+
+// ---- the end
 
 // What the bytes from here up to the file's end are, behind an append with this checksum.
 pub fn rest_of(t: &[u32], sum: u32, place: usize, m: &[u8]) -> Rest

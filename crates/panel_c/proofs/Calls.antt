@@ -11,9 +11,9 @@ use Rattle.station.specs.Station.{fit}
 use Rattle.station.specs.Calls.{refused, requested, request, evented, event, resulted, result}
 use Rattle.plain_station.specs.declared.Plain.{Plain}
 use Rattle.plain_station.specs.declared.PlainOutcome.{PlainOutcome}
-use Rattle.plain_station.specs.Plain.{plainOf, plainRequested, plainEvented, plainResulted}
+use Rattle.plain_station.specs.Plain.{plainOf, packedOutcome, plainRequested, plainEvented, plainResulted}
 use Rattle.plain_station.proofs.Outcomes.{where-true, where-false}
-use Rattle.plain_laws.specs.Promises.{SoundStation, packedOutcome}
+use Rattle.plain_laws.specs.Promises.{SoundStation}
 use Rattle.plain_laws.proofs.Promises.{fit-is-sound, same-as-packed}
 
 module _ (s : Station) where

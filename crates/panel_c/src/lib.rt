@@ -10,7 +10,7 @@ ghost use Rattle.station.specs.Calls as calls;
 ghost use Rattle.plain.specs.Plain.{plainBits};
 ghost use Rattle.panel.specs.Panel.{explained};
 ghost use Rattle.rooms.specs.Rooms.{LeavesRoom, writes, entry, requestOf};
-ghost use Rattle.plain_laws.specs.Promises.{packedOutcome};
+ghost use Rattle.plain_station.specs.Plain.{packedOutcome};
 ghost use Rattle.panel_c.specs.Entries.{conditionBytes, explaining, nextInto, walking};
 ghost use Rattle.panel_c.specs.Private.{floorAnswer, floorNext};
 use answers::Answer;

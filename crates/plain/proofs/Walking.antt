@@ -12,7 +12,7 @@ use Rattle.bits.specs.Places.{from}
 use Rattle.bits.proofs.Digits.{digit-lt}
 use Rattle.floor.specs.Floor.{raisedCar}
 use Rattle.floor.specs.Cars.{Car, pair, single, raised}
-use Rattle.cards.specs.Cards.{anchor}
+use Rattle.cars.specs.Lists.{anchor}
 use Rattle.plain.specs.declared.Walk.{Walk}
 use Rattle.plain.specs.Walks.{pairsFrom, singlesOf, walked, walkOf}
 use Rattle.plain.specs.Private.{noted}

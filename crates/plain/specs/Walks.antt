@@ -6,7 +6,7 @@ use lib.ListN.{length, replicate}
 use Rattle.bits.specs.Bits.{Bits}
 use Rattle.floor.specs.Floor.{rowCells, raisedCar}
 use Rattle.floor.specs.Cars.{Car, pair, single, raised}
-use Rattle.cards.specs.Cards.{anchor}
+use Rattle.cars.specs.Lists.{anchor}
 use Rattle.plain.specs.declared.Walk.{Walk}
 
 -- n cells of row 1 from k on, where half says that a car began at the cell before: a cell that is occupied and not that car's other half

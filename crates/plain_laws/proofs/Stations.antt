@@ -45,8 +45,8 @@ use Rattle.plain.proofs.Listing.{listed-at}
 use Rattle.plain_moves.specs.Moves.{drivenFloor, opensWith, partsBits, partsOf}
 use Rattle.plain_station.specs.declared.Plain.{Plain}
 use Rattle.plain_station.specs.declared.PlainOutcome.{PlainOutcome}
-use Rattle.plain_station.specs.Plain.{packedOf, plainOf, plainOutcome, plainRequested, plainResulted, refusedPlain, onFloor, plainOccurred, plainDriven, plainEvented}
-use Rattle.plain_laws.specs.Promises.{SoundStation, packedOutcome}
+use Rattle.plain_station.specs.Plain.{packedOf, plainOf, plainOutcome, packedOutcome, plainRequested, plainResulted, refusedPlain, onFloor, plainOccurred, plainDriven, plainEvented}
+use Rattle.plain_laws.specs.Promises.{SoundStation}
 use Rattle.plain_laws.proofs.Walking.{walked-cars}
 use Rattle.plain_laws.proofs.Crossing.{parts-at, Drawn, reads-back, sound-drawn, next-drawn, after-drawn, image-shows}
 

@@ -18,8 +18,7 @@ use Rattle.floor.specs.Cars.{Car, pair, single, raised, covered, AllStand, Plac
 use Rattle.floor.specs.Sound.{Sound, paired}
 use Rattle.floor.proofs.Layouts.{at-same, at-other}
 use Rattle.floor.proofs.Promises.{layout-exactly, layout-cars}
-use Rattle.cards.specs.Cards.{anchor, Among}
-use Rattle.cards.specs.Given.{Rising}
+use Rattle.cars.specs.Lists.{anchor, Among, Rising}
 use Rattle.plain.specs.Walks.{pairsFrom, singlesOf, walked}
 
 -- ---- a layout

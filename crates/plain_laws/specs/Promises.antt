@@ -9,23 +9,21 @@ use Rattle.floor.specs.declared.Total.{Total}
 use Rattle.floor.specs.declared.Total.the-variants.{Cars}
 use Rattle.floor.specs.Cars.{Layout}
 use Rattle.floor.specs.Sound.{Sound, sound, total}
+use Rattle.cars.specs.Lists.{Rising}
 use Rattle.rules.specs.declared.Instruction.{Instruction}
 use Rattle.rules.specs.declared.Verdict.{Verdict}
 use Rattle.rules.specs.declared.Moved.{Moved}
 use Rattle.rules.specs.Rules.{wellFormed, overlap}
 use Rattle.rules.specs.Verdicts.{verdictOf, movedOf, movedBy}
 use Rattle.station.specs.declared.Station.{Station}
-use Rattle.station.specs.declared.Outcome.{Outcome}
 use Rattle.station.specs.declared.Report.{Report}
 use Rattle.station.specs.Station.{fit}
 use Rattle.station.specs.Calls.{requested, evented, resulted}
-use Rattle.cards.specs.Given.{Rising}
 use Rattle.plain.specs.Plain.{plainBits, floorOf}
 use Rattle.plain.specs.Conditions.{verdictOn}
 use Rattle.plain.specs.Walks.{walked, walkOf}
 use Rattle.plain_moves.specs.Moves.{movedFloor, areaParts, meeting}
-use Rattle.plain_station.specs.declared.PlainOutcome.{PlainOutcome}
-use Rattle.plain_station.specs.Plain.{packedOf, plainOf, plainRequested, plainEvented, plainResulted}
+use Rattle.plain_station.specs.Plain.{packedOf, plainOf, packedOutcome, plainRequested, plainEvented, plainResulted}
 
 -- ---- records and stations cross over
 
@@ -63,10 +61,6 @@ plainMoved i r = movedBy (plainVerdict i r) (image (plainBits (movedFloor i (flo
 
 abbrev pub plainTotal : ℕ → Total
 plainTotal r = Cars (walkOf (walked (plainBits (floorOf (bit r)))) .count)
-
--- what its station hands back, as the station that this stands for
-abbrev pub packedOutcome : PlainOutcome → Outcome
-packedOutcome o = record { station = packedOf (o .station); answer = o .answer }
 
 -- the two engines say the same. On every sound record: of an instruction the verdict with its reason, and the next record; of two whether
 -- they overlap; how many cars there are. On every station with a sound record, fit or not: of a set, a result and a car event the answer

@@ -52,9 +52,12 @@ plainOf s =
       next = s .next;
     }
 
--- the same of what a call hands back
+-- what a call hands back, from the one to the other
 abbrev pub plainOutcome : Outcome → PlainOutcome
 plainOutcome o = record { station = plainOf (o .station); answer = o .answer }
+
+abbrev pub packedOutcome : PlainOutcome → Outcome
+packedOutcome o = record { station = packedOf (o .station); answer = o .answer }
 
 -- ---- its calls, past the test of fitness
 

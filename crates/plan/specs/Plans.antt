@@ -13,6 +13,7 @@ use Rattle.floor.specs.Floor.{raisedCar, street}
 use Rattle.floor.specs.Tests.{Test, set, free, both, holds, heightIs}
 use Rattle.codec.specs.Bytes.{fromLittleEndian}
 use Rattle.answers.specs.declared.Answer.{Answer}
+use Rattle.answers.specs.declared.Answer.the-variants.{TooFewBytes, BadField, Overlap, OutOfTurn}
 use Rattle.answers.specs.Answers.{numberOf, placeOf, nowhere}
 use Rattle.wire.specs.Kinds.{setOf}
 use Rattle.station.specs.declared.Station.{Station}
@@ -74,6 +75,13 @@ planIn s =
 
 -- ---- its judgement, and the grounds of it
 
+-- the numbers that plans alone have: more than 64 sets, and a wish that is not met
+abbrev pub tooManySetsNumber : ℕ
+tooManySetsNumber = 35
+
+abbrev pub wishNotMetNumber : ℕ
+wishNotMetNumber = 36
+
 -- a number, and no set
 abbrev pub plainly : ℕ → Judged
 plainly number = record { number = number; set = 255 }
@@ -96,14 +104,14 @@ sharedParts held i j = bitAnd (heldParts (codeAt held i)) (heldParts (codeAt hel
 -- instruction out of turn the lift
 unfoldable pub refusedSet : ℕ → ℕ → List ℕ → Answer → Grounds
 refusedSet k bits held a =
-    let overlapping = eqb (numberOf a) 8 in
+    let overlapping = eqb (numberOf a) (numberOf (Overlap nowhere)) in
     let earlier = firstOverlapped held (placeOf a) in
     record {
       number = numberOf a;
       set = k;
       place = placeOf a;
       earlier = cond overlapping earlier nowhere;
-      parts = cond overlapping (sharedParts held (placeOf a) earlier) (cond (eqb (numberOf a) 31) (2 ^ raisedCar) 0);
+      parts = cond overlapping (sharedParts held (placeOf a) earlier) (cond (eqb (numberOf a) (numberOf OutOfTurn)) (2 ^ raisedCar) 0);
       bits = bits;
     }
 
@@ -130,7 +138,7 @@ succeeded (suc n) s = afterSuccess (succeeded n s) n
 -- the sets from number k on, on the station that those before it left: the first that is refused, on the record before it; else the wish, on
 -- the last record
 unfoldable pub tried : ℕ → ℕ → Station → List PlanSet → Grounds
-tried wish k s [] = wholly (cond (holds (wished wish) (bit (s .bits))) 0 36) (s .bits)
+tried wish k s [] = wholly (cond (holds (wished wish) (bit (s .bits))) 0 wishNotMetNumber) (s .bits)
 tried wish k s (x ∷ xs) =
     let o = setAsked s x in
     cond (eqb (numberOf (o .answer)) 0) (tried wish (suc k) (succeeded (x .count) (o .station)) xs)
@@ -146,16 +154,16 @@ weighed p =
     let o = imagedAt p in
     let number = numberOf (o .answer) in
     cond (eqb number 0)
-    (cond (ltb mostSets (length (p .sets))) (wholly 35 0) (tried (p .wish) 0 (o .station) (p .sets)))
+    (cond (ltb mostSets (length (p .sets))) (wholly tooManySetsNumber 0) (tried (p .wish) 0 (o .station) (p .sets)))
     (wholly number 0)
 
 -- the bytes of a plan: 1 where they are cut short, 4 for a wish that is neither or for bytes left over, then the plan
 unfoldable pub groundsOf : List ℕ → Grounds
 groundsOf s =
     let p = planIn s in
-    cond (ltb (length s) (planSize p)) (wholly 1 0)
-    (cond (ltb 1 (p .wish)) (wholly 4 0)
-    (cond (ltb (planSize p) (length s)) (wholly 4 0)
+    cond (ltb (length s) (planSize p)) (wholly (numberOf TooFewBytes) 0)
+    (cond (ltb 1 (p .wish)) (wholly (numberOf (BadField nowhere)) 0)
+    (cond (ltb (planSize p) (length s)) (wholly (numberOf (BadField nowhere)) 0)
     (weighed p)))
 
 -- the judgement is their number, and their set

@@ -8,7 +8,7 @@ ghost use Rattle.bits.specs.Bits.{bit};
 ghost use Rattle.floor.specs.Tests.{holds};
 ghost use Rattle.station.specs.Calls.{requested};
 ghost use Rattle.wire.specs.Kinds.{setOf};
-ghost use Rattle.plan.specs.Plans.{planSize, planIn, wholly, wished, afterSuccess, succeeded, tried, imagedAt, weighed, groundsOf, judgement};
+ghost use Rattle.plan.specs.Plans.{planSize, planIn, wholly, wished, afterSuccess, succeeded, tried, imagedAt, weighed, groundsOf, judgement, wishNotMetNumber};
 use answers::NOWHERE;
 use floor::masks::HEIGHT_HIGH;
 use floor::masks::HEIGHT_LOW;
@@ -40,15 +40,15 @@ pub struct Grounds {
 }
 
 // The set that is told where none is refused.
-pub const NO_SET: u8 = 255;
+pub const NONE_REFUSED: u8 = 255;
 
 // The most sets of a plan.
 const SETS_MOST: u8 = 64;
 
-// The numbers that are told of a whole plan, besides its image's.
-const CUT_SHORT: u8 = 1;
+// The numbers that are told of a whole plan, besides its image's, by their names in the table.
+const TOO_FEW_BYTES: u8 = 1;
 
-const NOT_A_PLAN: u8 = 4;
+const BAD_FIELD: u8 = 4;
 
 const TOO_MANY_SETS: u8 = 35;
 
@@ -69,7 +69,7 @@ fn wholly(number: u8, bits: u64) -> Grounds
 {
     Grounds {
         number,
-        set: NO_SET,
+        set: NONE_REFUSED,
         place: NOWHERE,
         earlier: NOWHERE,
         parts: 0,
@@ -142,7 +142,7 @@ fn meets(wish: u8, r: u64) -> bool
 
 // The end of a plan, whose sets are all taken.
 fn ended(wish: u8, r: u64) -> Grounds
-    ensures { λ g. ⌜ g ≡ wholly (cond (holds (wished wish) (bit r)) 0 36) r ⌝ }
+    ensures { λ g. ⌜ g ≡ wholly (cond (holds (wished wish) (bit r)) 0 wishNotMetNumber) r ⌝ }
 {
     if meets(wish, r) {
         return wholly(0, r);
@@ -216,13 +216,13 @@ pub fn explain(plan: &[u8]) -> Grounds
 {
     let n = size(plan);
     if plan.len() < n {
-        return wholly(CUT_SHORT, 0);
+        return wholly(TOO_FEW_BYTES, 0);
     }
     if 1 < wire::byte(plan, WISH) {
-        return wholly(NOT_A_PLAN, 0);
+        return wholly(BAD_FIELD, 0);
     }
     if n < plan.len() {
-        return wholly(NOT_A_PLAN, 0);
+        return wholly(BAD_FIELD, 0);
     }
     weighed(plan)
 }

@@ -100,7 +100,8 @@ module _ (held : List ℕ) (i : ℕ) (e : overlapsEarlier held i ≡ true) where
   unfolding overlapsEarlier
   below = split (ltb (firstOverlapped held i) i)
       (λ t. ltb-true _ _ t)
-      (λ t. let l : i ≤ firstOverlapped held i = ltb-false _ _ t in clash e (none-is i (overlapsThat held i) (λ m h. least-below i (overlapsThat held i) m (omega (arith, least-le i (overlapsThat held i))))))
+      (λ t. let l : i ≤ firstOverlapped held i = ltb-false _ _ t in clash e
+      (none-is i (overlapsThat held i) (λ m h. least-below i (overlapsThat held i) m (omega (arith, least-le i (overlapsThat held i))))))
 
   first-overlap : FirstOverlap held i (firstOverlapped held i) (sharedParts held i (firstOverlapped held i))
   first-overlap =

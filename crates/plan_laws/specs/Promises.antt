@@ -7,10 +7,12 @@ use mathlib.Core.List.{List, []}
 use Prim.Native.Nat.{ℕ, _≤_, _<_}
 use lib.ListN.{length, take}
 use Rattle.codec.specs.Bytes.{Bytes}
+use Rattle.answers.specs.declared.Answer.the-variants.{TooFewBytes, BadField, TooMany, EmptySet, Overlap, Unsound, OutOfTurn}
+use Rattle.answers.specs.Answers.{numberOf, nowhere}
 use Rattle.station.specs.Station.{startOf, presentIssue}
 use Rattle.station_laws.specs.Runs.{Call, answerNumber, calls}
 use Rattle.station_laws.specs.Orders.{succeeds, Order, Fair}
-use Rattle.plan.specs.Plans.{Plan, planSize, planIn, plainly, mostSets, judgement}
+use Rattle.plan.specs.Plans.{Plan, planSize, planIn, plainly, mostSets, tooManySetsNumber, wishNotMetNumber, judgement}
 use Rattle.plan_laws.specs.Trials.{planImage, requestOfSet, setOpened, afterSet, EachTaken, started, metBy, setOfPlan, meets, planBytes, IsPlan, PlanTyped}
 
 -- ---- when it is accepted, and what is told else
@@ -48,28 +50,28 @@ FirstRefused = (s : List ℕ) (number k : ℕ) → k < 255 → (judgement s ≡ 
 abbrev pub PlanOrder : Type 0
 PlanOrder =
     (s : List ℕ)
-    → ((judgement s ≡ plainly 1) ↔ (length s < planSize (planIn s)))
-    × ((judgement s ≡ plainly 4) ↔ ((planSize (planIn s) ≤ length s) × ((1 < planIn s .wish) ⊎ (planSize (planIn s) < length s))))
-    × ((judgement s ≡ plainly 15) ↔ (IsPlan s × (answerNumber startOf (planImage (planIn s)) ≡ 15)))
-    × ((judgement s ≡ plainly 35) ↔ (IsPlan s × (answerNumber startOf (planImage (planIn s)) ≡ 0) × (mostSets < length (planIn s .sets))))
-    × ((judgement s ≡ plainly 36) ↔ (PlanFollowed s × (meets (planIn s) ≡ false)))
+    → ((judgement s ≡ plainly (numberOf TooFewBytes)) ↔ (length s < planSize (planIn s)))
+    × ((judgement s ≡ plainly (numberOf (BadField nowhere))) ↔ ((planSize (planIn s) ≤ length s) × ((1 < planIn s .wish) ⊎ (planSize (planIn s) < length s))))
+    × ((judgement s ≡ plainly (numberOf Unsound)) ↔ (IsPlan s × (answerNumber startOf (planImage (planIn s)) ≡ numberOf Unsound)))
+    × ((judgement s ≡ plainly tooManySetsNumber) ↔ (IsPlan s × (answerNumber startOf (planImage (planIn s)) ≡ 0) × (mostSets < length (planIn s .sets))))
+    × ((judgement s ≡ plainly wishNotMetNumber) ↔ (PlanFollowed s × (meets (planIn s) ≡ false)))
 
 -- the numbers of a whole plan, and those of a set: never 6, 16 or 32
 pub data OfPlan : ℕ → Type 0 where
   accepted : OfPlan 0
-  cutShort : OfPlan 1
-  notAPlan : OfPlan 4
-  unsound : OfPlan 15
-  tooManySets : OfPlan 35
-  wishNotMet : OfPlan 36
+  cutShort : OfPlan (numberOf TooFewBytes)
+  notAPlan : OfPlan (numberOf (BadField nowhere))
+  unsound : OfPlan (numberOf Unsound)
+  tooManySets : OfPlan tooManySetsNumber
+  wishNotMet : OfPlan wishNotMetNumber
 
 pub data OfSet : ℕ → Type 0 where
-  badField : OfSet 4
-  tooMany : OfSet 5
-  emptySet : OfSet 7
-  overlap : OfSet 8
+  badField : OfSet (numberOf (BadField nowhere))
+  tooMany : OfSet (numberOf TooMany)
+  emptySet : OfSet (numberOf EmptySet)
+  overlap : OfSet (numberOf (Overlap nowhere))
   notAllowed : (k : ℕ) → 20 ≤ k → k ≤ 28 → OfSet k
-  outOfTurn : OfSet 31
+  outOfTurn : OfSet (numberOf OutOfTurn)
 
 -- no other number is told: one of a whole plan with 255, or one of a set with the set's number, 0 to 63
 abbrev pub PlanNumbers : Type 0
@@ -101,4 +103,4 @@ PlanOneForm = (s : List ℕ) → Bytes s → IsPlan s → planBytes (planIn s) �
 
 -- no plan takes more than 325,398 bytes: of a longer input one byte more says as much as all of it
 abbrev pub PlanLongest : Type 0
-PlanLongest = (s : List ℕ) → Bytes s → 325398 < length s → (judgement s ≡ plainly 4) × (judgement (take 325399 s) ≡ plainly 4)
+PlanLongest = (s : List ℕ) → Bytes s → 325398 < length s → (judgement s ≡ plainly (numberOf (BadField nowhere))) × (judgement (take 325399 s) ≡ plainly 4)

@@ -8,7 +8,8 @@ use Prim.Native.Nat.{ℕ, _^_, _<_}
 use Rattle.bits.specs.Bits.{bit}
 use Rattle.floor.specs.Floor.{raisedCar}
 use Rattle.floor.specs.Tests.{holds, underWay}
-use Rattle.answers.specs.Answers.{nowhere}
+use Rattle.answers.specs.declared.Answer.the-variants.{TooFewBytes, BadField, Overlap, Unsound, OutOfTurn}
+use Rattle.answers.specs.Answers.{numberOf, nowhere}
 use Rattle.rules.specs.declared.Instruction.{Instruction}
 use Rattle.rules.specs.declared.Reading.the-variants.{Good}
 use Rattle.rules.specs.Rules.{areaOf, overlap}
@@ -18,7 +19,7 @@ use Rattle.station.specs.declared.Station.{Station}
 use Rattle.station.specs.Held.{codeAt, partsIn, liftIn}
 use Rattle.station_laws.specs.Runs.{answerNumber, faultIndex}
 use Rattle.plan.specs.declared.Grounds.{Grounds}
-use Rattle.plan.specs.Plans.{PlanSet, planIn, plainly, wholly, groundsOf, judgement}
+use Rattle.plan.specs.Plans.{PlanSet, planIn, plainly, wholly, tooManySetsNumber, wishNotMetNumber, groundsOf, judgement}
 use Rattle.plan_laws.specs.Trials.{requestOfSet, metBy, setOfPlan, lastRecord, meets}
 use Rattle.plan_laws.specs.Promises.{PlanFollowed, RefusedAt}
 
@@ -51,30 +52,31 @@ pub record FirstOverlap (held : List ℕ) (i j parts : ℕ) : Type 0 where
 -- with 8 the earlier instruction is the first that the one at its place overlaps, and the parts are those that both take
 abbrev pub OverlapNamed : Type 0
 OverlapNamed =
-    (s : List ℕ) (k : ℕ) → RefusedAt s 8 k
+    (s : List ℕ) (k : ℕ) → RefusedAt s (numberOf (Overlap nowhere)) k
     → FirstOverlap (setOf (setOfPlan (planIn s) k .bytes)) (groundsOf s .place) (groundsOf s .earlier) (groundsOf s .parts)
 
 -- with 31 the part is the lift: a drive is under way on the record there, and an instruction of the set has the lift in its area
 abbrev pub LiftNamed : Type 0
 LiftNamed =
-    (s : List ℕ) (k : ℕ) → RefusedAt s 31 k
+    (s : List ℕ) (k : ℕ) → RefusedAt s (numberOf OutOfTurn) k
     → (groundsOf s .parts ≡ 2 ^ raisedCar) × (holds underWay (bit (groundsOf s .bits)) ≡ true)
     × (liftIn (setOf (setOfPlan (planIn s) k .bytes)) (setOfPlan (planIn s) k .count) ≡ true)
 
 -- with another number than 8 no earlier instruction is named, and with neither 8 nor 31 a part
 abbrev pub NoneElse : Type 0
 NoneElse =
-    (s : List ℕ) (number k : ℕ) → (number ≡ 8 → ⊥) → RefusedAt s number k
-    → (groundsOf s .earlier ≡ nowhere) × ((number ≡ 31 → ⊥) → groundsOf s .parts ≡ 0)
+    (s : List ℕ) (number k : ℕ) → (number ≡ numberOf (Overlap nowhere) → ⊥) → RefusedAt s number k
+    → (groundsOf s .earlier ≡ nowhere) × ((number ≡ numberOf OutOfTurn → ⊥) → groundsOf s .parts ≡ 0)
 
 -- ---- a whole plan
 
 -- where all sets are taken the record is the last one
 abbrev pub LastTold : Type 0
-LastTold = (s : List ℕ) → PlanFollowed s → groundsOf s ≡ wholly (cond (meets (planIn s)) 0 36) (lastRecord (planIn s))
+LastTold = (s : List ℕ) → PlanFollowed s → groundsOf s ≡ wholly (cond (meets (planIn s)) 0 wishNotMetNumber) (lastRecord (planIn s))
 
 -- where no set is tried there is no record
 abbrev pub NoneTried : Type 0
 NoneTried =
-    (s : List ℕ) (number : ℕ) → (number ≡ 1) ⊎ ((number ≡ 4) ⊎ ((number ≡ 15) ⊎ (number ≡ 35)))
+    (s : List ℕ) (number : ℕ) → (number ≡ numberOf TooFewBytes)
+    ⊎ ((number ≡ numberOf (BadField nowhere)) ⊎ ((number ≡ numberOf Unsound) ⊎ (number ≡ tooManySetsNumber)))
     → judgement s ≡ plainly number → groundsOf s ≡ wholly number 0

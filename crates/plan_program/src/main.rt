@@ -3,50 +3,19 @@
 // contract can say what is read and written.
 ghost use Prim.Native.Nat.{_≤_};
 ghost use lib.ListN.{length};
-ghost use Rattle.streams.specs.Input.{Fills};
 use plan::Judged;
-use plan::NO_SET;
-use streams::Input;
+use plan::NONE_REFUSED;
+use streams::Came;
 
 // One byte more than the longest plan that there can be: 18 bytes, and 255 sets of 1 + 5 * 255. Of a longer input no more is read: whatever
 // follows, bytes are left over.
 const ROOM: usize = 325399;
 
-// What came: so many bytes at the front of the buffer; or a read failed, and that is told.
-struct Came {
-    have: usize,
-    failed: bool,
-}
-
-// Reads once past the bytes that are held.
-fn read_on(buf: &mut [u8], have: usize) -> Input
-    ensures { λ r. ⌜ Fills (now (buf .entry)) have r (now (buf .exit)) ⌝ }
-{
-    streams::fill(libc::STDIN_FILENO, buf, have, b"plan: standard input")
-}
-
 // Reads to the end of the input, or until the buffer is full.
 fn read_all(buf: &mut [u8]) -> Came
     ensures { λ r. ⌜ r .have ≤ length (now (buf .exit)) ⌝ }
 {
-    let mut have: usize = 0;
-    loop {
-        let input = read_on(buf, have);
-        match input {
-            Input::Bytes(end) => {
-                have = end;
-            }
-            Input::Failed => {
-                return Came { have, failed: true };
-            }
-            _ => {
-                return Came {
-                    have,
-                    failed: false,
-                };
-            }
-        }
-    }
+    streams::read_all(libc::STDIN_FILENO, buf, b"plan: standard input")
 }
 
 // Writes some text, and says whether that went well.
@@ -76,6 +45,26 @@ fn say_of_plan(number: u8) -> bool {
     }
 }
 
+// Why an instruction is not allowed, by its number from 20 on. Each function has few texts: they are all laid out when it is called.
+fn say_first_reasons(number: u8) -> bool {
+    match number {
+        20 => say(b"nothing named"),
+        21 => say(b"a gap between those named"),
+        22 => say(b"not available"),
+        _ => say(b"no free place to move to"),
+    }
+}
+
+fn say_other_reasons(number: u8) -> bool {
+    match number {
+        24 => say(b"odd count: a car would be torn"),
+        25 => say(b"half move in row 2 or 3"),
+        26 => say(b"already at that height"),
+        27 => say(b"not at rotation height"),
+        _ => say(b"cells not free for the tilt or the rotation"),
+    }
+}
+
 // What it stands for in the answer to a set.
 fn say_of_set(number: u8) -> bool {
     match number {
@@ -83,22 +72,15 @@ fn say_of_set(number: u8) -> bool {
         5 => say(b"more than eight instructions"),
         7 => say(b"empty set"),
         8 => say(b"overlap"),
-        20 => say(b"nothing named"),
-        21 => say(b"a gap between those named"),
-        22 => say(b"not available"),
-        23 => say(b"no free place to move to"),
-        24 => say(b"odd count: a car would be torn"),
-        25 => say(b"half move in row 2 or 3"),
-        26 => say(b"already at that height"),
-        27 => say(b"not at rotation height"),
-        28 => say(b"cells not free for the tilt or the rotation"),
+        20..=23 => say_first_reasons(number),
+        24..=28 => say_other_reasons(number),
         _ => say(b"out of turn: the lift in an area while a drive is under way"),
     }
 }
 
 // The words, and the set where one is refused.
 fn say_why(j: Judged) -> bool {
-    if j.set == NO_SET {
+    if j.set == NONE_REFUSED {
         return say_of_plan(j.number);
     }
     if !say_of_set(j.number) {

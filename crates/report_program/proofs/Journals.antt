@@ -4,7 +4,6 @@ use mathlib.Core.Bool.{Bool, true, false, cond}
 use mathlib.Core.List.{List, [], _∷_, _++_, append-assoc, append-nil}
 use Prim.Native.Nat.{ℕ, zero, suc, _+_, _≤_, _<_}
 use native.Mathlib.Omega.{arith}
-use borrow.Author.Tests.{eqb-true, eq-eqb}
 use lib.Dec.{eqb}
 use lib.ListN.{length, drop, getD}
 use lib.Seq.{drop-length}
@@ -21,7 +20,7 @@ use Rattle.week.proofs.Pieces.{happenings-more}
 use Rattle.journal.specs.Journal.{Messages, stationAfterMessages, Follows}
 use Rattle.checksum.specs.Checksum.{crcOver}
 use Rattle.journal_file.specs.declared.Replay.{Replay}
-use Rattle.journal_file.specs.Appends.{payloadOf}
+use Rattle.journal_file.specs.Appends.{carriesMessages, carriedMessages}
 use Rattle.journal_file.specs.Replaying.{stepOf, Leads}
 use Rattle.journal_file.specs.Statements.{recordedIn}
 use Rattle.journal_file.proofs.Files.{one-follows}
@@ -54,14 +53,14 @@ behind-following {s} {next} {bytes} f u =
 
 -- ---- a session
 
-module _ (r : Replay) (a : List ℕ) (kind : getD a 0 0 ≡ 1) where
-  recorded-one : (rest : List ℕ) → cond (eqb (getD a 0 0) 1) (payloadOf a) [] ++ rest ≡ payloadOf a ++ rest
-  recorded-one rest = ap (λ (b : Bool). cond b (payloadOf a) [] ++ rest) (eq-eqb (getD a 0 0) 1 kind)
+module _ (r : Replay) (a : List ℕ) (kind : carriesMessages (getD a 0 0) ≡ true) where
+  recorded-one : (rest : List ℕ) → cond (carriesMessages (getD a 0 0)) (carriedMessages a) [] ++ rest ≡ carriedMessages a ++ rest
+  recorded-one rest = ap (λ (b : Bool). cond b (carriedMessages a) [] ++ rest) kind
 
-  follows-one : 0 < stepOf crcOver r a .took → Follows (r .station) (payloadOf a) (stepOf crcOver r a .replay .station)
+  follows-one : 0 < stepOf crcOver r a .took → Follows (r .station) (carriedMessages a) (stepOf crcOver r a .replay .station)
   follows-one h =
       subst (λ (l : List ℕ). Follows (r .station) l (stepOf crcOver r a .replay .station))
-      (ap (λ (b : Bool). cond b (payloadOf a) []) (eq-eqb (getD a 0 0) 1 kind)) (one-follows r a h)
+      (ap (λ (b : Bool). cond b (carriedMessages a) []) kind) (one-follows r a h)
 
 -- what more happens behind some reads
 session : (r q : Replay) (reads : List (List ℕ)) (u : List ℕ) → Leads r reads q → AllMessages reads
@@ -70,7 +69,7 @@ session r q [] u l all = ap (λ (x : Replay). happenings (x .station) u) (sym l)
 session r q (a ∷ more) u (h, t, l) (kind, all) =
     let next = stepOf crcOver r a .replay in
     let f = follows-one r a kind (omega (arith, h, t)) in
-    ap (happenings (r .station)) (ap (λ (m : List ℕ). m ++ u) (recorded-one r a kind (recordedIn more)) ∙ append-assoc (payloadOf a) (recordedIn more) u)
+    ap (happenings (r .station)) (ap (λ (m : List ℕ). m ++ u) (recorded-one r a kind (recordedIn more)) ∙ append-assoc (carriedMessages a) (recordedIn more) u)
     ∙ behind-following f (recordedIn more ++ u)
     ∙ ap (_++_ (happeningsBy (r .station) a)) (session next q more u l all)
     ∙ sym (append-assoc (happeningsBy (r .station) a) (happeningsIn next more) (happenings (q .station) u))
@@ -87,7 +86,7 @@ pub session-counted : SessionCounted
 session-counted r q reads end l all =
     happenings-on r q reads (end ∷ []) l
     ∙ ap (_++_ (happeningsIn r reads)) (append-nil (happeningsBy (q .station) end))
-    ∙ sym (session r q reads (payloadOf end) l all)
+    ∙ sym (session r q reads (carriedMessages end) l all)
 
 pub session-ended : SessionEnded
 unfolding happeningsFor

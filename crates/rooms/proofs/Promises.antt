@@ -84,17 +84,20 @@ station-one-form room b h =
 pub eight-back : (x : ℕ) (past : List ℕ) → x < 2 ^ 64 → fromLittleEndian 8 0 (littleEndian 8 x ++ past) ≡ x
 eight-back = image-reads-back
 
+pub number-reads-back : (a : Answer) → returned a % 256 ≡ numberOf a
+number-reads-back a = let h = number-byte a in omega arith
+
 pub returned-reads-back : ReturnedReadsBack
-returned-reads-back a = let h = number-byte a in (omega arith, λ l. (omega arith, omega arith))
+returned-reads-back a = let h = number-byte a in (number-reads-back a, λ l. (omega arith, omega arith))
 
 -- ---- refused, nothing is written; and every number is of the table
 
 pub refused-writes : (a : Answer) (bytes room : List ℕ) → (returned a % 256 ≡ 0 → ⊥) → writes a bytes room .leaves ≡ room
 unfolding writes
-refused-writes a bytes room h = rw (ne-eqb (numberOf a) 0 (λ z. h (returned-reads-back a .0 ∙ z)))
+refused-writes a bytes room h = rw (ne-eqb (numberOf a) 0 (λ z. h (number-reads-back a ∙ z)))
 
 pub of-table : (a : Answer) → OfTable (returned a % 256)
-of-table a = (a, returned-reads-back a .0)
+of-table a = (a, number-reads-back a)
 
 -- of a question for the next record
 pub next-untouched : (r : ℕ) (five room : List ℕ) → (nexting r five room .says % 256 ≡ 0 → ⊥) → nexting r five room .leaves ≡ room

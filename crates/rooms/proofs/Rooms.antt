@@ -15,7 +15,7 @@ use Rattle.answers.specs.Answers.{numberOf}
 use Rattle.station.specs.declared.Station.{Station}
 use Rattle.station.specs.declared.Outcome.{Outcome}
 use Rattle.rooms.specs.Rooms.{stationBytes, stationOf, lentStation, returned, LeavesRoom, writes, telling, outcomeKept, entry}
-use Rattle.rooms.proofs.Promises.{returned-reads-back}
+use Rattle.rooms.proofs.Promises.{number-reads-back}
 
 -- what is told where it doesn't fit
 pub no-place : (n : ℕ) (bytes room : List ℕ) {r : ℕ} → length room < length bytes → r ≡ returned NoRoom → LeavesRoom (telling n bytes room) r room
@@ -39,7 +39,7 @@ pub as-writes : (a : Answer) (bytes room : List ℕ) {b : List ℕ} {n r : ℕ} 
 unfolding telling writes
 as-writes a bytes room {b} d l e w =
     let fits : ltb (length room) (length b) ≡ false = le-ltb _ _ l in
-    let zero : eqb (returned a % 256) 0 ≡ eqb (numberOf a) 0 = ap (λ (k : ℕ). eqb k 0) (returned-reads-back a .0) in
+    let zero : eqb (returned a % 256) 0 ≡ eqb (numberOf a) 0 = ap (λ (k : ℕ). eqb k 0) (number-reads-back a) in
     let t = rw (e, fits, zero) at w in rw (← d) t
 
 -- an outcome, by its station in bytes

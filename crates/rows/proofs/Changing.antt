@@ -1,10 +1,10 @@
--- A row's next record is the rules', one test at every well-formed instruction whose belts or rows leave no gap, but the lift's runs.
--- Assumes nothing.
+-- A row's next record is the rules', one test for each kind of instruction but the lift's runs, at every one that is well formed and whose
+-- belts or rows leave no gap. Assumes nothing.
 use mathlib.Core.Path.{_≡_, refl, sym, ap, ap₂, _∙_}
 use mathlib.Core.Bool.{Bool, true, false, cond, _&&_, true≢false}
 use mathlib.Core.List.{List, [], _∷_}
 use Prim.Native.Nat.{ℕ, _^_, _<_}
-use lib.Dec.{T, ltb}
+use lib.Dec.{T, eqb, ltb}
 use borrow.Author.Tests.{ltb-true}
 use Rattle.bits.specs.Bits.{bit, image}
 use Rattle.bits.specs.Places.{places}
@@ -22,7 +22,7 @@ use Rattle.rows.proofs.Takes.{takes, rowTakes}
 use Rattle.areas.specs.Private.{beltsMask, rowsMask, positions, tiltedSlots, shuttlesMask, corner, tiltMask, areaMask}
 use Rattle.rows.proofs.Flat.{allMeet, flat-right}
 use Rattle.rows.proofs.Same.{sameAtom, atom-right}
-use Rattle.rows.proofs.Judging.{isLift}
+use Rattle.rows.proofs.Judging.{isLift, kind}
 use Rattle.rows.proofs.Moving.{takes-right, move-right}
 
 abbrev sameAtoms : List Atom → List Atom → Bool
@@ -43,27 +43,35 @@ alike i k = sameAtoms (flat (rowTakes (moveOf i) k)) (flat (takes (changes i) k)
 abbrev moved : Instruction → Bool
 moved i = let m = moveOf i in ltb (m .fromA) (2 ^ 64) && (ltb (m .fromB) (2 ^ 64) && every 64 (alike i))
 
-abbrev tried : Instruction → Bool
-tried (Belts row mask toward size) = cond (whole (Belts row mask toward size)) (moved (Belts row mask toward size)) true
-tried (Shuttles side mask orientation toward) = cond (whole (Shuttles side mask orientation toward)) (moved (Shuttles side mask orientation toward)) true
-tried (Tilt side row orientation) = moved (Tilt side row orientation)
-tried (Lift height) = true
-tried Rotate = moved Rotate
+abbrev tried : ℕ → Instruction → Bool
+tried k i = cond (eqb (kind i) k) (cond (whole i) (moved i) true) true
 
-all-moved : T (everywhere tried)
+belts-moved : T (everywhere (tried 1))
 unfolding everywhere every places moveOf beltsMask rowsMask positions tiltedSlots shuttlesMask corner tiltMask areaMask
-all-moved = tt
+belts-moved = tt
+
+shuttles-moved : T (everywhere (tried 2))
+unfolding everywhere every places moveOf beltsMask rowsMask positions tiltedSlots shuttlesMask corner tiltMask areaMask
+shuttles-moved = tt
+
+tilts-moved : T (everywhere (tried 3))
+unfolding everywhere every places moveOf beltsMask rowsMask positions tiltedSlots shuttlesMask corner tiltMask areaMask
+tilts-moved = tt
+
+rotate-moves : T (everywhere (tried 5))
+unfolding everywhere every places moveOf beltsMask rowsMask positions tiltedSlots shuttlesMask corner tiltMask areaMask
+rotate-moves = tt
 
 pick : (b c : Bool) → b ≡ true → T (cond b c true) → c ≡ true
 pick true c e t = T→true c t
 pick false c e t = clash e refl
 
-ask : (i : Instruction) → isLift i ≡ false → whole i ≡ true → T (tried i) → moved i ≡ true
-ask (Belts row mask toward size) l h t = pick _ _ h t
-ask (Shuttles side mask orientation toward) l h t = pick _ _ h t
-ask (Tilt side row orientation) l h t = T→true _ t
-ask (Lift height) l h t = absurd (true≢false l)
-ask Rotate l h t = T→true _ t
+ask : (i : Instruction) → isLift i ≡ false → whole i ≡ true → T (wellFormed i) → moved i ≡ true
+ask (Belts row mask toward size) l h w = pick _ _ h (each (tried 1) belts-moved (Belts row mask toward size) w)
+ask (Shuttles side mask orientation toward) l h w = pick _ _ h (each (tried 2) shuttles-moved (Shuttles side mask orientation toward) w)
+ask (Tilt side row orientation) l h w = T→true _ (each (tried 3) tilts-moved (Tilt side row orientation) w)
+ask (Lift height) l h w = absurd (true≢false l)
+ask Rotate l h w = T→true _ (each (tried 5) rotate-moves Rotate w)
 
 -- on every record
 pub row-moves : (i : Instruction) (r : ℕ) → wellFormed i ≡ true → isLift i ≡ false → whole i ≡ true → moveRow (moveOf i) r < 2 ^ 64
@@ -71,7 +79,7 @@ pub row-moves : (i : Instruction) (r : ℕ) → wellFormed i ≡ true → isLift
 unfolding nextRecord
 row-moves i r w l h small =
     let m = moveOf i in
-    let a = both (ltb (m .fromA) (2 ^ 64)) (ltb (m .fromB) (2 ^ 64) && every 64 (alike i)) (ask i l h (each tried all-moved i (true→T w))) in
+    let a = both (ltb (m .fromA) (2 ^ 64)) (ltb (m .fromB) (2 ^ 64) && every 64 (alike i)) (ask i l h (true→T w)) in
     let b = both (ltb (m .fromB) (2 ^ 64)) (every 64 (alike i)) (a .1) in
     by-bits (moveRow m r) (nextRecord i (bit r)) small
     (λ k kh. move-right m r k (ltb-true (m .fromA) (2 ^ 64) (a .0)) (ltb-true (m .fromB) (2 ^ 64) (b .0))

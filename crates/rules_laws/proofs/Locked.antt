@@ -40,7 +40,7 @@ unfolding area
 in-record i k w m = area-small i w k m
 
 -- the next record of an image is that of an image
-next-image : (i : Instruction) (r : ℕ) → wellFormed i ≡ true → r < 2 ^ 64 → nextRecord i (bit r) ≡ bit (image (nextRecord i (bit r)))
+pub next-image : (i : Instruction) (r : ℕ) → wellFormed i ≡ true → r < 2 ^ 64 → nextRecord i (bit r) ≡ bit (image (nextRecord i (bit r)))
 next-image i r w l = fun-ext (λ k. split (ltb k 64)
     (λ h. sym (bit-image (nextRecord i (bit r)) k (ltb-true k 64 h)))
     (λ h.

@@ -340,10 +340,10 @@ module _ (known : Bool) (s : Station) (m : List ℕ) {t : Turn} (e : t ≡ turnO
   pub heard-told : {k : ℕ} → k ≡ kindAt m → replySaid k t ≡ messageReply (kindAt m) (messageCall known s m) .answer
   heard-told f = ap₂ replySaid f e
 
-  pub reply-by : {k : ℕ} {w : What} {set : List ℕ} {o : Outcome} → k ≡ kindAt m → w ≡ replySaid k t → set ≡ setOf (drop 5 m) → o ≡ afterTurn s t set
-      → record { station = o .station; answer = w } ≡ messageReply (kindAt m) (messageCall known s m)
-  reply-by f g h q =
-      ap₂ (λ (x : Outcome) (w : What). record { station = x .station; answer = w }) (q ∙ ap (afterTurn s t) h ∙ heard-after) (g ∙ heard-told f)
+  pub reply-by : {k : ℕ} {w : What} {x : Station} → k ≡ kindAt m → w ≡ replySaid k t → x ≡ afterTurn s t (setOf (drop 5 m)) .station
+      → record { station = x; answer = w } ≡ messageReply (kindAt m) (messageCall known s m)
+  reply-by f g h =
+      ap₂ (λ (x : Station) (w : What). record { station = x; answer = w }) (h ∙ ap (λ (o : Outcome). o .station) heard-after) (g ∙ heard-told f)
 
 -- ---- the set that a turn leaves
 

@@ -8,10 +8,11 @@ use native.Mathlib.Omega.{arith}
 use borrow.Author.Tests.{leb-true, le-leb, le-ltb}
 use denote.Enum.Declared.{tagOf}
 use lib.Dec.{ltb, leb}
-use lib.ListN.{length, drop, length-append}
+use lib.ListN.{getD, length, drop, length-append}
 use types.Run.{OneOf, miss}
 use Rattle.bits.specs.Search.{least}
 use Rattle.bits.proofs.Cases.{alike}
+use Rattle.codec.specs.Bytes.{littleEndian}
 use Rattle.answers.specs.declared.Answer.{Answer}
 use Rattle.answers.specs.declared.Answer.the-variants.{Taken, TooFewBytes, NoRoom}
 use Rattle.answers.specs.Answers.{numberOf, placeOf, issueOf}
@@ -49,15 +50,6 @@ plain-written Ask room e = refl
 plain-written (What.Answer number place issue) room e = ranged (plain (What.Answer number place issue)) room (What.Answer number place issue) refl refl e
 plain-written (Held bits apart) room e = refl
 
--- and room that is long enough for it
-pub wrote : (w : What) (room : List ℕ) {r : Written} {last : List ℕ} → inRange w ≡ true → length (answerBytes w) ≤ length room
-    → LeavesMessage (writingMessage (plain w) room) r last → (r .size ≡ length (answerBytes w)) × (last ≡ answerBytes w ++ drop (length (answerBytes w)) room)
-wrote w room f h (e, l) =
-    let p : put (answerBytes w) room ≡ record { says = record { answer = Taken; size = length (answerBytes w) }; leaves = answerBytes w ++ drop (length (answerBytes w)) room }
-    = simp (le-ltb (length room) (length (answerBytes w)) h) in
-    let q = plain-written w room f ∙ p in
-    (ap (λ (x : Written). x .size) (e ∙ ap (λ (x : Writing). x .says) q), l ∙ ap (λ (x : Writing). x .leaves) q)
-
 -- no reply has more than twenty bytes
 pub answer-bytes-length : (w : What) → length (answerBytes w) ≤ 20
 unfolding answerBytes
@@ -84,6 +76,18 @@ pub put-answer : (a : Answer) (room last : List ℕ) {number place issue : ℕ} 
     → (8 ≡ length (answerBytes (answerMessage a))) × (last ≡ answerBytes (answerMessage a) ++ drop (length (answerBytes (answerMessage a))) room)
 unfolding answerBytes
 put-answer a room last e f g h = (refl, h ∙ rw (e, f, g))
+
+-- an image has twenty
+pub twenty-bytes : (bits apart : ℕ) → length (answerBytes (Held bits apart)) ≡ 20
+unfolding answerBytes
+twenty-bytes bits apart = refl
+
+pub put-image : (bits apart : ℕ) (room last : List ℕ) {b a : List ℕ} → b ≡ littleEndian 8 bits → a ≡ littleEndian 8 apart
+    → last ≡ 18 ∷ 0 ∷ 129 ∷ 0 ∷ getD b 0 0 ∷ getD b 1 0 ∷ getD b 2 0 ∷ getD b 3 0 ∷ getD b 4 0 ∷ getD b 5 0 ∷ getD b 6 0 ∷ getD b 7 0
+    ∷ getD a 0 0 ∷ getD a 1 0 ∷ getD a 2 0 ∷ getD a 3 0 ∷ getD a 4 0 ∷ getD a 5 0 ∷ getD a 6 0 ∷ getD a 7 0 ∷ drop 20 room
+    → (20 ≡ length (answerBytes (Held bits apart))) × (last ≡ answerBytes (Held bits apart) ++ drop (length (answerBytes (Held bits apart))) room)
+unfolding answerBytes
+put-image bits apart room last e f h = (refl, h ∙ rw (e, f))
 
 -- what is written of a message, by another name of it
 pub retold : {v w : What} {n : ℕ} {last : List ℕ} (room : List ℕ) → v ≡ w → (n ≡ length (answerBytes w)) × (last ≡ answerBytes w ++ drop (length (answerBytes w)) room)

@@ -5,10 +5,12 @@ ghost use mathlib.Core.List.{_++_};
 ghost use Prim.Native.Nat.{_≤_};
 ghost use lib.Dec.{leb};
 ghost use lib.ListN.{length, drop, replicate};
+ghost use Rattle.answers.specs.declared.Answer.the-variants.{Taken};
 ghost use Rattle.station.specs.Station.{fit};
 ghost use Rattle.station.specs.Calls.{refused, resulted};
 ghost use Rattle.station.specs.Turns.{turnOf, afterTurn};
-ghost use Rattle.wire.specs.Kinds.{firstInstruction, requestKind, resultKind, inRange, setOf};
+ghost use Rattle.wire.specs.declared.What.the-variants.{Held};
+ghost use Rattle.wire.specs.Kinds.{firstInstruction, requestKind, resultKind, setOf};
 ghost use Rattle.wire.specs.Reads.{kindAt};
 ghost use Rattle.wire.specs.Writes.{LeavesMessage};
 ghost use Rattle.service.specs.Service.{answerMessage, respond, calledKnown, respondKnown, answerBytes};
@@ -236,6 +238,20 @@ fn told(kind: u16, t: Turn) -> What
     answer_message(answer)
 }
 
+// The station that a turn leaves where its set changes.
+fn left(s: Station, t: Turn, m: &[u8]) -> Station
+    ensures { λ x. ⌜ x ≡ afterTurn s t (setOf (drop firstInstruction (now (m .entry)))) .station ⌝ }
+{
+    if s.count < t.count {
+        let set = fresh(m);
+        let o = s.after(t, set);
+        return o.station;
+    }
+    let set = s.set;
+    let o = s.after(t, set);
+    o.station
+}
+
 // The reply to a message whose bytes are exactly m.
 fn answered(known: bool, sure: bool, s: Station, m: &[u8]) -> Reply
     requires { ⌜ (sure ≡ true → fit s ≡ true) ⌝ }
@@ -243,9 +259,7 @@ fn answered(known: bool, sure: bool, s: Station, m: &[u8]) -> Reply
 {
     let t = heard(known, sure, s, m);
     let answer = told(wire::kind_at(m), t);
-    let set = fresh(m);
-    let o = s.after(t, set);
-    let station = o.station;
+    let station = left(s, t, m);
     Reply { station, answer }
 }
 
@@ -287,13 +301,39 @@ pub fn respond(s: Station, m: &[u8]) -> Reply
 
 // ---- a run of messages
 
-// Puts a message that holds no instruction at the start of out, and says how many bytes it took.
-fn say(what: What, out: &mut [u8]) -> usize
-    requires { ⌜ (inRange what ≡ true) × (length (answerBytes what) ≤ length (now out)) ⌝ }
-    ensures { λ n. ⌜ (n ≡ length (answerBytes what)) × (now (out .exit) ≡ answerBytes what ++ drop (length (answerBytes what)) (now (out .entry))) ⌝ }
+// Puts the image at the start of out, in its twenty bytes, and says how many they are.
+fn show(bits: u64, apart: u64, out: &mut [u8]) -> usize
+    requires { ⌜ length (answerBytes (Held bits apart)) ≤ length (now out) ⌝ }
+    ensures { λ n. ⌜ (n ≡ length (answerBytes (Held bits apart))) × (now (out .exit) ≡ answerBytes (Held bits apart) ++ drop (length (answerBytes (Held bits apart))) (now (out .entry))) ⌝ }
 {
-    let w = wire::writing::write_plain(what, out);
-    w.size
+    let b = wire::image_bytes(bits);
+    let a = wire::image_bytes(apart);
+    bytes::copy(
+        &[
+            18,
+            0,
+            129,
+            0,
+            b[0],
+            b[1],
+            b[2],
+            b[3],
+            b[4],
+            b[5],
+            b[6],
+            b[7],
+            a[0],
+            a[1],
+            a[2],
+            a[3],
+            a[4],
+            a[5],
+            a[6],
+            a[7],
+        ],
+        out,
+    );
+    20
 }
 
 // Puts an answer at the start of out, in its eight bytes, and says how many they are.
@@ -310,6 +350,15 @@ fn put(answer: Answer, out: &mut [u8]) -> usize
     8
 }
 
+// What most messages are told.
+fn done(out: &mut [u8]) -> usize
+    requires { ⌜ length (answerBytes (answerMessage Taken)) ≤ length (now out) ⌝ }
+    ensures { λ n. ⌜ (n ≡ length (answerBytes (answerMessage Taken))) × (now (out .exit) ≡ answerBytes (answerMessage Taken) ++ drop (length (answerBytes (answerMessage Taken))) (now (out .entry))) ⌝ }
+{
+    bytes::copy(&[6, 0, 128, 0, 0, 255, 0, 0], out);
+    8
+}
+
 // The same of what a message of this kind is told after its turn.
 fn tell(kind: u16, t: Turn, out: &mut [u8]) -> usize
     requires { ⌜ length (answerBytes (replySaid kind t)) ≤ length (now out) ⌝ }
@@ -317,29 +366,12 @@ fn tell(kind: u16, t: Turn, out: &mut [u8]) -> usize
 {
     let answer = t.answer;
     if (kind == 5) & (answer.number() == 0) {
-        return say(
-            What::Held {
-                bits: t.bits,
-                apart: t.apart,
-            },
-            out,
-        );
+        return show(t.bits, t.apart, out);
     }
-    put(answer, out)
-}
-
-// The station that a turn leaves where its set changes.
-fn left(s: Station, t: Turn, m: &[u8]) -> Station
-    ensures { λ x. ⌜ x ≡ afterTurn s t (setOf (drop firstInstruction (now (m .entry)))) .station ⌝ }
-{
-    if s.count < t.count {
-        let set = fresh(m);
-        let o = s.after(t, set);
-        return o.station;
+    match answer {
+        Answer::Taken => done(out),
+        _ => put(answer, out),
     }
-    let set = s.set;
-    let o = s.after(t, set);
-    o.station
 }
 
 // Answers every whole message of input, one after another, in room that is long enough. Fitness is tested once: every call keeps it. A set

@@ -11,7 +11,7 @@ use borrow.Author.Tests.{eq-eqb, eqb-true, eqb-false, ltb-true, ltb-false, lt-lt
 use Rattle.bits.specs.Bits.{bit, packed}
 use Rattle.bits.specs.Places.{elem, share}
 use Rattle.bits.specs.Search.{some, every}
-use Rattle.bits.proofs.Search.{some-same, every-at}
+use Rattle.bits.proofs.Search.{some-at, some-same, every-at}
 use Rattle.bits.proofs.Digits.{packed-lt, bit-ext, bit-past, bit-ones, bit-image}
 use Rattle.bits.proofs.Operations.{bit-or, bit-and}
 use Rattle.bits.proofs.Meeting.{meet}
@@ -29,7 +29,7 @@ use Rattle.bits.proofs.Cases.{clash, split, neither, T→true, true→T}
 use Rattle.bits.proofs.Sharing.{Small, share-masks}
 use Rattle.rules.proofs.Frame.{area-small}
 use Rattle.station.specs.Held.{codeAt, heldArea, overlapsEarlier, liftIn, partsIn, heldParts, touches}
-use Rattle.station.specs.Private.{heldMask, areas}
+use Rattle.station.specs.Private.{heldMask, areas, liftsIn}
 
 -- each place of an area is a bit of a record
 pub held-small : (x : Code) → Small (heldArea x)
@@ -110,6 +110,44 @@ lift-in set n {m} e = sym
 
 -- ---- the lift is whole in an area, and the parts of an area
 
+-- two tests that are found alike by computation
+pub same-as : (a b : Bool) → cond a b (not b) ≡ true → b ≡ a
+same-as true b e = e
+same-as false b e = not-true b e
+
+-- an instruction has it in its area, by its own numbers
+liftsRight : Instruction → Bool
+liftsRight i = cond (liftsIn i) (share (areaOf i) lift) (not (share (areaOf i) lift))
+
+every-lifts : T (everywhere liftsRight)
+unfolding everywhere every liftsRight
+every-lifts = tt
+
+pub held-lifts : (x : Code) (i : Instruction) {b : Bool} → b ≡ liftsIn i → readCode x ≡ Good i → b ≡ share (heldArea x) lift
+unfolding heldArea liftsRight
+held-lifts x i e g =
+    e ∙ sym (same-as (liftsIn i) (share (areaOf i) lift) (T→true (liftsRight i) (each liftsRight every-lifts i (true→T (one-form x i g .1)))))
+    ∙ ap (λ (y : Reading). share (onCode areaOf [] y) lift) (sym g)
+
+pub none-lifts : (x : Code) → readCode x ≡ Bad → false ≡ share (heldArea x) lift
+unfolding heldArea
+none-lifts x g = ap (λ (y : Reading). share (onCode areaOf [] y) lift) (sym g)
+
+-- one of a set has it: none so far, this one, or not this one either
+pub lift-none : (set : List ℕ) → liftIn set 0 ≡ false
+unfolding liftIn some
+lift-none set = refl
+
+module _ (set : List ℕ) (i : ℕ) {b : Bool} {x : Code} (e : x ≡ codeAt set i) (h : b ≡ share (heldArea x) lift) where
+  pub lift-here : (n : ℕ) → i < n → b ≡ true → true ≡ liftIn set n
+  unfolding liftIn
+  lift-here n l t =
+      sym (some-at n (λ j. share (heldArea (codeAt set j)) lift) i l (ap (λ (y : Code). share (heldArea y) lift) (sym e) ∙ sym h ∙ t))
+
+  pub lift-past : b ≡ false → liftIn set i ≡ false → liftIn set (i + 1) ≡ false
+  unfolding liftIn some
+  lift-past f g = rw (add-one i, ← e, ← h, f, g)
+
 -- from place 52 on an area has the lift whole, or nothing
 abbrev wholeOrNone : Instruction → Bool
 wholeOrNone i = every 12 (λ j. cond (ltb j 3 && share (areaOf i) lift) (elem (52 + j) (areaOf i)) (not (elem (52 + j) (areaOf i))))
@@ -117,11 +155,6 @@ wholeOrNone i = every 12 (λ j. cond (ltb j 3 && share (areaOf i) lift) (elem (5
 every-whole : T (everywhere wholeOrNone)
 unfolding everywhere every
 every-whole = tt
-
--- two tests that are found alike by computation
-pub same-as : (a b : Bool) → cond a b (not b) ≡ true → b ≡ a
-same-as true b e = e
-same-as false b e = not-true b e
 
 pub held-upper : (x : Code) (j : ℕ) → j < 12 → elem (52 + j) (heldArea x) ≡ ltb j 3 && share (heldArea x) lift
 unfolding heldArea

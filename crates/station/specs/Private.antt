@@ -1,11 +1,13 @@
 -- What the contracts of private functions cite; no public one rests on it. Assumes nothing.
-use mathlib.Core.Bool.{Bool, cond, _&&_}
+use mathlib.Core.Bool.{Bool, true, false, cond, _&&_}
 use mathlib.Core.List.{List}
-use Prim.Native.Nat.{ℕ, zero, suc}
+use Prim.Native.Nat.{ℕ, zero, suc, _/_, _%_}
 use lib.Bits.{bitOr}
 use lib.Dec.{eqb}
 use Rattle.bits.specs.Bits.{image}
 use Rattle.bits.specs.Places.{elem}
+use Rattle.rules.specs.declared.Instruction.{Instruction}
+use Rattle.rules.specs.declared.Instruction.the-variants.{Belts, Shuttles, Tilt, Lift, Rotate}
 use Rattle.rules.specs.declared.Code.{Code}
 use Rattle.rules.specs.declared.Area.{Area}
 use Rattle.station.specs.Held.{codeAt, heldArea}
@@ -18,6 +20,14 @@ heldMask x = image (λ k. elem k (heldArea x))
 unfoldable pub areas : List ℕ → ℕ → ℕ
 areas set zero = 0
 areas set (suc n) = bitOr (areas set n) (heldMask (codeAt set n))
+
+-- a well-formed instruction has the lift in its area: the lift's belt, its runs, and turns
+abbrev pub liftsIn : Instruction → Bool
+liftsIn (Belts row mask toward size) = eqb row 1 && eqb (mask / 4 % 2) 1
+liftsIn (Shuttles side mask orientation toward) = false
+liftsIn (Tilt side row orientation) = false
+liftsIn (Lift height) = true
+liftsIn Rotate = true
 
 -- the mask that an answer gives, or none
 abbrev pub maskIn : Area → ℕ

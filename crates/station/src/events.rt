@@ -47,7 +47,7 @@ impl Station {
         ensures { λ t. ⌜ t ≡ turnOf (driven self e) ⌝ }
     {
         let set = self.set;
-        if sets::lift_in(set, self.count) {
+        if sets::lift_in(&set, self.count) {
             return self.unmoved(Answer::SetOutstanding);
         }
         self.occurred(e)

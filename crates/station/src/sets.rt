@@ -8,7 +8,7 @@ ghost use lib.ListN.{length, getD, take, replicate};
 ghost use Rattle.bits.specs.Search.{every, least};
 ghost use Rattle.station.specs.Held.{codeAt, bad, touches, overlapsEarlier, stranded, liftIn};
 ghost use Rattle.station.specs.Turns.{keptSet};
-ghost use Rattle.station.specs.Private.{areas, firstOf};
+ghost use Rattle.station.specs.Private.{firstOf};
 use crate::held;
 use crate::held::PARTS;
 use floor::masks::LIFT;
@@ -100,26 +100,20 @@ pub fn search(set: &[u8; 40], n: u8, marks: u8, r: u64, apart: u64) -> Faults
     }
 }
 
-// All areas of the first n instructions.
-fn areas(set: [u8; 40], n: u8) -> u64
-    ensures { λ m. ⌜ m ≡ areas set n ⌝ }
+// One of the first n instructions has the lift in its area.
+pub fn lift_in(set: &[u8; 40], n: u8) -> bool
+    requires { ⌜ length (now set) ≡ 40 ⌝ }
+    ensures { λ b. ⌜ b ≡ liftIn (now (set .entry)) n ⌝ }
 {
-    let mut seen: u64 = 0;
     let mut i = 0;
     while i < n {
-        let x = code_at(&set, i);
-        let m = held::area(x);
-        seen = seen | m;
+        let x = code_at(set, i);
+        if held::has_lift(x) {
+            return true;
+        }
         i += 1;
     }
-    seen
-}
-
-// One of the first n instructions has the lift in its area.
-pub fn lift_in(set: [u8; 40], n: u8) -> bool
-    ensures { λ b. ⌜ b ≡ liftIn set n ⌝ }
-{
-    areas(set, n) & LIFT != 0
+    false
 }
 
 // The places past the first n instructions are zero.

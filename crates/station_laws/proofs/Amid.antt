@@ -1,5 +1,5 @@
 -- Asks and refused calls leave the station as it was: whatever they are put between meets the same stations. Assumes nothing.
-use mathlib.Core.Path.{_≡_, refl, ap, _∙_}
+use mathlib.Core.Path.{_≡_, refl, sym, ap, _∙_}
 use mathlib.Core.Bool.{false}
 use mathlib.Core.List.{List, [], _∷_}
 use native.Mathlib.Omega.{arith}
@@ -8,7 +8,7 @@ use Rattle.bits.proofs.Cases.{split}
 use Rattle.station.specs.declared.Station.{Station}
 use Rattle.station_laws.specs.Runs as run
 use Rattle.station_laws.specs.Runs.{Call, answerNumber, stationAfter, calls}
-use Rattle.station_laws.specs.Orders.{Amid, ends, kept, asked, refused, takes, turns, turnsAmid}
+use Rattle.station_laws.specs.Orders.{Amid, ends, kept, asked, refused, takes, turns, turnsAmid, Alike, AlikeAmid}
 use Rattle.station_laws.specs.SafeInAnyOrder.{AmidUnmoved, AmidExists, AmidCovers}
 use Rattle.station_laws.proofs.EachCall.{untouched}
 use Rattle.station_laws.proofs.Changes.{event-taken}
@@ -30,6 +30,10 @@ end-same (refused {s} {l} c r a) = end-same a ∙ ap (λ (t : Station). calls t 
 
 pub amid-unmoved : AmidUnmoved
 amid-unmoved s l m a = (turns-same a, end-same a)
+
+pub amid-alike : {s : Station} {l m x y : List Call} (a : Amid s l x) (b : Amid s m y) → Alike s l m → AlikeAmid a b
+amid-alike a b h =
+    (turns-same a, turns-same b, end-same a ∙ h .same ∙ sym (end-same b), ap (λ (s : Station). s .count) (end-same a) ∙ h .closed .0)
 
 -- ---- such lists
 

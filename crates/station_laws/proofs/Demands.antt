@@ -9,7 +9,7 @@ use Rattle.station_laws.specs.Runs as run
 use Rattle.station_laws.specs.Runs.{call}
 use Rattle.station_laws.specs.AlwaysAnswers.{RefusedUntouched, CallsInTable}
 use Rattle.station_laws.specs.AnswersRight.{AcceptedExactly, ReasonExactly, ResultRecord, FailureKeeps, StuckSetsApart, LateExactly, IssuesInTurn, FirstIsZero, ImageKeepsCount, BehindCounts, EventRecord, ImageTaken, AskKeeps, ResultTaken, EventTaken, EventRefused, LiftRefused, ApartRefused, EndTaken, NobodyMovesTheLift, LiftHeldSinceBegin, OnlySuccessChanges, OnlyStuckSetsApart, PlacesRight, PlacesElse, PlacesInRange}
-use Rattle.station_laws.specs.SafeInAnyOrder.{AlwaysLaidOut, CarsCounted, AnyOrder, OrdersExist, AmidUnmoved, AmidExists, AmidCovers, FinishedAnyOrder, WaitsAnyway, NothingMeetsAJam, StillAllowed, FitStays, NeverUnfit}
+use Rattle.station_laws.specs.SafeInAnyOrder.{AlwaysLaidOut, CarsCounted, AnyOrder, OrdersExist, AmidUnmoved, AnyOrderAmid, AmidExists, AmidCovers, FinishedAnyOrder, WaitsAnyway, NothingMeetsAJam, StillAllowed, FitStays, NeverUnfit}
 use Rattle.station_laws.proofs.EachCall as each
 use Rattle.station_laws.proofs.Calls.{request-has, request-is, success-has, success-is, failure-has, failure-is, stuck-has, stuck-is, answering-bits, answering-apart, image-has, image-is, ask-has, ask-is}
 use Rattle.station_laws.proofs.Places as places
@@ -152,6 +152,9 @@ orders-exist = lists.orders-exist
 
 pub amid-unmoved : AmidUnmoved
 amid-unmoved = amid.amid-unmoved
+
+pub any-order-amid : AnyOrderAmid
+any-order-amid s r n set e fate events l m x y p q a b = amid.amid-alike a b (orders.any-order s r n set e fate events l m p q)
 
 pub amid-exists : AmidExists
 amid-exists = amid.amid-exists

@@ -122,3 +122,7 @@ turnsAmid ends = []
 turnsAmid (kept {s} c a) = s ∷ turnsAmid a
 turnsAmid (asked a) = turnsAmid a
 turnsAmid (refused c r a) = turnsAmid a
+
+-- two lists, each with such calls put in: the calls of both meet the stations that they meet without, the ends are the same, the set closed
+abbrev pub AlikeAmid : {s : Station} {l m x y : List Call} → Amid s l x → Amid s m y → Type 0
+AlikeAmid {s} {l} {m} {x} {y} a b = (turnsAmid a ≡ turns s l) × (turnsAmid b ≡ turns s m) × (calls s x ≡ calls s y) × (calls s x .count ≡ 0)

@@ -16,7 +16,7 @@ use Rattle.station.specs.Held.{codeAt, heldArea, heldAllowed}
 use Rattle.station.specs.Station.{presentIssue, fit, marked}
 use Rattle.station_laws.specs.Runs as run
 use Rattle.station_laws.specs.Runs.{Call, answerNumber, stationAfter, calls, Begins, NoImages, Reached, carsDriven}
-use Rattle.station_laws.specs.Orders.{Fate, fateNumber, Order, Alike, Amid, interrupted, takenOf, turns, turnsAmid}
+use Rattle.station_laws.specs.Orders.{Fate, fateNumber, Order, Alike, Amid, AlikeAmid, interrupted, takenOf, turns, turnsAmid}
 use Rattle.station_laws.specs.Jams.{stuck, jamAt, has, finished, Chosen}
 
 -- whatever calls follow, images too, for every choice of which stuck instructions did in fact finish, the record with those applied is
@@ -48,9 +48,18 @@ OrdersExist =
     → (front : List Call) × Order k n fate events (front ++ (run.resultCall k i (fateNumber (fate i)) ∷ []))
 
 -- on any station asks and refused calls that are put in move nothing: each other call meets the station that it would meet without, and the
--- end is the same; so two orders come to the same with them put in anywhere too
+-- end is the same
 abbrev pub AmidUnmoved : Type 0
 AmidUnmoved = (s : Station) (l m : List Call) (a : Amid s l m) → (turnsAmid a ≡ turns s l) × (calls s m ≡ calls s l)
+
+-- so of an accepted set two orders, as in `AnyOrder`, come to the same with asks and refused calls put in anywhere in each
+abbrev pub AnyOrderAmid : Type 0
+AnyOrderAmid =
+    (s : Station) → Reached s → (n : ℕ) (set : List ℕ) → answerNumber s (run.request n set) ≡ 0
+    → (fate : ℕ → Fate) (events : List ℕ) (l m x y : List Call)
+    → let t = stationAfter s (run.request n set) in
+    Order (presentIssue t) n fate events l → Order (presentIssue t) n fate events m
+    → (a : Amid t l x) (b : Amid t m y) → AlikeAmid a b
 
 -- for every list of calls there is one with an ask and a refused call put in before each
 abbrev pub AmidExists : Type 0

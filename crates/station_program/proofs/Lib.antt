@@ -1,3 +1,2 @@
 mod Turning
-mod Adding
-mod OpeningStands
+mod Opening

@@ -5,9 +5,9 @@ ghost use mathlib.Core.List.{[]};
 ghost use Rattle.io.specs.Counts.{Counts};
 ghost use Rattle.station_program.specs.Opened.{OpenedIfSafe};
 ghost use Rattle.station_program.specs.Words.{isNew, isGarageWord, isName};
-use crate::keeping::Journal;
-use crate::keeping::lost;
-use crate::keeping::unkept;
+use journal_keeper::Journal;
+use journal_keeper::lost;
+use journal_keeper::unkept;
 
 // Whether a word is --new.
 fn is_new(word: &[u8]) -> bool
@@ -69,7 +69,8 @@ fn misnamed() -> Journal
     lost()
 }
 
-// The journal that argument i names, made before if it is to be new; where a garage is asked for, it must be its.
+// The journal that argument i names, made before if it is to be new; where a garage is asked for, it must be its. One with cards is a
+// desk's: here its cars would move, and the cards would stay.
 fn named(t: &[u32], i: usize, new: bool, garage: &[u8], buf: &mut [u8], room: &mut [u8]) -> Journal
     ensures { λ j. ⌜ OpenedIfSafe (now (t .entry)) (now (room .entry)) (now (garage .entry)) (now (buf .exit)) j ⌝ }
 {
@@ -83,11 +84,20 @@ fn named(t: &[u32], i: usize, new: bool, garage: &[u8], buf: &mut [u8], room: &m
         return wrong();
     }
     if new {
-        if !crate::opening::make(t, &name[..n], garage) {
+        if !journal_keeper::opening::make(t, &name[..n], garage) {
             return lost();
         }
     }
-    crate::opening::open(t, &mut name, n, garage, buf, room)
+    let found = journal_keeper::opening::find(t, &name[..n], garage, buf, room);
+    let q = found.reading;
+    if !q.well {
+        return lost();
+    }
+    if found.cards {
+        journal_files::tell(b"station: the journal has cards: bin/desk starts with it\n");
+        return lost();
+    }
+    journal_keeper::opening::go_on(found, buf, &mut name, n)
 }
 
 // The journal that argument i names, of the garage that argument g names.

@@ -9,15 +9,14 @@ ghost use Rattle.checksum.specs.Slices.{slices};
 ghost use Rattle.journal.specs.Journal.{Follows};
 ghost use Rattle.journal_file.specs.Appends.{mostCarried};
 ghost use Rattle.service.specs.Runs.{enough};
-ghost use Rattle.station_program.specs.Keeping.{JournalMakes, JournalKept, Noted, Goes, AsTurn, TurnedOver, RoomForAnswers};
+ghost use Rattle.journal_keeper.specs.Keeping.{Noted};
+ghost use Rattle.station_program.specs.Keeping.{StationMakes, StationKept, Goes, AsTurn, TurnedOver, RoomForAnswers};
 ghost use Rattle.streams.specs.Input.{Fills};
 ghost use Rattle.service.specs.Turns.{turning};
 
 mod asking;
-mod keeping;
-mod opening;
 
-use keeping::Journal;
+use journal_keeper::Journal;
 use station::Station;
 use streams::Input;
 
@@ -39,7 +38,7 @@ fn read_on(buf: &mut [u8], have: usize) -> Input
 // Writes the first n bytes of the answers, and says whether that went well. The messages that they answer are in the journal by then: it is
 // safe; and so is the mark of a session that these answers end.
 fn say(j: Journal, ended: bool, out: &[u8], n: usize) -> bool
-    requires { ⌜ JournalKept j × Noted ended j ⌝ }
+    requires { ⌜ StationKept j × Noted ended j ⌝ }
 {
     streams::send(libc::STDOUT_FILENO, out, n, b"station: standard output")
 }
@@ -65,12 +64,12 @@ fn record(
     next: Station,
     stop: bool,
 ) -> Journal
-    requires { ⌜ (used ≤ end) × (end ≤ length (now buf)) × (length (now buf) ≤ mostCarried) × (now t ≡ slices) × JournalKept j × Follows (j .station) (take used (now buf)) next ⌝ }
-    ensures { λ r. ⌜ (r .safe ≡ true → (r .station ≡ next) × Noted stop r × JournalMakes r) ⌝ }
+    requires { ⌜ (used ≤ end) × (end ≤ length (now buf)) × (length (now buf) ≤ mostCarried) × (now t ≡ slices) × StationKept j × Follows (j .station) (take used (now buf)) next ⌝ }
+    ensures { λ r. ⌜ (r .safe ≡ true → (r .station ≡ next) × Noted stop r × StationMakes r) ⌝ }
 {
-    let kept = keeping::append(t, j, next, &buf[..used]);
+    let kept = journal_keeper::append(t, j, next, &buf[..used]);
     if stop {
-        return keeping::note(t, kept, 3, &buf[used..end]);
+        return journal_keeper::note(t, kept, 3, &buf[used..end]);
     }
     kept
 }
@@ -78,7 +77,7 @@ fn record(
 // Works out the answers to what came whole, appends it to the journal, and only then writes them. The rest is held: less than a message, so
 // that a read that brings nothing is always the input's end.
 fn answer(t: &[u32], j: Journal, buf: &mut [u8], end: usize, out: &mut [u8]) -> Between
-    requires { ⌜ (end ≤ length (now buf)) × (enough (length (now buf)) ≤ length (now out)) × (length (now buf) ≤ mostCarried) × (now t ≡ slices) × JournalKept j ⌝ }
+    requires { ⌜ (end ≤ length (now buf)) × (enough (length (now buf)) ≤ length (now out)) × (length (now buf) ≤ mostCarried) × (now t ≡ slices) × StationKept j ⌝ }
     ensures { λ r. ⌜ Goes r × AsTurn (turning (j .station) (now (buf .entry)) end (now (out .entry))) r (now (buf .exit)) (now (out .exit)) ⌝ }
 {
     let w = service::serve(j.station, &buf[..end], out);
@@ -99,12 +98,12 @@ fn answer(t: &[u32], j: Journal, buf: &mut [u8], end: usize, out: &mut [u8]) -> 
 
 // The end of the input, where the first `have` bytes are left over: that is noted before it is answered.
 fn close(t: &[u32], j: Journal, buf: &[u8], have: usize, out: &mut [u8])
-    requires { ⌜ (have ≤ length (now buf)) × (now t ≡ slices) × JournalKept j ⌝ }
+    requires { ⌜ (have ≤ length (now buf)) × (now t ≡ slices) × StationKept j ⌝ }
 {
     if have == 0 {
         return;
     }
-    let noted = keeping::note(t, j, 2, &buf[..have]);
+    let noted = journal_keeper::note(t, j, 2, &buf[..have]);
     if !noted.safe {
         return;
     }
@@ -115,7 +114,7 @@ fn close(t: &[u32], j: Journal, buf: &[u8], have: usize, out: &mut [u8])
 // Reads once, answers what came whole, and holds the rest. It goes on only after a turn over what was read that goes on; after a read that
 // failed nothing more is written.
 fn one_turn(t: &[u32], b: Between, buf: &mut [u8], out: &mut [u8]) -> Between
-    requires { ⌜ (b .have < 45) × RoomForAnswers (now buf) (now out) × (now t ≡ slices) × JournalKept (b .journal) ⌝ }
+    requires { ⌜ (b .have < 45) × RoomForAnswers (now buf) (now out) × (now t ≡ slices) × StationKept (b .journal) ⌝ }
     ensures { λ r. ⌜ Goes r × (r .stop ≡ false → TurnedOver (b .journal .station) (b .have) (now (buf .entry)) (now (out .entry)) r (now (buf .exit)) (now (out .exit))) ⌝ }
 {
     let j = b.journal;
@@ -133,7 +132,7 @@ fn one_turn(t: &[u32], b: Between, buf: &mut [u8], out: &mut [u8]) -> Between
 
 // Turn after turn; no input is so long that it takes more.
 fn session(t: &[u32], j: Journal, buf: &mut [u8], out: &mut [u8])
-    requires { ⌜ RoomForAnswers (now buf) (now out) × (now t ≡ slices) × JournalKept j ⌝ }
+    requires { ⌜ RoomForAnswers (now buf) (now out) × (now t ≡ slices) × StationKept j ⌝ }
 {
     let mut b = Between {
         journal: j,
@@ -152,7 +151,7 @@ fn session(t: &[u32], j: Journal, buf: &mut [u8], out: &mut [u8])
 
 // The session, in the first 64 KiB of the buffer.
 fn begin(t: &[u32], j: Journal, buf: &mut [u8], out: &mut [u8])
-    requires { ⌜ (65536 ≤ length (now buf)) × (enough 65536 ≤ length (now out)) × (now t ≡ slices) × JournalKept j ⌝ }
+    requires { ⌜ (65536 ≤ length (now buf)) × (enough 65536 ≤ length (now out)) × (now t ≡ slices) × StationKept j ⌝ }
 {
     session(t, j, &mut buf[..65536], out);
 }

@@ -71,6 +71,56 @@ pub fn fill(fd: i32, buf: &mut [u8], have: usize, name: &[u8]) -> Input
     failed(name)
 }
 
+// What came of a whole input: so many bytes at the front of the buffer; or a read failed, and that is told.
+pub struct Came {
+    pub have: usize,
+    pub failed: bool,
+}
+
+// Reads to the end of the input, or until the buffer is full.
+pub fn read_all(fd: i32, buf: &mut [u8], name: &[u8]) -> Came
+    ensures { λ r. ⌜ r .have ≤ length (now (buf .exit)) ⌝ }
+{
+    let mut have: usize = 0;
+    loop {
+        let input = fill(fd, buf, have, name);
+        match input {
+            Input::Bytes(end) => {
+                have = end;
+            }
+            Input::Failed => {
+                return Came { have, failed: true };
+            }
+            _ => {
+                return Came {
+                    have,
+                    failed: false,
+                };
+            }
+        }
+    }
+}
+
+// Where so many lines of what came end, at least one; where there are fewer, the bytes do.
+pub fn lines_end(bytes: &[u8], lines: u8) -> usize
+    ensures { λ n. ⌜ n ≤ length (now (bytes .entry)) ⌝ }
+{
+    let mut left = lines;
+    let mut i: usize = 0;
+    while i < bytes.len() {
+        let b = bytes[i];
+        i += 1;
+        if b != b'\n' {
+            continue;
+        }
+        if left <= 1 {
+            return i;
+        }
+        left -= 1;
+    }
+    i
+}
+
 fn least(a: usize, b: usize) -> usize
     ensures { λ r. ⌜ r ≡ min a b ⌝ }
 {

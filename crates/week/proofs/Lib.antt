@@ -3,3 +3,4 @@ mod Steps
 mod Counting
 pub mod Pieces
 pub mod Promises
+mod Results

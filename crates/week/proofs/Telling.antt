@@ -103,10 +103,10 @@ wrong-kind m e = split (ltb (length m) 4) (λ t. rw t)
         when (ltb (length m) (lengthAt m + 2)) Cut (Whole (lengthAt m + 2)) Wrong e
         (λ _ q. let z : _≡_ {A = ℕ} 0 1 = cc in omega arith) (λ _ q. let z : _≡_ {A = ℕ} 0 1 = cc in omega arith)
 
-kind-is : (m : List ℕ) (n k : ℕ) → frameOf m ≡ Whole n → kindAt m ≡ k → k ≤ 5 → kindRead m ≡ k
+pub kind-is : (m : List ℕ) (n k : ℕ) → frameOf m ≡ Whole n → kindAt m ≡ k → k ≤ 5 → kindRead m ≡ k
 kind-is m n k e q h = whole-kind m n e ∙ rw (q, le-ltb 5 k h)
 
-kind-taken : (m : List ℕ) (n : ℕ) → 4 ≤ n → kindAt (take n m) ≡ kindAt m
+pub kind-taken : (m : List ℕ) (n : ℕ) → 4 ≤ n → kindAt (take n m) ≡ kindAt m
 kind-taken m n h = rw (getD-take n m 2 0 (omega arith), getD-take n m 3 0 (omega arith))
 
 -- by its kind: an event that ends a drive as done, another, a result, or any other kind

@@ -8,10 +8,11 @@ ghost use Rattle.station.specs.Station.{fit};
 ghost use Rattle.totals.specs.Totals.{LeavesCounts, totalsOf, countedIn};
 ghost use Rattle.week.specs.Weeks.{kindRead, numberAnswered, driveOn, happened};
 ghost use Rattle.week.specs.Counts.{Counts, countOn, countEnd};
-ghost use Rattle.week.specs.Private.{toldBy, messageStep};
+ghost use Rattle.week.specs.Private.{toldBy, bringsResult, messageStep};
 use floor::Total;
 use floor::masks::DRIVE_IN;
 use floor::masks::DRIVE_OUT;
+use station::Report;
 use station::Station;
 use totals::Happened;
 use totals::NOTHING;
@@ -155,11 +156,68 @@ fn cars_after(known: bool, cars: u8, before: u64, after: u64) -> u8
     cars_now(known, after)
 }
 
+// The first message of m is a result, whole and with an ending that is known. Most messages are.
+fn brings_result(m: &[u8]) -> bool
+    ensures { λ b. ⌜ b ≡ bringsResult (now (m .entry)) ⌝ }
+{
+    if m.len() < 8 {
+        return false;
+    }
+    let size = wire::word(m[0], m[1]);
+    let kind = wire::word(m[2], m[3]);
+    (size == 6) & (kind == 3) & (m[7] <= 2)
+}
+
+// What it does on a fit station: what waits is allowed, and a success is not judged.
+fn settled(cars: u8, s: Station, m: &[u8]) -> Step
+    requires { ⌜ (fit s ≡ true) × (cars ≡ carsIn (total (s .bits))) × (bringsResult (now m) ≡ true) ⌝ }
+    ensures { λ x. ⌜ x ≡ messageStep s (now (m .entry)) ⌝ }
+{
+    let issue = wire::word(wire::byte(m, 4), wire::byte(m, 5));
+    let number = wire::byte(m, 6);
+    let ending = wire::byte(m, 7);
+    let t = s.settled(Report {
+        issue,
+        number,
+        ending,
+    });
+    let set = s.set;
+    let o = s.after(t, set);
+    let station = o.station;
+    let said = t.answer;
+    let answer = said.number();
+    let cars = cars_after(true, cars, s.bits, station.bits);
+    if answer == 0 {
+        let op = op_at(set, number);
+        let happened = Happened {
+            kind: 3,
+            answer,
+            op,
+            done: ending == 1,
+            drive: 0,
+            cars,
+        };
+        return Step { happened, station };
+    }
+    let happened = Happened {
+        kind: 3,
+        answer,
+        op: 0,
+        done: false,
+        drive: 0,
+        cars,
+    };
+    Step { happened, station }
+}
+
 // What the first message of m does on a station of which it is known whether it is fit, and how many cars it has.
 fn seen(known: bool, cars: u8, s: Station, m: &[u8]) -> Step
     requires { ⌜ (known ≡ fit s) × (cars ≡ carsIn (total (s .bits))) ⌝ }
     ensures { λ x. ⌜ x ≡ messageStep s (now (m .entry)) ⌝ }
 {
+    if known & brings_result(m) {
+        return settled(cars, s, m);
+    }
     let r = service::respond_known(known, s, m);
     let station = r.station;
     let reply = r.answer;

@@ -10,6 +10,7 @@ from .record import RAISED, Record
 from .words import Instruction, Said, fives_of
 
 REPLY_MOST, SHOWN_SIZE, CARD_SIZE = 20, 16, 4
+LINE_SIZE, LIST_SIZE, OPEN_SIZE, CHANGES_SIZE = 8, 248, 44, 496
 COUNT_MOST = 255
 """What a count of one byte goes to; more are too many all the same."""
 AT_LIFT, AT_DRIVE, UNDER_WAY = 40, 41, 55
@@ -156,3 +157,39 @@ class Desk(Calls):
         card = bytearray(CARD_SIZE)
         self.taken("leaving", card)
         return int.from_bytes(card, "little") or None
+
+    def list(self) -> List["Line"]:
+        """What is told of every car, in the order of `record.places()`, and then of the card of a drive-in under way, at 55."""
+        lines = bytearray(LIST_SIZE)
+        return lines_of(lines, call("desk_list", self.room, lines))
+
+    def outstanding(self) -> Tuple[int, List[Tuple[bytes, bool]]]:
+        """The issue of the last set that was accepted, and each instruction that is outstanding, five bytes, with whether it is answered."""
+        told = bytearray(OPEN_SIZE)
+        self.taken("outstanding", told)
+        issue, count, answered = struct.unpack_from("<HBB", told)
+        return issue, [(bytes(told[4 + 5 * i : 9 + 5 * i]), bool(answered >> i & 1)) for i in range(count)]
+
+    def compare(self, record: Record, cards: Iterable[int], apart: int = 0) -> List["Line"]:
+        """What an image with these cards would change; the desk stays as it is. Refused as the image would be. First the cards that would
+        leave or change places, then those that would appear, at 255."""
+        numbers = [card.to_bytes(CARD_SIZE, "little") for card in cards]
+        lines, count = bytearray(CHANGES_SIZE), min(len(numbers), COUNT_MOST)
+        return lines_of(lines, call("desk_compare", self.room, record.image, apart, count, b"".join(numbers), lines))
+
+
+class Line(NamedTuple):
+    """What is told of a card: its place, a flag (0 the car is there, 1 that place is the last known, 2 it is in motion), and the place that it
+    would get. 255 is none, and 55 that of a drive-in under way."""
+
+    card: int
+    place: int
+    flag: int
+    next: int
+
+
+def lines_of(lines: bytes, said: int) -> List[Line]:
+    """As many lines as an answer says."""
+    if said & 255:
+        raise Refused(Number(said & 255))
+    return [Line(*struct.unpack_from("<IBBB", lines, LINE_SIZE * i)) for i in range(said >> 8 & 255)]

@@ -10,11 +10,12 @@ from pathlib import Path
 from typing import Iterator, List, NamedTuple, Optional, Tuple, Union
 
 from . import messages
-from .calls import Station
+from .calls import Desk, Station
 
 MAGIC = b"Vargsnida, journal.\n"
 FORMAT, HEAD, NAME_AT, STATION_AT, SUM_AT = 2, 128, 24, 64, 124
 TITLED, AROUND, CARRIED_MOST, LEFT_MOST, SECTOR, END_MARK = 8, 13, 65536, 44, 512, 10
+CARDS, NUMBERS = 42, 168
 
 
 def table() -> List[int]:
@@ -55,12 +56,14 @@ class Damaged(ValueError):
 
 
 class Kind(enum.IntEnum):
-    """What an append is: the messages of one read; what was left when a session ended by answer 1, or by 2; the closing mark."""
+    """What an append is: the messages of one read; what was left when a session ended by answer 1, or by 2; the closing mark; the numbers of a
+    desk's cards, and behind them the messages of one read or none."""
 
     MESSAGES = 1
     CUT_SHORT = 2
     BAD_LENGTH = 3
     CLOSED = 4
+    CARDS = 5
 
 
 class Append(NamedTuple):
@@ -69,6 +72,11 @@ class Append(NamedTuple):
     at: int
     kind: Kind
     carried: bytes
+
+    @property
+    def sent(self) -> bytes:
+        """The messages that it carries, one behind the other."""
+        return messages_of(self.kind, self.carried)
 
 
 class Journal(NamedTuple):
@@ -89,8 +97,14 @@ class Journal(NamedTuple):
     def messages(self) -> Iterator[bytes]:
         """The messages that were answered, in their order."""
         for append in self.appends:
-            if append.kind is Kind.MESSAGES:
-                yield from messages.split(append.carried)
+            yield from messages.split(append.sent)
+
+    @property
+    def numbers(self) -> Tuple[int, ...]:
+        """The numbers of a desk's 42 cards, as its last append that has cards says them; zeros where none has."""
+        kept = [append.carried for append in self.appends if append.kind is Kind.CARDS]
+        given = kept[-1] if kept else bytes(NUMBERS)
+        return tuple(number(given[4 * at : 4 * at + 4]) for at in range(CARDS))
 
     def station(self) -> Station:
         """The station that it makes: every message answered again, from the one that it begins with."""
@@ -99,14 +113,29 @@ class Journal(NamedTuple):
             garage.message(message)
         return garage
 
+    def desk(self) -> Desk:
+        """The desk that it makes, where a desk has kept it: the station with these numbers. Refused with 16 where they are not the cars'."""
+        return Desk.from_bytes(bytes(self.station()) + b"".join(number.to_bytes(4, "little") for number in self.numbers))
+
+
+def messages_of(kind: int, carried: bytes) -> bytes:
+    """What of the bytes that an append of this kind carries are messages."""
+    return carried if kind == Kind.MESSAGES else carried[NUMBERS:] if kind == Kind.CARDS else b""
+
+
+def messages_of(kind: int, carried: bytes) -> bytes:
+    """What of the bytes that an append of this kind carries are messages."""
+    return carried if kind == Kind.MESSAGES else carried[NUMBERS:] if kind == Kind.CARDS else b""
+
 
 def fits(kind: int, carried: bytes) -> bool:
     """Whether an append of this kind can carry these bytes."""
-    if kind == Kind.MESSAGES:
+    if kind in (Kind.MESSAGES, Kind.CARDS):
         try:
-            return len(list(messages.split(carried))) > 0
+            count = len(list(messages.split(messages_of(kind, carried))))
         except ValueError:
             return False
+        return count > 0 if kind == Kind.MESSAGES else len(carried) >= NUMBERS
     return kind == Kind.CLOSED and not carried or kind in (Kind.CUT_SHORT, Kind.BAD_LENGTH) and len(carried) <= LEFT_MOST
 
 
@@ -158,7 +187,7 @@ def read(file: Union[bytes, str, "os.PathLike[str]"]) -> Journal:
         if not whole or closed or not fits(rest[0], carried):
             raise Damaged(at, len(appends), sent)
         appends.append(Append(at, Kind(rest[0]), carried))
-        sent += len(list(messages.split(carried))) if rest[0] == Kind.MESSAGES else 0
+        sent += len(list(messages.split(appends[-1].sent)))
         at += len(carried) + AROUND
         before = number(rest[len(carried) + TITLED : len(carried) + TITLED + 4])
     version = number(head[21:24])

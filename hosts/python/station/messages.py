@@ -117,8 +117,8 @@ def split(recorded: bytes) -> Iterator[bytes]:
         at += size
 
 
-def whole(message: bytes) -> bool:
-    """Whether a station answers these bytes once, without waiting for more: they are one whole message, or begin with a length that is out
-    of range, which a station answers and stops."""
+def whole(message: bytes, most: int = LENGTH_MOST) -> bool:
+    """Whether a station, or a desk with its own greatest length, answers these bytes once, without waiting for more: they are one whole
+    message, or begin with a length that is out of range, which is answered before it stops."""
     length = int.from_bytes(message[:2], "little")
-    return len(message) >= 2 and (len(message) == 2 + length or not LENGTH_LEAST <= length <= LENGTH_MOST)
+    return len(message) >= 2 and (len(message) == 2 + length or not LENGTH_LEAST <= length <= most)

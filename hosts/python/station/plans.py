@@ -10,15 +10,18 @@ from .record import Record
 from .words import Said, set_of
 
 
+def is_accepted(told: Union["Verdict", "Grounds"]) -> bool:
+    """Whether the plan is accepted of which this is told."""
+    return told.number is Number.TAKEN
+
+
 class Verdict(NamedTuple):
     """What a plan is told: a number, and the first set that would be refused, from 0, or None."""
 
     number: Number
     set: Optional[int] = None
 
-    @property
-    def accepted(self) -> bool:
-        return self.number is Number.TAKEN
+    accepted = property(is_accepted)
 
     def __str__(self) -> str:
         if self.accepted:
@@ -60,9 +63,7 @@ class Grounds(NamedTuple):
     parts: int = 0
     record: Optional[Record] = None
 
-    @property
-    def accepted(self) -> bool:
-        return self.number is Number.TAKEN
+    accepted = property(is_accepted)
 
     def __str__(self) -> str:
         if self.accepted:

@@ -5,7 +5,7 @@ import subprocess
 import tempfile
 from typing import Optional, Union
 
-from .messages import whole
+from .messages import LENGTH_MOST, whole
 
 PATIENCE = 60
 """Seconds that a program has for its end once its input has ended."""
@@ -25,6 +25,9 @@ class Ended(Exception):
 class Program:
     """A running station: `Program("bin/station", "--new", "north.journal", "--garage", "north")`. Left as a context it is ended."""
 
+    LONGEST = LENGTH_MOST
+    """The greatest length that a message to it may have."""
+
     def __init__(self, path: Union[str, "os.PathLike[str]"], *words: str):
         # what it tells goes to a file, as a pipe that nobody reads could hold it up
         self.told = tempfile.TemporaryFile()
@@ -37,7 +40,7 @@ class Program:
 
     def send(self, message: bytes) -> bytes:
         """Sends one message, and gives the message that answers it; raises Ended where none comes."""
-        if not whole(message):
+        if not whole(message, self.LONGEST):
             raise ValueError(f"not one whole message: {message.hex(' ')}")
         if self.ended:
             raise self.ended

@@ -51,6 +51,19 @@ class Reading(unittest.TestCase):
         self.assertEqual(journals.sent(THREE), SENT)
         self.assertEqual(journals.sent(b"".join(SENT)), SENT)
 
+    def test_cards_stand_before_messages_and_the_last_say_them(self):
+        numbers = [number + 256 * number for number in range(journals.CARDS)]
+        given = b"".join(four(number) for number in numbers)
+        cards = grown(head(), (Kind.CARDS, bytes(journals.NUMBERS)), (Kind.CARDS, given + b"".join(SENT[:2])), (Kind.MESSAGES, b"".join(SENT[2:])))
+        read = journals.read(cards)
+        self.assertEqual(list(read.messages()), SENT)
+        self.assertEqual(read.station(), journals.read(THREE).station())
+        self.assertEqual(read.numbers, tuple(numbers))
+        self.assertEqual(journals.read(THREE).numbers, (0,) * journals.CARDS)
+        for carried in (given[:-1], given + b"\x02\x00\x05"):
+            with self.assertRaises(Damaged):
+                journals.read(grown(head(), (Kind.CARDS, carried)))
+
     def test_it_goes_on_from_the_station_that_it_begins_with(self):
         garage = journals.read(THREE).station()
         self.assertEqual(journals.read(head(station=bytes(garage))).station(), garage)

@@ -16,11 +16,11 @@ def of_mark(page, *marks):
 
 
 class Sessions(unittest.TestCase):
-    """docs/EXAMPLES.md, through the library and through the program on a journal."""
+    """docs/EXAMPLES.md and tests/pages/sessions.md, through the library and through the program on a journal."""
 
     def lines(self):
         found = 0
-        for _, session in of_mark("docs/EXAMPLES.md", "session"):
+        for _, session in of_mark("docs/EXAMPLES.md", "session") + of_mark("tests/pages/sessions.md", "session"):
             lines = [(line[0], bytes.fromhex(line[1:])) for line in session.splitlines()]
             # those out of step have lines that are no message, and are the program's alone
             if all(mark != ">" or len(given) == 2 + given[0] or not 2 <= given[0] <= 43 for mark, given in lines):

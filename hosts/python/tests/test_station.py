@@ -2,7 +2,7 @@
 
 import unittest
 
-from station import Event, Number, Outcome, Record, Refused, Station, belts, lift, parts_of, shuttles
+from station import Desk, Event, Number, Outcome, Record, Refused, Station, belts, lift, parts_of, shuttles
 from tree import drawn
 
 ROW_1, ROW = "....................", ".........."
@@ -79,3 +79,23 @@ class Planner(unittest.TestCase):
         self.assertNotEqual(again, one)
         with self.assertRaisesRegex(ValueError, "60 bytes, not 59"):
             Station.from_bytes(bytes(59))
+
+
+class StreetDesk(unittest.TestCase):
+    def test_all_cars_what_is_outstanding_and_what_an_image_would_change(self):
+        desk = Desk()
+        desk.event(Event.BEGIN_IN, 7001)
+        self.assertEqual(desk.list(), [(7001, 55, 0, 0)], "a card that waits is at 55")
+        desk.event(Event.END_DONE)
+        issue = desk.request(lift("basement"))
+        self.assertEqual(desk.list(), [(7001, 52, 2, 11)], "in motion")
+        self.assertEqual(desk.outstanding(), (issue, [(bytes([4, 2, 0, 0, 0]), False)]))
+        with self.assertRaises(Refused) as refused:
+            desk.compare(desk.record, [7002])
+        self.assertEqual(refused.exception.number, Number.SET_OUTSTANDING)
+        desk.result(issue, 0, Outcome.FAILED)
+        kept = bytes(desk.room)
+        self.assertEqual(desk.outstanding(), (issue, []))
+        self.assertEqual(desk.compare(desk.record, [line.card for line in desk.list()]), [], "its own cards change nothing")
+        self.assertEqual(desk.compare(desk.record, [7002]), [(7001, 52, 0, 255), (7002, 255, 0, 52)], "one leaves, one appears")
+        self.assertEqual(bytes(desk.room), kept, "the desk is as it was")

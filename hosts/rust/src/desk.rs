@@ -122,10 +122,58 @@ impl Desk {
         (0..=AT_LIFT).filter_map(|at| Some((place(at), self.card_at(at)?))).collect()
     }
 
+    /// What is told of every car, in the order of [`Record::places`], and then of the card of a drive-in under way, at place 55.
+    pub fn list(&self) -> Vec<Line> {
+        let mut lines = [0; 248];
+        let answer = lent::desk_list(&self.0, &mut lines);
+        answer.into_result().expect("it is a desk");
+        lines_of(answer, &lines)
+    }
+
+    /// What is outstanding: the issue of the last set that was accepted, and of what is outstanding each instruction's bytes, with whether
+    /// it is answered.
+    pub fn outstanding(&self) -> (Issue, Vec<([u8; 5], bool)>) {
+        let mut set = [0; 44];
+        lent::desk_outstanding(&self.0, &mut set).into_result().expect("it is a desk");
+        let codes = set[4..].chunks_exact(5).take(set[2].into()).enumerate();
+        let told = codes.map(|(i, code)| (code.try_into().expect("five bytes"), set[3] >> i & 1 == 1)).collect();
+        (Issue(u16::from_le_bytes([set[0], set[1]])), told)
+    }
+
+    /// What an image with these cards would change, as [`Desk::image`] would be answered; the desk stays as it is. Each card that would
+    /// leave or change places, and then each that would appear, at place 255.
+    pub fn compare(&self, image: Record, cards: &[Card]) -> Result<Vec<Line>, Refusal> {
+        let bytes: Vec<u8> = cards.iter().flat_map(|card| card.0.to_le_bytes()).collect();
+        let mut lines = [0; 496];
+        let answer = lent::desk_compare(&self.0, image.0, 0, count_of(cards), &bytes, &mut lines);
+        answer.into_result()?;
+        Ok(lines_of(answer, &lines))
+    }
+
     fn card_at(&self, at: usize) -> Option<Card> {
         let bytes = &self.0[Station::SIZE + 4 * at..][..4];
         some_card(bytes.try_into().expect("four bytes"))
     }
+}
+
+/// What is told of a card: its place, a flag (0 the car is there, 1 that place is the last known, 2 it is in motion), and the place that it
+/// would get. Places are the bits of the record; 255 is none, and 55 that of a drive-in under way.
+#[derive(Clone, Copy, Debug, PartialEq, Eq, Hash)]
+pub struct Line {
+    /// The card.
+    pub card: Card,
+    /// Its place now.
+    pub place: u8,
+    /// How sure that is.
+    pub flag: u8,
+    /// The place that it would get.
+    pub next: u8,
+}
+
+/// As many lines as an answer says.
+fn lines_of(answer: crate::Answer, lines: &[u8]) -> Vec<Line> {
+    let line = |b: &[u8]| Line { card: Card(u32::from_le_bytes([b[0], b[1], b[2], b[3]])), place: b[4], flag: b[5], next: b[6] };
+    lines.chunks_exact(8).take(answer.place.unwrap_or(0).into()).map(line).collect()
 }
 
 /// The card of four bytes, the lowest first; none where they are 0.

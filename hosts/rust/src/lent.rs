@@ -137,6 +137,22 @@ pub fn desk_leaving(room: &[u8], card: &mut [u8]) -> Answer {
     Answer::of(unsafe { desk::desk_leaving(room.as_ptr(), room.len(), card.as_mut_ptr(), card.len()) })
 }
 
+/// Writes a line for every car, eight bytes each: 248 bytes. The place of the answer says how many.
+pub fn desk_list(room: &[u8], lines: &mut [u8]) -> Answer {
+    Answer::of(unsafe { desk::desk_list(room.as_ptr(), room.len(), lines.as_mut_ptr(), lines.len()) })
+}
+
+/// Writes what is outstanding: 44 bytes.
+pub fn desk_outstanding(room: &[u8], set: &mut [u8]) -> Answer {
+    Answer::of(unsafe { desk::desk_outstanding(room.as_ptr(), room.len(), set.as_mut_ptr(), set.len()) })
+}
+
+/// Writes a line for each card that an image would move, take away or bring: 496 bytes. The place of the answer says how many.
+pub fn desk_compare(room: &[u8], image: u64, apart: u64, count: u8, cards: &[u8], lines: &mut [u8]) -> Answer {
+    let (wide, from, to) = (cards.len(), cards.as_ptr(), lines.as_mut_ptr());
+    Answer::of(unsafe { desk::desk_compare(room.as_ptr(), room.len(), image, apart, count, from, wide, to, lines.len()) })
+}
+
 // ---- include/plan.h
 
 /// What the plan of these bytes is told; the place is that of the set at fault.

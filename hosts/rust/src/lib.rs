@@ -90,7 +90,7 @@ pub use places::{Parts, Place, Whereabouts};
 #[cfg(feature = "entries")]
 pub use building::version;
 #[cfg(feature = "entries")]
-pub use desk::{Card, Desk};
+pub use desk::{Card, Desk, Line};
 #[cfg(feature = "entries")]
 pub use record::{Condition, Record};
 #[cfg(feature = "entries")]

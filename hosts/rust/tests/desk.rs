@@ -263,3 +263,22 @@ fn answers_in_words() {
     assert_eq!(refusal(WrongCount).to_string(), "39 (not that many numbers)");
     assert_eq!(refusal_at(OddCount, 2).to_string(), "24 (odd count: a car would be torn) at 2");
 }
+
+/// What is told of all cars, of what is outstanding, and of what an image would change, which changes nothing.
+#[test]
+fn all_cars_and_what_an_image_would_change() {
+    use station::{Event, Issue, Line, Outcome};
+    let line = |card, place, flag, next| Line { card: Card(card), place, flag, next };
+    let mut desk = station::Desk::new();
+    desk.event(Event::BeginIn, Some(Card(7001))).unwrap();
+    assert_eq!(desk.list(), [line(7001, 55, 0, 0)], "a card that waits");
+    desk.event(Event::EndedDone, None).unwrap();
+    let issue = desk.request(&[LIFT_DOWN.try_into().unwrap()]).unwrap();
+    assert_eq!((desk.list(), desk.outstanding()), (vec![line(7001, 52, 2, 11)], (issue, vec![(LIFT_DOWN, false)])), "in motion");
+    assert_eq!(desk.compare(desk.record(), &[Card(7002)]).unwrap_err().number, SetOutstanding);
+    desk.result(issue, 0, Outcome::Failed).unwrap();
+    let kept = *desk.bytes();
+    assert_eq!((desk.outstanding(), desk.compare(desk.record(), &[Card(7001)])), ((Issue(0), vec![]), Ok(vec![])));
+    assert_eq!(desk.compare(desk.record(), &[Card(7002)]), Ok(vec![line(7001, 52, 0, 255), line(7002, 255, 0, 52)]));
+    assert_eq!(desk.bytes(), &kept, "the desk is as it was");
+}

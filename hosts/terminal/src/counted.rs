@@ -1,7 +1,7 @@
 //! The week of a journal or of a recording, counted by the proved entries: each message, and what ended a session, on the station as it is
 //! before it.
 
-use crate::journal::{messages, Journal, Next, MESSAGES};
+use crate::journal::{messages, parts_of, Journal, Next};
 use crate::message::{length, LENGTHS};
 use crate::told::failed;
 use station::words::Wrong;
@@ -42,7 +42,7 @@ pub fn of_journal(input: impl Read, from: usize) -> Result<Counted, Wrong> {
             Next::Damaged { at } => return Err(format!("the journal is damaged at byte {at}, behind {appends} appends")),
         };
         appends += 1;
-        let read: Vec<&[u8]> = if kind == MESSAGES { messages(&carried).collect() } else { vec![&carried] };
+        let read: Vec<&[u8]> = parts_of(kind, &carried).map_or_else(|| vec![&carried[..]], |(_, sent)| messages(sent).collect());
         for message in read.into_iter().filter(|message| !message.is_empty()) {
             counted.take(message, appends > from)?;
         }

@@ -15,11 +15,15 @@ const MOST: usize = 65_536;
 const AROUND: usize = 13;
 const SECTOR: usize = 512;
 const END_MARK: u8 = 10;
-/// The kinds of appends: messages, what ended a session by answer 1 or by 2, and that another journal follows.
+/// The kinds of appends: messages, what ended a session by answer 1 or by 2, that another journal follows, and messages with the numbers
+/// of a desk's cards before them.
 pub const MESSAGES: u8 = 1;
 pub const CUT_SHORT: u8 = 2;
 pub const BAD_LENGTH: u8 = 3;
 pub const CLOSED: u8 = 4;
+pub const CARDS: u8 = 5;
+/// The numbers of a desk: 42 of four bytes.
+pub const NUMBERS: usize = 168;
 
 /// Whether an input begins as a journal does; a pipe may bring fewer bytes at first, and a log of messages never begins so.
 pub fn is_journal(input: &mut impl BufRead) -> Result<bool, Wrong> {
@@ -132,10 +136,24 @@ fn titled(sum: u32, bytes: &[u8]) -> bool {
 /// Whether an append of this kind can carry these bytes.
 fn is_known(kind: u8, carried: &[u8]) -> bool {
     match kind {
-        MESSAGES => !carried.is_empty() && messages(carried).map(<[u8]>::len).sum::<usize>() == carried.len(),
+        MESSAGES => !carried.is_empty() && are_messages(carried),
+        CARDS => carried.get(NUMBERS..).is_some_and(are_messages),
         CUT_SHORT | BAD_LENGTH => carried.len() <= 44,
         CLOSED => carried.is_empty(),
         _ => false,
+    }
+}
+
+fn are_messages(bytes: &[u8]) -> bool {
+    messages(bytes).map(<[u8]>::len).sum::<usize>() == bytes.len()
+}
+
+/// The numbers that an append carries, and the messages; neither where it carries what was left of an input.
+pub fn parts_of(kind: u8, carried: &[u8]) -> Option<(&[u8], &[u8])> {
+    match kind {
+        MESSAGES => Some((&[], carried)),
+        CARDS => carried.split_at_checked(NUMBERS),
+        _ => None,
     }
 }
 

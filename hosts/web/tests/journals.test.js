@@ -107,6 +107,17 @@ test('what ended sessions, and what follows a journal', () => {
   assert.deepEqual([past.count, past.closed, past.damage], [1, true, { at: 128 + 17 + 13, append: 2, messages: 1 }]);
 });
 
+test('the numbers of cards stand before the messages, and the last say them', () => {
+  const made = new JournalBytes(NAME, garage.version, garage.station().bytes), numbers = Uint8Array.from({ length: 168 }, (_, at) => at);
+  assert.equal(journalIn(garage, made.bytes()).numbers, null);
+  made.append(Append.Cards, new Uint8Array(168));
+  made.append(Append.Cards, Uint8Array.from([...numbers, ...askOf()]));
+  made.append(Append.Messages, askOf());
+  const read = journalIn(garage, made.bytes());
+  assert.deepEqual([read.count, read.appends, read.damage, [...read.numbers]], [2, 3, null, [...numbers]]);
+  assert.deepEqual([...read.messages], [...askOf(), ...askOf()]);
+});
+
 function oneRead(read) {
   const made = new JournalBytes(NAME, garage.version, garage.station().bytes);
   made.append(Append.Messages, read);
@@ -115,7 +126,8 @@ function oneRead(read) {
 
 test('appends that a station would not take are damage', () => {
   for (const [kind, carried] of [[Append.Messages, []], [Append.Messages, [2, 0, 5]], [Append.Messages, [2, 0, 5, 0, 2]], [Append.Messages, [255, 255, 0, 0]],
-    [Append.CutShort, Array(45).fill(1)], [Append.BadLength, Array(45).fill(1)], [Append.Closed, [1]], [0, []], [5, []]]) {
+    [Append.CutShort, Array(45).fill(1)], [Append.BadLength, Array(45).fill(1)], [Append.Closed, [1]], [Append.Cards, Array(167).fill(1)],
+    [Append.Cards, [...Array(168).fill(1), 2, 0, 5]], [0, []], [6, []]]) {
     const made = new JournalBytes(NAME, garage.version, garage.station().bytes);
     made.append(Append.Messages, askOf());
     made.append(kind, Uint8Array.from(carried));

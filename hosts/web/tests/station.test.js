@@ -13,9 +13,10 @@ test('the first session of the README', () => {
   assert.equal(String(refused), '31 (out of turn)');
 });
 
-test('the sessions of EXAMPLES.md', () => {
+test('the sessions of EXAMPLES.md and of the test of pages', () => {
   let sessions = 0;
-  for (const { text } of blocks('docs/EXAMPLES.md').filter(({ word }) => word === 'session')) {
+  const all = ['docs/EXAMPLES.md', 'tests/pages/sessions.md'].flatMap(blocks);
+  for (const { text } of all.filter(({ word }) => word === 'session')) {
     const station = garage.station(), replies = [];
     let ended = false;
     for (const line of text.trim().split('\n').map((one) => one.split('#')[0].trim()).filter((one) => one !== '')) {
@@ -38,12 +39,20 @@ test('a car by its card, a jam, and the image that clears it', () => {
   assert.deepEqual(desk.where(7001), { answer: desk.where(7001).answer, place: Size.DESK_RAISED, lastKnown: false });
   assert.equal(desk.request([instruction('lift basement')]).issue, 0);
   assert.equal(desk.set.length, 1);
+  assert.deepEqual(desk.list().lines, [{ card: 7001, place: Size.DESK_RAISED, flag: 2, next: 11 }]);
+  assert.deepEqual(desk.outstanding(), { answer: desk.outstanding().answer, issue: 0, set: desk.set });
   assert.ok(desk.result(desk.issue, 0, Outcome.Stuck).taken);
+  assert.deepEqual(desk.outstanding().set, []);
+  assert.deepEqual(desk.list().lines, [{ card: 7001, place: Size.DESK_RAISED, flag: 1, next: 0 }]);
   assert.equal(desk.set.length, 0);
   assert.equal(desk.apart, (1n << 52n) | (3n << 11n));
   assert.ok(desk.where(7001).lastKnown);
   assert.equal(desk.event(Event.BeginOut).number, Numbers.SetApart);
   assert.equal(desk.image(START | (1n << 52n), [0]).number, Numbers.ZeroNumber);
+  assert.deepEqual(desk.compare(START | (1n << 52n), [0]).lines, []);
+  assert.equal(desk.compare(START | (1n << 52n), [0]).answer.number, Numbers.ZeroNumber);
+  const changes = [{ card: 7001, place: Size.DESK_RAISED, flag: 1, next: 255 }, { card: 12, place: 255, flag: 0, next: Size.DESK_RAISED }];
+  assert.deepEqual(desk.compare(START | (1n << 52n), [12]).lines, changes);
   assert.ok(desk.image(START | (1n << 52n), [12]).taken);
   assert.deepEqual([...desk.cards], [[Size.DESK_AT_LIFT, 12]]);
   assert.ok(desk.event(Event.BeginOut).taken);

@@ -21,7 +21,7 @@ function floorAndLines(text) {
 }
 
 test('conditions are told as the panel tells them', () => {
-  const panel = ['docs/PANEL.md', 'docs/REASONS.md'].flatMap(blocks);
+  const panel = ['docs/PANEL.md', 'tests/entries/panel_numbers.md'].flatMap(blocks);
   let conditions = 0;
   panel.forEach(({ word, text }, at) => {
     if (word !== 'panel' || floorAndLines(text) === undefined) return;

@@ -10,7 +10,7 @@ use shared::calls::{any_call, lent_station};
 use shared::filling;
 use shared::handed::{self, handed, Handed};
 use shared::traffic::{self, Numbers};
-use shared::trials::{self, Given, Trial};
+use shared::trials::{self, Given, Limits, Trial};
 use std::collections::{BTreeMap, BTreeSet};
 use std::process::exit;
 
@@ -67,12 +67,12 @@ fn trials(count: usize) -> Vec<Trial<Told>> {
 
 pub fn main(words: &[String]) {
     let [_, count, limit, program @ ..] = words else { panic!("usage: entries COMMANDS STACK PROGRAM..") };
-    let (trials, limit) = (trials(count.parse().expect("a number")), limit.parse().expect("a number"));
+    let (trials, limit) = (trials(count.parse().expect("a number")), Limits::read(limit));
     let mut seen = vec![BTreeSet::new(); ENTRIES.len()];
     let mut reasons = vec![BTreeSet::new(); ENTRIES.len()];
     let mut met = vec![BTreeMap::new(); ENTRIES.len()];
     let mut filled = BTreeSet::new();
-    trials::run(&ENTRIES, &trials, limit, program, |trial, number| {
+    trials::run(&ENTRIES, &trials, &limit, program, |trial, number| {
         let entry = usize::from(trial.entry);
         seen[entry].insert(number);
         reasons[entry].extend(trial.of_it.reason);

@@ -1,9 +1,10 @@
-//! The most stack that calls can take, by the instructions: `objdump -d --no-show-raw-insn PROGRAM | frames LIMIT HEADER`. A function takes
+//! The most stack that calls can take, by the instructions: `objdump -d --no-show-raw-insn PROGRAM | frames LIMITS HEADER`. A function takes
 //! what it pushes, what it moves the stack pointer by, and below that what it uses there itself or what the deepest of those that it calls
 //! takes. An upper bound for each entry of the header on every path, for x86-64; what can't be read so (a call by a pointer, a circle of
 //! calls, another change of the stack pointer) is a failure. Functions are told apart by their addresses: two archives have functions of the
 //! same name. The C library's functions that the entries call are counted as taking the red zone only.
 
+use shared::trials::Limits;
 use std::collections::{BTreeMap, BTreeSet};
 use std::io::Read;
 use std::process::exit;
@@ -104,8 +105,8 @@ fn bound(all: &Functions, at: u64, above: &[u64]) -> Result<i64, String> {
 }
 
 pub fn main(words: &[String]) {
-    let [_, limit, header] = words else { panic!("usage: frames LIMIT HEADER") };
-    let limit: i64 = limit.parse().expect("a number");
+    let [_, limits, header] = words else { panic!("usage: frames LIMITS HEADER") };
+    let limits = Limits::read(limits);
     let header = std::fs::read_to_string(header).expect("the header is there");
     let entry = |line: &str| Some(line.strip_prefix("uint32_t ").or(line.strip_prefix("bool "))?.split_once('(')?.0.to_string());
     let mut text = String::new();
@@ -115,9 +116,9 @@ pub fn main(words: &[String]) {
     for entry in header.lines().filter_map(entry) {
         let at = all.iter().find(|(_, function)| function.name == entry).map(|(&at, _)| at);
         match at.ok_or("it is not there".to_string()).and_then(|at| bound(&all, at, &[])) {
-            Ok(most) if most <= limit => bounds.push((entry, most)),
+            Ok(most) if most <= limits.of(&entry).into() => bounds.push((entry, most)),
             Ok(most) => {
-                eprintln!("{entry} can take {most} bytes of stack, which is above {limit}");
+                eprintln!("{entry} can take {most} bytes of stack, which is above {}", limits.of(&entry));
                 exit(1);
             }
             Err(why) => {
@@ -127,5 +128,5 @@ pub fn main(words: &[String]) {
         }
     }
     assert!(!bounds.is_empty(), "the header has no entries");
-    println!("frames: on no path more than {limit} bytes of stack, by {bounds:?}");
+    println!("frames: on no path more than {limits}, by {bounds:?}");
 }

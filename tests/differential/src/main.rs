@@ -1,5 +1,6 @@
 //! `differential TEST WORD..`: the programs, and hosts in C, beside the reference. Each test says in its file which words it takes.
 
+mod desk;
 mod entries;
 mod explain;
 mod frames;
@@ -14,6 +15,7 @@ mod streams;
 
 fn main() {
     shared::chosen(&[
+        ("desk", desk::main),
         ("entries", entries::main),
         ("explain", explain::main),
         ("frames", frames::main),

@@ -3,16 +3,14 @@
 //! number that each entry can give must come, and every reason of each opcode that the next record is refused for.
 
 use reference::command;
+use reference::desk_command;
 use reference::panel_command::{self, ENTRIES, NEXT};
 use reference::Station;
 use shared::panel_calls::{any_call, reason};
 use shared::traffic::{self, every_reason, framed_message, Numbers};
-use shared::trials::{self, Trial};
+use shared::trials::{self, Limits, Trial};
 use std::collections::BTreeSet;
 use std::process::exit;
-
-/// How many entries the program has between the station's and these.
-const DESK_ENTRIES: u8 = 8;
 
 /// The commands; the reference says what each must return and leave. Of each the reason is kept that it tells for an opcode.
 fn trials(count: usize) -> Vec<Trial<Option<(u8, u8)>>> {
@@ -23,7 +21,7 @@ fn trials(count: usize) -> Vec<Trial<Option<(u8, u8)>>> {
         traffic::after(&mut station, &message);
         let Some(given) = any_call(&mut numbers, &station) else { continue };
         let (entry, input) = (given.entry, given.input.clone());
-        trials.push(given.trial(command::ENTRIES.len() as u8 + DESK_ENTRIES, |command| {
+        trials.push(given.trial((command::ENTRIES.len() + desk_command::ENTRIES.len()) as u8, |command| {
             let answer = panel_command::call(command);
             (answer, reason(entry, &input, answer))
         }));
@@ -33,9 +31,9 @@ fn trials(count: usize) -> Vec<Trial<Option<(u8, u8)>>> {
 
 pub fn main(words: &[String]) {
     let [_, count, limit, program @ ..] = words else { panic!("usage: panel COMMANDS STACK PROGRAM..") };
-    let (trials, limit) = (trials(count.parse().expect("a number")), limit.parse().expect("a number"));
+    let (trials, limit) = (trials(count.parse().expect("a number")), Limits::read(limit));
     let (mut seen, mut reasons) = (vec![BTreeSet::new(); ENTRIES.len()], BTreeSet::new());
-    trials::run(&ENTRIES, &trials, limit, program, |trial, number| {
+    trials::run(&ENTRIES, &trials, &limit, program, |trial, number| {
         seen[usize::from(trial.entry)].insert(number);
         if trial.entry == NEXT {
             reasons.extend(trial.of_it);

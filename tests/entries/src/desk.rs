@@ -1,71 +1,36 @@
 //! The desk's entries for C against the reference: `desk CALLS COMMANDS STACK PROGRAM..`. Commands through the program (entries.c) on desks
 //! as they come and on handed-in ones of every sort that desk_handed.rs tells apart, in rooms long and short, with no more than so many
 //! bytes of stack. Then a host's long run on one desk, from its start on: requests, results, drives with cards, images with numbers; after
-//! each call the desk's bytes must be the reference's, and where each car is and which card is leaving is asked. The reference looks itself
-//! at what is promised: its numbered cars are those of the record, whichever of the stuck instructions finished, and a car that is told for
-//! sure stands there in each case. Every number that each entry can give must have come, and no other, and all else that met.rs and
-//! filling.rs list.
+//! each call the desk's bytes must be the reference's, and where each car is, which card is leaving, where all cars are and what is
+//! outstanding is asked; before each image, what it would change. The reference looks itself at what is promised: its numbered cars are
+//! those of the record, whichever of the stuck instructions finished, and a car that is told for sure stands there in each case. Every
+//! number that each entry can give must have come, and no other, and all else that met.rs and filling.rs list. Each wrong desk must be found
+//! out by a call.
 
+mod judge;
+mod lists;
 mod met;
 mod traffic;
 
+use judge::Judge;
 use met::{every_one, Met};
-use reference::command::{self, Command};
+use reference::command;
 use reference::desk::Desk;
-use reference::desk_command::{self, call, ASK, ENTRIES, IMAGE, LEAVING, RESULT, START, WHERE};
+use reference::desk_command::{self, call, ENTRIES, IMAGE, LEAVING, RESULT, START, WHERE};
 use reference::{Call, Instruction, STUCK};
 use shared::desk_handed::{self, handed, made, Handed};
 use shared::filling;
 use shared::traffic::{damaged_station, Numbers};
-use shared::trials::{self, room_for, Given, Trial};
-use station::raw::desk as desk_raw;
+use shared::trials::{self, room_for, Given, Limits, Trial};
 use std::collections::{BTreeMap, BTreeSet};
 use std::process::exit;
 
 /// Bytes that are no desk.
 const UNFIT: u8 = 16;
 
-/// A call of the archive's entry.
-fn archive(command: &mut Command) -> u32 {
-    let &mut Command { entry, first, second, issue, image, apart, card, ref mut room, input, ref mut output } = command;
-    let (lent, length) = (room.as_mut_ptr(), room.len());
-    // each run is lent with its own length, and none overlaps another
-    unsafe {
-        match entry {
-            START => desk_raw::desk_start(lent, length),
-            desk_command::REQUEST => desk_raw::desk_request(lent, length, first, input.as_ptr(), input.len()),
-            desk_command::EVENT => desk_raw::desk_event(lent, length, first, card),
-            RESULT => desk_raw::desk_result(lent, length, issue, first, second),
-            IMAGE => desk_raw::desk_image(lent, length, image, apart, first, input.as_ptr(), input.len()),
-            ASK => desk_raw::desk_ask(lent, length, output.as_mut_ptr(), output.len()),
-            WHERE => desk_raw::desk_where(lent, length, card),
-            _ => desk_raw::desk_leaving(lent, length, output.as_mut_ptr(), output.len()),
-        }
-    }
-}
-
 /// The card numbers that some bytes are, so many of them at most.
 fn cards_in(bytes: &[u8], most: u8) -> Vec<u32> {
     bytes.chunks_exact(4).take(most.into()).filter_map(|four| Some(u32::from_le_bytes(*four.first_chunk()?))).collect()
-}
-
-/// Makes one call on lent bytes by the archive's entry and by the reference's: the same must be returned and left. Gives what was.
-fn compared(at: usize, given: &Given, bytes: &[u8; Desk::SIZE]) -> (u32, [u8; Desk::SIZE], Vec<u8>) {
-    let by = |call: fn(&mut Command) -> u32| {
-        let (mut room, mut output) = (*bytes, given.output.clone());
-        let &Given { entry, first, second, issue, image, apart, card, ref input, .. } = given;
-        let answer = call(&mut Command { entry, first, second, issue, image, apart, card, room: &mut room, input, output: &mut output });
-        (answer, room, output)
-    };
-    let (ours, theirs) = (by(archive), by(call));
-    if ours != theirs {
-        let Given { entry, first, second, issue, image, apart, card, input, .. } = given;
-        let entry = ENTRIES[usize::from(*entry)].0;
-        eprintln!("desk: call {at}, {entry}: {first} {second} {issue} {image:#x} {apart:#x} {card} {input:02X?}");
-        eprintln!("on       {bytes:02X?}\nreturned {ours:02X?}\nexpected {theirs:02X?}");
-        exit(1);
-    }
-    ours
 }
 
 /// How many instructions that may have finished are looked at.
@@ -124,8 +89,8 @@ impl Watched {
         1 << may.len()
     }
 
-    /// Asks where each car is that is or was here, and which card is leaving.
-    fn ask(&self, at: usize, numbers: &mut Numbers, bytes: &[u8; Desk::SIZE], met: &mut BTreeSet<Met>) -> usize {
+    /// Asks where each car is that is or was here, which card is leaving, where all cars are, and what is outstanding.
+    fn ask(&self, at: usize, numbers: &mut Numbers, judge: &mut Judge, bytes: &[u8], met: &mut BTreeSet<Met>) -> usize {
         let gone: Vec<u32> = self.seen.iter().copied().filter(|&card| !self.desk.knows(card)).collect();
         let here = self.desk.cars.iter().map(|car| car.card).chain(self.desk.coming);
         let mut asked: Vec<u32> = here.chain([0, numbers.next() as u32]).collect();
@@ -133,7 +98,7 @@ impl Watched {
             asked.push(gone[numbers.below(gone.len() as u64) as usize]);
         }
         for &card in &asked {
-            let (answer, _, _) = compared(at, &Given { entry: WHERE, card, ..Given::default() }, bytes);
+            let (answer, ..) = judge.compared(at, &Given { entry: WHERE, card, room: bytes.to_vec(), ..Given::default() });
             let told = self.desk.whereabouts(card).map_or([255, 0, 0], |(stand, last)| match self.desk.moving(card) {
                 Some(to) => [stand.told(), 2, to.told()],
                 None => [stand.told(), last.into(), 0],
@@ -141,10 +106,11 @@ impl Watched {
             assert_eq!((answer & 255, &answer.to_le_bytes()[1..]), (0, &told[..]), "where {card} is");
             met.insert(Met::asked(&self.desk, &self.seen, card));
         }
-        let (answer, _, card) = compared(at, &Given { entry: LEAVING, output: vec![0xEE; 4], ..Given::default() }, bytes);
+        let leaving = Given { entry: LEAVING, room: bytes.to_vec(), output: vec![0xEE; 4], ..Given::default() };
+        let (answer, _, card) = judge.compared(at, &leaving);
         assert_eq!((answer, &card[..]), (0xFF00, &self.desk.leaving().unwrap_or(0).to_le_bytes()[..]));
         met.insert(Met::Leaving(self.desk.leaving().is_some()));
-        asked.len() + 1
+        asked.len() + 1 + lists::ask(at, judge, &self.desk, bytes, met)
     }
 }
 
@@ -159,33 +125,43 @@ fn filled(before: &Desk, given: &Given, number: u8) -> Option<filling::Met> {
 }
 
 /// A host: one desk from its start on, every call compared. Gives what was met, how many questions were asked, how many choices looked at.
-fn long_run(seed: u64, calls: usize, seen: &mut [BTreeSet<u8>]) -> (BTreeSet<Met>, BTreeSet<filling::Met>, usize, usize) {
+fn long_run(
+    seed: u64,
+    calls: usize,
+    judge: &mut Judge,
+    seen: &mut [BTreeSet<u8>],
+) -> (BTreeSet<Met>, BTreeSet<filling::Met>, usize, usize) {
     let mut numbers = Numbers(seed);
     let (mut met, mut full, mut questions, mut choices) = (BTreeSet::new(), BTreeSet::new(), 0, 0);
     let mut watched = Watched { desk: Desk::start(), stuck: Vec::new(), seen: BTreeSet::new() };
-    let (answer, mut bytes, _) = compared(0, &Given { entry: START, ..Given::default() }, &[0xEE; Desk::SIZE]);
-    assert_eq!((answer, bytes), (0xFF00, Desk::start().to_bytes()));
+    let (answer, mut bytes, _) = judge.compared(0, &Given { entry: START, room: vec![0xEE; Desk::SIZE], ..Given::default() });
+    assert_eq!((answer, &bytes[..]), (0xFF00, &Desk::start().to_bytes()[..]));
     for at in 0..calls {
-        let given = traffic::some_call(&mut numbers, &watched.desk);
+        let given = Given { room: bytes.clone(), ..traffic::some_call(&mut numbers, &watched.desk) };
+        let would = (given.entry == IMAGE).then(|| lists::compare(at, judge, &given, &bytes));
         let (before, card) = (watched.desk.clone(), met::sort(&watched.desk, &watched.seen, given.card));
-        let (answer, left, _) = compared(at, &given, &bytes);
+        let (answer, left, _) = judge.compared(at, &given);
         let number = watched.take(&given);
-        assert_eq!((answer as u8, left), (number, watched.desk.to_bytes()), "call {at}: the desk that the reference keeps is another");
+        let kept = watched.desk.to_bytes();
+        assert_eq!((answer as u8, &left[..]), (number, &kept[..]), "call {at}: the desk that the reference keeps is another");
         assert!(number == 0 || watched.desk == before, "call {at}: a call that isn't taken changes something");
+        if let Some(would) = would {
+            lists::hold(at, would, number, &before, &watched.desk, &mut met);
+        }
         met.extend(met::met(&before, card, &given, number));
         full.extend(filled(&before, &given, number));
         seen[usize::from(given.entry)].insert(number);
         bytes = left;
         if watched.desk != before {
             choices += watched.every_choice();
-            questions += watched.ask(at, &mut numbers, &bytes, &mut met);
+            questions += watched.ask(at, &mut numbers, judge, &bytes, &mut met);
         }
     }
     (met, full, questions, choices)
 }
 
 /// Commands on desks as they come, on damaged ones and on handed-in ones.
-fn trials(count: usize, first_entry: u8) -> Vec<Trial<Option<Handed>>> {
+fn trials(count: usize, first_entry: u8, judge: &mut Judge) -> Vec<Trial<Option<Handed>>> {
     let mut numbers = Numbers(11);
     let mut desk = Desk::start();
     let mut one = || {
@@ -205,16 +181,17 @@ fn trials(count: usize, first_entry: u8) -> Vec<Trial<Option<Handed>>> {
         let mut given = traffic::any_call(&mut numbers, &lent);
         given.room = room_for(&mut numbers, &bytes);
         let sort = given.room.first_chunk().and_then(handed);
+        judge.told(&given, &judge::right(&given));
         given.trial(first_entry, |command| (call(command), sort))
     };
     (0..count).map(|_| one()).collect()
 }
 
 /// The commands, run; every sort of handed-in desk must have been met by each call but the first.
-fn commands(count: usize, limit: u32, program: &[String], seen: &mut [BTreeSet<u8>]) {
-    let trials = trials(count, command::ENTRIES.len() as u8);
+fn commands(count: usize, limits: &Limits, program: &[String], judge: &mut Judge, seen: &mut [BTreeSet<u8>]) {
+    let trials = trials(count, command::ENTRIES.len() as u8, judge);
     let mut sorts = vec![BTreeMap::new(); ENTRIES.len()];
-    trials::run(&ENTRIES, &trials, limit, program, |trial, number| {
+    trials::run(&ENTRIES, &trials, limits, program, |trial, number| {
         seen[usize::from(trial.entry)].insert(number);
         let sort = trial.of_it.filter(|sort| sort.shown_by(number));
         if let Some(sort) = sort {
@@ -234,15 +211,16 @@ fn commands(count: usize, limit: u32, program: &[String], seen: &mut [BTreeSet<u
 }
 
 pub fn main(words: &[String]) {
-    let [_, calls, count, limit, program @ ..] = words else { panic!("usage: desk CALLS COMMANDS STACK PROGRAM..") };
+    let [_, calls, count, limits, program @ ..] = words else { panic!("usage: desk CALLS COMMANDS STACK PROGRAM..") };
     let number = |word: &String| word.parse().expect("a number");
     let mut seen = vec![BTreeSet::new(); ENTRIES.len()];
-    commands(number(count), number(limit) as u32, program, &mut seen);
-    let (met, full, questions, choices) = long_run(38, number(calls), &mut seen);
+    let mut judge = Judge::new();
+    commands(number(count), &Limits::read(limits), program, &mut judge, &mut seen);
+    let (met, full, questions, choices) = long_run(38, number(calls), &mut judge, &mut seen);
     if !every_one(&met) || !filling::every_filling("desk", &full) {
         exit(1);
     }
-    println!("desk: {calls} calls, {questions} questions of where a car is and which is leaving, {choices} choices of what finished");
+    println!("desk: {calls} calls, {questions} questions of where cars are, which is leaving and what is outstanding, {choices} choices of what finished");
     println!("desk: {} ways to meet a card's number, and {} to meet places that are kept open, all that there are", met.len(), full.len());
     for ((entry, numbers), seen) in ENTRIES.iter().zip(&seen) {
         if !seen.iter().eq(*numbers) {
@@ -251,4 +229,6 @@ pub fn main(words: &[String]) {
         }
     }
     println!("desk: every number that each entry can give came");
+    let Some(wrong) = judge.all_found() else { exit(1) };
+    println!("desk: {wrong} wrong desks found out");
 }

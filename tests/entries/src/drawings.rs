@@ -120,9 +120,13 @@ fn of_text(input: &[u8]) -> Result<String, String> {
     let end = input.iter().enumerate().filter(|(_, &byte)| byte == b'\n').nth(LINES - 1).map_or(input.len(), |(at, _)| at + 1);
     let (first, second) = input.split_at(end);
     let two = second.first().is_some_and(|&first| apart::begins(first));
-    let line = record_in(if two { first } else { input })
-        .map(hex_line)
-        .map_err(|said| if said.number == UNSOUND { NOT_SOUND.to_string() } else { bad_line(said.place, 0) })?;
+    let line = record_in(if two { first } else { input }).map(hex_line).map_err(|said| {
+        if said.number == UNSOUND {
+            NOT_SOUND.to_string()
+        } else {
+            bad_line(said.place, 0)
+        }
+    })?;
     if !two {
         return Ok(line);
     }
@@ -173,7 +177,9 @@ impl Run {
         }
         match given {
             Given::Record(image) | Given::Apart(image) => eprintln!("drawings: {who}, {image:#018X}: {got}, expected {expected}"),
-            Given::Text(text) | Given::ApartText(text) => eprintln!("drawings: {who}, {:?}: {got}, expected {expected}", String::from_utf8_lossy(text)),
+            Given::Text(text) | Given::ApartText(text) => {
+                eprintln!("drawings: {who}, {:?}: {got}, expected {expected}", String::from_utf8_lossy(text))
+            }
         }
     }
 

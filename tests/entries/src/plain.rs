@@ -8,7 +8,6 @@
 
 mod engines;
 
-use engines::Left;
 use reference::panel_command::{self, CARS, CARS_SIZE, CONDITION, CONDITION_SIZE, ENTRIES, EVENT, NEXT, RECORD, REQUEST, RESULT};
 use reference::{cars, read_call, Call, Instruction, Station};
 use shared::handed::{self, handed, Handed};
@@ -16,7 +15,7 @@ use shared::panel_calls::{any_call, given_by, reason};
 use shared::pipes::messages_in;
 use shared::sound_records::{every_five, SoundRecords};
 use shared::traffic::{self, every_reason, framed_message, Numbers};
-use shared::trials::Given;
+use shared::trials::{on_copies, Given, Left};
 use shared::{drives, filling, jams, lifts};
 use std::collections::{BTreeMap, BTreeSet};
 use std::process::exit;
@@ -24,13 +23,13 @@ use wrong::fault::{all_of, Fault};
 
 /// A call by the reference.
 fn reference_call(given: &Given) -> Left {
-    engines::on_copies(given, |room, output| panel_command::call(&mut given.on(room, &given.input, output)))
+    on_copies(given, |room, output| panel_command::call(&mut given.on(room, &given.input, output)))
 }
 
 /// A call by a reference with a fault.
 fn wrong_call(fault: &Fault, given: &Given) -> Left {
     let &Given { entry, first, second, issue, image, apart, card, ref input, .. } = given;
-    engines::on_copies(given, |room, output| {
+    on_copies(given, |room, output| {
         fault.with(|| {
             wrong::panel_command::call(&mut wrong::command::Given { entry, first, second, issue, image, apart, card, room, input, output })
         })

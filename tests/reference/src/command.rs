@@ -77,7 +77,12 @@ impl Given<Vec<u8>, Vec<u8>, Vec<u8>> {
         sent.extend(self.apart.to_le_bytes());
         sent.extend(self.card.to_le_bytes());
         for run in [&self.room, &self.input, &self.output] {
-            sent.push(u8::try_from(run.len()).expect("a length of one byte"));
+            let length = u16::try_from(run.len()).expect("a length of two bytes");
+            // a byte for the length, and 255 where two more have it
+            match u8::try_from(length) {
+                Ok(short) if short < u8::MAX => sent.push(short),
+                _ => sent.extend([&[u8::MAX][..], &length.to_le_bytes()].concat()),
+            }
             sent.extend(run);
         }
         let (mut room, mut output) = (self.room.clone(), self.output.clone());

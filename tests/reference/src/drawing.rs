@@ -221,9 +221,7 @@ fn numbers_in(text: &[u8]) -> Option<Vec<u64>> {
         return None;
     }
     let value = |digit: u8| char::from(digit).to_digit(16).map(u64::from);
-    let number = |sixteen: &[u8]| {
-        sixteen.chunks(2).rev().try_fold(0, |image, two| Some(image << 8 | value(two[0])? << 4 | value(two[1])?))
-    };
+    let number = |sixteen: &[u8]| sixteen.chunks(2).rev().try_fold(0, |image, two| Some(image << 8 | value(two[0])? << 4 | value(two[1])?));
     digits.chunks(16).map(number).collect()
 }
 

@@ -9,6 +9,7 @@ use std::ops::Range;
 pub mod command;
 pub mod desk;
 pub mod desk_command;
+pub mod desk_lists;
 pub mod drawing;
 /// The garage's floor.
 #[cfg(not(feature = "reduced"))]

@@ -1,10 +1,11 @@
 //! The desk, plans, drawings, messages and the report, on examples worked by hand from their pages.
 
 use reference::desk::Desk;
+use reference::desk_lists::Line;
 use reference::drawing::{drawn, hex_line, image_in, record_in};
 use reference::plan::judge;
 use reference::week::{Total, Week};
-use reference::{serve, BEGIN_IN, DONE, END_DONE, START};
+use reference::{serve, BEGIN_IN, DONE, END_DONE, START, STUCK};
 
 #[test]
 fn messages_are_answered_one_by_one() {
@@ -28,6 +29,32 @@ fn a_card_goes_where_its_car_does() {
     assert_eq!(desk.result(0, 0, DONE).number, 0);
     assert_eq!(desk.whereabouts(7).map(|(stand, _)| stand.told()), Some(11));
     assert!(desk.whereabouts(8).is_none());
+}
+
+#[test]
+fn all_cards_what_is_outstanding_and_what_an_image_would_change() {
+    let lines = |lines: Vec<Line>| -> Vec<_> { lines.iter().map(|line| (line.card, line.place, line.flag, line.next)).collect() };
+    let mut desk = Desk::start();
+    assert_eq!((desk.list(), &desk.outstanding()[..4]), (vec![], &[255, 255, 0, 0][..]), "before the first set");
+    // two cars in row 1, one in row 2, and a card that waits
+    let image = START | 0b1111 << 6 | 1 << 24 | 1 << 55;
+    assert_eq!(desk.compare(image, 0, 3, &[1, 2, 3]).0.number, 39);
+    let (told, changes) = desk.compare(image, 0, 4, &[1, 2, 3, 4]);
+    assert_eq!((told.number, lines(changes)), (0, vec![(1, 255, 0, 6), (2, 255, 0, 8), (3, 255, 0, 24), (4, 255, 0, 55)]));
+    assert_eq!((desk.clone(), desk.image(image, 0, 4, &[1, 2, 3, 4]).number), (Desk::start(), 0));
+    assert_eq!(lines(desk.list()), [(1, 6, 0, 0), (2, 8, 0, 0), (3, 24, 0, 0), (4, 55, 0, 0)]);
+    // the belts of row 1 get stuck with two cars, and the middle belt of row 2 waits
+    let (row_1, row_2) = ([1, 1, 2, 0, 1], [1, 2, 2, 1, 1]);
+    assert_eq!(desk.request(2, &[row_1, row_2].concat()).number, 0);
+    assert_eq!(lines(desk.list()), [(1, 6, 2, 4), (2, 8, 2, 6), (3, 24, 2, 25), (4, 55, 0, 0)]);
+    assert_eq!((desk.result(0, 0, STUCK).number, desk.compare(image, 0, 4, &[1, 2, 3, 4]).0.number), (0, 6));
+    assert_eq!(lines(desk.list()), [(1, 6, 1, 0), (2, 8, 1, 0), (3, 24, 2, 25), (4, 55, 0, 0)]);
+    assert_eq!(desk.outstanding()[..14], [&[0, 0, 2, 1][..], &row_1, &row_2].concat());
+    assert_eq!((desk.result(0, 1, DONE).number, &desk.outstanding()[..]), (0, &[0; 44][..]));
+    // two exchanged, one that leaves, one that appears
+    let (told, changes) = desk.compare(START | 0b1111 << 6 | 1 << 25, 0, 3, &[2, 1, 9]);
+    assert_eq!(told.number, 0);
+    assert_eq!(lines(changes), [(1, 6, 1, 8), (2, 8, 1, 6), (3, 25, 0, 255), (4, 55, 0, 255), (9, 255, 0, 25)]);
 }
 
 #[test]

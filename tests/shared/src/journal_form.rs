@@ -13,11 +13,15 @@ const MAGIC: &[u8; 20] = b"Vargsnida, journal.\n";
 const FORMAT: u8 = 2;
 const END_MARK: u8 = 10;
 
-/// The kinds of appends: messages of one read; what ended a session, by answer 1 and by answer 2; and that the journal is closed.
+/// The kinds of appends: messages of one read; what ended a session, by answer 1 and by answer 2; that the journal is closed; and messages
+/// behind the numbers of a desk's cards.
 pub const MESSAGES: u8 = 1;
 pub const CUT_SHORT: u8 = 2;
 pub const BAD_LENGTH: u8 = 3;
 pub const CLOSED: u8 = 4;
+pub const CARDS: u8 = 5;
+/// The numbers of 42 cards, four bytes each.
+pub const NUMBERS: usize = 168;
 /// Less than a message is left where a session ends.
 const LEFT: usize = 44;
 
@@ -224,6 +228,15 @@ pub fn read(bytes: &[u8]) -> Result<Read, Rejected> {
     Ok(read)
 }
 
+/// What of the bytes that an append of this kind carries are messages.
+fn sent(kind: u8, carried: &[u8]) -> &[u8] {
+    match kind {
+        MESSAGES => carried,
+        CARDS => carried.get(NUMBERS..).unwrap_or_default(),
+        _ => &[],
+    }
+}
+
 impl Read {
     /// Takes one append, if it is one that can stand there.
     fn takes(&mut self, kind: u8, carried: &[u8], sum: u32) -> Result<(), End> {
@@ -232,10 +245,11 @@ impl Read {
         }
         let (mut station, mut messages) = (self.station, 0);
         let fits = match kind {
-            MESSAGES => {
-                let (_, used, on) = serve_on(&mut station, carried, false);
-                messages = count(carried);
-                on && used == carried.len() && !carried.is_empty()
+            MESSAGES | CARDS => {
+                let sent = sent(kind, carried);
+                let (_, used, on) = serve_on(&mut station, sent, false);
+                messages = count(sent);
+                on && used == sent.len() && carried.len() >= if kind == CARDS { NUMBERS } else { 1 }
             }
             CUT_SHORT | BAD_LENGTH => carried.len() <= LEFT,
             CLOSED => carried.is_empty(),
@@ -253,7 +267,12 @@ impl Read {
 
     /// The messages that were recorded, one behind the other.
     pub fn recorded(&self) -> Vec<u8> {
-        self.appends.iter().filter(|append| append.kind == MESSAGES).flat_map(|append| &append.carried).copied().collect()
+        self.appends.iter().flat_map(|append| sent(append.kind, &append.carried)).copied().collect()
+    }
+
+    /// The numbers of a desk's cards: those of the last append that has any, and zeros where none has.
+    pub fn numbers(&self) -> Vec<u8> {
+        self.appends.iter().rfind(|append| append.kind == CARDS).map_or(vec![0; NUMBERS], |append| append.carried[..NUMBERS].to_vec())
     }
 
     /// Whether a station goes on from it.

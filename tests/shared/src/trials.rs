@@ -9,6 +9,16 @@ use std::process::{exit, Stdio};
 /// A command on runs of its own.
 pub type Given = reference::command::Given<Vec<u8>, Vec<u8>, Vec<u8>>;
 
+/// What a call returned, and what it left of the room and of the room to write.
+pub type Left = (u32, Vec<u8>, Vec<u8>);
+
+/// A call on copies of the rooms.
+pub fn on_copies(given: &Given, call: impl FnOnce(&mut [u8], &mut [u8]) -> u32) -> Left {
+    let (mut room, mut output) = (given.room.clone(), given.output.clone());
+    let answer = call(&mut room, &mut output);
+    (answer, room, output)
+}
+
 /// A room with these bytes in it: mostly longer than they are, now and then too short.
 pub fn room_for(numbers: &mut Numbers, bytes: &[u8]) -> Vec<u8> {
     let mut room = bytes.to_vec();
@@ -21,9 +31,37 @@ pub fn room_for(numbers: &mut Numbers, bytes: &[u8]) -> Vec<u8> {
     room
 }
 
+/// The most stack that calls may take, as `BYTES[,ENTRY=BYTES..]`: those of every entry but the ones that are named.
+pub struct Limits {
+    pub most: u32,
+    others: Vec<(String, u32)>,
+}
+
+impl Limits {
+    pub fn read(text: &str) -> Limits {
+        let number = |word: &str| word.parse().expect("a number of bytes");
+        let mut words = text.split(',');
+        let most = number(words.next().unwrap_or_default());
+        let other = |word: &str| word.split_once('=').map(|(entry, bytes)| (entry.to_string(), number(bytes))).expect("ENTRY=BYTES");
+        Limits { most, others: words.map(other).collect() }
+    }
+
+    /// That of an entry.
+    pub fn of(&self, entry: &str) -> u32 {
+        self.others.iter().find(|(name, _)| name == entry).map_or(self.most, |(_, bytes)| *bytes)
+    }
+}
+
+impl std::fmt::Display for Limits {
+    fn fmt(&self, f: &mut std::fmt::Formatter) -> std::fmt::Result {
+        write!(f, "{} bytes of stack", self.most)?;
+        self.others.iter().try_for_each(|(entry, bytes)| write!(f, ", {entry} {bytes}"))
+    }
+}
+
 /// Sends all commands to the program and compares each answer and what is left; tells of each its answer's number and how much stack the
-/// call took, which may not be more than the limit.
-pub fn run<T>(names: &[(&str, &[u8])], trials: &[Trial<T>], limit: u32, program: &[String], mut tell: impl FnMut(&Trial<T>, u8)) {
+/// call took, which may not be more than the entry's limit.
+pub fn run<T>(names: &[(&str, &[u8])], trials: &[Trial<T>], limits: &Limits, program: &[String], mut tell: impl FnMut(&Trial<T>, u8)) {
     let sent: Vec<u8> = trials.iter().flat_map(|trial| trial.sent.iter().copied()).collect();
     // the C library's calls are looked up before the first command: the stack which that takes is not the entries'
     let mut command = std::process::Command::new(&program[0]);
@@ -52,10 +90,10 @@ pub fn run<T>(names: &[(&str, &[u8])], trials: &[Trial<T>], limit: u32, program:
     assert!(child.wait().expect("the program ends").success());
     let stacks: Vec<(&str, u32)> = names.iter().map(|entry| entry.0).zip(stacks).collect();
     for (entry, stack) in &stacks {
-        if *stack > limit {
-            eprintln!("{entry} took {stack} bytes of stack, which is above {limit}");
+        if *stack > limits.of(entry) {
+            eprintln!("{entry} took {stack} bytes of stack, which is above {}", limits.of(entry));
             exit(1);
         }
     }
-    println!("entries: at most {limit} bytes of stack, of {stacks:?}");
+    println!("entries: at most {limits}, of {stacks:?}");
 }

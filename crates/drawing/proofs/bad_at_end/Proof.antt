@@ -12,10 +12,16 @@ add-if2 : tie.Need-add-if2
 add-if2 c = let l = c .before .before .before .before .before .args .lift in omega (arith, c .last-size .ensures, last-short (c .before .before .before .before .before .args .apart) l)
 
 returns : tie.Need-returns
-returns c = bad-past (c .before .before .before .before .before .before .args .apart) (c .before .before .before .before .before .before .args .text .now) (c .before .before .before .before .before .before .args .lift) (c .before .before .if1 .taken) (c .before .last-size .ensures) (c .if2 .taken)
+returns c =
+    bad-past (c .before .before .before .before .before .before .args .apart)
+    (c .before .before .before .before .before .before .args .text .now) (c .before .before .before .before .before .before .args .lift)
+    (c .before .before .if1 .taken) (c .before .last-size .ensures) (c .if2 .taken)
 
 returns-2 : tie.Need-returns-2
-returns-2 c = none-bad (c .before .before .before .before .before .before .args .apart) (c .before .before .before .before .before .before .args .text .now) (c .before .before .before .before .before .before .args .lift) (c .before .before .if1 .taken) (c .before .last-size .ensures) (c .if2 .left)
+returns-2 c =
+    none-bad (c .before .before .before .before .before .before .args .apart)
+    (c .before .before .before .before .before .before .args .text .now) (c .before .before .before .before .before .before .args .lift)
+    (c .before .before .if1 .taken) (c .before .last-size .ensures) (c .if2 .left)
 
 returns-3 : tie.Need-returns-3
 returns-3 c = bad-lift (c .before .before .before .before .args .apart) (c .before .before .before .before .args .text .now) (c .before .before .before .before .args .lift) (c .if1 .left)

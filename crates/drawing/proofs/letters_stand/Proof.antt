@@ -35,7 +35,12 @@ byte-requires-4 : tie.Need-byte-requires-4
 byte-requires-4 c κs = search needs
 
 returns : tie.Need-returns
-returns c = let x = c .before .before .before .before .before .before .before .before .args in three-stand isLetter (x .text .now) (x .at) (c .before .before .before .before .before .before .byte .ensures) (c .before .before .before .before .before .is-letter .ensures) (c .before .before .before .before .byte2 .ensures) (c .before .before .before .is-letter2 .ensures) (c .before .before .byte3 .ensures) (c .before .is-letter3 .ensures) (c .byte4 .ensures)
+returns c =
+    let x = c .before .before .before .before .before .before .before .before .args in
+    three-stand isLetter (x .text .now) (x .at) (c .before .before .before .before .before .before .byte .ensures)
+    (c .before .before .before .before .before .is-letter .ensures) (c .before .before .before .before .byte2 .ensures)
+    (c .before .before .before .is-letter2 .ensures) (c .before .before .byte3 .ensures) (c .before .is-letter3 .ensures)
+    (c .byte4 .ensures)
 
 pub letters-stand-spec : {M : Type 1} → statement M
 letters-stand-spec =

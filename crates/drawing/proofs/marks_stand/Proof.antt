@@ -25,7 +25,10 @@ is-mark-requires : tie.Need-is-mark-requires Inv-loop μ-loop
 is-mark-requires c κs = tt
 
 returns : tie.Need-returns Inv-loop μ-loop
-returns c = let x = c .before .before .before .before .before .before .args in stands-not (isMark (x .apart)) (x .text .now) (x .at) (x .n) _ (c .before .before .byte .ensures) (c .before .is-mark .ensures) (c .before .before .before .loop-test .taken) (c .if1 .taken)
+returns c =
+    let x = c .before .before .before .before .before .before .args in
+    stands-not (isMark (x .apart)) (x .text .now) (x .at) (x .n) _ (c .before .before .byte .ensures) (c .before .is-mark .ensures)
+    (c .before .before .before .loop-test .taken) (c .if1 .taken)
 
 add-i : tie.Need-add-i Inv-loop μ-loop
 add-i c = omega arith
@@ -34,7 +37,10 @@ loop-less : tie.Need-loop-less Inv-loop μ-loop
 loop-less c = omega arith
 
 loop-again : tie.Need-loop-again Inv-loop μ-loop
-loop-again c = let x = c .before .before .before .before .before .before .args in stands-on (isMark (x .apart)) (x .text .now) (x .at) (x .n) _ (c .before .before .byte .ensures) (c .before .is-mark .ensures) (c .before .before .before .before .loop .inv) (c .before .before .before .loop-test .taken) (c .if1 .left)
+loop-again c =
+    let x = c .before .before .before .before .before .before .args in
+    stands-on (isMark (x .apart)) (x .text .now) (x .at) (x .n) _ (c .before .before .byte .ensures) (c .before .is-mark .ensures)
+    (c .before .before .before .before .loop .inv) (c .before .before .before .loop-test .taken) (c .if1 .left)
 
 add-byte-2 : tie.Need-add-byte-2 Inv-loop μ-loop
 add-byte-2 c = omega arith
@@ -43,7 +49,10 @@ byte-requires-2 : tie.Need-byte-requires-2 Inv-loop μ-loop
 byte-requires-2 c κs = tt
 
 returns-2 : tie.Need-returns-2 Inv-loop μ-loop
-returns-2 c = let x = c .before .before .before .before .args in stands-end (isMark (x .apart)) (x .text .now) (x .at) (x .n) (c .before .before .loop .inv) (c .before .loop-test .left) (c .byte2 .ensures)
+returns-2 c =
+    let x = c .before .before .before .before .args in
+    stands-end (isMark (x .apart)) (x .text .now) (x .at) (x .n) (c .before .before .loop .inv) (c .before .loop-test .left)
+    (c .byte2 .ensures)
 
 pub marks-stand-spec : {M : Type 1} → statement M
 marks-stand-spec =

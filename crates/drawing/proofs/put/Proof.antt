@@ -33,7 +33,10 @@ loop-less : tie.Need-loop-less Inv-loop μ-loop
 loop-less c = omega arith
 
 loop-again : tie.Need-loop-again Inv-loop μ-loop
-loop-again c = fills 0 (c .before .before .loop .inv) (c .before .loop-test .taken) (c .before .before .before .before .before .pre) (c .drawn-byte .ensures ∙ ap (λ (g : List (List ℕ)). drawnAt (c .before .before .before .before .before .args .apart) g (bit (c .before .before .before .before .before .args .image)) (c .before .before .before .before .before .args .lift) (c .before .before .loop .t)) (c .before .before .before .grid-of .ensures))
+loop-again c =
+    fills 0 (c .before .before .loop .inv) (c .before .loop-test .taken) (c .before .before .before .before .before .pre)
+    (c .drawn-byte .ensures ∙ ap (λ (g : List (List ℕ)). drawnAt (c .before .before .before .before .before .args .apart) g (bit (c .before .before .before .before .before .args .image)) (c .before .before .before .before .before .args .lift) (c .before .before .loop .t))
+    (c .before .before .before .grid-of .ensures))
 
 same-length : tie.Need-same-length Inv-loop μ-loop
 same-length c = fill-same (c .before .loop .inv) (c .before .before .before .before .pre)

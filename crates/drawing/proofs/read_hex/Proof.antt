@@ -21,10 +21,18 @@ said-requires : tie.Need-said-requires
 said-requires c κs = (passed (c .before .before .before .before .is-count .ensures) (c .before .before .before .if1 .left), sym (c .before .all-digits .ensures) ∙ c .if2 .taken)
 
 returns-2 : tie.Need-returns-2
-returns-2 c = all-said (c .before .before .before .before .before .before .before .before .args .text .now) (c .before .before .before .before .before .before .gather .ensures) (passed (c .before .before .before .before .before .is-count .ensures) (c .before .before .before .before .if1 .left)) (c .before .before .all-digits .ensures) (c .before .if2 .taken) (c .said .ensures)
+returns-2 c =
+    all-said (c .before .before .before .before .before .before .before .before .args .text .now)
+    (c .before .before .before .before .before .before .gather .ensures)
+    (passed (c .before .before .before .before .before .is-count .ensures) (c .before .before .before .before .if1 .left))
+    (c .before .before .all-digits .ensures) (c .before .if2 .taken) (c .said .ensures)
 
 returns-3 : tie.Need-returns-3
-returns-3 c = not-digits (c .before .before .before .before .before .before .before .args .text .now) (c .before .before .before .before .before .gather .ensures) (passed (c .before .before .before .before .is-count .ensures) (c .before .before .before .if1 .left)) (c .before .all-digits .ensures) (c .if2 .left)
+returns-3 c =
+    not-digits (c .before .before .before .before .before .before .before .args .text .now)
+    (c .before .before .before .before .before .gather .ensures)
+    (passed (c .before .before .before .before .is-count .ensures) (c .before .before .before .if1 .left))
+    (c .before .all-digits .ensures) (c .if2 .left)
 
 pub read-hex-spec : {M : Type 1} → statement M
 read-hex-spec =

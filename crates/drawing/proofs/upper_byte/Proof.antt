@@ -46,15 +46,29 @@ returns-2 c = let t = c .before .before .before .before .before .args .t in simp
 
 returns-3 : tie.Need-returns-3
 unfolding upperAt
-returns-3 c = let t = c .before .before .before .before .before .before .args .t in simp (le-ltb t 20 (omega arith), ne-eqb t 20 (λ (e : t ≡ 20). omega arith), le-ltb t 31 (omega arith), ne-eqb t 31 (λ (e : t ≡ 31). omega arith), lt-ltb t 42 (omega arith))
+returns-3 c =
+    let t = c .before .before .before .before .before .before .args .t in
+    simp
+    (le-ltb t 20 (omega arith), ne-eqb t 20 (λ (e : t ≡ 20). omega arith), le-ltb t 31 (omega arith), ne-eqb t 31 (λ (e : t ≡ 31). omega arith), lt-ltb t 42 (omega arith))
 
 returns-4 : tie.Need-returns-4
 unfolding upperAt
-returns-4 c = let t = c .before .before .before .before .args .t in c .letter-of .ensures ∙ simp (le-ltb t 20 (omega arith), ne-eqb t 20 (λ (e : t ≡ 20). omega arith), le-ltb t 31 (omega arith), ne-eqb t 31 (λ (e : t ≡ 31). omega arith), le-ltb t 42 (omega arith), ne-eqb t 42 (λ (e : t ≡ 42). omega arith), lt-ltb t 46 (omega arith))
+returns-4 c =
+    let t = c .before .before .before .before .args .t in
+    c .letter-of .ensures ∙ simp
+    (le-ltb t 20 (omega arith), ne-eqb t 20 (λ (e : t ≡ 20). omega arith), le-ltb t 31
+    (omega arith), ne-eqb t 31 (λ (e : t ≡ 31). omega arith), le-ltb t 42
+    (omega arith), ne-eqb t 42 (λ (e : t ≡ 42). omega arith), lt-ltb t 46 (omega arith))
 
 returns-5 : tie.Need-returns-5
 unfolding upperAt
-returns-5 c = let t = c .before .before .before .before .before .before .args .t in c .letter-of2 .ensures ∙ simp (le-ltb t 20 (omega arith), ne-eqb t 20 (λ (e : t ≡ 20). omega arith), le-ltb t 31 (omega arith), ne-eqb t 31 (λ (e : t ≡ 31). omega arith), le-ltb t 42 (omega arith), ne-eqb t 42 (λ (e : t ≡ 42). omega arith), le-ltb t 46 (omega arith), ne-eqb t 46 (λ (e : t ≡ 46). omega arith), lt-ltb t 50 (omega arith))
+returns-5 c =
+    let t = c .before .before .before .before .before .before .args .t in
+    c .letter-of2 .ensures ∙ simp
+    (le-ltb t 20 (omega arith), ne-eqb t 20 (λ (e : t ≡ 20). omega arith), le-ltb t 31
+    (omega arith), ne-eqb t 31 (λ (e : t ≡ 31). omega arith), le-ltb t 42
+    (omega arith), ne-eqb t 42 (λ (e : t ≡ 42). omega arith), le-ltb t 46
+    (omega arith), ne-eqb t 46 (λ (e : t ≡ 46). omega arith), lt-ltb t 50 (omega arith))
 
 returns-6 : tie.Need-returns-6
 unfolding upperAt
@@ -62,19 +76,36 @@ returns-6 c = let t = c .before .before .before .args .t in simp (le-ltb t 20 (o
 
 returns-7 : tie.Need-returns-7
 unfolding upperAt
-returns-7 c = let t = c .before .before .before .before .before .args .t in simp (le-ltb t 20 (omega arith), ne-eqb t 20 (λ (e : t ≡ 20). omega arith), le-ltb t 31 (omega arith), eq-eqb t 31 (omega arith))
+returns-7 c =
+    let t = c .before .before .before .before .before .args .t in
+    simp (le-ltb t 20 (omega arith), ne-eqb t 20 (λ (e : t ≡ 20). omega arith), le-ltb t 31 (omega arith), eq-eqb t 31 (omega arith))
 
 returns-8 : tie.Need-returns-8
 unfolding upperAt
-returns-8 c = let t = c .before .before .args .t in simp (le-ltb t 20 (omega arith), ne-eqb t 20 (λ (e : t ≡ 20). omega arith), le-ltb t 31 (omega arith), ne-eqb t 31 (λ (e : t ≡ 31). omega arith), le-ltb t 42 (omega arith), eq-eqb t 42 (omega arith))
+returns-8 c =
+    let t = c .before .before .args .t in
+    simp
+    (le-ltb t 20 (omega arith), ne-eqb t 20 (λ (e : t ≡ 20). omega arith), le-ltb t 31
+    (omega arith), ne-eqb t 31 (λ (e : t ≡ 31). omega arith), le-ltb t 42 (omega arith), eq-eqb t 42 (omega arith))
 
 returns-9 : tie.Need-returns-9
 unfolding upperAt
-returns-9 c = let t = c .before .before .before .before .args .t in simp (le-ltb t 20 (omega arith), ne-eqb t 20 (λ (e : t ≡ 20). omega arith), le-ltb t 31 (omega arith), ne-eqb t 31 (λ (e : t ≡ 31). omega arith), le-ltb t 42 (omega arith), ne-eqb t 42 (λ (e : t ≡ 42). omega arith), le-ltb t 46 (omega arith), eq-eqb t 46 (omega arith))
+returns-9 c =
+    let t = c .before .before .before .before .args .t in
+    simp
+    (le-ltb t 20 (omega arith), ne-eqb t 20 (λ (e : t ≡ 20). omega arith), le-ltb t 31
+    (omega arith), ne-eqb t 31 (λ (e : t ≡ 31). omega arith), le-ltb t 42
+    (omega arith), ne-eqb t 42 (λ (e : t ≡ 42). omega arith), le-ltb t 46 (omega arith), eq-eqb t 46 (omega arith))
 
 returns-10 : tie.Need-returns-10
 unfolding upperAt
-returns-10 c = let t = c .before .before .before .before .before .args .t in simp (le-ltb t 20 (omega arith), ne-eqb t 20 (λ (e : t ≡ 20). omega arith), le-ltb t 31 (omega arith), ne-eqb t 31 (λ (e : t ≡ 31). omega arith), le-ltb t 42 (omega arith), ne-eqb t 42 (λ (e : t ≡ 42). omega arith), le-ltb t 46 (omega arith), ne-eqb t 46 (λ (e : t ≡ 46). omega arith), le-ltb t 50 (omega arith))
+returns-10 c =
+    let t = c .before .before .before .before .before .args .t in
+    simp
+    (le-ltb t 20 (omega arith), ne-eqb t 20 (λ (e : t ≡ 20). omega arith), le-ltb t 31
+    (omega arith), ne-eqb t 31 (λ (e : t ≡ 31). omega arith), le-ltb t 42
+    (omega arith), ne-eqb t 42 (λ (e : t ≡ 42). omega arith), le-ltb t 46
+    (omega arith), ne-eqb t 46 (λ (e : t ≡ 46). omega arith), le-ltb t 50 (omega arith))
 
 pub upper-byte-spec : {M : Type 1} → statement M
 upper-byte-spec =

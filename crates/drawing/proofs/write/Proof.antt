@@ -12,7 +12,10 @@ unwritten-requires : tie.Need-unwritten-requires
 unwritten-requires c κs = search needs
 
 returns : tie.Need-returns
-returns c = not-sound (c .before .before .before .before .args .apart) (c .before .before .before .before .args .image) (c .before .before .before .before .args .room .now) (c .before .before .has-drawing .ensures) (c .before .if1 .taken) (c .unwritten .ensures)
+returns c =
+    not-sound (c .before .before .before .before .args .apart) (c .before .before .before .before .args .image)
+    (c .before .before .before .before .args .room .now) (c .before .before .has-drawing .ensures) (c .before .if1 .taken)
+    (c .unwritten .ensures)
 
 last-of-requires : tie.Need-last-of-requires
 last-of-requires c κs = search needs
@@ -27,19 +30,37 @@ unwritten-requires-2 : tie.Need-unwritten-requires-2
 unwritten-requires-2 c κs = search needs
 
 returns-2 : tie.Need-returns-2
-returns-2 c = no-room (c .before .before .before .before .before .before .before .args .apart) (c .before .before .before .before .before .before .before .args .image) (c .before .before .before .before .before .before .before .args .room .now) (c .before .before .before .before .before .has-drawing .ensures) (c .before .before .before .before .if1 .left) (c .before .before .before .last-of .ensures) (c .before .before .last-size .ensures) (c .before .if2 .taken) (c .unwritten2 .ensures)
+returns-2 c =
+    no-room (c .before .before .before .before .before .before .before .args .apart)
+    (c .before .before .before .before .before .before .before .args .image)
+    (c .before .before .before .before .before .before .before .args .room .now)
+    (c .before .before .before .before .before .has-drawing .ensures) (c .before .before .before .before .if1 .left)
+    (c .before .before .before .last-of .ensures) (c .before .before .last-size .ensures) (c .before .if2 .taken)
+    (c .unwritten2 .ensures)
 
 put-requires : tie.Need-put-requires
 put-requires c κs = search needs
 
 cast-t12 : tie.Need-cast-t12
-cast-t12 c = omega (arith, c .before .before .before .before .before .last-size .ensures, last-short (c .before .before .before .before .before .before .before .before .before .before .args .apart) (c .before .before .before .before .before .before .last-of .result))
+cast-t12 c =
+    omega
+    (arith, c .before .before .before .before .before .last-size .ensures, last-short
+    (c .before .before .before .before .before .before .before .before .before .before .args .apart)
+    (c .before .before .before .before .before .before .last-of .result))
 
 same-length : tie.Need-same-length
 same-length c = search needs
 
 returns-3 : tie.Need-returns-3
-returns-3 c = written (c .before .before .before .before .before .before .before .before .before .before .args .apart) (c .before .before .before .before .before .before .before .before .before .before .args .image) (c .before .before .before .before .before .before .before .before .before .before .args .room .now) (c .before .before .before .before .before .before .before .before .has-drawing .ensures) (c .before .before .before .before .before .before .before .if1 .left) (c .before .before .before .before .before .before .last-of .ensures) (c .before .before .before .before .before .last-size .ensures) (c .before .before .before .before .if2 .left) (c .before .before .put .ensures)
+returns-3 c =
+    written (c .before .before .before .before .before .before .before .before .before .before .args .apart)
+    (c .before .before .before .before .before .before .before .before .before .before .args .image)
+    (c .before .before .before .before .before .before .before .before .before .before .args .room .now)
+    (c .before .before .before .before .before .before .before .before .has-drawing .ensures)
+    (c .before .before .before .before .before .before .before .if1 .left)
+    (c .before .before .before .before .before .before .last-of .ensures)
+    (c .before .before .before .before .before .last-size .ensures) (c .before .before .before .before .if2 .left)
+    (c .before .before .put .ensures)
 
 pub write-spec : {M : Type 1} → statement M
 write-spec =

@@ -10,7 +10,9 @@ say-requires : tie.Need-say-requires
 say-requires c κs = search needs
 
 returns : tie.Need-returns
-returns c = no-room (c .before .before .before .before .args .apart) (c .before .before .before .before .args .text .now) (c .before .before .before .before .args .room .now) (c .before .if1 .taken) (c .say .ensures)
+returns c =
+    no-room (c .before .before .before .before .args .apart) (c .before .before .before .before .args .text .now)
+    (c .before .before .before .before .args .room .now) (c .before .if1 .taken) (c .say .ensures)
 
 read-requires : tie.Need-read-requires
 read-requires c κs = search needs
@@ -40,7 +42,13 @@ same-length : tie.Need-same-length
 same-length c = search needs
 
 returns-2 : tie.Need-returns-2
-returns-2 c = is-read (c .before .before .before .before .before .before .before .before .before .before .before .before .args .apart) (c .before .before .before .before .before .before .before .before .before .before .before .before .args .text .now) (c .before .before .before .before .before .before .before .before .before .before .before .before .args .room .now) (c .before .before .before .before .before .before .before .before .before .if1 .left) (c .before .before .before .before .before .before .before .before .read .ensures) (is-kept _ _ (search needs) refl (c .before .before .before .before .before .before .before .image-bytes .ensures) (omega arith) (c .before .before .tell .ensures))
+returns-2 c =
+    is-read (c .before .before .before .before .before .before .before .before .before .before .before .before .args .apart)
+    (c .before .before .before .before .before .before .before .before .before .before .before .before .args .text .now)
+    (c .before .before .before .before .before .before .before .before .before .before .before .before .args .room .now)
+    (c .before .before .before .before .before .before .before .before .before .if1 .left)
+    (c .before .before .before .before .before .before .before .before .read .ensures)
+    (is-kept _ _ (search needs) refl (c .before .before .before .before .before .before .before .image-bytes .ensures) (omega arith) (c .before .before .tell .ensures))
 
 pub read-into-spec : {M : Type 1} → statement M
 read-into-spec =

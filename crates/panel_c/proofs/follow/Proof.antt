@@ -44,7 +44,16 @@ same-length : tie.Need-same-length
 same-length c = search needs
 
 returns-2 : tie.Need-returns-2
-returns-2 c = written _ _ _ (c .before .before .before .before .before .before .before .before .before .before .before .before .before .before .area .ensures) (c .before .before .before .before .before .before .before .before .before .before .before .if1 .left) (c .before .before .before .before .before .before .before .before .before .before .verdict .ensures) (c .before .before .before .before .before .before .before .before .before .answer .ensures) (c .before .before .before .before .before .before .before .before .moved .ensures) (c .before .before .before .before .before .before .before .image .ensures) (c .before .before .before .before .before .before .image-bytes .ensures) (as-writes _ _ _ refl (omega arith) (c .before .before .before .before .before .say2 .ensures) (c .before .before .tell .ensures))
+returns-2 c =
+    written _ _ _
+    (c .before .before .before .before .before .before .before .before .before .before .before .before .before .before .area .ensures)
+    (c .before .before .before .before .before .before .before .before .before .before .before .if1 .left)
+    (c .before .before .before .before .before .before .before .before .before .before .verdict .ensures)
+    (c .before .before .before .before .before .before .before .before .before .answer .ensures)
+    (c .before .before .before .before .before .before .before .before .moved .ensures)
+    (c .before .before .before .before .before .before .before .image .ensures)
+    (c .before .before .before .before .before .before .image-bytes .ensures)
+    (as-writes _ _ _ refl (omega arith) (c .before .before .before .before .before .say2 .ensures) (c .before .before .tell .ensures))
 
 pub follow-spec : {M : Type 1} → statement M
 follow-spec =

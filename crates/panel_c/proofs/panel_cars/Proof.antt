@@ -50,7 +50,14 @@ same-length c = search needs
 
 returns-3 : tie.Need-returns-3
 returns-3 c = let e = c .before .say3 .ensures in
-    walked-so _ _ (omega (arith, c .before .before .before .before .before .before .before .before .before .before .before .before .if1 .left)) (search needs) (passed (c .before .before .before .before .before .before .before .before .before .before .before .sound .ensures) (c .before .before .before .before .before .before .before .before .before .before .if2 .left)) (c .before .before .before .before .before .before .before .before .before .of-image .ensures) (c .before .before .before .before .before .before .before .before .walk .ensures) (search needs) (c .before .before .before .before .copy .ensures .1) (omega (arith, e))
+    walked-so _ _
+    (omega (arith, c .before .before .before .before .before .before .before .before .before .before .before .before .if1 .left))
+    (search needs)
+    (passed (c .before .before .before .before .before .before .before .before .before .before .before .sound .ensures)
+    (c .before .before .before .before .before .before .before .before .before .before .if2 .left))
+    (c .before .before .before .before .before .before .before .before .before .of-image .ensures)
+    (c .before .before .before .before .before .before .before .before .walk .ensures) (search needs)
+    (c .before .before .before .before .copy .ensures .1) (omega (arith, e))
 
 pub panel-cars-spec : {M : Type 1} → statement M
 panel-cars-spec =

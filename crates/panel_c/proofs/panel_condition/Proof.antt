@@ -57,7 +57,14 @@ same-length : tie.Need-same-length
 same-length c = search needs
 
 returns-5 : tie.Need-returns-5
-returns-5 c = told-so _ _ _ _ (omega (arith, c .before .before .before .before .before .before .before .before .before .before .before .before .if1 .left)) (omega (arith, c .before .before .before .before .before .before .before .before .before .before .before .if2 .left)) (c .before .before .before .before .before .before .before .before .before .before .read-bytes .ensures) _ (c .before .before .before .before .before .before .before .before .one .given .1) (search needs) (passed (c .before .before .before .before .before .before .sound .ensures) (c .before .before .before .before .before .if3 .left)) (c .before .before .before .before .of-image .ensures) (c .before .before .explain .ensures)
+returns-5 c =
+    told-so _ _ _ _
+    (omega (arith, c .before .before .before .before .before .before .before .before .before .before .before .before .if1 .left))
+    (omega (arith, c .before .before .before .before .before .before .before .before .before .before .before .if2 .left))
+    (c .before .before .before .before .before .before .before .before .before .before .read-bytes .ensures) _
+    (c .before .before .before .before .before .before .before .before .one .given .1) (search needs)
+    (passed (c .before .before .before .before .before .before .sound .ensures) (c .before .before .before .before .before .if3 .left))
+    (c .before .before .before .before .of-image .ensures) (c .before .before .explain .ensures)
 
 pub panel-condition-spec : {M : Type 1} → statement M
 panel-condition-spec =

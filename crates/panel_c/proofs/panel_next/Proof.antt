@@ -57,7 +57,15 @@ same-length : tie.Need-same-length
 same-length c = search needs
 
 returns-5 : tie.Need-returns-5
-returns-5 c = next-so _ _ _ (omega (arith, c .before .before .before .before .before .before .before .before .before .before .before .before .if1 .left)) (omega (arith, c .before .before .before .before .before .before .before .before .before .before .before .if2 .left)) (passed (c .before .before .before .before .before .before .before .before .before .before .sound .ensures) (c .before .before .before .before .before .before .before .before .before .if3 .left)) (c .before .before .before .before .before .before .before .before .read-bytes .ensures) _ (c .before .before .before .before .before .before .one .given .1) (search needs) (c .before .before .before .before .of-image .ensures) (c .before .before .follow .ensures)
+returns-5 c =
+    next-so _ _ _
+    (omega (arith, c .before .before .before .before .before .before .before .before .before .before .before .before .if1 .left))
+    (omega (arith, c .before .before .before .before .before .before .before .before .before .before .before .if2 .left))
+    (passed (c .before .before .before .before .before .before .before .before .before .before .sound .ensures)
+    (c .before .before .before .before .before .before .before .before .before .if3 .left))
+    (c .before .before .before .before .before .before .before .before .read-bytes .ensures) _
+    (c .before .before .before .before .before .before .one .given .1) (search needs)
+    (c .before .before .before .before .of-image .ensures) (c .before .before .follow .ensures)
 
 pub panel-next-spec : {M : Type 1} → statement M
 panel-next-spec =

@@ -17,7 +17,11 @@ after-requires : tie.Need-after-requires
 after-requires c κs = search needs
 
 returns : tie.Need-returns
-returns c = let a = c .before .before .before .before .args in c .after .ensures ∙ rw (c .before .before .set-of .ensures) (rebuilt (a .s) _ (rw (c .before .before .set-of .ensures) at (c .before .requested .ensures)) (kept-requested (a .s) _ (a .count) _ (padded (now (a .bytes)) (a .count) (c .before .before .before .before .pre))))
+returns c =
+    let a = c .before .before .before .before .args in
+    c .after .ensures ∙ rw (c .before .before .set-of .ensures)
+    (rebuilt (a .s) _ (rw (c .before .before .set-of .ensures) at (c .before .requested .ensures))
+    (kept-requested (a .s) _ (a .count) _ (padded (now (a .bytes)) (a .count) (c .before .before .before .before .pre))))
 
 pub asked-spec : {M : Type 1} → statement M
 asked-spec = tie.close (tie.spec set-of-requires requested-requires after-requires returns)

@@ -22,19 +22,26 @@ wholly-requires-2 : tie.Need-wholly-requires-2
 wholly-requires-2 c κs = search needs
 
 returns-2 : tie.Need-returns-2
-returns-2 c = c .wholly2 .ensures ∙ bad-wish _ _ (c .before .before .before .before .size .ensures) (c .before .before .before .if1 .left) (omega (arith, c .before .before .byte .ensures, c .before .if2 .taken))
+returns-2 c =
+    c .wholly2 .ensures ∙ bad-wish _ _ (c .before .before .before .before .size .ensures) (c .before .before .before .if1 .left)
+    (omega (arith, c .before .before .byte .ensures, c .before .if2 .taken))
 
 wholly-requires-3 : tie.Need-wholly-requires-3
 wholly-requires-3 c κs = search needs
 
 returns-3 : tie.Need-returns-3
-returns-3 c = c .wholly3 .ensures ∙ left-over _ _ (c .before .before .before .before .before .size .ensures) (omega (arith, c .before .before .before .byte .ensures, c .before .before .if2 .left)) (c .before .if3 .taken)
+returns-3 c =
+    c .wholly3 .ensures ∙ left-over _ _ (c .before .before .before .before .before .size .ensures)
+    (omega (arith, c .before .before .before .byte .ensures, c .before .before .if2 .left)) (c .before .if3 .taken)
 
 weighed-requires : tie.Need-weighed-requires
 weighed-requires c κs = omega (arith, c .before .before .before .before .size .ensures, c .before .before .before .if1 .left, c .if3 .left)
 
 returns-4 : tie.Need-returns-4
-returns-4 c = c .weighed .ensures ∙ as-weighed _ _ (c .before .before .before .before .before .size .ensures) (omega (arith, c .before .before .before .byte .ensures, c .before .before .if2 .left)) (omega (arith, c .before .before .before .before .if1 .left, c .before .if3 .left))
+returns-4 c =
+    c .weighed .ensures ∙ as-weighed _ _ (c .before .before .before .before .before .size .ensures)
+    (omega (arith, c .before .before .before .byte .ensures, c .before .before .if2 .left))
+    (omega (arith, c .before .before .before .before .if1 .left, c .before .if3 .left))
 
 pub explain-spec : {M : Type 1} → statement M
 explain-spec =

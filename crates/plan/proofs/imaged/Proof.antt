@@ -38,7 +38,8 @@ returns : tie.Need-returns
 returns c =
     let s = now (c .before .before .before .before .before .before .before .before .args .plan) in
     c .after .ensures ∙ rebuilt _ _ (c .before .before .imaged .ensures) (kept-imaged _ _ _)
-    ∙ imaged-so s (c .before .before .before .before .before .before .start .ensures) (c .before .before .before .image-of2 .ensures) (c .before .before .before .before .image-of .ensures ∙ ap (fromLittleEndian 8 0) (from-on s 8) ∙ number-at 8 8 s)
+    ∙ imaged-so s (c .before .before .before .before .before .before .start .ensures) (c .before .before .before .image-of2 .ensures)
+    (c .before .before .before .before .image-of .ensures ∙ ap (fromLittleEndian 8 0) (from-on s 8) ∙ number-at 8 8 s)
 
 pub imaged-spec : {M : Type 1} → statement M
 imaged-spec =

@@ -19,14 +19,18 @@ all-requires c κs = search needs
 
 returns : tie.Need-returns
 unfolding places
-returns c = ap₂ _&&_ (ap₂ _&&_ (c .before .before .before .free .ensures) (c .before .before .free2 .ensures)) (with-car _ (bit (c .before .before .before .before .args .r)) (c .before .if1 .taken) (c .all .ensures))
+returns c =
+    ap₂ _&&_ (ap₂ _&&_ (c .before .before .before .free .ensures) (c .before .before .free2 .ensures))
+    (with-car _ (bit (c .before .before .before .before .args .r)) (c .before .if1 .taken) (c .all .ensures))
 
 free-requires-3 : tie.Need-free-requires-3
 free-requires-3 c κs = search needs
 
 returns-2 : tie.Need-returns-2
 unfolding places
-returns-2 c = ap₂ _&&_ (ap₂ _&&_ (c .before .before .before .free .ensures) (c .before .before .free2 .ensures)) (without-car _ (bit (c .before .before .before .before .args .r)) (c .before .if1 .left) (c .free3 .ensures))
+returns-2 c =
+    ap₂ _&&_ (ap₂ _&&_ (c .before .before .before .free .ensures) (c .before .before .free2 .ensures))
+    (without-car _ (bit (c .before .before .before .before .args .r)) (c .before .if1 .left) (c .free3 .ensures))
 
 pub meets-spec : {M : Type 1} → statement M
 meets-spec =

@@ -79,7 +79,8 @@ refused-requires c κs = search needs
 returns : tie.Need-returns Inv-loop μ-loop
 returns c =
     let a = c .before .before .before .before in
-    trying-refused _ _ _ _ _ (a .before .before .before .before .before .loop .inv) (omega arith) refl _ _ (a .before .asked .ensures) (a .number .ensures) (c .before .before .before .if1 .taken) (c .before .set-of .ensures) (c .refused .ensures)
+    trying-refused _ _ _ _ _ (a .before .before .before .before .before .loop .inv) (omega arith) refl _ _ (a .before .asked .ensures)
+    (a .number .ensures) (c .before .before .before .if1 .taken) (c .before .set-of .ensures) (c .refused .ensures)
 
 succeeded-requires : tie.Need-succeeded-requires Inv-loop μ-loop
 succeeded-requires c κs = search needs
@@ -91,7 +92,10 @@ loop-less : tie.Need-loop-less Inv-loop μ-loop
 loop-less c = search needs
 
 loop-again : tie.Need-loop-again Inv-loop μ-loop
-loop-again c = trying-turn _ _ _ _ _ (c .before .before .before .before .before .before .before .before .loop .inv) (omega arith) refl _ _ (c .before .before .before .before .asked .ensures) (c .before .before .before .number .ensures) (c .before .before .if1 .left) (c .succeeded .ensures)
+loop-again c =
+    trying-turn _ _ _ _ _ (c .before .before .before .before .before .before .before .before .loop .inv) (omega arith) refl _ _
+    (c .before .before .before .before .asked .ensures) (c .before .before .before .number .ensures) (c .before .before .if1 .left)
+    (c .succeeded .ensures)
 
 byte-requires-2 : tie.Need-byte-requires-2 Inv-loop μ-loop
 byte-requires-2 c κs = search needs
@@ -100,7 +104,10 @@ ended-requires : tie.Need-ended-requires Inv-loop μ-loop
 ended-requires c κs = search needs
 
 returns-2 : tie.Need-returns-2 Inv-loop μ-loop
-returns-2 c = c .ended .ensures ∙ ap (λ (w : ℕ). wholly (cond (holds (wished w) (bit (c .before .before .before .loop .s .bits))) 0 36) (c .before .before .before .loop .s .bits)) (c .before .byte2 .ensures) ∙ trying-end _ _ _ _ (c .before .before .before .loop .inv) (omega arith)
+returns-2 c =
+    c .ended .ensures ∙ ap
+    (λ (w : ℕ). wholly (cond (holds (wished w) (bit (c .before .before .before .loop .s .bits))) 0 36) (c .before .before .before .loop .s .bits))
+    (c .before .byte2 .ensures) ∙ trying-end _ _ _ _ (c .before .before .before .loop .inv) (omega arith)
 
 pub tried-spec : {M : Type 1} → statement M
 tried-spec =

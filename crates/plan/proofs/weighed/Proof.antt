@@ -34,13 +34,21 @@ wholly-requires-2 : tie.Need-wholly-requires-2
 wholly-requires-2 c κs = search needs
 
 returns-2 : tie.Need-returns-2
-returns-2 c = c .wholly2 .ensures ∙ too-many (planIn (now (c .before .before .before .before .before .before .before .args .plan))) _ (numbered (c .before .before .before .before)) (c .before .before .before .if1 .left) (omega (arith, c .before .before .byte .ensures, c .before .if2 .taken, plan-sets (now (c .before .before .before .before .before .before .before .args .plan))))
+returns-2 c =
+    c .wholly2 .ensures ∙ too-many (planIn (now (c .before .before .before .before .before .before .before .args .plan))) _
+    (numbered (c .before .before .before .before)) (c .before .before .before .if1 .left)
+    (omega (arith, c .before .before .byte .ensures, c .before .if2 .taken, plan-sets (now (c .before .before .before .before .before .before .before .args .plan))))
 
 tried-requires : tie.Need-tried-requires
 tried-requires c κs = search needs
 
 returns-3 : tie.Need-returns-3
-returns-3 c = let p = planIn (now (c .before .before .before .before .before .before .before .before .args .plan)) in c .tried .ensures ∙ ap (λ (o : Outcome). tried (p .wish) 0 (o .station) (p .sets)) (c .before .before .before .before .before .before .imaged .ensures) ∙ as-tried p _ (numbered (c .before .before .before .before .before)) (c .before .before .before .before .if1 .left) (omega (arith, c .before .before .before .byte .ensures, c .before .before .if2 .left, plan-sets (now (c .before .before .before .before .before .before .before .before .args .plan))))
+returns-3 c =
+    let p = planIn (now (c .before .before .before .before .before .before .before .before .args .plan)) in
+    c .tried .ensures ∙ ap (λ (o : Outcome). tried (p .wish) 0 (o .station) (p .sets))
+    (c .before .before .before .before .before .before .imaged .ensures) ∙ as-tried p _
+    (numbered (c .before .before .before .before .before)) (c .before .before .before .before .if1 .left)
+    (omega (arith, c .before .before .before .byte .ensures, c .before .before .if2 .left, plan-sets (now (c .before .before .before .before .before .before .before .before .args .plan))))
 
 pub weighed-spec : {M : Type 1} → statement M
 weighed-spec =

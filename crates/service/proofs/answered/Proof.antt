@@ -14,16 +14,13 @@ kind-at-requires c κs = search needs
 told-requires : tie.Need-told-requires
 told-requires c κs = search needs
 
-fresh-requires : tie.Need-fresh-requires
-fresh-requires c κs = search needs
-
-after-requires : tie.Need-after-requires
-after-requires c κs = search needs
+left-requires : tie.Need-left-requires
+left-requires c κs = search needs
 
 returns : tie.Need-returns
-returns c = reply-by (c .before .before .before .before .before .before .before .args .known) (c .before .before .before .before .before .before .before .args .s) (now (c .before .before .before .before .before .before .before .args .m)) (c .before .before .before .before .before .heard .ensures) (c .before .before .before .before .kind-at .ensures) (c .before .before .before .told .ensures) (c .before .before .fresh .ensures) (c .before .after .ensures)
+returns c = reply-by (c .before .before .before .before .before .args .known) (c .before .before .before .before .before .args .s) (now (c .before .before .before .before .before .args .m)) (c .before .before .before .heard .ensures) (c .before .before .kind-at .ensures) (c .before .told .ensures) (c .left .ensures)
 
 pub answered-spec : {M : Type 1} → statement M
 answered-spec =
     tie.close
-    (tie.spec heard-requires kind-at-requires told-requires fresh-requires after-requires returns)
+    (tie.spec heard-requires kind-at-requires told-requires left-requires returns)

@@ -41,10 +41,17 @@ say-requires-4 : tie.Need-say-requires-4
 say-requires-4 c κs = search needs
 
 returns-3 : tie.Need-returns-3
-returns-3 c = by-reading _ _ (omega (arith, c .before .before .before .before .before .before .before .before .if1 .left)) (sym (c .before .before .before .before .before .before .before .crossing .ensures) ∙ c .before .before .before .before .before .before .if2 .left) (c .before .before .before .before .before .read-bytes .ensures) (c .before .before .before .one .given .1) (c .say3 .ensures ∙ ap returned (c .before .judged .ensures))
+returns-3 c =
+    by-reading _ _ (omega (arith, c .before .before .before .before .before .before .before .before .if1 .left))
+    (sym (c .before .before .before .before .before .before .before .crossing .ensures) ∙ c .before .before .before .before .before .before .if2 .left)
+    (c .before .before .before .before .before .read-bytes .ensures) (c .before .before .before .one .given .1)
+    (c .say3 .ensures ∙ ap returned (c .before .judged .ensures))
 
 returns-4 : tie.Need-returns-4
-returns-4 c = by-reading _ _ (omega (arith, c .before .before .before .before .before .before .if1 .left)) (sym (c .before .before .before .before .before .crossing .ensures) ∙ c .before .before .before .before .if2 .left) (c .before .before .before .read-bytes .ensures) (c .before .enum-told .given .1) (c .say4 .ensures)
+returns-4 c =
+    by-reading _ _ (omega (arith, c .before .before .before .before .before .before .if1 .left))
+    (sym (c .before .before .before .before .before .crossing .ensures) ∙ c .before .before .before .before .if2 .left)
+    (c .before .before .before .read-bytes .ensures) (c .before .enum-told .given .1) (c .say4 .ensures)
 
 pub garage-allowed-spec : {M : Type 1} → statement M
 garage-allowed-spec =

@@ -25,7 +25,9 @@ say-requires-3 : tie.Need-say-requires-3
 say-requires-3 c κs = search needs
 
 returns-3 : tie.Need-returns-3
-returns-3 c = hindered _ _ _ (omega (arith, c .before .before .before .before .if1 .left)) (omega (arith, c .before .before .before .if2 .left)) (sym (c .before .before .crossing .ensures) ∙ c .before .if3 .taken) (c .say3 .ensures)
+returns-3 c =
+    hindered _ _ _ (omega (arith, c .before .before .before .before .if1 .left)) (omega (arith, c .before .before .before .if2 .left))
+    (sym (c .before .before .crossing .ensures) ∙ c .before .if3 .taken) (c .say3 .ensures)
 
 moved-requires : tie.Need-moved-requires
 moved-requires c κs = search needs
@@ -52,7 +54,17 @@ same-length : tie.Need-same-length
 same-length c = search needs
 
 returns-4 : tie.Need-returns-4
-returns-4 c = followed _ _ _ (omega (arith, c .before .before .before .before .before .before .before .before .before .before .before .before .before .if1 .left)) (omega (arith, c .before .before .before .before .before .before .before .before .before .before .before .before .if2 .left)) (sym (c .before .before .before .before .before .before .before .before .before .before .before .crossing .ensures) ∙ c .before .before .before .before .before .before .before .before .before .before .if3 .left) (c .before .before .before .before .before .before .before .before .before .moved .ensures) (c .before .before .before .before .before .before .before .before .answer-to .ensures) (c .before .before .before .before .before .before .before .record-in .ensures) (c .before .before .before .before .before .before .image-bytes .ensures) (c .before .before .before .before .before .say4 .ensures) (c .before .before .tell .ensures)
+returns-4 c =
+    followed _ _ _
+    (omega (arith, c .before .before .before .before .before .before .before .before .before .before .before .before .before .if1 .left))
+    (omega (arith, c .before .before .before .before .before .before .before .before .before .before .before .before .if2 .left))
+    (sym (c .before .before .before .before .before .before .before .before .before .before .before .crossing .ensures)
+    ∙ c .before .before .before .before .before .before .before .before .before .before .if3 .left)
+    (c .before .before .before .before .before .before .before .before .before .moved .ensures)
+    (c .before .before .before .before .before .before .before .before .answer-to .ensures)
+    (c .before .before .before .before .before .before .before .record-in .ensures)
+    (c .before .before .before .before .before .before .image-bytes .ensures) (c .before .before .before .before .before .say4 .ensures)
+    (c .before .before .tell .ensures)
 
 pub garage-next-spec : {M : Type 1} → statement M
 garage-next-spec =

@@ -39,7 +39,13 @@ same-length : tie.Need-same-length
 same-length c = search needs
 
 returns-3 : tie.Need-returns-3
-returns-3 c = asked _ _ (omega (arith, c .before .before .before .before .before .before .before .before .before .before .if1 .left)) (omega (arith, c .before .before .before .before .before .before .before .before .before .if2 .left)) (c .before .before .before .before .before .before .before .before .station-of .ensures) (c .before .before .before .before .before .before .ask .ensures) (c .before .before .before .before .before .before .before .image-in .ensures) (c .before .before .before .before .before .say3 .ensures) (c .before .before .tell .ensures)
+returns-3 c =
+    asked _ _ (omega (arith, c .before .before .before .before .before .before .before .before .before .before .if1 .left))
+    (omega (arith, c .before .before .before .before .before .before .before .before .before .if2 .left))
+    (c .before .before .before .before .before .before .before .before .station-of .ensures)
+    (c .before .before .before .before .before .before .ask .ensures)
+    (c .before .before .before .before .before .before .before .image-in .ensures)
+    (c .before .before .before .before .before .say3 .ensures) (c .before .before .tell .ensures)
 
 pub station-ask-spec : {M : Type 1} → statement M
 station-ask-spec =

@@ -24,7 +24,10 @@ same-length : tie.Need-same-length
 same-length c = search needs
 
 returns-2 : tie.Need-returns-2
-returns-2 c = entered _ _ (omega (arith, c .before .before .before .before .before .before .before .if1 .left)) (c .before .before .before .before .before .station-of .ensures) (c .before .before .before .before .image .ensures) (c .before .before .keep .ensures)
+returns-2 c =
+    entered _ _ (omega (arith, c .before .before .before .before .before .before .before .if1 .left))
+    (c .before .before .before .before .before .station-of .ensures) (c .before .before .before .before .image .ensures)
+    (c .before .before .keep .ensures)
 
 pub station-image-spec : {M : Type 1} → statement M
 station-image-spec =

@@ -34,7 +34,13 @@ same-length-2 : tie.Need-same-length-2
 same-length-2 c = search needs
 
 returns-2 : tie.Need-returns-2
-returns-2 c = short-reply _ _ _ (omega (arith, c .before .before .before .before .before .before .before .before .before .before .if1 .left)) (lent-there _ (omega (arith, c .before .before .before .before .before .before .before .before .before .before .if1 .left)) (c .before .before .before .before .before .before .before .before .station-of .ensures)) (c .before .before .before .before .before .before .before .respond .ensures) (c .before .before .before .before .before .write-plain .ensures) (c .before .before .number .ensures) (c .before .if2 .taken) (c .say2 .ensures)
+returns-2 c =
+    short-reply _ _ _ (omega (arith, c .before .before .before .before .before .before .before .before .before .before .if1 .left))
+    (lent-there _ (omega (arith, c .before .before .before .before .before .before .before .before .before .before .if1 .left))
+    (c .before .before .before .before .before .before .before .before .station-of .ensures))
+    (c .before .before .before .before .before .before .before .respond .ensures)
+    (c .before .before .before .before .before .write-plain .ensures) (c .before .before .number .ensures) (c .before .if2 .taken)
+    (c .say2 .ensures)
 
 returned-of-requires : tie.Need-returned-of-requires
 returned-of-requires c κs = search needs
@@ -46,7 +52,13 @@ same-length-4 : tie.Need-same-length-4
 same-length-4 c = search needs
 
 returns-3 : tie.Need-returns-3
-returns-3 c = told-why _ _ _ (omega (arith, c .before .before .before .before .before .before .before .before .before .before .before .if1 .left)) (lent-there _ (omega (arith, c .before .before .before .before .before .before .before .before .before .before .before .if1 .left)) (c .before .before .before .before .before .before .before .before .before .station-of .ensures)) (c .before .before .before .before .before .before .before .before .respond .ensures) (c .before .before .before .before .before .before .write-plain .ensures) (c .before .before .before .number .ensures) (c .before .before .if2 .left) (c .before .returned-of .ensures) (c .if3 .taken)
+returns-3 c =
+    told-why _ _ _ (omega (arith, c .before .before .before .before .before .before .before .before .before .before .before .if1 .left))
+    (lent-there _ (omega (arith, c .before .before .before .before .before .before .before .before .before .before .before .if1 .left))
+    (c .before .before .before .before .before .before .before .before .before .station-of .ensures))
+    (c .before .before .before .before .before .before .before .before .respond .ensures)
+    (c .before .before .before .before .before .before .write-plain .ensures) (c .before .before .before .number .ensures)
+    (c .before .before .if2 .left) (c .before .returned-of .ensures) (c .if3 .taken)
 
 station-bytes-requires : tie.Need-station-bytes-requires
 station-bytes-requires c κs = search needs
@@ -64,7 +76,18 @@ same-length-6 : tie.Need-same-length-6
 same-length-6 c = search needs
 
 returns-4 : tie.Need-returns-4
-returns-4 c = replied _ _ _ (omega (arith, c .before .before .before .before .before .before .before .before .before .before .before .before .before .before .before .before .before .before .if1 .left)) (lent-there _ (omega (arith, c .before .before .before .before .before .before .before .before .before .before .before .before .before .before .before .before .before .before .if1 .left)) (c .before .before .before .before .before .before .before .before .before .before .before .before .before .before .before .before .station-of .ensures)) (c .before .before .before .before .before .before .before .before .before .before .before .before .before .before .before .respond .ensures) (c .before .before .before .before .before .before .before .before .before .before .before .before .before .write-plain .ensures) (c .before .before .before .before .before .before .before .before .before .before .number .ensures) (c .before .before .before .before .before .before .before .before .before .if2 .left) (c .before .before .before .before .before .before .before .before .returned-of .ensures) (c .before .before .before .before .before .before .before .if3 .left) (c .before .before .before .before .before .station-bytes .ensures) (omega arith) (c .before .before .copy .ensures .1)
+returns-4 c =
+    replied _ _ _
+    (omega (arith, c .before .before .before .before .before .before .before .before .before .before .before .before .before .before .before .before .before .before .if1 .left))
+    (lent-there _ (omega (arith, c .before .before .before .before .before .before .before .before .before .before .before .before .before .before .before .before .before .before .if1 .left))
+    (c .before .before .before .before .before .before .before .before .before .before .before .before .before .before .before .before .station-of .ensures))
+    (c .before .before .before .before .before .before .before .before .before .before .before .before .before .before .before .respond .ensures)
+    (c .before .before .before .before .before .before .before .before .before .before .before .before .before .write-plain .ensures)
+    (c .before .before .before .before .before .before .before .before .before .before .number .ensures)
+    (c .before .before .before .before .before .before .before .before .before .if2 .left)
+    (c .before .before .before .before .before .before .before .before .returned-of .ensures)
+    (c .before .before .before .before .before .before .before .if3 .left)
+    (c .before .before .before .before .before .station-bytes .ensures) (omega arith) (c .before .before .copy .ensures .1)
 
 pub station-message-spec : {M : Type 1} → statement M
 station-message-spec =

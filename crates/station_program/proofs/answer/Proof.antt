@@ -3,7 +3,7 @@ use borrow.Author.Tests.{not-true, not-false}
 use borrow.Author.Needs.{needs}
 use mathlib.Core.Path.{sym, ap, _∙_}
 use lib.Seq.{length-take-le}
-use Rattle.station_program.specs.declared.keeping.Journal.{Journal}
+use Rattle.journal_keeper.specs.declared.Journal.{Journal}
 use Rattle.station_program.proofs.Turning.{taken-within, taken-follows, held-short, as-turn}
 use Rattle.bits.proofs.Cases.{clash}
 use Rattle.station_program.proofs.answer.Statement.{statement}

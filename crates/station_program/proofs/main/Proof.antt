@@ -41,7 +41,7 @@ slice-aggregate-begin-3 : tie.Need-slice-aggregate-begin-3
 slice-aggregate-begin-3 c = search needs
 
 begin-requires : tie.Need-begin-requires
-begin-requires c κs = let r = rooms-enough (slice-aggregate-begin-2 (c .before)) (slice-aggregate-begin-3 c) in let t = c .before .before .before .before .before .before .before .before .before .before .tables .ensures in let s = c .before .before .before .if2 .taken in (r .0, r .1, t, (s, λ k. c .before .before .before .before .before .before .asked .ensures s k .journaled (t, room-lent (slice-aggregate-asked-3 (c .before .before .before .before .before .before .before))) .file))
+begin-requires c κs = let r = rooms-enough (slice-aggregate-begin-2 (c .before)) (slice-aggregate-begin-3 c) in let t = c .before .before .before .before .before .before .before .before .before .before .tables .ensures in let s = c .before .before .before .if2 .taken in (r .0, r .1, t, (s, λ k. c .before .before .before .before .before .before .asked .ensures s k .makes (t, room-lent (slice-aggregate-asked-3 (c .before .before .before .before .before .before .before))) k))
 
 returns-2 : tie.Need-returns-2
 returns-2 c = search needs

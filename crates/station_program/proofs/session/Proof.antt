@@ -3,12 +3,12 @@ use borrow.Author.Needs.{needs}
 use mathlib.Core.Path.{_≡_}
 use Prim.Native.Nat.{_<_}
 use lib.ListN.{length}
-use Rattle.station_program.specs.Keeping.{JournalKept}
+use Rattle.station_program.specs.Keeping.{StationKept}
 use Rattle.station_program.proofs.session.Statement.{statement}
 use Rattle.station_program.proofs.session.Tie as tie
 
 abbrev Inv-loop : tie.InvT-loop
-Inv-loop t buf₀ out₀ b₀ turns₀ buf out b turns = (length buf ≡ length buf₀) × (length out ≡ length out₀) × (b .have < 45) × JournalKept (b .journal)
+Inv-loop t buf₀ out₀ b₀ turns₀ buf out b turns = (length buf ≡ length buf₀) × (length out ≡ length out₀) × (b .have < 45) × StationKept (b .journal)
 
 abbrev μ-loop : tie.MeasureT-loop
 μ-loop t buf₀ out₀ b₀ turns₀ buf out b turns = turns

@@ -17,4 +17,20 @@ unsafe extern "C" {
     pub fn desk_where(room: *const u8, room_length: usize, card: u32) -> u32;
     /// Which card is leaving.
     pub fn desk_leaving(room: *const u8, room_length: usize, card: *mut u8, card_length: usize) -> u32;
+    /// Every car, a line each.
+    pub fn desk_list(room: *const u8, room_length: usize, lines: *mut u8, lines_length: usize) -> u32;
+    /// What is outstanding.
+    pub fn desk_outstanding(room: *const u8, room_length: usize, set: *mut u8, set_length: usize) -> u32;
+    /// What an image would change, a line for each card.
+    pub fn desk_compare(
+        room: *const u8,
+        room_length: usize,
+        image: u64,
+        apart: u64,
+        count: u8,
+        cards: *const u8,
+        cards_length: usize,
+        lines: *mut u8,
+        lines_length: usize,
+    ) -> u32;
 }

@@ -24,25 +24,31 @@ fn some_card(numbers: &mut Numbers, desk: &Desk, taken: &[u32]) -> u32 {
     }
 }
 
-/// The cards that a desk's text must show: each with its place, and whether it is the last known one.
-fn known(desk: &Desk) -> Vec<(u32, u8, bool)> {
+/// A card with its place, whether that is the last known one, and the place that a car in motion would get.
+type Shown = (u32, u8, bool, Option<u8>);
+
+/// The cards that a desk's text must show.
+fn known(desk: &Desk) -> Vec<Shown> {
     let cards = desk.cars.iter().map(|car| car.card).filter(|&card| card < UNKNOWN);
-    let mut all: Vec<_> = cards.filter_map(|card| desk.whereabouts(card).map(|(stand, last)| (card, stand.told(), last))).collect();
+    let one = |card| desk.whereabouts(card).map(|(stand, last)| (card, stand.told(), last, desk.moving(card).map(|to| to.told())));
+    let mut all: Vec<_> = cards.filter_map(one).collect();
     all.sort_by_key(|one| one.1);
     all
 }
 
 /// The same, read from the line of the cars.
-fn shown(line: &str) -> Vec<(u32, u8, bool)> {
+fn shown(line: &str) -> Vec<Shown> {
     let one = |words: &str| {
         let (words, last) = words.strip_suffix(", its last known place").map_or((words, false), |words| (words, true));
-        let (card, place) = words.strip_prefix("card ")?.split_once(' ')?;
+        let (words, to) = words.split_once(", in motion to ").map_or((words, None), |(words, to)| (words, Some(to)));
+        let (card, at) = words.strip_prefix("card ")?.split_once(' ')?;
         let cell = |cells: &str| cells.split(',').next()?.parse().ok();
-        let place = match place {
-            "on the raised lift" => Some(52),
-            _ => place.strip_prefix("at cells ").or(place.strip_prefix("at cell ")).and_then(cell),
+        let place = |words: &str| match words {
+            "the raised lift" => Some(52),
+            _ => words.strip_prefix("cells ").or(words.strip_prefix("cell ")).and_then(cell),
         };
-        Some((card.parse().ok()?, place?, last))
+        let to = to.map(|words| place(words).unwrap_or_else(|| panic!("`{words}`")));
+        Some((card.parse().ok()?, place(at.split_once(' ')?.1)?, last, to))
     };
     line.split("; ").skip(1).map(|words| one(words).unwrap_or_else(|| panic!("`{words}`"))).collect()
 }
@@ -54,8 +60,8 @@ fn in_view(lines: &[String]) -> Vec<u32> {
 }
 
 /// Those that must: a car over a shuttle's border has room for a fifth digit, and none is in a row on the raised lift.
-fn fit_in_view(cards: &[(u32, u8, bool)]) -> Vec<u32> {
-    let fits = |one: &&(u32, u8, bool)| one.1 < 40 && one.0 < if matches!(one.1, 1 | 17) { 100_000 } else { 10_000 };
+fn fit_in_view(cards: &[Shown]) -> Vec<u32> {
+    let fits = |one: &&Shown| one.1 < 40 && one.0 < if matches!(one.1, 1 | 17) { 100_000 } else { 10_000 };
     cards.iter().filter(fits).map(|one| one.0).collect()
 }
 
@@ -101,7 +107,7 @@ fn line(numbers: &mut Numbers, desk: &mut Desk) -> String {
 
 /// So many logs of so many messages.
 pub fn followed(explain: &str, logs: u64, messages: usize) {
-    let (mut seen, mut last_known, mut coming) = (0, 0, 0);
+    let (mut seen, mut last_known, mut moving, mut coming) = (0, 0, 0, 0);
     for seed in 0..logs {
         let (mut numbers, mut desk, mut log, mut desks) = (Numbers(seed), Desk::start(), String::new(), Vec::new());
         for _ in 0..messages {
@@ -120,9 +126,11 @@ pub fn followed(explain: &str, logs: u64, messages: usize) {
             assert_eq!(drive.map(str::to_string), drive.map(|_| waits.map_or(String::new(), |card| format!(", card {card}"))));
             seen += cards.len();
             last_known += cards.iter().filter(|one| one.2).count();
+            moving += cards.iter().filter(|one| one.3.is_some()).count();
             coming += usize::from(waits.is_some());
         }
     }
-    assert!(last_known > 0 && coming > 0, "{last_known} at their last known place, {coming} coming");
-    println!("explain: {seen} cards where the reference desk has them, {last_known} at their last known place, {coming} coming");
+    let told = format!("{last_known} at their last known place, {moving} in motion, {coming} coming");
+    assert!(last_known > 0 && moving > 0 && coming > 0, "{told}");
+    println!("explain: {seen} cards where the reference desk has them, {told}");
 }

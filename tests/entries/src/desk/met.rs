@@ -2,6 +2,7 @@
 //! images with right and wrong numbers, cars that are carried and cars that are not, places that are told.
 use reference::desk::{wanted, Desk, Stand};
 use reference::desk_command::{CARDS_MOST, EVENT, IMAGE, RESULT};
+use reference::desk_lists::{LAST, MOVES, SURE};
 use reference::{bit, BEGIN_IN, BEGIN_OUT, DONE, DRIVE_IN, END_DONE, END_NOT_DONE, FAILED, STUCK};
 use shared::trials::Given;
 use std::collections::BTreeSet;
@@ -96,6 +97,54 @@ pub enum Met {
     NotHere(Card),
     /// Whether a card is leaving.
     Leaving(bool),
+    /// A line of the list, by its place and its flag.
+    Listed {
+        spot: Spot,
+        flag: u8,
+    },
+    /// What is outstanding: whether there is a set, and whether something of it is answered.
+    Open {
+        set: bool,
+        answered: bool,
+    },
+    /// What an image that is accepted would change: whether anything, from where to where, at which flag, and whether two cards change
+    /// places with each other.
+    Changes {
+        some: bool,
+    },
+    Changed {
+        from: Spot,
+        to: Spot,
+    },
+    ChangedFrom {
+        spot: Spot,
+        flag: u8,
+    },
+    Exchanged,
+}
+
+/// A place that lines tell: as where a car stands, where a card waits, and none.
+#[derive(Clone, Copy, Debug, PartialEq, Eq, PartialOrd, Ord)]
+pub enum Spot {
+    Of(Kind),
+    Waits,
+    Nowhere,
+}
+
+impl Spot {
+    pub fn of(place: u8) -> Spot {
+        match place {
+            0..=19 => Spot::Of(Pair),
+            20..=39 => Spot::Of(Single),
+            52 => Spot::Of(Raised),
+            55 => Spot::Waits,
+            255 => Spot::Nowhere,
+            _ => panic!("{place} is no place"),
+        }
+    }
+
+    /// All of them.
+    const ALL: [Spot; 5] = [Spot::Of(Pair), Spot::Of(Single), Spot::Of(Raised), Spot::Waits, Spot::Nowhere];
 }
 
 impl Kind {
@@ -209,6 +258,18 @@ fn all() -> BTreeSet<Met> {
     all.insert(Met::Moving { from: Raised, to: Raised });
     all.extend([Zero, Coming, Gone, New].map(Met::NotHere));
     all.extend([false, true].map(Met::Leaving));
+    let cars = [Pair, Single, Raised].map(Spot::Of);
+    all.extend(cars.into_iter().flat_map(|spot| [SURE, LAST, MOVES].map(|flag| Met::Listed { spot, flag })));
+    all.extend(cars.into_iter().flat_map(|spot| [SURE, LAST].map(|flag| Met::ChangedFrom { spot, flag })));
+    all.insert(Met::Listed { spot: Spot::Waits, flag: SURE });
+    all.extend([Spot::Waits, Spot::Nowhere].map(|spot| Met::ChangedFrom { spot, flag: SURE }));
+    all.extend([(false, false), (true, false), (true, true)].map(|(set, answered)| Met::Open { set, answered }));
+    all.extend([false, true].map(|some| Met::Changes { some }));
+    // of the raised lift and of what waits there is one
+    let one = |spot: Spot| !matches!(spot, Spot::Of(Pair | Single));
+    let pairs = Spot::ALL.into_iter().flat_map(|from| Spot::ALL.map(|to| (from, to)));
+    all.extend(pairs.filter(|&(from, to)| from != to || !one(from)).map(|(from, to)| Met::Changed { from, to }));
+    all.insert(Met::Exchanged);
     all
 }
 

@@ -2,7 +2,8 @@
 #![allow(dead_code)] // each driver uses its own part of this module
 
 use reference::desk::{layout, Desk};
-use reference::desk_command::{ASK, CARDS_MOST, EVENT, IMAGE, LEAVING, REQUEST, RESULT, START, WHERE};
+use reference::desk_command::{ASK, CARDS_MOST, COMPARE, EVENT, IMAGE, LEAVING, LIST, OUTSTANDING, REQUEST, RESULT, START, WHERE};
+use reference::desk_lists;
 use reference::{bit, read_call, sound, Call, BEGIN_IN, DRIVE_IN, LIFT_CAR};
 use shared::traffic::{any_bytes, framed_message, near_image, near_record, Numbers};
 use shared::trials::Given;
@@ -57,10 +58,27 @@ pub fn right_cards(numbers: &mut Numbers, desk: &Desk, image: u64) -> Vec<u32> {
     cards
 }
 
-/// Numbers with an image, and how many they are said to be: mostly the right ones; too many or too few, one 0, one twice, or several of
+/// Cards that stand elsewhere than before: two that change places, or one that the desk has where another was.
+fn moved(numbers: &mut Numbers, desk: &Desk, cards: &mut [u32]) {
+    if cards.is_empty() {
+        return;
+    }
+    let mut any = || numbers.below(cards.len() as u64) as usize;
+    let (one, other) = (any(), any());
+    cards.swap(one, other);
+    let known = known_card(numbers, desk);
+    if numbers.one_in(2) && !cards.contains(&known) {
+        cards[one] = known;
+    }
+}
+
+/// Numbers with an image, and how many they are said to be: mostly the right ones, now and then moved; too many or too few, one 0, one twice, or several of
 /// these; more than there can be; or fewer bytes than so many have.
 fn some_cards(numbers: &mut Numbers, desk: &Desk, image: u64) -> (u8, Vec<u8>) {
     let mut cards = right_cards(numbers, desk, image);
+    if numbers.one_in(3) {
+        moved(numbers, desk, &mut cards);
+    }
     // by its bits: one twice, a 0, another count, more than there can be
     let wrong = if numbers.one_in(2) { 0 } else { [1, 1, 2, 3, 4, 5, 6, 8][numbers.below(8) as usize] };
     let any = |numbers: &mut Numbers, cards: &[u32]| numbers.below(cards.len().max(1) as u64) as usize;
@@ -151,7 +169,7 @@ pub fn some_call(numbers: &mut Numbers, desk: &Desk) -> Given {
 /// The same of every entry, also with lengths, counts and fields that are no host's own.
 pub fn any_call(numbers: &mut Numbers, desk: &Desk) -> Given {
     let of = |entry, size| Given { entry, output: vec![0xEE; size], ..Given::default() };
-    let mut given = match numbers.below(12) {
+    let mut given = match numbers.below(20) {
         0 => of(START, 0),
         1 => of(ASK, 16),
         2 => of(WHERE, 0),
@@ -159,6 +177,12 @@ pub fn any_call(numbers: &mut Numbers, desk: &Desk) -> Given {
         4 | 5 => {
             let record = sound_image(numbers, desk.station.record);
             image(numbers, desk, (record, 0))
+        }
+        6 => of(LIST, desk_lists::LIST),
+        7 => of(OUTSTANDING, desk_lists::OPEN),
+        8..=10 => {
+            let record = sound_image(numbers, desk.station.record);
+            Given { entry: COMPARE, output: vec![0xEE; desk_lists::CHANGES], ..image(numbers, desk, (record, 0)) }
         }
         _ => some_call(numbers, desk),
     };
@@ -171,9 +195,9 @@ pub fn any_call(numbers: &mut Numbers, desk: &Desk) -> Given {
         }
         (EVENT, 0) => given.first = numbers.byte(),
         (RESULT, 0) => given.second = numbers.byte(),
-        (ASK | LEAVING, 0) => given.output.truncate(numbers.below(given.output.len() as u64) as usize),
-        (ASK | LEAVING, 1) => given.output.push(numbers.byte()),
-        (IMAGE, 0) => (given.image, given.apart) = near_image(numbers, &desk.station),
+        (ASK | LEAVING | LIST | OUTSTANDING | COMPARE, 0) => given.output.truncate(numbers.below(given.output.len() as u64) as usize),
+        (ASK | LEAVING | LIST | OUTSTANDING | COMPARE, 1) => given.output.push(numbers.byte()),
+        (IMAGE, 0) | (COMPARE, 2) => (given.image, given.apart) = near_image(numbers, &desk.station),
         (WHERE, 0) => given.card = some_card(numbers, desk),
         (WHERE, _) => given.card = known_card(numbers, desk),
         _ => {}

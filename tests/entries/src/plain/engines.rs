@@ -1,20 +1,10 @@
 //! The two proved engines, called with what a command gives: the plain one's entries, and the packed one's that must say the same.
 use reference::panel_command::{CARS, CONDITION, EVENT, NEXT, REQUEST, RESULT};
-use shared::trials::Given;
+use shared::trials::{on_copies, Given, Left};
 use station::raw::{panel as panel_raw, station as raw};
-
-/// What a call returned, and what it left of the station's room and of the room to write.
-pub type Left = (u32, Vec<u8>, Vec<u8>);
 
 /// Why a record is not looked at by the panel; the station's question on a record doesn't ask.
 const UNSOUND: u8 = 15;
-
-/// A call on copies of the rooms.
-pub fn on_copies(given: &Given, call: impl FnOnce(&mut [u8], &mut [u8]) -> u32) -> Left {
-    let (mut room, mut output) = (given.room.clone(), given.output.clone());
-    let answer = call(&mut room, &mut output);
-    (answer, room, output)
-}
 
 /// By the plain engine.
 pub fn plain(given: &Given) -> Left {

@@ -1,5 +1,5 @@
 use Rattle.desk_service.proofs.Saying.{image-short, image-none, image-many, image-cards}
-use Rattle.desk_service.specs.DeskService.{deskCalled}
+use Rattle.desk_service.specs.DeskService.{deskCalled, brief}
 use mathlib.Core.Path.{_∙_, ap}
 use native.Mathlib.Omega.{arith}
 use denote.Ref.{now}
@@ -23,19 +23,19 @@ unread-requires : tie.Need-unread-requires
 unread-requires c κs = search needs
 
 returns : tie.Need-returns
-returns c = c .unread .ensures ∙ image-short (c .before .before .before .before .args .d) (now (c .before .before .before .before .args .m)) (rw (c .before .before .byte .ensures) at (c .before .if1 .taken))
+returns c = ap brief (c .unread .ensures) ∙ image-short (c .before .before .before .before .args .d) (now (c .before .before .before .before .args .m)) (rw (c .before .before .byte .ensures) at (c .before .if1 .taken))
 
 unread-requires-2 : tie.Need-unread-requires-2
 unread-requires-2 c κs = search needs
 
 returns-2 : tie.Need-returns-2
-returns-2 c = c .unread2 .ensures ∙ image-none (c .before .before .before .before .before .args .d) (now (c .before .before .before .before .before .args .m)) (rw (c .before .before .before .byte .ensures) at (c .before .before .if1 .left)) (rw (c .before .before .before .byte .ensures) at (c .before .if2 .taken))
+returns-2 c = ap brief (c .unread2 .ensures) ∙ image-none (c .before .before .before .before .before .args .d) (now (c .before .before .before .before .before .args .m)) (rw (c .before .before .before .byte .ensures) at (c .before .before .if1 .left)) (rw (c .before .before .before .byte .ensures) at (c .before .if2 .taken))
 
 unread-requires-3 : tie.Need-unread-requires-3
 unread-requires-3 c κs = search needs
 
 returns-3 : tie.Need-returns-3
-returns-3 c = c .unread3 .ensures ∙ image-many (c .before .before .before .before .before .before .args .d) (now (c .before .before .before .before .before .before .args .m)) (rw (c .before .before .before .before .byte .ensures) at (c .before .before .before .if1 .left)) (rw (c .before .before .before .before .byte .ensures) at (c .before .if3 .taken))
+returns-3 c = ap brief (c .unread3 .ensures) ∙ image-many (c .before .before .before .before .before .before .args .d) (now (c .before .before .before .before .before .before .args .m)) (rw (c .before .before .before .before .byte .ensures) at (c .before .before .before .if1 .left)) (rw (c .before .before .before .before .byte .ensures) at (c .before .if3 .taken))
 
 sub-image-of : tie.Need-sub-image-of
 sub-image-of c = search needs
@@ -80,7 +80,7 @@ called-requires : tie.Need-called-requires
 called-requires c κs = search needs
 
 returns-4 : tie.Need-returns-4
-returns-4 c = c .called .ensures ∙ ap deskCalled (c .before .image .ensures) ∙ rw (c .before .before .before .before .before .before .before .before .before .before .before .byte .ensures) (image-cards (c .before .before .before .before .before .before .before .before .before .before .before .before .before .args .d) (now (c .before .before .before .before .before .before .before .before .before .before .before .before .before .args .m)) (rw (c .before .before .before .before .before .before .before .before .before .before .before .byte .ensures) at (c .before .before .before .before .before .before .before .before .before .before .if1 .left)) (rw (c .before .before .before .before .before .before .before .before .before .before .before .byte .ensures) at (c .before .before .before .before .before .before .before .before .before .if2 .left)) (rw (c .before .before .before .before .before .before .before .before .before .before .before .byte .ensures) at (c .before .before .before .before .before .before .before .before .if3 .left)) (c .before .before .before .before .before .before .image-of .ensures) (c .before .before .before .before .image-of2 .ensures) (c .before .before .cards-in .ensures))
+returns-4 c = ap brief (c .called .ensures ∙ ap deskCalled (c .before .image .ensures)) ∙ rw (c .before .before .before .before .before .before .before .before .before .before .before .byte .ensures) (image-cards (c .before .before .before .before .before .before .before .before .before .before .before .before .before .args .d) (now (c .before .before .before .before .before .before .before .before .before .before .before .before .before .args .m)) (rw (c .before .before .before .before .before .before .before .before .before .before .before .byte .ensures) at (c .before .before .before .before .before .before .before .before .before .before .if1 .left)) (c .before .before .before .before .before .before .image-of .ensures) (c .before .before .before .before .image-of2 .ensures) (c .before .before .cards-in .ensures) (rw (c .before .before .before .before .before .before .before .before .before .before .before .byte .ensures) at (c .before .before .before .before .before .before .before .before .before .if2 .left)) (rw (c .before .before .before .before .before .before .before .before .before .before .before .byte .ensures) at (c .before .before .before .before .before .before .before .before .if3 .left)))
 
 pub pictured-spec : {M : Type 1} → statement M
 pictured-spec =

@@ -21,7 +21,9 @@ digit-of-requires : tie.Need-digit-of-requires Inv-loop μ-loop
 digit-of-requires c κs = tt
 
 returns : tie.Need-returns Inv-loop μ-loop
-returns c = not-all (c .before .before .before .before .args .n) (c .before .before .before .before .args .t2) (c .before .before .before .loop .j) (c .before .digit-of .ensures) (c .before .before .loop-test .taken) (c .if1 .taken)
+returns c =
+    not-all (c .before .before .before .before .args .n) (c .before .before .before .before .args .t2)
+    (c .before .before .before .loop .j) (c .before .digit-of .ensures) (c .before .before .loop-test .taken) (c .if1 .taken)
 
 add-j : tie.Need-add-j Inv-loop μ-loop
 add-j c = omega arith
@@ -30,7 +32,10 @@ loop-less : tie.Need-loop-less Inv-loop μ-loop
 loop-less c = omega arith
 
 loop-again : tie.Need-loop-again Inv-loop μ-loop
-loop-again c = turn (c .before .before .before .loop .inv) (c .before .before .loop-test .taken) (one-more (c .before .before .before .before .args .n) (c .before .before .before .before .args .t2) (c .before .before .before .loop .j) (c .before .digit-of .ensures) (c .if1 .left))
+loop-again c =
+    turn (c .before .before .before .loop .inv) (c .before .before .loop-test .taken)
+    (one-more (c .before .before .before .before .args .n) (c .before .before .before .before .args .t2)
+    (c .before .before .before .loop .j) (c .before .digit-of .ensures) (c .if1 .left))
 
 returns-2 : tie.Need-returns-2 Inv-loop μ-loop
 returns-2 c = all-are (c .before .before .args .n) (c .before .before .args .t2) (c .before .loop .inv) (c .loop-test .left)

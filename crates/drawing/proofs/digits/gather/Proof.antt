@@ -30,7 +30,9 @@ loop-again : tie.Need-loop-again Inv-loop μ-loop
 loop-again c = gather-skips _ (c .before .before .before .before .loop .inv) (c .before .before .before .loop-test .taken) (c .before .is-blank .ensures) (c .if1 .taken)
 
 returns : tie.Need-returns Inv-loop μ-loop
-returns c = gather-past _ (c .before .before .before .before .before .loop .inv) (c .before .before .before .before .loop-test .taken) (c .before .before .is-blank .ensures) (c .before .if1 .left) (c .if2 .taken)
+returns c =
+    gather-past _ (c .before .before .before .before .before .loop .inv) (c .before .before .before .before .loop-test .taken)
+    (c .before .before .is-blank .ensures) (c .before .if1 .left) (c .if2 .taken)
 
 array-write-bytes : tie.Need-array-write-bytes Inv-loop μ-loop
 array-write-bytes c = omega arith
@@ -42,7 +44,9 @@ loop-less-2 : tie.Need-loop-less-2 Inv-loop μ-loop
 loop-less-2 c = omega arith
 
 loop-again-2 : tie.Need-loop-again-2 Inv-loop μ-loop
-loop-again-2 c = gather-keeps _ (c .before .before .before .before .before .loop .inv) (c .before .before .before .before .loop-test .taken) (c .before .before .is-blank .ensures) (c .before .if1 .left) (c .if2 .left)
+loop-again-2 c =
+    gather-keeps _ (c .before .before .before .before .before .loop .inv) (c .before .before .before .before .loop-test .taken)
+    (c .before .before .is-blank .ensures) (c .before .if1 .left) (c .if2 .left)
 
 returns-2 : tie.Need-returns-2 Inv-loop μ-loop
 returns-2 c = gather-ends _ (c .before .loop .inv) (c .loop-test .left)

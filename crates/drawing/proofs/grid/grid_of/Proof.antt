@@ -47,7 +47,10 @@ loop2-less : tie.Need-loop2-less Inv-loop2 μ-loop2 Inv-loop μ-loop
 loop2-less c = omega arith
 
 loop2-again : tie.Need-loop2-again Inv-loop2 μ-loop2 Inv-loop μ-loop
-loop2-again c = row-turns (c .before .before .before .loop2 .inv) (c .before .before .loop2-test .taken) (c .mark .ensures ∙ ap (cellMark (c .before .before .before .before .before .before .args .apart) (bit (c .before .before .before .before .before .before .args .image))) (c .before .cell .ensures))
+loop2-again c =
+    row-turns (c .before .before .before .loop2 .inv) (c .before .before .loop2-test .taken)
+    (c .mark .ensures ∙ ap (cellMark (c .before .before .before .before .before .before .args .apart) (bit (c .before .before .before .before .before .before .args .image)))
+    (c .before .cell .ensures))
 
 add-i : tie.Need-add-i Inv-loop2 μ-loop2 Inv-loop μ-loop
 add-i c = omega arith

@@ -31,11 +31,18 @@ returns-2 c = c .byte2 .ensures ∙ simp (le-ltb (c .before .before .before .bef
 
 returns-3 : tie.Need-returns-3
 unfolding markIn
-returns-3 c = c .byte3 .ensures ∙ simp (le-ltb (c .before .before .before .before .before .args .k) 20 (omega arith), le-ltb (c .before .before .before .before .before .args .k) 30 (omega arith), lt-ltb (c .before .before .before .before .before .args .k) 40 (omega arith))
+returns-3 c =
+    c .byte3 .ensures ∙ simp
+    (le-ltb (c .before .before .before .before .before .args .k) 20
+    (omega arith), le-ltb (c .before .before .before .before .before .args .k) 30
+    (omega arith), lt-ltb (c .before .before .before .before .before .args .k) 40 (omega arith))
 
 returns-4 : tie.Need-returns-4
 unfolding markIn
-returns-4 c = simp (le-ltb (c .before .before .before .before .args .k) 20 (omega arith), le-ltb (c .before .before .before .before .args .k) 30 (omega arith), le-ltb (c .before .before .before .before .args .k) 40 (omega arith))
+returns-4 c =
+    simp
+    (le-ltb (c .before .before .before .before .args .k) 20 (omega arith), le-ltb
+    (c .before .before .before .before .args .k) 30 (omega arith), le-ltb (c .before .before .before .before .args .k) 40 (omega arith))
 
 pub mark-in-spec : {M : Type 1} → statement M
 mark-in-spec =

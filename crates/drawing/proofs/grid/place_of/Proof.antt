@@ -14,11 +14,17 @@ returns-2 c = simp (le-ltb (c .before .before .args .k) 20 (omega arith), lt-ltb
 
 returns-3 : tie.Need-returns-3
 unfolding placeInRow
-returns-3 c = simp (le-ltb (c .before .before .before .args .k) 20 (omega arith), le-ltb (c .before .before .before .args .k) 30 (omega arith), lt-ltb (c .before .before .before .args .k) 40 (omega arith))
+returns-3 c =
+    simp
+    (le-ltb (c .before .before .before .args .k) 20 (omega arith), le-ltb (c .before .before .before .args .k) 30 (omega arith), lt-ltb
+    (c .before .before .before .args .k) 40 (omega arith))
 
 returns-4 : tie.Need-returns-4
 unfolding placeInRow
-returns-4 c = simp (le-ltb (c .before .before .before .args .k) 20 (omega arith), le-ltb (c .before .before .before .args .k) 30 (omega arith), le-ltb (c .before .before .before .args .k) 40 (omega arith))
+returns-4 c =
+    simp
+    (le-ltb (c .before .before .before .args .k) 20 (omega arith), le-ltb (c .before .before .before .args .k) 30 (omega arith), le-ltb
+    (c .before .before .before .args .k) 40 (omega arith))
 
 pub place-of-spec : {M : Type 1} → statement M
 place-of-spec = tie.close (tie.spec returns returns-2 returns-3 returns-4)

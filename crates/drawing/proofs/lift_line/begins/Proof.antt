@@ -39,7 +39,10 @@ loop-less : tie.Need-loop-less Inv-loop μ-loop
 loop-less c = omega arith
 
 loop-again : tie.Need-loop-again Inv-loop μ-loop
-loop-again c = let x = c .before .before .before .before .before .before .args in alike-turns (x .text .now) (x .at) (x .word .now) (c .before .before .before .before .before .loop .inv) (c .before .before .before .before .loop-test .taken) (c .before .before .before .if1 .left) (c .if2 .left)
+loop-again c =
+    let x = c .before .before .before .before .before .before .args in
+    alike-turns (x .text .now) (x .at) (x .word .now) (c .before .before .before .before .before .loop .inv)
+    (c .before .before .before .before .loop-test .taken) (c .before .before .before .if1 .left) (c .if2 .left)
 
 returns-3 : tie.Need-returns-3 Inv-loop μ-loop
 returns-3 c = let x = c .before .before .args in alike-ends (x .text .now) (x .at) (x .word .now) (c .before .loop .inv) (c .loop-test .left)

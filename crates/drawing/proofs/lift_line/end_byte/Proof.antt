@@ -36,7 +36,10 @@ returns-2 c = c .byte2 .ensures ∙ simp (c .before .before .match .keys2)
 
 returns-3 : tie.Need-returns-3
 unfolding ascii
-returns-3 c = c .byte3 .ensures ∙ sym (ap (λ (l : List ℕ). getD l (c .before .before .before .args .i) 0) (end-none (c .before .before .before .args .drive) (c .before .before .match .rest .0 .1) (c .before .before .match .rest .1)))
+returns-3 c =
+    c .byte3 .ensures ∙ sym
+    (ap (λ (l : List ℕ). getD l (c .before .before .before .args .i) 0)
+    (end-none (c .before .before .before .args .drive) (c .before .before .match .rest .0 .1) (c .before .before .match .rest .1)))
 
 pub end-byte-spec : {M : Type 1} → statement M
 end-byte-spec =

@@ -13,7 +13,11 @@ name-byte-requires : tie.Need-name-byte-requires
 name-byte-requires c κs = search needs
 
 returns : tie.Need-returns
-returns c = let x = c .before .before .before .args in let l = x .lift in c .name-byte .ensures ∙ in-name (l .height) (l .car) (l .drive) _ (c .before .before .name-size .ensures) (x .i) (c .before .if1 .taken)
+returns c =
+    let x = c .before .before .before .args in
+    let l = x .lift in
+    c .name-byte .ensures ∙ in-name (l .height) (l .car) (l .drive) _ (c .before .before .name-size .ensures) (x .i)
+    (c .before .if1 .taken)
 
 car-size-requires : tie.Need-car-size-requires
 car-size-requires c κs = search needs
@@ -29,13 +33,21 @@ byte-requires c κs = search needs
 
 returns-2 : tie.Need-returns-2
 unfolding ascii
-returns-2 c = let x = c .before .before .before .before .before .before .args in let l = x .lift in c .byte .ensures ∙ in-car (l .height) (l .car) (l .drive) _ (c .before .before .before .before .before .name-size .ensures) (x .i) _ (c .before .before .before .car-size .ensures) (c .before .before .before .before .if1 .left) (c .before .before .if2 .taken)
+returns-2 c =
+    let x = c .before .before .before .before .before .before .args in
+    let l = x .lift in
+    c .byte .ensures ∙ in-car (l .height) (l .car) (l .drive) _ (c .before .before .before .before .before .name-size .ensures) (x .i) _
+    (c .before .before .before .car-size .ensures) (c .before .before .before .before .if1 .left) (c .before .before .if2 .taken)
 
 end-byte-requires : tie.Need-end-byte-requires
 end-byte-requires c κs = search needs
 
 returns-3 : tie.Need-returns-3
-returns-3 c = let x = c .before .before .before .before .before .args in let l = x .lift in c .end-byte .ensures ∙ in-end (l .height) (l .car) (l .drive) _ (c .before .before .before .before .name-size .ensures) (x .i) _ (c .before .before .car-size .ensures) (c .before .if2 .left)
+returns-3 c =
+    let x = c .before .before .before .before .before .args in
+    let l = x .lift in
+    c .end-byte .ensures ∙ in-end (l .height) (l .car) (l .drive) _ (c .before .before .before .before .name-size .ensures) (x .i) _
+    (c .before .before .car-size .ensures) (c .before .if2 .left)
 
 pub lift-byte-spec : {M : Type 1} → statement M
 lift-byte-spec =

@@ -25,14 +25,23 @@ car-size-requires : tie.Need-car-size-requires
 car-size-requires c κs = search needs
 
 add-drive-in : tie.Need-add-drive-in
-add-drive-in c = omega (arith, c .before .before .before .name-size .ensures, name-short (c .before .before .before .before .height-in .result), c .car-size .ensures, car-short (c .before .begins .result))
+add-drive-in c =
+    omega
+    (arith, c .before .before .before .name-size .ensures, name-short
+    (c .before .before .before .before .height-in .result), c .car-size .ensures, car-short (c .before .begins .result))
 
 drive-in-requires : tie.Need-drive-in-requires
-drive-in-requires c κs = omega (arith, c .before .before .before .name-size .ensures, name-short (c .before .before .before .before .height-in .result), c .car-size .ensures, car-short (c .before .begins .result))
+drive-in-requires c κs =
+    omega
+    (arith, c .before .before .before .name-size .ensures, name-short
+    (c .before .before .before .before .height-in .result), c .car-size .ensures, car-short (c .before .begins .result))
 
 returns : tie.Need-returns
 unfolding ascii
-returns c = lift-told (c .before .before .before .before .before .before .before .args .text .now) 51 (c .before .before .before .before .before .height-in .ensures) (c .before .before .before .before .name-size .ensures) (c .before .before .begins .ensures) (c .before .car-size .ensures) (c .drive-in .ensures)
+returns c =
+    lift-told (c .before .before .before .before .before .before .before .args .text .now) 51
+    (c .before .before .before .before .before .height-in .ensures) (c .before .before .before .before .name-size .ensures)
+    (c .before .before .begins .ensures) (c .before .car-size .ensures) (c .drive-in .ensures)
 
 pub lift-in-spec : {M : Type 1} → statement M
 lift-in-spec =

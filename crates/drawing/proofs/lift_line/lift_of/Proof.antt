@@ -37,7 +37,8 @@ add-t9 c = omega (arith, byte-digit (c .before .before .bit2 .result), byte-digi
 returns : tie.Need-returns
 unfolding liftOf
 returns c = lift-alike
-    (ap₂ (λ (x y : ℕ). x + 2 * y) (byte-digit (c .before .before .bit2 .result) ∙ ap digit (c .before .before .bit2 .ensures)) (byte-digit (c .before .bit3 .result) ∙ ap digit (c .before .bit3 .ensures)))
+    (ap₂ (λ (x y : ℕ). x + 2 * y) (byte-digit (c .before .before .bit2 .result) ∙ ap digit (c .before .before .bit2 .ensures))
+    (byte-digit (c .before .bit3 .result) ∙ ap digit (c .before .bit3 .ensures)))
     (c .before .before .before .bit .ensures) (c .drive-of .ensures)
 
 pub lift-of-spec : {M : Type 1} → statement M

@@ -17,10 +17,16 @@ end-size-requires : tie.Need-end-size-requires
 end-size-requires c κs = search needs
 
 add-result-2 : tie.Need-add-result-2
-add-result-2 c = let l = c .before .before .before .args .lift in omega (arith, name-short (l .height), car-short (l .car), end-short (l .drive), c .before .before .name-size .ensures, c .before .car-size .ensures, c .end-size .ensures)
+add-result-2 c =
+    let l = c .before .before .before .args .lift in
+    omega
+    (arith, name-short (l .height), car-short (l .car), end-short (l .drive), c .before .before .name-size .ensures, c .before .car-size .ensures, c .end-size .ensures)
 
 returns : tie.Need-returns
-returns c = let l = c .before .before .before .args .lift in omega (arith, words-size (l .height) (l .car) (l .drive), c .before .before .name-size .ensures, c .before .car-size .ensures, c .end-size .ensures)
+returns c =
+    let l = c .before .before .before .args .lift in
+    omega
+    (arith, words-size (l .height) (l .car) (l .drive), c .before .before .name-size .ensures, c .before .car-size .ensures, c .end-size .ensures)
 
 pub lift-size-spec : {M : Type 1} → statement M
 lift-size-spec =

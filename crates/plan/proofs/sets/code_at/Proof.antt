@@ -35,7 +35,9 @@ byte-requires-5 : tie.Need-byte-requires-5
 byte-requires-5 c κs = search needs
 
 returns : tie.Need-returns
-returns c = code-so _ _ (c .before .before .before .before .byte .ensures) (c .before .before .before .byte2 .ensures) (c .before .before .byte3 .ensures) (c .before .byte4 .ensures) (c .byte5 .ensures)
+returns c =
+    code-so _ _ (c .before .before .before .before .byte .ensures) (c .before .before .before .byte2 .ensures)
+    (c .before .before .byte3 .ensures) (c .before .byte4 .ensures) (c .byte5 .ensures)
 
 pub code-at-spec : {M : Type 1} → statement M
 code-at-spec =

@@ -24,7 +24,9 @@ parts-at-requires-2 : tie.Need-parts-at-requires-2 Inv-loop μ-loop
 parts-at-requires-2 c κs = search needs
 
 returns : tie.Need-returns Inv-loop μ-loop
-returns c = here (c .before .before .before .loop .inv) (c .before .before .loop-test .taken) (sym (overlap-so _ _ _ (c .before .before .before .before .parts-at .ensures) (c .before .parts-at2 .ensures)) ∙ meets-so _ (c .if1 .taken))
+returns c =
+    here (c .before .before .before .loop .inv) (c .before .before .loop-test .taken)
+    (sym (overlap-so _ _ _ (c .before .before .before .before .parts-at .ensures) (c .before .parts-at2 .ensures)) ∙ meets-so _ (c .if1 .taken))
 
 add-j : tie.Need-add-j Inv-loop μ-loop
 add-j c = search needs
@@ -33,7 +35,9 @@ loop-less : tie.Need-loop-less Inv-loop μ-loop
 loop-less c = search needs
 
 loop-again : tie.Need-loop-again Inv-loop μ-loop
-loop-again c = turn (c .before .before .before .loop .inv) (c .before .before .loop-test .taken) (sym (overlap-so _ _ _ (c .before .before .before .before .parts-at .ensures) (c .before .parts-at2 .ensures)) ∙ meets-not _ (c .if1 .left))
+loop-again c =
+    turn (c .before .before .before .loop .inv) (c .before .before .loop-test .taken)
+    (sym (overlap-so _ _ _ (c .before .before .before .before .parts-at .ensures) (c .before .parts-at2 .ensures)) ∙ meets-not _ (c .if1 .left))
 
 returns-2 : tie.Need-returns-2 Inv-loop μ-loop
 returns-2 c = past (c .before .loop .inv) (c .loop-test .left)

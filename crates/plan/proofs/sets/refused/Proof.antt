@@ -31,7 +31,8 @@ parts-at-requires-2 c κs = search needs
 returns : tie.Need-returns
 returns c =
     let a = c .before .before .before .before .before .before in
-    refused-overlap _ _ _ _ (a .before .before .number .ensures) (a .before .place .ensures) (a .if1 .taken) (c .before .before .before .before .first-overlapped .ensures) (c .before .before .parts-at .ensures) (c .parts-at2 .ensures)
+    refused-overlap _ _ _ _ (a .before .before .number .ensures) (a .before .place .ensures) (a .if1 .taken)
+    (c .before .before .before .before .first-overlapped .ensures) (c .before .before .parts-at .ensures) (c .parts-at2 .ensures)
 
 lift-if-requires : tie.Need-lift-if-requires
 lift-if-requires c κs = search needs

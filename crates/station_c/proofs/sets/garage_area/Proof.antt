@@ -42,7 +42,14 @@ same-length : tie.Need-same-length
 same-length c = search needs
 
 returns-3 : tie.Need-returns-3
-returns-3 c = area-told _ _ (omega (arith, c .before .before .before .before .before .before .before .before .before .before .before .if1 .left)) (omega (arith, c .before .before .before .before .before .before .before .before .before .before .if2 .left)) (c .before .before .before .before .before .before .before .before .before .area-in .ensures) (c .before .before .before .before .before .before .before .before .area-said .ensures) (c .before .before .before .before .before .before .before .area-bits .ensures) (c .before .before .before .before .before .before .image-bytes .ensures) (c .before .before .before .before .before .say3 .ensures) (c .before .before .tell .ensures)
+returns-3 c =
+    area-told _ _ (omega (arith, c .before .before .before .before .before .before .before .before .before .before .before .if1 .left))
+    (omega (arith, c .before .before .before .before .before .before .before .before .before .before .if2 .left))
+    (c .before .before .before .before .before .before .before .before .before .area-in .ensures)
+    (c .before .before .before .before .before .before .before .before .area-said .ensures)
+    (c .before .before .before .before .before .before .before .area-bits .ensures)
+    (c .before .before .before .before .before .before .image-bytes .ensures) (c .before .before .before .before .before .say3 .ensures)
+    (c .before .before .tell .ensures)
 
 pub garage-area-spec : {M : Type 1} → statement M
 garage-area-spec =

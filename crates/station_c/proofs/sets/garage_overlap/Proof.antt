@@ -33,7 +33,10 @@ say-requires-3 : tie.Need-say-requires-3
 say-requires-3 c κs = search needs
 
 returns-3 : tie.Need-returns-3
-returns-3 c = pair-read _ _ (omega (arith, c .before .before .before .before .before .if1 .left)) (omega (arith, c .before .before .before .before .if2 .left)) (sym (c .before .enum-told .given .1) ∙ c .before .before .before .read-bytes .ensures) refl (c .say3 .ensures)
+returns-3 c =
+    pair-read _ _ (omega (arith, c .before .before .before .before .before .if1 .left))
+    (omega (arith, c .before .before .before .before .if2 .left))
+    (sym (c .before .enum-told .given .1) ∙ c .before .before .before .read-bytes .ensures) refl (c .say3 .ensures)
 
 read-bytes-requires-2 : tie.Need-read-bytes-requires-2
 read-bytes-requires-2 c κs = search needs
@@ -48,7 +51,11 @@ say-requires-4 : tie.Need-say-requires-4
 say-requires-4 c κs = search needs
 
 returns-4 : tie.Need-returns-4
-returns-4 c = pair-read _ _ (omega (arith, c .before .before .before .before .before .before .before .before .before .if1 .left)) (omega (arith, c .before .before .before .before .before .before .before .before .if2 .left)) (sym (c .before .before .before .before .before .first .given .1) ∙ c .before .before .before .before .before .before .before .read-bytes .ensures) (sym (c .before .enum-told2 .given .1) ∙ c .before .before .before .read-bytes2 .ensures) (c .say4 .ensures)
+returns-4 c =
+    pair-read _ _ (omega (arith, c .before .before .before .before .before .before .before .before .before .if1 .left))
+    (omega (arith, c .before .before .before .before .before .before .before .before .if2 .left))
+    (sym (c .before .before .before .before .before .first .given .1) ∙ c .before .before .before .before .before .before .before .read-bytes .ensures)
+    (sym (c .before .enum-told2 .given .1) ∙ c .before .before .before .read-bytes2 .ensures) (c .say4 .ensures)
 
 overlap-requires : tie.Need-overlap-requires
 overlap-requires c κs = search needs
@@ -60,7 +67,14 @@ say-requires-5 : tie.Need-say-requires-5
 say-requires-5 c κs = search needs
 
 returns-5 : tie.Need-returns-5
-returns-5 c = pair-read _ _ (omega (arith, c .before .before .before .before .before .before .before .before .before .before .before .before .if1 .left)) (omega (arith, c .before .before .before .before .before .before .before .before .before .before .before .if2 .left)) (sym (c .before .before .before .before .before .before .before .before .first .given .1) ∙ c .before .before .before .before .before .before .before .before .before .before .read-bytes .ensures) (sym (c .before .before .before .before .second .given .1) ∙ c .before .before .before .before .before .before .read-bytes2 .ensures) (c .say5 .ensures ∙ ap returned (c .before .sharing-said .ensures ∙ ap sharingSaid (c .before .before .overlap .ensures)))
+returns-5 c =
+    pair-read _ _
+    (omega (arith, c .before .before .before .before .before .before .before .before .before .before .before .before .if1 .left))
+    (omega (arith, c .before .before .before .before .before .before .before .before .before .before .before .if2 .left))
+    (sym (c .before .before .before .before .before .before .before .before .first .given .1)
+    ∙ c .before .before .before .before .before .before .before .before .before .before .read-bytes .ensures)
+    (sym (c .before .before .before .before .second .given .1) ∙ c .before .before .before .before .before .before .read-bytes2 .ensures)
+    (c .say5 .ensures ∙ ap returned (c .before .sharing-said .ensures ∙ ap sharingSaid (c .before .before .overlap .ensures)))
 
 pub garage-overlap-spec : {M : Type 1} → statement M
 garage-overlap-spec =

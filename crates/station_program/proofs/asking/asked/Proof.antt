@@ -1,7 +1,7 @@
 -- `station_program::asking::asked` meets its contract. Assumes nothing.
 use borrow.Author.Needs.{needs}
 use Rattle.bits.proofs.Cases.{clash}
-use Rattle.station_program.proofs.OpeningStands.{whichever}
+use Rattle.station_program.proofs.Opening.{whichever}
 use Rattle.station_program.proofs.asking.asked.Statement.{statement}
 use Rattle.station_program.proofs.asking.asked.Tie as tie
 

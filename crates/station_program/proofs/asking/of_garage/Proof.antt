@@ -1,7 +1,7 @@
 -- `station_program::asking::of_garage` meets its contract. Assumes nothing.
 use borrow.Author.Needs.{needs}
 use Rattle.bits.proofs.Cases.{clash}
-use Rattle.station_program.proofs.OpeningStands.{whichever}
+use Rattle.station_program.proofs.Opening.{whichever}
 use Rattle.station_program.proofs.asking.of_garage.Statement.{statement}
 use Rattle.station_program.proofs.asking.of_garage.Tie as tie
 

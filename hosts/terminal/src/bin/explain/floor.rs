@@ -130,6 +130,11 @@ fn place(place: Place) -> String {
     }
 }
 
+/// Where a car is going.
+fn motion(to: Place) -> String {
+    format!(", in motion to {}", place(to).trim_start_matches("at ").trim_start_matches("on "))
+}
+
 fn lift(floor: &Floor) -> String {
     let on_it = match floor.cards.iter().find(|card| card.place == Place::Raised) {
         Some(card) => format!(", card {} on it", card.card),
@@ -156,10 +161,10 @@ pub fn lines(floor: &Floor, coming: Option<u32>) -> Vec<String> {
     let waits = coming.map_or(String::new(), |card| format!(", card {card}"));
     lines.push(drive(floor.record).map_or("no drive is under way".to_string(), |drive| format!("{drive}{waits}")));
     lines.push(format!("set apart: {}", parts(floor.apart)));
-    let known = floor
-        .cards
-        .iter()
-        .map(|card| format!("card {} {}{}", card.card, place(card.place), if card.last_known { ", its last known place" } else { "" }));
+    let known = floor.cards.iter().map(|card| {
+        let doubt = if card.last_known { ", its last known place".to_string() } else { card.moving_to.map_or(String::new(), motion) };
+        format!("card {} {}{doubt}", card.card, place(card.place))
+    });
     lines.push(std::iter::once(format!("cars: {}", cars.len())).chain(known).collect::<Vec<_>>().join("; "));
     lines
 }

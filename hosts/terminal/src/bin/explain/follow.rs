@@ -5,7 +5,8 @@ use station::{lent, Answer, Desk, Parts, Place, Record, Station, Whereabouts};
 use std::collections::BTreeMap;
 use terminal::conditions::LIFT;
 use terminal::facts::{Facts, Stuck, APART, DRIVE_IN, ISSUE};
-use terminal::message::{number_in, Message, BEGIN_IN};
+use terminal::journal::messages;
+use terminal::message::{number_in, read, Message, BEGIN_IN};
 
 /// An ending that sets the instruction's area apart.
 const STUCK: u8 = 2;
@@ -14,12 +15,13 @@ const WAITS: usize = 41;
 /// Places of numbers in a desk.
 const PLACES: usize = 42;
 
-/// A card's place in the garage, and whether that is only its last known one.
+/// A card's place in the garage, whether that is only its last known one, and of a car in motion the place that it would get.
 #[derive(Clone, Copy)]
 pub struct Known {
     pub card: u32,
     pub place: Place,
     pub last_known: bool,
+    pub moving_to: Option<Place>,
 }
 
 /// The floor that is drawn: a record, what is set apart, and the cards that are known.
@@ -32,6 +34,7 @@ pub struct Floor {
 /// Cards as somebody gives them for cars in their order: some may not be known.
 pub type Cards = Vec<Option<u32>>;
 
+#[derive(Clone)]
 pub struct Follower {
     /// A desk's bytes, which can be given what no call gives: the issue and what is set apart of a log's first record.
     desk: [u8; Desk::SIZE],
@@ -39,8 +42,9 @@ pub struct Follower {
     endings: [Option<u8>; 8],
     /// What has set apart what is, since the last image; what was set apart before the log has no cause here.
     stuck: Vec<Stuck>,
-    /// The cards by the numbers inside.
+    /// The cards by the numbers inside, and those of numbers that will be given out.
     cards: BTreeMap<u32, u32>,
+    ahead: BTreeMap<u32, u32>,
     last: u32,
 }
 
@@ -51,7 +55,14 @@ pub fn named_cars(record: Record) -> usize {
 
 impl Follower {
     fn start() -> Self {
-        Follower { desk: *Desk::new().bytes(), endings: [None; 8], stuck: Vec::new(), cards: BTreeMap::new(), last: 0 }
+        Follower {
+            desk: *Desk::new().bytes(),
+            endings: [None; 8],
+            stuck: Vec::new(),
+            cards: BTreeMap::new(),
+            ahead: BTreeMap::new(),
+            last: 0,
+        }
     }
 
     /// From a sound record on, with what is set apart there, the issue that the next set will have, and the cards of its cars.
@@ -103,8 +114,9 @@ impl Follower {
     /// The cards that are known, in the order of the cells.
     pub fn cards(&self) -> Vec<Known> {
         let one = |(&number, &card): (&u32, &u32)| match lent::desk_where(&self.desk, number).expect("it is a desk") {
-            Whereabouts::At(place) | Whereabouts::Moving { from: place, .. } => Some(Known { card, place, last_known: false }),
-            Whereabouts::LastKnown(place) => Some(Known { card, place, last_known: true }),
+            Whereabouts::At(place) => Some(Known { card, place, last_known: false, moving_to: None }),
+            Whereabouts::Moving { from, to } => Some(Known { card, place: from, last_known: false, moving_to: Some(to) }),
+            Whereabouts::LastKnown(place) => Some(Known { card, place, last_known: true, moving_to: None }),
             Whereabouts::NotHere => None,
         };
         let mut all: Vec<Known> = self.cards.iter().filter_map(one).collect();
@@ -162,6 +174,22 @@ impl Follower {
         self.cards.retain(|number, _| here.contains(number));
     }
 
+    /// Learns the cards that a desk had after some messages, before these are taken: which number here will then be which card's.
+    pub fn learn(&mut self, sent: &[u8], numbers: &[u8]) {
+        let mut then = self.clone();
+        for bytes in messages(sent) {
+            then.take(bytes, &read(bytes), None, "");
+        }
+        for (place, card) in numbers.chunks_exact(4).map(|four| number_in(four) as u32).enumerate().filter(|&(_, card)| card != 0) {
+            let number = then.number_at(place);
+            if number > self.last {
+                self.ahead.insert(number, card);
+            } else if number != 0 {
+                self.cards.insert(number, card);
+            }
+        }
+    }
+
     fn take_image(&mut self, record: Record, cards: Option<&Cards>) {
         let known = |at: usize| cards.and_then(|cards| *cards.get(at)?);
         let cars = named_cars(record);
@@ -173,7 +201,7 @@ impl Follower {
     /// A number that no car has had, for the card if it is known. There are more of them than messages in any log.
     fn new_number(&mut self, card: Option<u32>) -> u32 {
         self.last += 1;
-        if let Some(card) = card {
+        if let Some(card) = card.or(self.ahead.remove(&self.last)) {
             self.cards.insert(self.last, card);
         }
         self.last

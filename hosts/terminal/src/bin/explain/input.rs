@@ -14,6 +14,8 @@ pub enum Item {
     Message { bytes: Vec<u8>, answered: bool },
     /// Cards for the next message: of a begin in one, of an image those of its cars in the order of the cells.
     Cards { all: Cards, begin: bool },
+    /// The numbers of a desk's cards as a journal has them: in the desk's order, after the messages that stand behind this.
+    Numbers { after: Vec<u8>, numbers: Vec<u8> },
     /// The station was started again on its journal.
     Restarted,
     /// A session of a journal has ended with these bytes, which are no message; the next one goes on.

@@ -4,7 +4,7 @@ use crate::input::{At, Item, Placed};
 use station::words::Wrong;
 use std::collections::VecDeque;
 use std::io::Read;
-use terminal::journal::{self, messages, Next, CLOSED, MESSAGES};
+use terminal::journal::{self, messages, parts_of, Next, CLOSED};
 
 pub struct Journal<R> {
     appends: journal::Journal<R>,
@@ -29,16 +29,19 @@ impl<R: Read> Journal<R> {
     }
 
     fn append(&mut self, at: usize, kind: u8, carried: &[u8]) {
-        match kind {
-            MESSAGES => {
-                let mut place = at + 8;
-                for message in messages(carried) {
+        match parts_of(kind, carried) {
+            Some((numbers, sent)) => {
+                if !numbers.is_empty() {
+                    self.place(at, Item::Numbers { after: sent.to_vec(), numbers: numbers.to_vec() });
+                }
+                let mut place = at + 8 + numbers.len();
+                for message in messages(sent) {
                     self.place(place, Item::Message { bytes: message.to_vec(), answered: false });
                     place += message.len();
                 }
             }
-            CLOSED => self.place(at, Item::Closed),
-            _ => self.place(at + 8, Item::Stopped { bytes: carried.to_vec() }),
+            None if kind == CLOSED => self.place(at, Item::Closed),
+            None => self.place(at + 8, Item::Stopped { bytes: carried.to_vec() }),
         }
     }
 

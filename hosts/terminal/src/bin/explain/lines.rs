@@ -100,11 +100,13 @@ fn floor(moment: &Moment) -> Json {
 }
 
 fn card(known: &Known) -> Json {
-    let cell = match known.place {
+    let cell = |place| match place {
         Place::Cell(cell) => Some(cell),
         Place::Raised => None,
     };
-    Json::object([("card", known.card.into()), ("cell", cell.into()), ("last_known", known.last_known.into())])
+    let mut all = vec![("card", known.card.into()), ("cell", cell(known.place).into()), ("last_known", known.last_known.into())];
+    all.extend(known.moving_to.map(|to| ("moving_to", cell(to).into())));
+    Json::object(all)
 }
 
 /// What each object begins with.

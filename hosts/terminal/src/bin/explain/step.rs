@@ -176,6 +176,10 @@ impl Log {
                 self.cards = Some(GivenCards { at, all, begin });
                 Told { step: Step::Nothing, wrong }
             }
+            Item::Numbers { after, numbers } => {
+                self.station.learn(&after, &numbers);
+                Told { step: Step::Nothing, wrong: None }
+            }
             Item::Restarted => note(format!("{at}: the station was started again on its journal, and goes on"), false),
             Item::Stopped { bytes } => self.sent(at, bytes, Some("the session ended here; the next one goes on from the journal")),
             Item::Closed => note(format!("{at}: the journal is closed, and another follows it"), true),
@@ -246,7 +250,8 @@ impl Log {
         self.counts.sent += 1;
         let (number, says, before) = (self.counts.messages, self.says(&message), self.moment());
         let (answer, reply) = self.station.take(&bytes, &message, cards.as_ref(), &format!("message {number}, {at}"));
-        let card = cards.filter(|_| matches!(message, Message::Event(_))).and_then(|cards| *cards.first()?);
+        let given = cards.filter(|_| matches!(message, Message::Event(_))).and_then(|cards| *cards.first()?);
+        let card = given.or(self.station.coming().filter(|_| answer.taken() && matches!(message, Message::Event(BEGIN_IN))));
         let after = self.moment();
         let (mut why, mut to_be_done) = (Vec::new(), None);
         if !answer.taken() {

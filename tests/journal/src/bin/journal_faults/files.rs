@@ -2,7 +2,7 @@
 //! byte changes.
 
 use super::{image_after, journal, not_started, run, Place};
-use shared::journal_form::{journal_of, Written, CLOSED, CUT_SHORT, HEAD, MESSAGES};
+use shared::journal_form::{journal_of, Written, CARDS, CLOSED, CUT_SHORT, HEAD, MESSAGES, NUMBERS};
 use shared::journals::{new, Trouble, ASK, GARAGE};
 use shared::reference::{serve_on, Station};
 use shared::traffic::input;
@@ -77,7 +77,10 @@ impl Place<'_> {
         head[70] ^= 1;
         let unfit = Written::begun(GARAGE.as_bytes(), &Station { record: 1, ..start }).with(MESSAGES, &ASK).bytes;
         let closed = Written::begun(GARAGE.as_bytes(), &start).with(MESSAGES, &messages).with(CLOSED, &[]).bytes;
-        let files: [(&str, &[u8], &str); 9] = [
+        // with a tail that is torn, which a station would cut off
+        let cards = Written::begun(GARAGE.as_bytes(), &start).with(CARDS, &[0; NUMBERS]).with(MESSAGES, &messages).bytes;
+        let cards = [&cards[..], &[0; 9]].concat();
+        let files: [(&str, &[u8], &str); 10] = [
             ("an empty file", &[], "empty"),
             ("another file", b"Tuesday: the lift was serviced; belts to be looked at.\n", ""),
             ("one whose front reads as a length", b"\x2a\x00 notes", ""),
@@ -87,6 +90,7 @@ impl Place<'_> {
             ("a journal with a damaged head", &head, "damaged"),
             ("a journal with a station that is not fit", &unfit, "fit"),
             ("a journal that is closed", &closed, "closed"),
+            ("a journal with cards", &cards, "cards"),
         ];
         for (what, bytes, word) in files {
             let path = self.with("other", bytes);
@@ -128,11 +132,17 @@ impl Place<'_> {
         let size = whole.bytes.len();
         let damaged = [&whole.bytes[..size - 9], &[whole.bytes[size - 9] ^ 1], &whole.bytes[size - 8..]].concat();
         let both = [&messages[..], &ASK].concat();
-        let files: [(&str, &[u8], String, &[u8]); 4] = [
+        let numbers: Vec<u8> = (0..NUMBERS).map(|at| at as u8).collect();
+        let cards = Written::begun(GARAGE.as_bytes(), &start)
+            .with(CARDS, &[&numbers[..], &messages].concat())
+            .with(CARDS, &numbers)
+            .with(MESSAGES, &ASK);
+        let files: [(&str, &[u8], String, &[u8]); 5] = [
             ("whole", &whole.bytes, format!("start 71 3 {size} whole"), &both),
             ("torn", &whole.bytes[..size - 1], format!("start 70 2 {} torn 16 bytes", size - 1), &messages),
             ("damaged", &damaged, format!("start 70 2 {size} damaged at byte {}", size - 17), &messages),
             ("closed", &closed, format!("snapshot 70 2 {} closed", closed.len()), &messages),
+            ("with cards", &cards.bytes, format!("start 71 3 {} whole", cards.bytes.len()), &both),
         ];
         for (what, bytes, says, recorded) in files {
             let path = self.with("described", bytes);

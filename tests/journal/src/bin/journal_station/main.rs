@@ -4,7 +4,7 @@
 
 mod wrong;
 
-use shared::journal_form::{read, End, Read, Rejected, Written, BAD_LENGTH, CLOSED, CUT_SHORT, HEAD, MESSAGES};
+use shared::journal_form::{read, End, Read, Rejected, Written, BAD_LENGTH, CARDS, CLOSED, CUT_SHORT, HEAD, MESSAGES};
 use shared::pipes::messages_in;
 use shared::reference::{drive_under_way, serve_on, Parts, Station};
 use std::fs::{self, File, OpenOptions};
@@ -165,6 +165,9 @@ fn opened(fault: &Fault, path: &str, garage: Option<&str>) -> (Station, Journal)
     named(fault, &read, garage);
     if read.closed && !fault.is("starts_when_closed") {
         fault.stops(1, "the journal is closed: another follows it");
+    }
+    if read.appends.iter().any(|append| append.kind == CARDS) && !fault.is("starts_with_cards") {
+        fault.stops(1, "the journal has cards: a desk starts with it");
     }
     let torn = read.whole < bytes.len();
     let last = read.appends.last().map_or(0, |last| bytes.len().min(read.whole) - last.at);

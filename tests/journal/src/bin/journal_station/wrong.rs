@@ -6,7 +6,7 @@ use std::io;
 use std::process::exit;
 
 /// Each fault with the run that finds it out, and what the station then does.
-const FAULTS: [(&str, &str, &str); 58] = [
+const FAULTS: [(&str, &str, &str); 59] = [
     ("power_cuts", "answers_first", "it answers before it appends"),
     ("power_cuts", "appends_late", "it appends what it was sent when the next messages come"),
     ("power_cuts", "never_appends", "it appends nothing"),
@@ -30,6 +30,7 @@ const FAULTS: [(&str, &str, &str); 58] = [
     ("journal_faults", "takes_bare_messages", "a file of bare messages is a journal"),
     ("journal_faults", "takes_any_file", "any other file is the empty garage"),
     ("journal_faults", "starts_when_closed", "it goes on from a journal that another follows"),
+    ("journal_faults", "starts_with_cards", "it goes on from a desk's journal, and the cards stay where the cars move"),
     ("journal_faults", "keeps_over", "bytes that were cut off before are written over"),
     ("journal_faults", "loses_the_tail", "what is cut off is not kept"),
     ("journal_faults", "tells_no_tail", "it does not say that bytes were cut off"),

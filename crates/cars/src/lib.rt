@@ -1,0 +1,1 @@
+// Lists of cars: definitions in specs/, no code.

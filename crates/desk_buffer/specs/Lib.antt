@@ -1,0 +1,3 @@
+pub mod DeskServing
+pub mod DeskRest
+pub mod Private

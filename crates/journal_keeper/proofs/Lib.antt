@@ -1,0 +1,2 @@
+mod Adding
+pub mod OpeningStands
