@@ -1,8 +1,7 @@
 //! The page of contracts: every public function with its contract and the wrong programs that were tried against it, taken from the
 //! sources and the must-fail edits. `contracts write PAGE` renews the page's list; `contracts check PAGE` fails if the page differs,
 //! if a contract leaves an answer open, if a function has fewer than two wrong programs, or if the prover's log of an edit shows no
-//! false fact. A function that only passes its arguments on to another crate's needs one, where that one has its two. `contracts check
-//! PAGE CRATE..` reads the logs of these crates alone.
+//! false fact. `contracts check PAGE CRATE..` reads the logs of these crates alone.
 use std::fs;
 use std::path::{Path, PathBuf};
 use std::process::exit;
@@ -12,7 +11,6 @@ struct Function {
     path: String,
     public: bool,
     header: String,
-    passes_on: Option<(String, String)>,
 }
 
 /// A wrong version: the edit that makes it, the function or law that it is a wrong version of, the one whose proof must be refused (the
@@ -43,16 +41,6 @@ fn files(folder: &Path, ending: &str) -> Vec<PathBuf> {
 
 fn name_of(path: &Path) -> String {
     path.file_stem().unwrap_or_default().to_string_lossy().into_owned()
-}
-
-/// The crate and the function that a body of one line calls with the arguments of its own function, in their order, and nothing else.
-fn called(line: &str, header: &str) -> Option<(String, String)> {
-    let (path, passed) = line.strip_suffix(')')?.split_once('(')?;
-    let (krate, function) = path.split_once("::")?;
-    let taken = header.lines().next()?.split_once('(')?.1.rsplit_once(')')?.0;
-    let names: Vec<_> = taken.split(", ").filter_map(|one| one.split_once(':')).map(|(name, _)| name).collect();
-    let other = Path::new("crates").join(krate).is_dir();
-    (other && passed == names.join(", ")).then(|| (krate.into(), function.into()))
 }
 
 /// The functions of a crate; public ones are those of a library's lib.rt and of its public modules, and a type's wherever they stand. A
@@ -87,11 +75,8 @@ fn functions(krate: &Path) -> Vec<Function> {
                 }
             }
             let name = rest.split('(').next().unwrap_or_default();
-            let mut body = lines.clone();
-            let passes_on =
-                body.next().filter(|_| body.next().is_some_and(|end| end.trim() == "}")).and_then(|one| called(one.trim(), &header));
             let within = if of.is_empty() { &inside } else { &of };
-            found.push(Function { path: format!("{within}{name}"), public: public && (open || !of.is_empty()), header, passes_on });
+            found.push(Function { path: format!("{within}{name}"), public: public && (open || !of.is_empty()), header });
         }
     }
     found
@@ -192,10 +177,6 @@ fn wrongs(krate: &Path, known: &[Function]) -> Vec<Wrong> {
     found
 }
 
-fn wrongs_of(krate: &Path) -> Vec<Wrong> {
-    wrongs(krate, &functions(krate))
-}
-
 /// A wrong program on the page.
 fn told(krate: &str, how: &str, edit: &str) -> String {
     format!("{how} ([{edit}](../crates/{krate}/must-fail/{edit}.edit))")
@@ -262,16 +243,10 @@ fn main() {
             let contract = promise(&function.header).and_then(|text| text.split_once("⌜ ")).map_or("", |(_, says)| says);
             let shut: Vec<_> = wrongs.iter().filter(|wrong| wrong.name == *path).collect();
             let promises_nothing = from_c && contract.is_empty();
-            let passed = function.passes_on.iter().find(|(krate, callee)| {
-                let there = Path::new("crates").join(krate);
-                wrongs_of(&there).iter().filter(|wrong| wrong.name == *callee).count() >= 2
-            });
-            let enough = if passed.is_some() { 1 } else { 2 };
-            if shut.len() < enough && !promises_nothing {
+            if shut.len() < 2 && !promises_nothing {
                 faults.push(format!("{name}::{path}: {} wrong programs tried", shut.len()));
             }
-            let mut shut: Vec<_> = shut.iter().map(|wrong| told(&name, &wrong.how, &wrong.edit)).collect();
-            shut.extend(passed.filter(|_| shut.len() < 2).map(|(krate, callee)| format!("those of `{callee}` of `{krate}`")));
+            let shut: Vec<_> = shut.iter().map(|wrong| told(&name, &wrong.how, &wrong.edit)).collect();
             let contract = if promises_nothing { "that it ends".into() } else { format!("`{}`", contract.replace('|', "\\|")) };
             list += &format!("| `{path}` | {contract} | {} |\n", shut.join("; "));
         }
@@ -320,9 +295,9 @@ fn main() {
             for (what, of_law) in spoiled {
                 let proof = format!("proofs/{}/Proof.antt", what.replace("::", "/"));
                 let by_itself = format!("fn {name}::{what}: no proof: ");
-                // of a function without a proof file, the needs that the prover does not close by itself
+                // of a function without a proof file, the returns that the prover does not close by itself
                 let searched = log.lines().filter_map(|line| line.strip_prefix(&by_itself)?.split_once("`search` does not close "));
-                let open = searched.map(|(_, needs)| needs.split(", ").filter(|need| need.starts_with('`')).count()).sum::<usize>();
+                let open = searched.map(|(_, needs)| needs.split('`').filter(|need| need.starts_with("returns")).count()).sum::<usize>();
                 let refuses = |file: &str, words: &str| {
                     if of_law {
                         !file.ends_with("/Proof.antt") && declaration(words) == *what
