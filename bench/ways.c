@@ -244,7 +244,7 @@ int main(void) {
     choose();
     printf("-- Ways that bench/ways has found with the proved engine, as numbers: what proofs/Ways.antt checks, step by step. An instruction is six\n"
            "-- digits: its opcode, its first field, its second in two digits, its third and its fourth. Assumes nothing.\n"
-           "use mathlib.Core.List.{List, [], _∷_}\nuse Prim.Native.Nat.{ℕ}\n\n"
+           "use mathlib.Core.List.{List, [], ◌∷◌}\nuse Prim.Native.Nat.{ℕ}\n\n"
            "-- two records, by their occupied cells of row 1, seven cars and six; and from each the ways to fetch each car, in the order of their places\n");
     for (int k = 0; k < 2; k++) {
         searched(28 - k);

@@ -119,11 +119,11 @@ enum {
     (DESK_BYTE(room, place, 0) | DESK_BYTE(room, place, 1) | DESK_BYTE(room, place, 2) | DESK_BYTE(room, place, 3))
 
 /* The bytes of stack that a call may take on x86-64, below the frame that makes it. No theorem says so: it is measured on many calls, and
- * added up over the archive's instructions for every path, which comes to 6216 for desk_compare, 4888 for desk_list and at most 1928 for
+ * added up over the archive's instructions for every path, which comes to 8856 for desk_compare, 5256 for desk_list and at most 2136 for
  * the others; the C library's memcpy and the like are left out. */
 enum {
-    DESK_STACK_MOST = 2048,      /* every entry's but two */
-    DESK_LISTS_STACK_MOST = 7168 /* those two: desk_list and desk_compare, which hold their lines there */
+    DESK_STACK_MOST = 2432,      /* every entry's but two */
+    DESK_LISTS_STACK_MOST = 9344 /* those two: desk_list and desk_compare, which hold their lines there */
 };
 
 /* ---- calls on a lent desk

@@ -2,8 +2,8 @@
  *
  * To compile a planner with it, one of these:
  *   cc planner.c $(pkg-config --cflags --libs station)                                        where it is installed (docs/INSTALL.md)
- *   rt staticlib station_c && cc -Iinclude planner.c target/staticlib/libstation_c.a          in the tree, on x86-64
- *   tools/native station_c station_c.o && cc -Iinclude planner.c station_c.o                  in the tree, on another processor
+ *   tools/archive station_c && cc -Iinclude planner.c target/staticlib/libstation_c.a          in the tree, on x86-64
+ *   tools/native station_archive station_c.o && cc -Iinclude planner.c station_c.o                  in the tree, on another processor
  *
  * The station keeps the record of one garage: which cells are occupied, where the shuttles stand, the lift's height. A planner
  * sends it sets of up to eight instructions; the station accepts a set or says why not, and changes its record only when an

@@ -3,7 +3,8 @@
 # with 32 bits and hands it on with 64. A length is the number of 64 bits that follows an address. What the module says about the other
 # machine is left out. All that is in memory keeps the places that it has on that machine, counted in bytes, and an address takes four of its
 # eight bytes. That is so as long as the module counts in bytes, makes no number of an address, copies runs of fixed sizes, and uses the room
-# of an address for an address only; a module that doesn't is refused.
+# of an address for an address only; a module that doesn't is refused. But for one function of the toolchain's library, which copies a run of
+# any size: it takes the distance of two addresses to tell whether the runs overlap, and that is the same with 32 bits and zeros before them.
 function refuse(why) {
     printf "narrow: %s: %s\n", why, $0 >"/dev/stderr"
     refused = 1
@@ -11,13 +12,14 @@ function refuse(why) {
 }
 /^target / || /^source_filename/ { next }
 /^attributes / { gsub(/ "target-cpu"="[^"]*"| "probe-stack"="[^"]*"/, "") }
-/^define / { split("", rooms) }
+/^define / { split("", rooms); copies = /^define internal void @"?core\.+ptr\.+copy_drop\.+copy_bits/ }
 / = alloca ptr/ { rooms[$1] = 1 }
-/ (ptrtoint|inttoptr|addrspacecast) / { refuse("an address as a number") }
+/ (ptrtoaddr|ptrtoint|inttoptr|addrspacecast) / && !(copies && / = ptrtoaddr ptr /) { refuse("an address as a number") }
+copies { sub(/ = ptrtoaddr ptr /, " = ptrtoint ptr ") }
 / getelementptr / && !/ getelementptr (inbounds |nuw |nusw )*i8, / { refuse("places that are not counted in bytes") }
-/ (insertvalue|extractvalue) / { refuse("a value of several") }
+/ (store|load) \{[^}]*ptr/ && !/ \{ ptr, i64 \}/ { refuse("a value of several in memory") }
 / call [^@]*%[A-Za-z0-9._]+\(/ { refuse("a call by a pointer") }
-/ call void @llvm\.mem/ && !/, i64 [0-9]+, i1 / { refuse("a run of no fixed size") }
+/ call void @llvm\.mem/ && !/, i64 [0-9]+, i1 / && !copies { refuse("a run of no fixed size") }
 / ptr %/ {
     for (room in rooms) {
         if (!index($0, "ptr " room ",") && !index($0, "ptr " room ")")) continue

@@ -59,8 +59,14 @@ fn built() -> PathBuf {
     assert!(script.is_file(), "{} isn't there: take the crate within its project, or {INSTEAD}", script.display());
     let machine = env::var("CARGO_CFG_TARGET_ARCH").expect("cargo says for which machine");
     assert!(machine == env::consts::ARCH, "tools/library builds for this machine, not for {machine}: {INSTEAD}");
-    for source in ["crates", "crates.txt", "tools/library", "tools/module", "tools/native"] {
+    for source in ["crates.txt", "tools/library", "tools/made", "tools/native"] {
         println!("cargo:rerun-if-changed={}", root.join(source).display());
+    }
+    // of each crate its own files: what rt makes in its folder is none of them
+    for part in fs::read_dir(root.join("crates")).into_iter().flatten().flatten().flat_map(|one| ["src", "specs", "proofs"].map(|part| one.path().join(part))) {
+        if part.is_dir() {
+            println!("cargo:rerun-if-changed={}", part.display());
+        }
     }
     let folder = root.join("target/library");
     let archive = folder.join(ARCHIVE);

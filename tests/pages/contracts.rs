@@ -1,16 +1,26 @@
 //! The page of contracts: every public function with its contract and the wrong programs that were tried against it, taken from the
 //! sources and the must-fail edits. `contracts write PAGE` renews the page's list; `contracts check PAGE` fails if the page differs,
-//! if a contract leaves an answer open, if a function has fewer than two wrong programs, or if the prover's log of an edit shows no
-//! false fact. `contracts check PAGE CRATE..` reads the logs of these crates alone.
+//! if a contract leaves an answer open, if a function has fewer than two wrong programs, if an archive does not promise what its library
+//! does, or if the prover's log of an edit refuses no goal or law for its own fault (docs/CONTRACTS.md says when that is so).
+//! `contracts check PAGE CRATE..` reads the logs of these crates alone.
 use std::fs;
 use std::path::{Path, PathBuf};
 use std::process::exit;
 
-/// A function as its source declares it.
+/// A function as its source declares it, in the file and on the line where it begins.
 struct Function {
     path: String,
     public: bool,
     header: String,
+    file: String,
+    line: usize,
+}
+
+impl Function {
+    /// Its name without the module that it stands in.
+    fn name(&self) -> &str {
+        self.path.rsplit("::").next().unwrap_or_default()
+    }
 }
 
 /// A wrong version: the edit that makes it, the function or law that it is a wrong version of, the one whose proof must be refused (the
@@ -54,8 +64,8 @@ fn functions(krate: &Path) -> Vec<Function> {
         let inside = if root { String::new() } else { format!("{module}::") };
         let open = root || lib.contains(&format!("pub mod {module};"));
         let (source, mut of) = (read(&file), String::new());
-        let mut lines = source.lines();
-        while let Some(line) = lines.next() {
+        let mut lines = source.lines().enumerate();
+        while let Some((number, line)) = lines.next() {
             if let Some(name) = line.strip_prefix("impl ") {
                 of = format!("{}::", name.trim_end_matches(" {"));
             } else if line == "}" {
@@ -69,55 +79,68 @@ fn functions(krate: &Path) -> Vec<Function> {
             }
             let mut header = words.trim_end_matches(" {").to_string();
             if header == words {
-                for line in lines.by_ref().take_while(|line| line.trim() != "{") {
+                for (_, line) in lines.by_ref() {
+                    let line = line.trim();
+                    if line == "{" {
+                        break;
+                    }
                     header.push('\n');
-                    header.push_str(line.trim());
+                    header.push_str(line.trim_end_matches(" {"));
+                    // a header of several lines with no clause
+                    if line.starts_with(')') && line.ends_with(" {") {
+                        break;
+                    }
                 }
             }
-            let name = rest.split('(').next().unwrap_or_default();
+            let name = rest.split(['(', '<']).next().unwrap_or_default();
             let within = if of.is_empty() { &inside } else { &of };
-            found.push(Function { path: format!("{within}{name}"), public: public && (open || !of.is_empty()), header });
+            let file = format!("src/{module}.rt");
+            found.push(Function {
+                path: format!("{within}{name}"),
+                public: public && (open || !of.is_empty()),
+                header,
+                file,
+                line: number + 1,
+            });
         }
     }
     found
 }
 
-/// The one promise of a contract: what stands between its brackets.
-fn promise(header: &str) -> Option<&str> {
-    let mut promises = header.lines().filter(|line| line.starts_with("ensures"));
-    let line = promises.next()?;
-    if promises.next().is_some() {
-        return None;
-    }
-    line.split_once("{ λ ")?.1.strip_suffix(" ⌝ }")
+/// The one promise of a contract: what stands between its braces.
+fn promise(header: &str) -> Option<String> {
+    let clauses = header.split("\nensures").skip(1).map(|clause| clause.split("\nrequires").next().unwrap_or_default());
+    let said: Vec<_> =
+        clauses.filter_map(|clause| Some(clause.split_once('{')?.1.trim().strip_suffix('}')?.trim().replace('\n', " "))).collect();
+    (said.len() == 1).then(|| said.concat())
 }
 
-/// Whether a crate calls C, whose reads and writes no contract can say.
-fn calls_c(krate: &str) -> bool {
-    let list = read(Path::new("crates.txt"));
-    let deps = list.lines().find_map(|line| line.strip_prefix(krate)?.strip_prefix(':'));
-    deps.is_some_and(|deps| deps.split_whitespace().any(|dep| dep == "libc"))
+/// Whether a crate reads or writes what is outside, or is handed words: what comes from there no contract can say.
+fn reaches_out(krate: &Path) -> bool {
+    let out = |source: String| ["HostRuntime", "std::io", "std::fs"].iter().any(|name| source.contains(name));
+    files(&krate.join("src"), ".rt").iter().any(|file| out(read(file)))
 }
 
 /// Why a contract may let two answers through, if it may: it must be one equation for the answer, or one of the forms that are an
-/// equation for the answer and one for each room that is lent to be written. What C brings no equation can say, so there only a
+/// equation for the answer and one for each room that is lent to be written. What comes from outside no equation can say, so there only a
 /// precondition is a fault.
-fn open_contract(header: &str, from_c: bool) -> Option<&'static str> {
+fn open_contract(header: &str, from_outside: bool) -> Option<&'static str> {
     if header.lines().any(|line| line.starts_with("requires")) {
         return Some("it has a precondition");
     }
-    if from_c {
+    if from_outside {
         return None;
     }
-    let Some((answer, says)) = promise(header).and_then(|text| text.split_once(". ⌜ ")) else { return Some("it is not one promise") };
+    let Some(says) = promise(header) else { return Some("it is not one promise") };
     let taken = header.split("\nensures").next().unwrap_or_default();
     let lent = taken.split(['(', ',', ')']).filter(|part| part.contains(": &mut "));
-    let rooms: Vec<_> = lent.filter_map(|part| part.split(':').next()).map(|name| format!("(now ({} .exit))", name.trim())).collect();
-    let ending = format!(" {answer} {}", rooms.join(" "));
+    let rooms: Vec<_> = lent.filter_map(|part| part.split(':').next()).map(|name| format!("{}.new", name.trim())).collect();
+    let ending = format!(" result {}", rooms.join(" "));
     let definition = if rooms.is_empty() {
-        says.strip_prefix(&format!("{answer} ≡ "))
+        says.strip_prefix("result ≡ ")
     } else {
         let form = [
+            "Copied ",
             "Serves ",
             "Exchanges ",
             "Holds ",
@@ -139,7 +162,22 @@ fn open_contract(header: &str, from_c: bool) -> Option<&'static str> {
     };
     let Some(definition) = definition else { return Some("it is no equation for the answer and each lent room") };
     let mut words = definition.split(|c: char| c.is_whitespace() || "()".contains(c));
-    words.any(|word| word == answer || word == ".exit").then_some("what it equates the answer with speaks of the answer")
+    words.any(|word| word == "result" || word.ends_with(".new")).then_some("what it equates the answer with speaks of the answer")
+}
+
+/// The functions that an archive and the library behind it do not have alike, with the same parameters and the same clauses: an archive hands
+/// on all that the library promises, and nothing else, so that the wrong programs that are tried against the library speak of it too.
+fn not_handed_on(archive: &[Function], library: &[Function]) -> Vec<String> {
+    let entry = |function: &Function| Some((function.name().to_string(), function.header.split_once("fn ")?.1.to_string()));
+    let entries = |of: &[Function]| of.iter().filter(|one| one.public).filter_map(entry).collect::<Vec<_>>();
+    let (left, right) = (entries(archive), entries(library));
+    let unlike = |one: &[(String, String)], other: &[(String, String)]| {
+        one.iter().filter(|it| !other.contains(it)).map(|it| it.0.clone()).collect::<Vec<_>>()
+    };
+    let mut found = [unlike(&left, &right), unlike(&right, &left)].concat();
+    found.sort();
+    found.dedup();
+    found
 }
 
 /// The laws of a crate: what the files of `proofs/` declare, but for the functions' own.
@@ -190,7 +228,6 @@ fn misfit(error: &str) -> bool {
         "no part of the goal",
         "that can be named from here",
         "has no field",
-        "expected type `tie.Need-",
         "is not in scope",
         "a bound of its own",
     ]
@@ -204,12 +241,16 @@ fn declaration(words: &str) -> &str {
 }
 
 /// The errors of a log, each as the file that it stands in and its words, which may go on in the next line.
-fn errors(log: &str, edit: &str) -> Vec<(String, String)> {
-    let (inside, mut found) = (format!("/{edit}/"), Vec::new());
+fn errors(log: &str) -> Vec<(String, String)> {
+    let mut found = Vec::new();
     let mut lines = log.lines().peekable();
     while let Some(line) = lines.next() {
         let Some((place, words)) = line.split_once(": error: ") else { continue };
-        let Some((_, file)) = place.split_once(&inside) else { continue };
+        // (what begins with other words is said again later)
+        let file = place.strip_prefix("./").unwrap_or(place);
+        if place.contains(' ') {
+            continue;
+        }
         let more = lines.next_if(|line| line.starts_with("  ")).unwrap_or_default();
         found.push((file.split(':').next().unwrap_or_default().into(), format!("{words}{more}")));
     }
@@ -226,7 +267,14 @@ fn main() {
     let (mut list, mut faults, mut publics, mut tried) = (String::new(), Vec::new(), 0, 0);
     for krate in files(Path::new("crates"), "") {
         let (name, known) = (name_of(&krate), functions(&krate));
-        let from_c = calls_c(&name);
+        if let Some(of) = name.strip_suffix("_archive") {
+            let handed = functions(&krate.with_file_name(format!("{of}_c")));
+            faults.extend(
+                not_handed_on(&known, &handed).iter().map(|path| format!("{name}::{path}: it does not promise what {of}_c promises")),
+            );
+            continue;
+        }
+        let from_outside = reaches_out(&krate);
         let wrongs = wrongs(&krate, &known);
         tried += wrongs.len();
         let public: Vec<_> = known.iter().filter(|function| function.public).collect();
@@ -237,12 +285,12 @@ fn main() {
         publics += public.len();
         for function in public {
             let path = &function.path;
-            if let Some(why) = open_contract(&function.header, from_c) {
+            if let Some(why) = open_contract(&function.header, from_outside) {
                 faults.push(format!("{name}::{path}: {why}"));
             }
-            let contract = promise(&function.header).and_then(|text| text.split_once("⌜ ")).map_or("", |(_, says)| says);
+            let contract = promise(&function.header).unwrap_or_default();
             let shut: Vec<_> = wrongs.iter().filter(|wrong| wrong.name == *path).collect();
-            let promises_nothing = from_c && contract.is_empty();
+            let promises_nothing = from_outside && contract.is_empty();
             if shut.len() < 2 && !promises_nothing {
                 faults.push(format!("{name}::{path}: {} wrong programs tried", shut.len()));
             }
@@ -273,14 +321,40 @@ fn main() {
         }
         for file in edits.iter().filter(|_| words[1] == "check" && looked_at(&name)) {
             let edit = name_of(file);
-            let Ok(log) = fs::read_to_string(format!("target/must-fail/{name}/{edit}/.log")) else {
+            let Ok(log) = fs::read_to_string(format!("target/must-fail/{name}/{edit}.log")) else {
                 faults.push(format!("{name}/{edit}: not tried"));
                 continue;
             };
-            let errors = errors(&log, &edit);
+            let errors = errors(&log);
+            // goals that the prover shows false at some values, or that it closes by itself in the right program, or that only the wrong one has,
+            // each in the function that has the line
+            let open_goals: Vec<(&str, &str)> = log
+                .lines()
+                .filter_map(|line| {
+                    let (place, says) = line.strip_prefix("note: src/")?.split_once(": ")?;
+                    let goal = says.split_once("(`")?.1.split('`').next()?;
+                    let (file, line) = place.rsplit_once(':')?.0.rsplit_once(':')?;
+                    let line: usize = line.parse().ok()?;
+                    let here = known.iter().filter(|one| one.file[4..] == *file && one.line <= line);
+                    let function = here.max_by_key(|one| one.line)?.path.as_str();
+                    let kind = goal.split('-').next().unwrap_or_default();
+                    let answers: String =
+                        files(&krate.join("proofs").join(function.replace("::", "/")), ".antt").iter().map(|file| read(file)).collect();
+                    let answered =
+                        |words: &str| answers.lines().any(|line| line.strip_prefix("pub ").is_some_and(|name| name.starts_with(words)));
+                    let renamed = errors.iter().any(|(file, words)| {
+                        file.starts_with(&format!("proofs/{}/", function.replace("::", "/")))
+                            && words.contains("that can be named from here")
+                    });
+                    let false_there = says.contains("; the facts known there allow values at which this goal is false");
+                    // a place beside those that are answered, all of which are still there, is one that the right program doesn't have
+                    let of_its_own = !renamed && !answered(&format!("{goal} "));
+                    (!answered(kind) || false_there || of_its_own).then_some((function, goal))
+                })
+                .collect();
             let own: Vec<_> = wrongs.iter().filter(|wrong| wrong.edit == edit).collect();
             if own.is_empty() && errors.first().is_none_or(|(_, words)| misfit(words)) {
-                faults.push(format!("{name}/{edit}: its log's first error shows no false fact"));
+                faults.push(format!("{name}/{edit}: its log's first error refuses nothing for its own fault"));
             }
             for line in read(file).lines().filter(|_| !own.is_empty()) {
                 let Some((named, spoiled, _)) = named(line) else { continue };
@@ -293,30 +367,33 @@ fn main() {
             spoiled.sort();
             spoiled.dedup();
             for (what, of_law) in spoiled {
-                let proof = format!("proofs/{}/Proof.antt", what.replace("::", "/"));
+                let proof = format!("proofs/{}/", what.replace("::", "/"));
                 let by_itself = format!("fn {name}::{what}: no proof: ");
-                // of a function without a proof file, the returns that the prover does not close by itself
-                let searched = log.lines().filter_map(|line| line.strip_prefix(&by_itself)?.split_once("`search` does not close "));
-                let open = searched.map(|(_, needs)| needs.split('`').filter(|need| need.starts_with("returns")).count()).sum::<usize>();
+                // the places of a function whose goals no answer is given for, and which the prover does not close by itself
+                let searched = log.lines().filter_map(|line| line.strip_prefix(&by_itself)?.split_once("`search` did not prove "));
+                let open = searched.flat_map(|(_, goals)| goals.split(';').next().unwrap_or_default().split('`').skip(1).step_by(2));
                 let refuses = |file: &str, words: &str| {
                     if of_law {
-                        !file.ends_with("/Proof.antt") && declaration(words) == *what
+                        file.starts_with("proofs/") && !file["proofs/".len()..].contains('/') && declaration(words) == *what
                     } else {
-                        file == proof
+                        file.strip_prefix(&proof).is_some_and(|file| !file.contains('/'))
                     }
                 };
+                let shown = open_goals.iter().filter(|(path, _)| path == what).map(|(_, goal)| *goal);
                 let mut at: Vec<_> = errors
                     .iter()
                     .filter(|(file, words)| refuses(file, words) && !misfit(words))
                     .map(|(_, words)| declaration(words))
+                    .chain(open)
+                    .chain(shown)
                     .collect();
                 at.sort_unstable();
                 at.dedup();
                 let versions = own.iter().filter(|wrong| wrong.spoiled == *what).count();
-                if at.len() + open < versions {
+                if at.len() < versions {
                     faults.push(format!(
-                        "{name}/{edit}: of {what} {versions} wrong versions are named, and it is refused for a false fact at {} places",
-                        at.len() + open
+                        "{name}/{edit}: of {what} {versions} wrong versions are named, and it is refused for its own fault at {} places",
+                        at.len()
                     ));
                 }
             }

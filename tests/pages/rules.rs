@@ -61,14 +61,14 @@ fn defined(text: &str, name: &str) -> u32 {
     definition(text, &format!("{name} = ")).lines().next().and_then(|line| line.rsplit(' ').next()?.parse().ok()).unwrap_or(u32::MAX)
 }
 
-/// The bytes that a definition reads, in its order: `fromLittleEndian 2 4 m`, `getD m 6 0`, `take 40 (drop 10 m)`.
+/// The bytes that a definition reads, in its order: `from_little_endian 2 4 m`, `get_or m 6 0`, `take 40 (drop 10 m)`.
 fn places(text: &str) -> Vec<String> {
     let words: Vec<_> = text.split([' ', '(', ')', ';', '\n']).filter(|word| !word.is_empty()).collect();
     let number = |at: usize| words.get(at).and_then(|word| word.parse::<u32>().ok());
     let range = |from: u32, many: u32| if many == 1 { from.to_string() } else { format!("{from}-{}", from + many - 1) };
     let read = words.iter().enumerate().filter_map(|(at, word)| match *word {
-        "fromLittleEndian" => Some(range(number(at + 2)?, number(at + 1)?)),
-        "getD" => Some(range(number(at + 2)?, 1)),
+        "from_little_endian" => Some(range(number(at + 2)?, number(at + 1)?)),
+        "get_or" | "slice_index" => Some(range(number(at + 2)?, 1)),
         "take" => Some(range(number(at + 3)?, number(at + 1)?)),
         _ => None,
     });
@@ -82,9 +82,9 @@ fn found(begins: &str) -> String {
     texts.find(|text| text.contains(&format!("\n{begins}"))).map_or_else(String::new, |text| definition(&text, begins).to_string())
 }
 
-/// The numbers of the table by their cases: `numberOf (BadField p) = 4`, `reasonNumber Gap = 21`.
+/// The numbers of the table by their cases: `number_of (BadField p) = 4`, `reason_number Gap = 21`.
 fn cases(answers: &str) -> BTreeMap<&str, u32> {
-    let of = |line: &&str| line.starts_with("numberOf ") || line.starts_with("reasonNumber ");
+    let of = |line: &&str| line.starts_with("number_of ") || line.starts_with("reason_number ");
     let lines = answers.lines().filter(of).filter_map(|line| line.split_once(' ')?.1.rsplit_once(" = "));
     lines.filter_map(|(case, number)| Some((case.trim_start_matches('(').split([' ', ')']).next()?, number.parse().ok()?))).collect()
 }
@@ -92,7 +92,7 @@ fn cases(answers: &str) -> BTreeMap<&str, u32> {
 /// The order in which a call's table of rejections has its numbers.
 fn order(rejections: &str, call: &str, cases: &BTreeMap<&str, u32>) -> Vec<u32> {
     let reasons = definition(rejections, "reasons = ");
-    let body = definition(rejections, &format!("{call}Table s"));
+    let body = definition(rejections, &format!("{call}_table s"));
     let mut found = Vec::new();
     for line in body.lines().skip(1).map(|line| line.trim().trim_start_matches("∷ ")).filter(|line| !line.starts_with("--")) {
         if line.contains(" reasons") {
@@ -208,34 +208,34 @@ fn main() {
     // kinds and lengths; a request's length goes by its count
     let rows = table(&page, "Messages", "kind");
     let sized = |name: &str| {
-        let text = definition(&kinds, &format!("{name}Kind = record"));
+        let text = definition(&kinds, &format!("{name}_kind = record"));
         let field = |name: &str| text.split(&format!("{name} = ")).nth(1)?.split(';').next()?.parse::<u32>().ok();
         [field("number").unwrap_or(u32::MAX), 2 + field("size").unwrap_or(u32::MAX - 2)]
     };
     let defined_kinds: Vec<_> = ["event", "result", "image", "ask", "answer", "held"].map(sized).to_vec();
     let said: Vec<_> = rows.iter().skip(1).map(|row| [numbers(row[0])[0], numbers(row[2])[0]]).collect();
     check.same("kinds and lengths", &said, &defined_kinds);
-    check.same("kind of a request", &numbers(rows.first().map_or("", |row| row[0])), &vec![defined(&kinds, "requestKind")]);
+    check.same("kind of a request", &numbers(rows.first().map_or("", |row| row[0])), &vec![defined(&kinds, "request_kind")]);
 
     // every byte of a message, of a lent station and of a plan's head
     let mut bytes = vec!["0-1", "2-3", "4", "5 on"].into_iter().map(String::from).collect::<Vec<_>>();
     for kind in ["event", "result", "image", "answer", "held"] {
-        bytes.extend(places(definition(&kinds, &format!("{kind}Kind = record"))));
+        bytes.extend(places(definition(&kinds, &format!("{kind}_kind = record"))));
     }
     let column_of = |rows: &[Vec<&str>], at: usize| rows.iter().map(|row| row[at].to_string()).collect::<Vec<_>>();
     check.same("bytes of messages", &column_of(&table(&page, "Messages", "kind | bytes"), 1), &bytes);
-    check.same("bytes of a station", &column_of(&table(&page, "A fit station", "bytes"), 0), &places(&found("stationOf m =")));
+    check.same("bytes of a station", &column_of(&table(&page, "A fit station", "bytes"), 0), &places(&found("station_of m =")));
     let plans = read("crates/plan/specs/Plans.antt");
-    let mut head = places(definition(&plans, "planIn s ="));
+    let mut head = places(definition(&plans, "plan_in s ="));
     head.push(format!("{} on", defined(&plans, "head")));
     check.same("bytes of a plan", &column_of(&table(&page, "Plans", "bytes"), 0), &head);
 
     // opcodes, events and the reader's kinds
     let codes = read("crates/rules/specs/Codes.antt");
     let after = |word: &str, line: &str| line.split(word).nth(1).and_then(|rest| rest.split(';').next()?.trim().parse::<u32>().ok());
-    let ops: Vec<_> = codes.lines().filter(|line| line.starts_with("codeOf ")).filter_map(|line| after("op = ", line)).collect();
+    let ops: Vec<_> = codes.lines().filter(|line| line.starts_with("code_of ")).filter_map(|line| after("op = ", line)).collect();
     check.same("opcodes", &column(&table(&page, "The five instructions", "instruction"), 1), &ops);
-    let events: Vec<_> = codes.lines().filter(|line| line.starts_with("eventCode ")).filter_map(|line| after(" = ", line)).collect();
+    let events: Vec<_> = codes.lines().filter(|line| line.starts_with("event_code ")).filter_map(|line| after(" = ", line)).collect();
     check.same("events", &column(&table(&page, "Drives", "event"), 1), &events);
 
     // the record's bits
@@ -245,13 +245,13 @@ fn main() {
         let (from, many) = (from.parse().unwrap_or(u32::MAX), many.trim().parse::<u32>().unwrap_or(1));
         format!("{from}-{}", from + many - 1)
     });
-    let low = of("heightLow");
+    let low = of("height_low");
     let mut expected: Vec<String> = ["0-39", "40-42", "43-45", "46-48", "49-51"].map(String::from).to_vec();
     expected.extend([
-        of("raisedCar").to_string(),
-        format!("{low}-{}", of("heightHigh")),
-        of("driveIn").to_string(),
-        of("driveOut").to_string(),
+        of("raised_car").to_string(),
+        format!("{low}-{}", of("height_high")),
+        of("drive_in").to_string(),
+        of("drive_out").to_string(),
     ]);
     expected.extend(spare);
     check.same("bits of the record", &bits, &expected);

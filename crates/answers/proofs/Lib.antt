@@ -1,2 +1,1 @@
-pub mod Issues
 pub mod Promises

@@ -1,9 +1,11 @@
 // What the station answers: a case for each number of document 01's table, with the place of an instruction where it has one.
+#![tactic(auto)]
+
 ghost use Rattle.std.specs.Prelude.{◌≡◌};
 ghost use Rattle.answers.specs.Answers.{reason_number, number_of, in_table, place_of, issue_of};
 
 // Why an instruction is not allowed: a case for each number that stands for a condition.
-#[derive(Drop)]
+#[derive(Clone, Copy)]
 pub enum Reason {
     // 20: nothing named
     NothingNamed,
@@ -25,7 +27,7 @@ pub enum Reason {
     CellsNotFree,
 }
 
-#[derive(Drop)]
+#[derive(Clone, Copy)]
 pub enum Answer {
     // 0: taken
     Taken,

@@ -6,7 +6,7 @@ use Prim.Native.Nat.{ℕ, ◌<◌}
 use native.Mathlib.Omega.{arith}
 use mathlib.Core.Path.{◌≡◌, refl, sym, ap, ap₂, ◌∙◌}
 use mathlib.Core.List.{List, [], ◌∷◌, ◌++◌}
-use mathlib.Core.Bool.{Bool, true, false, not, cond, ◌&&◌, and_false}
+use mathlib.Core.Bool.{Bool, true, false, not, cond, ◌&&◌, and-false}
 use lib.Dec.{ltb, eqb}
 use borrow.Author.Tests.{ltb-true, ltb-false, lt-ltb, eqb-true, eq-eqb}
 use Rattle.any_order.proofs.Rules.{Rules, Framed}
@@ -53,7 +53,7 @@ module _ {E : Type 0} where
   owed_now {i} w = one _ (omega (arith, rw (eq-eqb i i refl) at (w.results i)))
 
   owed_rest : {n : ℕ} {ans : ℕ → Bool} {i : ℕ} {o : Outcome} {l : List (Act E)} → Owed n ans (result i o ∷ l) → Owed n (mark i ans) l
-  owed_rest {i} {l} w = record { results = λ j. split (eqb i j) (λ t. rw (t, and_false) (rw (eqb-true i j t) at none)) (λ t. rw t (omega (arith, rw t at (w.results j)))) }
+  owed_rest {i} {l} w = record { results = λ j. split (eqb i j) (λ t. rw (t, and-false) (rw (eqb-true i j t) at none)) (λ t. rw t (omega (arith, rw t at (w.results j)))) }
     where
       none : results_of i l ≡ 0
       none = omega (arith, rw (eq-eqb i i refl, owed_now w) at (w.results i))

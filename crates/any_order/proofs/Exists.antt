@@ -5,7 +5,7 @@ use Prim.Native.Nat.{ℕ, zero, suc, ◌+◌, ◌<◌}
 use native.Mathlib.Omega.{arith}
 use mathlib.Core.Path.{◌≡◌, refl, ap, ◌∙◌}
 use mathlib.Core.List.{List, [], ◌∷◌, ◌++◌, map}
-use mathlib.Core.Bool.{true, false, not, cond, ◌&&◌, and_false}
+use mathlib.Core.Bool.{true, false, not, cond, ◌&&◌, and-false}
 use lib.Dec.{ltb, eqb}
 use borrow.Author.Tests.{ltb-true, ltb-false, lt-ltb, le-ltb, eqb-true, eqb-false, ne_eqb}
 use Rattle.any_order.proofs.Machine.{Outcome, Act, result, event}
@@ -63,7 +63,7 @@ module _ {E : Type 0} (choice : ℕ → Outcome) (es : List E) (j : ℕ) where
 
   skipped : (n : ℕ) (l : List (Act E)) → eqb j n ≡ true → Front n l → Front (suc n) l
   skipped n l e F = record {
-    results = λ i. F.results i ∙ split (eqb n i) (λ t. rw (← eqb-true n i t, e, and_false (ltb n n), and_false (ltb n (suc n)))) (λ t. rw (below_suc i n t));
+    results = λ i. F.results i ∙ split (eqb n i) (λ t. rw (← eqb-true n i t, e, and-false (ltb n n), and-false (ltb n (suc n)))) (λ t. rw (below_suc i n t));
     chosen = F.chosen;
     events = F.events;
   }

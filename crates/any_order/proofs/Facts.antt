@@ -4,7 +4,7 @@ use Prim.Native.Nat.{ℕ, ◌<◌, ◌≤◌}
 use native.Mathlib.Omega.{arith}
 use mathlib.Core.Path.{◌≡◌, refl}
 use mathlib.Core.Logic.{◌⊎◌, inl, inr}
-use mathlib.Core.Bool.{Bool, true, false, not, ◌&&◌, or_true, and_false}
+use mathlib.Core.Bool.{Bool, true, false, not, ◌&&◌, or-true, and-false}
 use lib.Dec.{ltb, leb, eqb}
 use borrow.Author.Tests.{le-leb, ltb-true, ltb-false, not-true, eqb-true, eq-eqb}
 use Rattle.any_order.proofs.Rules.{Rules, Clear}
@@ -19,7 +19,7 @@ pub mark_here : (i : ℕ) (ans : ℕ → Bool) → mark i ans i ≡ true
 mark_here i ans = rw (eq-eqb i i refl)
 
 pub mark_kept : (i : ℕ) (ans : ℕ → Bool) (j : ℕ) → ans j ≡ true → mark i ans j ≡ true
-mark_kept i ans j e = rw (e, or_true)
+mark_kept i ans j e = rw (e, or-true)
 
 pub mark_cases : (i : ℕ) (ans : ℕ → Bool) (j : ℕ) → mark i ans j ≡ true → (i ≡ j) ⊎ (ans j ≡ true)
 mark_cases i ans j e = split (eqb i j) (λ t. inl (eqb-true i j t)) (λ t. inr (rw t at e))
@@ -86,4 +86,4 @@ module _ {W C I E : Type 0} (R : Rules W C I E) where
 
   -- nothing meets nothing
   pub meets_nowhere : (a : ℕ → Bool) → meets R a nowhere ≡ false
-  meets_nowhere a = none_is R.width _ (λ k h. and_false (a k))
+  meets_nowhere a = none_is R.width _ (λ k h. and-false (a k))

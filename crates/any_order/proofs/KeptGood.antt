@@ -3,7 +3,7 @@ use Prim.Native.Nat.{ℕ, zero, suc, ◌<◌}
 use native.Mathlib.Omega.{arith}
 use mathlib.Core.Path.{◌≡◌, refl, sym, ap, ◌∙◌}
 use mathlib.Core.List.{[], ◌∷◌}
-use mathlib.Core.Bool.{Bool, true, false, not, cond, or_true}
+use mathlib.Core.Bool.{Bool, true, false, not, cond, or-true}
 use lib.Dec.{eqb}
 use borrow.Author.Tests.{not-true, eqb-false}
 use Rattle.any_order.proofs.Rules.{Rules, Clear, Framed}
@@ -105,7 +105,7 @@ module _ {W C O P I E : Type 0} (R : Rules W C I E) (view : I → W → O) (glan
 
       inside : (j : ℕ) → j < suc js.size → (k : ℕ) → k < R.width → R.area ((more js (s.set.at i)).at j) k ≡ true → parted R (s.set.at i) stuck s.away k ≡ true
       inside zero h k m a = rw a
-      inside (suc j) h k m a = rw (G.inside j (omega arith) k m a) (or_true (R.area (s.set.at i) k))
+      inside (suc j) h k m a = rw (G.inside j (omega arith) k m a) (or-true (R.area (s.set.at i) k))
 
       free : (j : ℕ) → Waits R (noted R s i stuck) j → (p : ℕ) → p < suc js.size → Clear R.width (R.area (s.set.at j)) (R.area ((more js (s.set.at i)).at p))
       free j w zero h = let (ne, old) = waited R s i stuck j w in G.apart j i w.0 n.0 (λ q. ne (sym q))
@@ -155,4 +155,4 @@ module _ {W C O P I E : Type 0} (R : Rules W C I E) (view : I → W → O) (glan
 
   pub calls_good : CallsGood R
   calls_good js s G [] = G
-  calls_good js s G (c ∷ l) = calls_good _ (call R s c) (call_good s G c) l
+  calls_good js s G (c ∷ l) = calls_good (jammed R s c js) (call R s c) (call_good s G c) l

@@ -3,7 +3,7 @@
 use Prim.Native.Nat.{ℕ, ◌<◌}
 use mathlib.Core.Path.{◌≡◌, refl, sym, ap, ◌∙◌}
 use mathlib.Core.Logic.{⊎_elim}
-use mathlib.Core.Bool.{Bool, true, false, ◌&&◌, ◌||◌, or_true}
+use mathlib.Core.Bool.{Bool, true, false, ◌&&◌, ◌||◌, or-true}
 use Rattle.bits.specs.Search.{some}
 use Rattle.bits.proofs.Cases.{split, clash, both, alike, and_intro}
 use Rattle.bits.proofs.Search.{some_at, some_is, some_same, none_is}
@@ -40,7 +40,7 @@ module _ {W C I E : Type 0} (R : Rules W C I E) (b : Batch I) (choice : ℕ → 
   pub gone_more : {ans away : ℕ → Bool} → Gone ans away → (i : ℕ) → i < b.size → (o : Outcome) → o ≡ choice i → Gone (mark i ans) (parted R (b.at i) o away)
   gone_more {ans} {away} v i h o c = record {
     at = λ k. split (start k)
-        (λ t. rw (v.at k, t) (or_true (sticks o && R.area (b.at i) k)))
+        (λ t. rw (v.at k, t) (or-true (sticks o && R.area (b.at i) k)))
         (λ t. rw (v.at k, t, c) (alike (mine i k || some b.size (sunk ans k)) (some b.size (sunk (mark i ans) k)) (there k) (back k)));
   }
     where
@@ -56,7 +56,7 @@ module _ {W C I E : Type 0} (R : Rules W C I E) (b : Batch I) (choice : ℕ → 
           let (j, l, u) = some_is b.size (sunk (mark i ans) k) e in
           let (a, w) = both (mark i ans j) _ u in
           ⊎_elim (λ q. let m : mine i k ≡ true = rw q w in rw m)
-          (λ q. let m : sunk ans k j ≡ true = and_intro q w in rw (some_at b.size (sunk ans k) j l m) (or_true (mine i k)))
+          (λ q. let m : sunk ans k j ≡ true = and_intro q w in rw (some_at b.size (sunk ans k) j l m) (or-true (mine i k)))
           (mark_cases i ans j a)
 
   -- as long as events may come

@@ -4,7 +4,7 @@ use Prim.Native.Nat.{ℕ, ◌<◌}
 use mathlib.Core.Path.{◌≡◌, refl, sym, ◌∙◌}
 use mathlib.Core.Logic.{⊎_elim}
 use mathlib.Core.List.{List, [], ◌∷◌}
-use mathlib.Core.Bool.{true, false, ◌&&◌, or_true}
+use mathlib.Core.Bool.{true, false, ◌&&◌, or-true}
 use lib.Dec.{eqb}
 use borrow.Author.Tests.{eqb-true, eq-eqb}
 use Rattle.any_order.proofs.Rules.{Rules, Framed, Same, Clear}
@@ -25,7 +25,7 @@ has_first : (i : ℕ) (l : List ℕ) → has (i ∷ l) i ≡ true
 has_first i l = rw (eq-eqb i i refl)
 
 has_later : (i : ℕ) (l : List ℕ) (j : ℕ) → has l j ≡ true → has (i ∷ l) j ≡ true
-has_later i l j e = rw e (or_true (eqb i j))
+has_later i l j e = rw e (or-true (eqb i j))
 
 module _ {W C O P I E : Type 0} (R : Rules W C I E) (view : I → W → O) (glance : E → W → P) (F : Framed R view glance) (b : Batch I) (A : Apart R b) where
   -- a choice of the set's instructions, on a sound record that allows each of them

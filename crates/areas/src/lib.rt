@@ -1,5 +1,7 @@
 // The area of an instruction as a mask of the record's bits, and whether two instructions overlap. Masks are put together from
 // parts of the floor; that they are the areas of the rules is one computed test over all well-formed instructions, in proofs/.
+#![tactic(auto)]
+
 ghost use Rattle.std.specs.Prelude.{◌≡◌};
 ghost use Rattle.rules.specs.Verdicts.{mask_of, sharing_of, code_mask, code_sharing};
 ghost use Rattle.areas.specs.Located.{locate};
@@ -165,7 +167,7 @@ pub fn overlap(i: Instruction, j: Instruction) -> Sharing
 }
 
 // What five bytes say, and its area.
-#[derive(Drop)]
+#[derive(Clone, Copy)]
 pub struct Located {
     pub reading: Reading,
     pub area: u64,

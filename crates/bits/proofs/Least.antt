@@ -3,7 +3,7 @@
 use Prim.Native.Nat.{ℕ, zero, suc, ◌+◌, ◌≤◌, ◌<◌}
 use native.Mathlib.Omega.{arith}
 use mathlib.Core.Path.{◌≡◌, refl, sym, ap, ◌∙◌}
-use mathlib.Core.Bool.{Bool, true, false, cond, not, ◌&&◌, and_false}
+use mathlib.Core.Bool.{Bool, true, false, cond, not, ◌&&◌, and-false}
 use mathlib.Core.Logic.{◌⊎◌, inl, inr, ⊎_elim}
 use lib.Dec.{eqb}
 use borrow.Author.Tests.{eqb-true, eqb-false, eq-eqb, ne_eqb, not-false}
@@ -97,7 +97,7 @@ sought_turn {p} {n} {i} {found} {b} v h e = record {
       (λ t. rw (t, eq-eqb found n a.0) (inr ((omega arith), sym e ∙ t, a.1)))
       (λ t. rw t (inl (a.0, (turn (record { within = v.within; none = a.1 }) h (sym e ∙ t)).none))))
       (λ (a : (found < i) × (p found ≡ true) × ((j : ℕ) → j < found → p j ≡ false)).
-      rw (ne_eqb found n (λ z. omega (arith, a.0)), and_false b) (inr ((omega (arith, a.0)), a.1, a.2)))
+      rw (ne_eqb found n (λ z. omega (arith, a.0)), and-false b) (inr ((omega (arith, a.0)), a.1, a.2)))
       v.so_far;
 }
 

@@ -1,6 +1,6 @@
 -- Tests of every place of a list; what it says that two lists share a place, of the lists and of their masks. Assumes nothing.
 use mathlib.Core.Path.{◌≡◌, refl, sym, ap₂, subst, ◌∙◌}
-use mathlib.Core.Bool.{Bool, true, not, ◌&&◌, ◌||◌, or_true}
+use mathlib.Core.Bool.{Bool, true, not, ◌&&◌, ◌||◌, or-true}
 use mathlib.Core.List.{List, [], ◌∷◌}
 use Prim.Native.Nat.{ℕ, ◌<◌}
 use lib.Bits.{bit_and}
@@ -42,7 +42,7 @@ pub share_is : (ks js : List ℕ) (k : ℕ) → elem k ks ≡ true → elem k js
 share_is [] js k p q = clash p refl
 share_is (i ∷ is) js k p q = split (eqb i k)
     (λ e. rw (eqb-true i k e, q))
-    (λ e. rw (share_is is js k (rw e at p) q) (or_true (elem i js)))
+    (λ e. rw (share_is is js k (rw e at p) q) (or-true (elem i js)))
 
 -- the places of a list are bits of a record
 abbrev pub Small : List ℕ → Type 0

@@ -1,4 +1,6 @@
 // A record as one number: a bit of it, and what is asked of the bits that a mask names.
+#![tactic(auto)]
+
 ghost use Rattle.std.specs.Prelude.{◌≡◌, ◌%◌, eqb};
 ghost use Rattle.bits.specs.Bits.{bit, image, count, all_set, laid};
 ghost use Rattle.bits.specs.Places.{places};

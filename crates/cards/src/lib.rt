@@ -1,5 +1,7 @@
 // Card numbers that follow cars: 42 elements, one for each cell, at a car's first, one for the raised lift, and the one that waits while a
 // drive-in is under way.
+#![tactic(auto)]
+
 ghost use Rattle.std.specs.Prelude.{◌≡◌, ◌≤◌, ◌<◌, eqb, length, get_or};
 ghost use Rattle.bits.specs.Bits.{bit};
 ghost use Rattle.bits.specs.Search.{some, least};
@@ -17,7 +19,7 @@ use rules::{Event, Instruction};
 mod sources;
 
 // What is said of the numbers that come with an image.
-#[derive(Drop)]
+#[derive(Clone, Copy)]
 pub enum Offered {
     Fine,
     WrongCount,

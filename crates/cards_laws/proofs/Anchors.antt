@@ -2,7 +2,7 @@
 -- 1 a car starts at an occupied cell with an even number of occupied cells below it. Assumes nothing.
 use mathlib.Core.Path.{◌≡◌, refl, sym, ap, ap₂, subst, ◌∙◌}
 use mathlib.Core.Logic.{inl, inr, ⊎_elim}
-use mathlib.Core.Bool.{Bool, true, false, cond, ◌&&◌, ◌||◌, and_false}
+use mathlib.Core.Bool.{Bool, true, false, cond, ◌&&◌, ◌||◌, and-false}
 use mathlib.Core.List.{List, [], ◌∷◌}
 use Prim.Native.Nat.{ℕ, zero, suc, ◌+◌, ◌%◌, ◌≤◌, ◌<◌}
 use native.Mathlib.Omega.{arith}
@@ -42,7 +42,7 @@ bears_same f g k e p = split (ltb k 20)
 
 -- a free place bears none, nor does one where none may stand
 pub free_none : (f : Bits) (k : ℕ) → f k ≡ false → bears f k ≡ false
-free_none f k e = split (ltb k 20) (λ t. rw (t, e)) (λ t. bears_place f k t ∙ rw e (and_false (is_place k)))
+free_none f k e = split (ltb k 20) (λ t. rw (t, e)) (λ t. bears_place f k t ∙ rw e (and-false (is_place k)))
 
 pub no_place : (f : Bits) (k : ℕ) → is_place k ≡ false → bears f k ≡ false
 no_place f k e = split (ltb k 20)

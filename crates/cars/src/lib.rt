@@ -1,1 +1,2 @@
 // Lists of cars: definitions in specs/, no code.
+#![tactic(auto)]

@@ -7,7 +7,7 @@ use Prim.Native.Nat.{ℕ, zero, suc, ◌+◌, ◌-◌, ◌*◌, ◌/◌, ◌%◌
 use native.Mathlib.Omega.{arith}
 use native.Mathlib.Nat.{mod-lt, zero-lt-suc, pow-suc, lt_of_lt_of_le, div-eq_of_lt}
 use lib.Bits.{bit_xor, xor_comm, xor_lt, xor_shr, xor_self}
-use lib.ListN.{length, get_or, take, drop, length_append, length-take, length-drop, take-append-drop, get_or-append, get_or-eq_default}
+use lib.ListN.{length, get_or, take, drop, length-append, length-take, length-drop, take-append-drop, get_or-append, get_or-eq_default}
 use lib.Pow.{pow_mono, pow_pos, shr-shr}
 use lib.Seq.{get_or-take, get_or-drop, get_or-append-add, ext_get_or, take_at}
 use Rattle.bits.proofs.Search.{lt_or_ge}
@@ -201,7 +201,7 @@ checked_end c x h =
 pub checked_burst_found : CheckedBurstFound
 checked_burst_found c k x y h u =
     let e = same_end (inverted c) k (checked c x) (checked c y) (inverted_lt c h) u (checked_end c x h ∙ sym (checked_end c y h)) in
-    let l : length y ≡ length x = omega (arith, u.long, length_append x (little_endian 4 (crc_over c x)), length_append y (little_endian 4 (crc_over c y))) in
+    let l : length y ≡ length x = omega (arith, u.long, length-append x (little_endian 4 (crc_over c x)), length-append y (little_endian 4 (crc_over c y))) in
     sym (take_at x (little_endian 4 (crc_over c x)) (length x) refl) ∙ ap (take (length x)) e ∙ take_at y (little_endian 4 (crc_over c y)) (length x) l
 
 pub start_found : StartFound

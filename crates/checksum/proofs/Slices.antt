@@ -5,7 +5,7 @@ use Prim.Native.Nat.{ℕ, zero, suc, ◌+◌, ◌*◌, ◌/◌, ◌%◌, ◌^◌
 use native.Mathlib.Omega.{arith}
 use native.Mathlib.Nat.{mod-lt, zero-lt-suc, add_assoc}
 use lib.Bits.{bit_xor, xor_lt}
-use lib.ListN.{length, get_or, length_append, get_or-append, get_or-eq_default}
+use lib.ListN.{length, get_or, length-append, get_or-append, get_or-eq_default}
 use lib.Seq.{get_or-append-add}
 use Rattle.codec.specs.Bytes.{from_little_endian, Bytes}
 use Rattle.codec.proofs.Fours.{valued_length, valued_at}
@@ -84,7 +84,7 @@ are_bits (x ∷ xs) i = low_bits_lem 8 x (bits_of xs) (are_bits xs) i
 pub bits_long : (xs : List ℕ) → length (bits_of xs) ≡ 8 * length xs
 unfolding bits_of
 bits_long [] = refl
-bits_long (x ∷ xs) = length_append (low_bits 8 x) (bits_of xs) ∙ omega (arith, low_long 8 x, bits_long xs)
+bits_long (x ∷ xs) = length-append (low_bits 8 x) (bits_of xs) ∙ omega (arith, low_long 8 x, bits_long xs)
 
 -- a byte and the bits behind it as a number; four bytes
 pub value_byte : (x : ℕ) (l : List ℕ) → x < 256 → value_of (low_bits 8 x ++ l) ≡ x + 256 * value_of l
@@ -106,7 +106,7 @@ after s xs = moved_bits s (bits_of xs) (are_bits xs) ∙ ap (λ (n : ℕ). zeros
 pub after_byte : (s x : ℕ) → x < 256 → over_bits s (low_bits 8 x) ≡ zeros_on 8 (bit_xor s x)
 after_byte s x h =
     ap (over_bits s) (sym (append-nil (low_bits 8 x))) ∙ moved_bits s (low_bits 8 x ++ []) (low_bits_lem 8 x [] (λ i. omega arith))
-    ∙ ap₂ (λ (n v : ℕ). zeros_on n (bit_xor s v)) (length_append (low_bits 8 x) [] ∙ omega (arith, low_long 8 x)) (value_byte x [] h ∙ none)
+    ∙ ap₂ (λ (n v : ℕ). zeros_on n (bit_xor s v)) (length-append (low_bits 8 x) [] ∙ omega (arith, low_long 8 x)) (value_byte x [] h ∙ none)
   where
     none : x + 256 * value_of [] ≡ x
     none = unfold value_of in omega arith

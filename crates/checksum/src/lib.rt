@@ -1,4 +1,6 @@
 // CRC-32C over a run of bytes, by tables of four times 256 numbers that the caller makes once and lends.
+#![tactic(auto)]
+
 ghost use Rattle.std.specs.Prelude.{◌≡◌, ◌≤◌, ◌<◌, length, drop};
 ghost use Rattle.checksum.specs.Checksum.{over_bits, bits_of, crc_over};
 ghost use Rattle.checksum.specs.Slices.{zeros_on, slices, over_byte, over_four, over_bytes, over_fours, crc_by};

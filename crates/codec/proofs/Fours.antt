@@ -1,13 +1,13 @@
 -- Numbers in bytes, four each: one read, and the loops that read and write n of them, turn by turn. Assumes nothing.
 use mathlib.Core.Path.{◌≡◌, refl, sym, ap, ap₂, ◌∙◌}
 use mathlib.Core.List.{List, [], ◌∷◌, ◌++◌, map, append_assoc, append-nil}
-use mathlib.Core.Bool.{Bool, true, false}
+use mathlib.Core.Bool.{false}
 use Prim.Native.Nat.{ℕ, zero, suc, ◌+◌, ◌*◌, ◌-◌, ◌≤◌, ◌<◌}
 use native.Mathlib.Omega.{arith}
 use native.Mathlib.Numerals.{add-one}
 use lib.ListN as list
 use lib.Dec.{leb}
-use lib.ListN.{length, get_or, take, drop, replicate, length_append, length-drop, length-replicate, drop_of_length-le}
+use lib.ListN.{length, get_or, take, drop, replicate, length-append, length-drop, length-replicate, drop_of_length-le}
 use borrow.Author.Tests.{le-leb, lt-leb, leb-true, leb-false}
 use lib.Seq.{paste, paste-suc, take_at, take_all, length-take-le, drop-append-add, drop-drop}
 use Rattle.bits.specs.Places.{from, join}
@@ -115,7 +115,7 @@ unfolding bytes_to
 bytes_length c zero = refl
 bytes_length c (suc i) =
     let e = bytes_length c i in
-    ap length (bytes_more c i) ∙ length_append (bytes_to c i) (little_endian 4 (get_or c i 0)) ∙ omega arith
+    ap length (bytes_more c i) ∙ length-append (bytes_to c i) (little_endian 4 (get_or c i 0)) ∙ omega arith
 
 -- they stand at the start of a room, and past them is what was there
 pub record Writing (n : ℕ) (d c r : List ℕ) (i : ℕ) : Type 0 where

@@ -1,3 +1,4 @@
 pub mod Numbers
 pub mod Fours
 pub mod Forms
+mod Copying

@@ -1,6 +1,9 @@
-// Numbers of 32 bits in a run of bytes: one read from a place on, and the bytes of one.
+// Numbers of 32 bits in a run of bytes: one read from a place on, and the bytes of one. And bytes put at the front of a room.
+#![tactic(auto)]
+
 ghost use Rattle.std.specs.Prelude.{◌≡◌, [], ◌∷◌, ◌+◌, ◌≤◌, length};
 ghost use Rattle.codec.specs.Bytes.{little_endian, from_little_endian};
+ghost use Rattle.codec.specs.Copies.{Copied};
 ghost use Rattle.codec.specs.Fours.{there, four_at};
 
 // Four bytes stand in a run of so many from a place on.
@@ -50,4 +53,20 @@ pub fn four_bytes(n: u32) -> [u8; 4]
         (c % 256) as u8,
         (d % 256) as u8,
     ]
+}
+
+// Puts all of src at the front of room, and says how many bytes that are; where room is too short it puts nothing there.
+pub fn copy(src: &[u8], room: &mut [u8]) -> usize
+    ensures { Copied src.now room.old result room.new }
+{
+    let n = src.len();
+    if room.len() < n {
+        return 0;
+    }
+    let mut i: usize = 0;
+    while i < n {
+        room[i] = src[i];
+        i += 1;
+    }
+    n
 }

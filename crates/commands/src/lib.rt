@@ -1,7 +1,12 @@
 // The words that the programs are started with: all of them tell their version, and those that take no words say how they are used. What
-// C hands over and writes no contract can say.
-ghost use Rattle.std.specs.Prelude.{◌≡◌};
+// the system hands over and writes no contract can say.
+#![tactic(auto)]
+
+ghost use Rattle.std.specs.Prelude.{◌≡◌, ◌≤◌, length, IfOk};
 ghost use Rattle.commands.specs.Words.{is_text, is_version};
+
+use std::env::{Env, FillError};
+use std::io::{Error, Result};
 
 // Whether a word is this text.
 pub fn is_text(word: &[u8], text: &[u8]) -> bool
@@ -27,67 +32,104 @@ fn is_version(word: &[u8]) -> bool
     is_text(word, b"--version")
 }
 
+// How many words there are, the program's own name among them.
+pub fn word_count(rt: &HostRuntime) -> usize {
+    for i in 0..usize::MAX {
+        let mut room = [0u8; 1];
+        if let Err(FillError::NotPresent) = rt.arg(i, &mut room) {
+            return i;
+        }
+    }
+    usize::MAX
+}
+
+// How long word i is, which is put at the front of the room; one that is missing or longer than the room comes as an empty one.
+pub fn word(rt: &HostRuntime, i: usize, room: &mut [u8]) -> usize
+    ensures { result ≤ length room.new }
+{
+    match rt.arg(i, room) {
+        Ok(n) => n,
+        Err(_) => 0,
+    }
+}
+
+// The error numbers of the system's library for a word that is missing, and for one that is too long.
+const MISSING: i32 = 22;
+
+const TOO_LONG: i32 = 36;
+
+// How long word i is, which is put whole at the front of the room, or why it can't be.
+pub fn whole_word(rt: &HostRuntime, i: usize, room: &mut [u8]) -> Result<usize>
+    ensures { IfOk result (λ n. n ≤ length room.new) }
+{
+    match rt.arg(i, room) {
+        Ok(n) => Ok(n),
+        Err(FillError::NotPresent) => Err(Error::from_raw_os_error(MISSING)),
+        Err(FillError::TooLong) => Err(Error::from_raw_os_error(TOO_LONG)),
+    }
+}
+
 // Whether the first argument is --version; one that is longer than the room comes as an empty one.
-fn asks_version() -> bool {
+fn asks_version(rt: &HostRuntime) -> bool {
     let mut room = [0u8; 16];
-    let n = os::arg(1, &mut room);
+    let n = word(rt, 1, &mut room);
     is_version(&room[..n])
 }
 
 // Writes some text, and says whether that went well.
-fn say(text: &[u8], output: &[u8]) -> bool {
-    streams::send(libc::STDOUT_FILENO, text, text.len(), output)
+fn say(rt: &HostRuntime, text: &[u8], output: &[u8]) -> bool {
+    streams::send(rt, &mut rt.stdout(), text, text.len(), output)
 }
 
 // Writes a mark and a number.
-fn say_number(mark: &[u8], n: u32, output: &[u8]) -> bool {
+fn say_number(rt: &HostRuntime, mark: &[u8], n: u32, output: &[u8]) -> bool {
     let mut digits = [0u8; 20];
     let k = io::decimal(n as u64, &mut digits);
-    if !say(mark, output) {
+    if !say(rt, mark, output) {
         return false;
     }
-    say(&digits[..k], output)
+    say(rt, &digits[..k], output)
 }
 
 // Writes the three numbers; after a write that failed nothing more is written.
-fn say_numbers(output: &[u8]) -> bool {
-    if !say_number(b" ", version::FIRST, output) {
+fn say_numbers(rt: &HostRuntime, output: &[u8]) -> bool {
+    if !say_number(rt, b" ", version::FIRST, output) {
         return false;
     }
-    if !say_number(b".", version::SECOND, output) {
+    if !say_number(rt, b".", version::SECOND, output) {
         return false;
     }
-    say_number(b".", version::THIRD, output)
+    say_number(rt, b".", version::THIRD, output)
 }
 
 // Writes the program's name and its version in one line.
-fn say_version(name: &[u8], output: &[u8]) {
-    if !say(name, output) {
+fn say_version(rt: &HostRuntime, name: &[u8], output: &[u8]) {
+    if !say(rt, name, output) {
         return;
     }
-    if say_numbers(output) {
-        say(b"\n", output);
+    if say_numbers(rt, output) {
+        say(rt, b"\n", output);
     }
 }
 
 // Whether --version is the one word; it is then answered with the program's name and its version. `output` is what a write that fails is
 // told as.
-pub fn told_version(name: &[u8], output: &[u8]) -> bool {
-    if os::arg_count() != 2 {
+pub fn told_version(rt: &HostRuntime, name: &[u8], output: &[u8]) -> bool {
+    if word_count(rt) != 2 {
         return false;
     }
-    if !asks_version() {
+    if !asks_version(rt) {
         return false;
     }
-    say_version(name, output);
+    say_version(rt, name, output);
     true
 }
 
 // Whether there are words, for a program that takes none: it then says how it is used.
-pub fn has_words(usage: &[u8]) -> bool {
-    if os::arg_count() < 2 {
+pub fn has_words(rt: &HostRuntime, usage: &[u8]) -> bool {
+    if word_count(rt) < 2 {
         return false;
     }
-    io::write_all(libc::STDERR_FILENO, usage);
+    streams::tell(rt, usage);
     true
 }

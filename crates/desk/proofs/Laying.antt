@@ -1,12 +1,12 @@
 -- Lines laid one behind the other are the lines of a list; and what the code has found of each on the way. Assumes nothing.
 use mathlib.Core.Path.{◌≡◌, refl, sym, ap, ap₂, ◌∙◌}
 use mathlib.Core.List.{List, [], ◌∷◌, ◌++◌, map, append_assoc, append-nil}
-use mathlib.Core.Bool.{Bool, true, false, cond, not, ◌||◌}
+use mathlib.Core.Bool.{Bool, true, false, cond, ◌||◌}
 use Prim.Native.Nat.{ℕ, zero, suc, ◌+◌, ◌*◌, ◌-◌, ◌≤◌, ◌<◌}
 use native.Mathlib.Omega.{arith}
 use lib.Dec.{eqb, leb}
-use lib.ListN.{length, get_or, take, drop, replicate, length_append, length-drop, length-replicate, drop_of_length-le, replicate-append-replicate}
-use lib.Seq.{length-take-le, take_at, take-length, drop-append-add, drop-drop}
+use lib.ListN.{length, get_or, take, drop, replicate, length-append, length-drop, drop_of_length-le, replicate-append-replicate}
+use lib.Seq.{length-take-le, take_at, drop-append-add, drop-drop}
 use borrow.Author.Tests.{le-leb, lt-leb, leb-false, eq-eqb, ne_eqb}
 use Rattle.bits.specs.Bits.{bit, digit}
 use Rattle.bits.specs.Places.{join}
@@ -19,7 +19,6 @@ use Rattle.cards.specs.Following.{no_source}
 use Rattle.cards.specs.Held.{place_of_element, numbers_in, is_known, where_is}
 use Rattle.desk.specs.declared.Desk.{Desk}
 use Rattle.desk.specs.declared.DeskOutcome.{DeskOutcome}
-use Rattle.desk.specs.declared.Reply.{Reply}
 use Rattle.desk.specs.declared.Line.{Line}
 use Rattle.desk.specs.declared.Lines.{Lines}
 use Rattle.desk.specs.declared.Comparison.{Comparison}
@@ -36,14 +35,6 @@ use Rattle.desk.specs.Private.{line_laid, lines_laid}
 pub bytes_laid : (l : Line) (four : List ℕ) → four ≡ little_endian 4 l.card
     → get_or four 0 0 ∷ get_or four 1 0 ∷ get_or four 2 0 ∷ get_or four 3 0 ∷ l.place ∷ l.flag ∷ l.next ∷ 0 ∷ [] ≡ line_bytes l
 bytes_laid l four e = ap (λ (b : List ℕ). get_or b 0 0 ∷ get_or b 1 0 ∷ get_or b 2 0 ∷ get_or b 3 0 ∷ l.place ∷ l.flag ∷ l.next ∷ 0 ∷ []) e
-
--- the length of an array in a struct, as a check has it
-pub sized : (a : List ℕ) {n : ℕ} → length (map (λ v. v) a) ≡ n → length a ≡ n
-sized a e = sym (ap length (unmapped a)) ∙ e
-  where
-    unmapped : (a : List ℕ) → map (λ v. v) a ≡ a
-    unmapped [] = refl
-    unmapped (x ∷ xs) = ap (λ (l : List ℕ). x ∷ l) (unmapped xs)
 
 -- eight bytes that were copied to their place
 pub eight_laid : (l : Line) (r b last : List ℕ) (a : ℕ) → a + 8 ≤ length r → b ≡ line_bytes l
@@ -67,7 +58,7 @@ bytes_more (x ∷ xs) l = ap (λ (b : List ℕ). line_bytes x ++ b) (bytes_more 
 
 pub bytes_length : (xs : List Line) → length (all_bytes xs) ≡ 8 * length xs
 bytes_length [] = refl
-bytes_length (x ∷ xs) = length_append (line_bytes x) (all_bytes xs) ∙ rw (bytes_length xs) (omega arith)
+bytes_length (x ∷ xs) = length-append (line_bytes x) (all_bytes xs) ∙ rw (bytes_length xs) (omega arith)
 
 -- ---- a line behind others
 
@@ -80,7 +71,7 @@ more : (xs : List Line) (l : Line) → length xs < most_lines
 unfolding held_lines
 more xs l h =
     let n = length xs in
-    let z : length (xs ++ l ∷ []) ≡ n + 1 = length_append xs (l ∷ []) in
+    let z : length (xs ++ l ∷ []) ≡ n + 1 = length-append xs (l ∷ []) in
     let front : take (8 * n) (all_bytes xs ++ zeros (8 * (62 - n))) ≡ all_bytes xs = take_at (all_bytes xs) (zeros (8 * (62 - n))) (8 * n) (bytes_length xs) in
     let back : drop (8 * n + 8) (all_bytes xs ++ zeros (8 * (62 - n))) ≡ zeros (8 * (62 - (n + 1))) =
     ap (λ (k : ℕ). drop (k + 8) (all_bytes xs ++ zeros (8 * (62 - n)))) (sym (bytes_length xs))

@@ -1,5 +1,5 @@
 -- The street desk: a station, and the numbers of the cars in its garage; what it answers, and when it is fit. Assumes nothing.
-use Rattle.std.specs.Prelude.{Bool, ◌&&◌, List, ℕ, eqb, replicate}
+use Rattle.std.specs.Prelude.{Bool, ◌&&◌, ℕ, eqb, replicate}
 use Rattle.answers.specs.declared.Answer.{Answer}
 use Rattle.answers.specs.Answers.{number_of, place_of, issue_of, nowhere}
 use Rattle.station.specs.Station.{start_of, fit}

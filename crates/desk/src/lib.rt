@@ -1,5 +1,7 @@
 // The street desk: a station whose cars have card numbers. Its calls and what it is asked stand in modules of their own; a desk goes in by
 // value and comes back with a reply, and a refused call hands it back as it was.
+#![tactic(auto)]
+
 ghost use Rattle.std.specs.Prelude.{◌≡◌, replicate};
 ghost use Rattle.cards.specs.Held.{cards_fit};
 ghost use Rattle.desk.specs.Desk.{start_desk, desk_fit, reply_number, reply_place, reply_issue};
@@ -12,14 +14,14 @@ mod listing;
 mod questions;
 
 // The station, and the number at each of the forty cells, on the raised lift, and of a car that is being driven in; 0 for none.
-#[derive(Drop)]
+#[derive(Clone, Copy)]
 pub struct Desk {
     pub station: Station,
     pub numbers: [u32; 42],
 }
 
 // What a call is answered: what the station says, or one of the desk's own refusals.
-#[derive(Drop)]
+#[derive(Clone, Copy)]
 pub enum Reply {
     Told(Answer),
     // 37: number zero
@@ -31,7 +33,7 @@ pub enum Reply {
 }
 
 // What a call hands back.
-#[derive(Drop)]
+#[derive(Clone, Copy)]
 pub struct DeskOutcome {
     pub desk: Desk,
     pub reply: Reply,
@@ -39,7 +41,7 @@ pub struct DeskOutcome {
 
 // Where a card's car is: at a place, at its last known place, in motion from one place to another, or not here; nothing is told of a desk
 // that isn't fit.
-#[derive(Drop)]
+#[derive(Clone, Copy)]
 pub enum Whereabouts {
     At(u8),
     LastKnown(u8),
@@ -49,7 +51,7 @@ pub enum Whereabouts {
 }
 
 // Which card is leaving.
-#[derive(Drop)]
+#[derive(Clone, Copy)]
 pub enum Leaving {
     Card(u32),
     Nobody,
@@ -57,7 +59,7 @@ pub enum Leaving {
 }
 
 // What is told of a card: its place, a flag, and the place that it would get.
-#[derive(Drop)]
+#[derive(Clone, Copy)]
 pub struct Line {
     pub card: u32,
     pub place: u8,
@@ -66,14 +68,14 @@ pub struct Line {
 }
 
 // Lines, eight bytes each, and zeros behind them.
-#[derive(Drop)]
+#[derive(Clone, Copy)]
 pub struct Lines {
     pub count: u8,
     pub bytes: [u8; 496],
 }
 
 // Which lines are gathered: of all cars; of those that an image would take away or move; of those that it would bring.
-#[derive(Drop)]
+#[derive(Clone, Copy)]
 enum Gathering {
     Cars,
     Moved,
@@ -81,7 +83,7 @@ enum Gathering {
 }
 
 // What is outstanding: the issue of the present set, how many instructions it has, a mark for each that is answered, and the set.
-#[derive(Drop)]
+#[derive(Clone, Copy)]
 pub struct OpenSet {
     pub issue: u16,
     pub count: u8,
@@ -90,7 +92,7 @@ pub struct OpenSet {
 }
 
 // What an image would be answered, and what it would change.
-#[derive(Drop)]
+#[derive(Clone, Copy)]
 pub struct Comparison {
     pub reply: Reply,
     pub lines: Lines,

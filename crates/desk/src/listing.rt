@@ -118,7 +118,7 @@ fn with_line(lines: Lines, l: Line) -> Lines
     let eight = line_bytes(l);
     let mut bytes = lines.bytes;
     let at = 8 * (count as usize);
-    bytes::copy(&eight, &mut bytes[at..at + 8]);
+    codec::copy(&eight, &mut bytes[at..at + 8]);
     Lines {
         count: count + 1,
         bytes,

@@ -1,7 +1,7 @@
 -- What a run leaves of its input is less than a message. Assumes nothing.
-use mathlib.Core.Path.{◌≡◌, refl, sym, ap, ◌∙◌}
-use mathlib.Core.Bool.{true, false}
-use mathlib.Core.List.{List, [], ◌∷◌}
+use mathlib.Core.Path.{◌≡◌, refl, ap}
+use mathlib.Core.Bool.{false}
+use mathlib.Core.List.{List}
 use Prim.Native.Nat.{ℕ, zero, suc, ◌+◌, ◌-◌, ◌≤◌, ◌<◌}
 use native.Mathlib.Omega.{arith}
 use borrow.Author.Tests.{ltb-true, ltb-false}
@@ -17,7 +17,7 @@ use Rattle.wire.proofs.Frames.{when}
 use Rattle.desk.specs.declared.Desk.{Desk}
 use Rattle.desk_wire.specs.DeskReads.{frame_up_to}
 use Rattle.desk_service.specs.DeskService.{answer_told, respond_desk, brief_bytes, told_bytes}
-use Rattle.desk_buffer.specs.DeskServing.{desk_step_at, desk_step, then_ran, desk_run_of, desk_run}
+use Rattle.desk_buffer.specs.DeskServing.{desk_step_at, desk_step, desk_run_of}
 use Rattle.desk_buffer.specs.DeskRest.{DeskRestIsShort}
 use Rattle.desk_buffer.proofs.Serving.{takes}
 

@@ -7,14 +7,14 @@ use Prim.Native.Nat.{ℕ, zero, suc, ◌+◌, ◌-◌, ◌≤◌, ◌<◌}
 use native.Mathlib.Omega.{arith}
 use borrow.Author.Tests.{eq-eqb, ne_eqb, le-leb, lt-leb, le-ltb, ltb-false}
 use lib.Dec.{eqb, ltb, leb}
-use lib.ListN.{length, take, drop, length_append, length-drop, drop_of_length-le}
+use lib.ListN.{length, take, drop, length-append, length-drop, drop_of_length-le}
 use lib.Seq.{length-take-le, take-length, take_all, take_at, drop_at, drop-drop}
 use Rattle.bits.proofs.Cases.{split, clash}
 use Rattle.codec.specs.Bytes.{from_little_endian}
 use Rattle.answers.specs.declared.Answer.TheVariants.{Taken, BadLength}
 use Rattle.answers.specs.Answers.{number_of}
 use Rattle.wire.specs.declared.What.{What}
-use Rattle.wire.specs.declared.What.TheVariants.{Event, Image}
+use Rattle.wire.specs.declared.What.TheVariants.{Image}
 use Rattle.wire.specs.declared.Frame.{Frame}
 use Rattle.wire.specs.declared.Frame.TheVariants.{Cut, Wrong, Whole}
 use Rattle.wire.specs.declared.Written.{Written}
@@ -27,11 +27,11 @@ use Rattle.desk.specs.declared.Desk.{Desk}
 use Rattle.desk_wire.specs.DeskReads.{frame_up_to}
 use Rattle.desk_wire.proofs.Framing.{whole_up}
 use Rattle.desk_service.specs.declared.DeskAnswered.{DeskAnswered}
-use Rattle.desk_service.specs.DeskService.{DeskReplied, answer_told, brief, desk_unread, respond_desk, brief_bytes, told_bytes, LeavesReply}
+use Rattle.desk_service.specs.DeskService.{answer_told, brief, desk_unread, respond_desk, brief_bytes, told_bytes, LeavesReply}
 use Rattle.desk_service.proofs.Saying.{respond_wrong, as_reply}
 use Rattle.desk_buffer.specs.declared.Step.{Step}
-use Rattle.desk_buffer.specs.DeskServing.{number_in, held_back, begin_form, image_form, station_form, passed_on, DeskRan, desk_run_ends, if_room, message_ran, answered_ran, wrong_ran, desk_step_at, desk_step, then_ran, desk_run_of, desk_run, DeskServes, served_desk}
-use Rattle.desk_buffer.specs.Private.{LeavesBytes, step_said, DeskSteps, DeskPasses}
+use Rattle.desk_buffer.specs.DeskServing.{number_in, held_back, begin_form, image_form, station_form, passed_on, DeskRan, desk_run_ends, answered_ran, wrong_ran, desk_step_at, desk_step, then_ran, desk_run_of, desk_run, DeskServes, served_desk}
+use Rattle.desk_buffer.specs.Private.{LeavesBytes, DeskSteps, DeskPasses}
 
 -- ---- what a write into lent room says
 
@@ -102,7 +102,7 @@ module _ (d : Desk) (m out sent : List ℕ) {r : DeskAnswered} {last : List ℕ}
   answer_left z =
       let b = told_bytes (respond_desk d m).told in
       let n = has_room b out l.1 z in
-      let k = length_append b (drop (length b) out) in
+      let k = length-append b (drop (length b) out) in
       let e = ap length n.2 in
       let s = n.1 in
       (omega arith, ap (take r.written.size) n.2 ∙ take_at b (drop (length b) out) r.written.size (sym n.1))
@@ -347,10 +347,10 @@ module _ {input before kept : List ℕ} {d₀ : Desk} {out sent : List ℕ} {d :
       room_more (take passed sent) one.sent kept sent gone passed sent_done m.space l (omega arith) stepped.1
 
   answers_long : length (take made out ++ one.bytes) ≡ made + w.made
-  answers_long = length_append (take made out) one.bytes ∙ rw (answers_done, made_is)
+  answers_long = length-append (take made out) one.bytes ∙ rw (answers_done, made_is)
 
   sent_long : length (take passed sent ++ one.sent) ≡ passed + w.passed
-  sent_long = length_append (take passed sent) one.sent ∙ rw (sent_done, passed_is)
+  sent_long = length-append (take passed sent) one.sent ∙ rw (sent_done, passed_is)
 
   answers_said : take (made + w.made) (put_at out last made) ≡ take made out ++ one.bytes
   answers_said = ap (take (made + w.made)) answers_more ∙ take_at (take made out ++ one.bytes) _ (made + w.made) answers_long
@@ -361,14 +361,14 @@ module _ {input before kept : List ℕ} {d₀ : Desk} {out sent : List ℕ} {d :
   pub answers_whole : length (put_at out last made) ≡ length before
   answers_whole =
       let b = made_within in
-      ap length answers_more ∙ length_append (take made out ++ one.bytes) _
+      ap length answers_more ∙ length-append (take made out ++ one.bytes) _
       ∙ (let p = answers_long in let q = made_is in let l = length-drop (made + length one.bytes) before in omega arith)
 
   pub sent_whole : length (put_at sent gone passed) ≡ length kept
   sent_whole =
       let c = passed_within in
       let g = used_within in
-      ap length sent_more ∙ length_append (take passed sent ++ one.sent) _
+      ap length sent_more ∙ length-append (take passed sent ++ one.sent) _
       ∙ (let p = sent_long in let q = passed_is in let l = length-drop (passed + length one.sent) kept in omega arith)
 
   pub more_taken : not w.on ≡ false → 4 ≤ w.used

@@ -1,6 +1,6 @@
 -- A run of messages on a desk: the whole ones at the front of some bytes, answered one after another as long as there is room for their
 -- answers, and what the station inside is sent by them. Assumes nothing.
-use Rattle.std.specs.Prelude.{◌≡◌, Bool, true, false, cond, ◌&&◌, ◌||◌, List, [], ◌∷◌, ◌++◌, ℕ, zero, suc, ◌+◌, ◌-◌, ltb, leb, eqb, length, get_or, take, drop}
+use Rattle.std.specs.Prelude.{◌≡◌, Bool, true, false, cond, ◌&&◌, ◌||◌, List, [], ◌++◌, ℕ, zero, suc, ◌+◌, ◌-◌, ltb, leb, eqb, length, get_or, take, drop}
 use Rattle.codec.specs.Bytes.{from_little_endian}
 use Rattle.answers.specs.declared.Answer.TheVariants.{Taken, BadLength, NoRoom}
 use Rattle.wire.specs.declared.What.TheVariants.{Event, Image}

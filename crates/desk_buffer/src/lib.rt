@@ -1,4 +1,6 @@
 // A run of messages on a desk, answered into lent room, with what its station is sent by them. What that is stands in specs/.
+#![tactic(auto)]
+
 ghost use Rattle.std.specs.Prelude.{◌≡◌, true, false, ◌≤◌, length};
 ghost use Rattle.wire.specs.declared.Frame.TheVariants.{Wrong};
 ghost use Rattle.wire.specs.Kinds.{in_range, plain};
@@ -13,7 +15,7 @@ use wire::{Frame, What};
 
 // What a run of messages leaves: Taken, or NoRoom and nothing done; the next desk, how many bytes of the input were taken, how many of
 // answers and of the station's messages were written, whether nothing more is to be read, and whether it ended where an answer had no room.
-#[derive(Drop)]
+#[derive(Clone, Copy)]
 pub struct DeskServed {
     pub answer: Answer,
     pub desk: Desk,
@@ -25,7 +27,7 @@ pub struct DeskServed {
 }
 
 // What one message leaves: the same, and whether more may follow.
-#[derive(Drop)]
+#[derive(Clone, Copy)]
 struct Step {
     desk: Desk,
     used: usize,
@@ -95,7 +97,7 @@ fn pass(m: &[u8], room: &mut [u8]) -> usize
 {
     let kind = wire::kind_at(m);
     if kind <= 5 {
-        return bytes::copy(m, room);
+        return codec::copy(m, room);
     }
     if kind == 6 {
         return pass_begin(m, room);

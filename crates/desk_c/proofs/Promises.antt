@@ -7,7 +7,7 @@ use Prim.Native.Nat.{ℕ, ◌+◌, ◌*◌, ◌%◌}
 use native.Mathlib.Omega.{arith}
 use borrow.Author.Tests.{ne_eqb}
 use lib.Dec.{eqb, ltb}
-use lib.ListN.{length, take, drop, length_append, length-drop}
+use lib.ListN.{length, take, drop, length-append, length-drop}
 use lib.Seq.{take-add, drop_at}
 use Rattle.bits.proofs.Cases.{split}
 use Rattle.answers.specs.declared.Answer.TheVariants.{Taken, NoRoom}
@@ -18,7 +18,6 @@ use Rattle.codec.proofs.Fours.{bytes_to, bytes_length}
 use Rattle.codec.proofs.Forms.{fours_read_back, fours_one_form}
 use Rattle.rooms.specs.Rooms.{station_bytes, image_bytes, writes, telling}
 use Rattle.rooms.proofs.Promises.{station_fits, station_reads_back, station_one_form}
-use Rattle.desk.specs.declared.Desk.{Desk}
 use Rattle.desk.specs.Desk.{reply_number}
 use Rattle.desk.specs.declared.Reply.{Reply}
 use Rattle.desk.specs.declared.Reply.TheVariants.{Told, ZeroNumber, KnownNumber, WrongCount}
@@ -38,7 +37,7 @@ use Rattle.desk_c.proofs.Rooms.{reply_byte, reply_number_lem}
 pub desk_fits : DeskFits
 unfolding desk_bytes bytes_to
 desk_fits d t =
-    length_append (station_bytes d.station) (fours_bytes 42 d.numbers)
+    length-append (station_bytes d.station) (fours_bytes 42 d.numbers)
     ∙ ap₂ (λ (a b : ℕ). a + b) (station_fits d.station t.station) (bytes_length d.numbers 42)
 
 pub desk_reads_back : DeskReadsBack

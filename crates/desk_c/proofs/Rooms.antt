@@ -7,18 +7,17 @@ use native.Mathlib.Nat.{mul-le-mul_right}
 use native.Mathlib.Omega.{arith}
 use borrow.Author.Tests.{lt-ltb, le-ltb, ltb-false, eq-eqb, ne_eqb}
 use lib.Dec.{eqb, ltb}
-use lib.ListN.{length, take, drop, replicate, length_append, length-replicate}
+use lib.ListN.{length, take, drop, replicate, length-append, length-replicate}
 use lib.Seq.{take-length}
 use Rattle.bits.specs.Places.{join}
 use Rattle.bits.proofs.Cases.{split}
-use Rattle.codec.specs.Bytes.{little_endian}
-use Rattle.answers.specs.declared.Answer.TheVariants.{Taken, TooFewBytes, NoRoom, Unfit}
+use Rattle.answers.specs.declared.Answer.TheVariants.{TooFewBytes, NoRoom, Unfit}
 use Rattle.answers.proofs.Promises.{number_byte}
 use Rattle.station.specs.declared.Station.{Station}
 use Rattle.wire.specs.Kinds.{set_of}
 use Rattle.wire.proofs.Parts.{zeros_past, from_on}
 use Rattle.codec.specs.Fours.{fours_in, fours_bytes}
-use Rattle.rooms.specs.Rooms.{station_bytes, station_of, lent_station, image_bytes, returned, LeavesRoom, writes, telling}
+use Rattle.rooms.specs.Rooms.{station_bytes, lent_station, image_bytes, returned, LeavesRoom, writes, telling}
 use Rattle.desk.specs.declared.Desk.{Desk}
 use Rattle.desk.specs.declared.DeskOutcome.{DeskOutcome}
 use Rattle.desk.specs.declared.Reply.{Reply}
@@ -199,7 +198,7 @@ lines_long d ls e =
     let n = length xs in
     let z : length ls.bytes ≡ 8 * n + 8 * (62 - n) =
     ap (λ (m : Lines). length m.bytes) e
-    ∙ length_append (join (map line_bytes xs)) (replicate (8 * (62 - n)) 0)
+    ∙ length-append (join (map line_bytes xs)) (replicate (8 * (62 - n)) 0)
     ∙ ap₂ (λ (a b : ℕ). a + b) (bytes_length xs) (length-replicate (8 * (62 - n)) 0) in
     omega arith
 

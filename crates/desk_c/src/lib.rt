@@ -1,6 +1,8 @@
 // The entries for a street desk in C or Rust: numbers and runs of bytes alone. A desk is lent as 228 bytes, a station's and then its 42
 // numbers, an answer is its number plus 256 times its place plus 65536 times its issue, and a refused call writes nothing. What each
 // answers and leaves stands in specs/Entries.antt.
+#![tactic(auto)]
+
 ghost use Rattle.std.specs.Prelude.{◌≡◌, ◌++◌, ◌≤◌, ◌*◌, ◌-◌, length, drop, replicate};
 ghost use Rattle.codec.specs.Bytes.{little_endian};
 ghost use Rattle.codec.specs.Fours.{fours_in, fours_bytes};
@@ -69,7 +71,7 @@ fn put_numbers(numbers: &[u32; NUMBERS], run: &mut [u8])
     let mut place: usize = 0;
     while place < NUMBERS {
         let four = codec::four_bytes(numbers[place]);
-        bytes::copy(&four, &mut run[4 * place..4 * place + 4]);
+        codec::copy(&four, &mut run[4 * place..4 * place + 4]);
         place += 1;
     }
 }
@@ -83,7 +85,7 @@ fn stored(d: Desk) -> [u8; DESK]
     put_numbers(&numbers, &mut b[STATION..DESK]);
     let station = d.station;
     let s = rooms::station_bytes(station);
-    bytes::copy(&s, &mut b[..STATION]);
+    codec::copy(&s, &mut b[..STATION]);
     b
 }
 
@@ -205,7 +207,7 @@ fn padded(run: &[u8]) -> [u8; 124]
     ensures { result ≡ run.now ++ replicate (124 - length run.now) 0 }
 {
     let mut b = [0u8; 124];
-    bytes::copy(run, &mut b);
+    codec::copy(run, &mut b);
     b
 }
 

@@ -53,7 +53,7 @@ fn open_bytes(issue: u16, count: u8, answered: u8, set: [u8; 40]) -> [u8; OPEN]
     ensures { result ≡ open_bytes (record { issue = issue; count = count; answered = answered; set = set }) }
 {
     let mut b = [0u8; OPEN];
-    bytes::copy(&set, &mut b[4..OPEN]);
+    codec::copy(&set, &mut b[4..OPEN]);
     b[0] = (issue % 256) as u8;
     b[1] = (issue / 256) as u8;
     b[2] = count;

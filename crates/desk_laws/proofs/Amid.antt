@@ -3,7 +3,7 @@
 use mathlib.Core.Path.{◌≡◌, refl, sym, ap, ◌∙◌}
 use mathlib.Core.Bool.{Bool, true, false, cond, ◌||◌}
 use mathlib.Core.List.{List, [], ◌∷◌}
-use Prim.Native.Nat.{ℕ, ◌<◌}
+use Prim.Native.Nat.{ℕ}
 use native.Mathlib.Omega.{arith}
 use lib.Dec.{eqb}
 use lib.ListN.{length}
@@ -14,7 +14,6 @@ use Rattle.any_order.proofs.Jams as machine-jams
 use Rattle.station.specs.Held.{held_next}
 use Rattle.station_laws.specs.Jams.{jam_at, has}
 use Rattle.station_laws.proofs.Changes.{event_taken}
-use Rattle.station_laws.proofs.Link.{jams_of}
 use Rattle.station_laws.proofs.Jammed.{picks_same}
 use Rattle.cards.specs.declared.Offered.TheVariants.{Fine}
 use Rattle.cards.specs.Held.{numbers_in, code_cards}
@@ -57,7 +56,10 @@ no_such_event d e = omega (arith, (event_taken d.station 0 ((answered d (desk.ev
 
 pub desk_amid_exists : DeskAmidExists
 desk_amid_exists d [] = ends
-desk_amid_exists d (c ∷ l) = asked (rejected (desk.event 0 0) (no_such_event _) (kept c (desk_amid_exists _ l)))
+desk_amid_exists d (c ∷ l) =
+    let e = desk_after d desk.ask in
+    let f = desk_after e (desk.event 0 0) in
+    asked (rejected (desk.event 0 0) (no_such_event e) (kept c (desk_amid_exists (desk_after f c) l)))
 
 pub desk_any_order_amid : DeskAnyOrderAmid
 desk_any_order_amid d b before n set z fate drives l m P Q x y p q =

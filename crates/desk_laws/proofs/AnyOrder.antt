@@ -1,12 +1,11 @@
 -- An accepted set is safe in any order of its results, numbers and all: the numbered machine is, and the desk follows it. At the end the
 -- station holds no set and no mark, so that equal records make equal stations, and with equal numbers equal desks. Assumes nothing.
 use mathlib.Core.Path.{◌≡◌, sym, ap, ap₂, subst, subst₃, ◌∙◌}
-use mathlib.Core.Logic.{◌⊎◌, inl, ⊎_elim}
+use mathlib.Core.Logic.{inl, ⊎_elim}
 use mathlib.Core.Bool.{Bool, true, cond, ◌||◌}
 use mathlib.Core.List.{List, map}
 use Prim.Native.Nat.{ℕ, ◌<◌}
 use native.Mathlib.Omega.{arith}
-use Rattle.bits.specs.Search.{some}
 use Rattle.bits.proofs.Cases.{and_intro}
 use Rattle.rules.specs.declared.Code.{Code}
 use Rattle.any_order.proofs.Machine as machine

@@ -1,7 +1,6 @@
 -- What the desk tells of itself is what its calls go by. Assumes nothing.
-use mathlib.Core.Path.{◌≡◌, refl, ap, ◌∙◌}
+use mathlib.Core.Path.{◌≡◌, refl, ap}
 use mathlib.Core.Logic.{◌↔◌}
-use mathlib.Core.Bool.{true}
 use Prim.Native.Nat.{ℕ, zero, suc, ◌<◌}
 use native.Mathlib.Omega.{arith}
 use Rattle.answers.specs.Answers.{number_of}
@@ -12,8 +11,6 @@ use Rattle.station_laws.specs.Runs as run
 use Rattle.station_laws.specs.AnswersRight.{Waiting}
 use Rattle.station_laws.proofs.Calls.{success_has, success_is, failure_has, failure_is, stuck_has, stuck_is}
 use Rattle.cards.specs.declared.Offered.TheVariants.{Fine}
-use Rattle.desk.specs.declared.Desk.{Desk}
-use Rattle.desk.specs.Desk.{desk_fit}
 use Rattle.desk.specs.Lines.{outstanding}
 use Rattle.desk_laws.specs.Runs as desk
 use Rattle.desk_laws.specs.Facts.{OutstandingTold}

@@ -2,7 +2,7 @@
 -- tears a car. Assumes nothing.
 use mathlib.Core.Path.{◌≡◌, refl, sym, ap, ◌∙◌}
 use mathlib.Core.Logic.{◌⊎◌, inl, inr, ⊎_elim}
-use mathlib.Core.Bool.{Bool, true, false, not, or_true}
+use mathlib.Core.Bool.{Bool, true, false, or-true}
 use mathlib.Core.List.{List, [], ◌∷◌}
 use Prim.Native.Nat.{ℕ, suc, ◌<◌}
 use native.Mathlib.Omega.{arith}
@@ -11,7 +11,7 @@ use lib.ListN.{get_or}
 use borrow.Author.Tests.{eqb-true, eqb-false, ltb-true, ltb-false, eq-eqb}
 use Rattle.bits.specs.Bits.{bit, image}
 use Rattle.bits.specs.Places.{elem}
-use Rattle.bits.proofs.Cases.{split, clash, off, both, one_of}
+use Rattle.bits.proofs.Cases.{split, clash, off, one_of}
 use Rattle.bits.proofs.Digits.{bit_image}
 use Rattle.bits.proofs.Least.{found_least, least_below}
 use Rattle.floor.specs.Floor.{raised_car, drive_in}
@@ -143,10 +143,10 @@ place_found a c k o e w z = split (ltb (element_of a c) 41)
 -- ---- lists of instructions that have finished
 
 among_later : (m : run-motion.Moving) (p : List run-motion.Moving) (n : run-motion.Moving) → is_among p n ≡ true → is_among (m ∷ p) n ≡ true
-among_later (of_set i) p (of_set j) e = rw e (or_true (eqb i j))
+among_later (of_set i) p (of_set j) e = rw e (or-true (eqb i j))
 among_later (of_set i) p (of_stuck j) e = e
 among_later (of_stuck i) p (of_set j) e = e
-among_later (of_stuck i) p (of_stuck j) e = rw e (or_true (eqb i j))
+among_later (of_stuck i) p (of_stuck j) e = rw e (or-true (eqb i j))
 
 -- one of a list is its first or one of the others
 among_cases : (m : run-motion.Moving) (p : List run-motion.Moving) (n : run-motion.Moving) → is_among (m ∷ p) n ≡ true

@@ -1,15 +1,15 @@
 -- Each number stays with its car, as `CardsFollow` of specs/Following.antt says: what each call does to the numbers is had from the laws
 -- of cards, and where an instruction takes a car from proofs/Rides.antt. Assumes nothing.
 use mathlib.Core.Path.{◌≡◌, refl, sym, ap, subst, ◌∙◌}
-use mathlib.Core.Logic.{◌⊎◌, inl, inr, ⊎_elim}
+use mathlib.Core.Logic.{inl, inr, ⊎_elim}
 use mathlib.Core.Bool.{Bool, true, false, not, cond, ◌&&◌, ◌||◌}
 use mathlib.Core.List.{List, [], ◌∷◌}
-use Prim.Native.Nat.{ℕ, ◌+◌, ◌≤◌, ◌<◌}
+use Prim.Native.Nat.{ℕ, ◌≤◌, ◌<◌}
 use native.Mathlib.Omega.{arith}
 use lib.Dec.{eqb}
 use borrow.Author.Tests.{eqb-true, eqb-false, eq-eqb, ne_eqb}
 use Rattle.bits.specs.Bits.{Bits, bit, digit, image}
-use Rattle.bits.proofs.Cases.{split, clash, off, neither, true→T, T→true}
+use Rattle.bits.proofs.Cases.{split, clash, neither, true→T, T→true}
 use Rattle.bits.proofs.Digits.{bit_image, digit_lt}
 use Rattle.floor.specs.Floor.{raised_car, drive_in, drive_out}
 use Rattle.floor.specs.Cars.{Car, pair, single, raised, Stands, covers, covered, Place, Layout}
@@ -25,7 +25,7 @@ use Rattle.rules.specs.declared.Event.{Event}
 use Rattle.rules.specs.declared.Event.TheVariants.{BeginIn, BeginOut, EndDone, EndNotDone}
 use Rattle.rules.specs.declared.EventReading.{EventReading}
 use Rattle.rules.specs.declared.EventReading.TheVariants.{Good as Told, Bad as Untold}
-use Rattle.rules.specs.Rules.{well_formed, area, allowed, next_record}
+use Rattle.rules.specs.Rules.{area, allowed, next_record}
 use Rattle.rules.specs.Codes.{read_code, read_event}
 use Rattle.rules.specs.Verdicts.{on_code}
 use Rattle.rules.specs.Events.{possible}
@@ -38,7 +38,7 @@ use Rattle.station_laws.proofs.Instance.{possible_as}
 use Rattle.station_laws.proofs.Fits.{fit_has, waits_allowed}
 use Rattle.station_laws.proofs.Calls.{event_has, image_has}
 use Rattle.cards.specs.declared.Offered.TheVariants.{Fine}
-use Rattle.cards.specs.Cards.{Numbers, Cards}
+use Rattle.cards.specs.Cards.{Numbers}
 use Rattle.cards.specs.Given.{bears}
 use Rattle.cards.specs.Following.{numbers_taken, numbers_after, numbers_driven}
 use Rattle.cards.specs.Following as goes

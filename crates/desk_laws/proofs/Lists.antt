@@ -2,7 +2,7 @@
 -- Assumes nothing.
 use mathlib.Core.Path.{◌≡◌, refl, sym, ap, ap₂, subst, ◌∙◌}
 use mathlib.Core.Logic.{⊎_elim}
-use mathlib.Core.Bool.{Bool, true, false, cond, ◌||◌, or_true}
+use mathlib.Core.Bool.{Bool, true, false, cond, ◌||◌, or-true}
 use mathlib.Core.List.{List, [], ◌∷◌, ◌++◌, map}
 use Prim.Native.Nat.{ℕ, ◌+◌, ◌<◌}
 use native.Mathlib.Omega.{arith}
@@ -112,7 +112,7 @@ module _ {E : Type 0} where
     success_there [] c j h t = absurd (omega arith)
     success_there (result i o ∷ a) c j h t = split (eqb i j)
         (λ q. let m : moves o ≡ true = ap moves (c.0 ∙ ap chosen (eqb-true i j q)) ∙ t in rw m)
-        (λ q. let g : 0 < results_of j a = omega (arith, rw q at h) in let m = success_there a c.1 j g t in rw m (or_true (moves o)))
+        (λ q. let g : 0 < results_of j a = omega (arith, rw q at h) in let m = success_there a c.1 j g t in rw m (or-true (moves o)))
     success_there (event x ∷ a) c j h t = success_there a c j h t
 
     pub succeeds_is : (es : List E) (a : List (Act E)) → Order n chosen es a → succeeds a ≡ some n (λ j. moves (chosen j))

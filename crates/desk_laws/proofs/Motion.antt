@@ -9,7 +9,7 @@ use lib.Dec.{ltb}
 use lib.ListN.{length}
 use borrow.Author.Tests.{ltb-true, ltb-false, lt-ltb, not-true}
 use Rattle.bits.specs.Bits.{bit}
-use Rattle.bits.specs.Places.{elem, share}
+use Rattle.bits.specs.Places.{elem}
 use Rattle.bits.proofs.Cases.{split, clash, off, neither, both, one_of}
 use Rattle.bits.proofs.Least.{found_least, least_below}
 use Rattle.bits.proofs.Sharing.{share_is}
@@ -29,7 +29,7 @@ use Rattle.station_laws.specs.Jams.{jam_at}
 use Rattle.station_laws.specs.Motion as run-motion
 use Rattle.station_laws.specs.Motion.{of_set, of_stuck, set_numbers, stuck_numbers, is_among}
 use Rattle.station_laws.proofs.Fits.{fit_has}
-use Rattle.station_laws.proofs.Reach.{reach, in_area_lem, in_drives, outside_area, drive_outside}
+use Rattle.station_laws.proofs.Reach.{in_area_lem, in_drives, outside_area, drive_outside}
 use Rattle.station_laws.proofs.Instance.{rules, allowed_has}
 use Rattle.station_laws.proofs.Link.{Sane}
 use Rattle.station_laws.proofs.MotionFloor.{once_each, picked}

@@ -2,7 +2,7 @@
 -- change. Assumes nothing.
 use mathlib.Core.Path.{◌≡◌, refl, sym, ap, ap₂, subst, ◌∙◌}
 use mathlib.Core.Logic.{◌⊎◌, inl, inr}
-use mathlib.Core.Bool.{Bool, true, false, cond, not, ◌&&◌, ◌||◌, beq, or_false}
+use mathlib.Core.Bool.{Bool, true, false, cond, not, ◌&&◌, ◌||◌, beq, or-false}
 use mathlib.Core.List.{List, [], ◌∷◌, ◌++◌, map}
 use Prim.Native.Nat.{ℕ, suc, ◌+◌, ◌-◌, ◌≤◌}
 use native.Mathlib.Omega.{arith}
@@ -133,7 +133,7 @@ choice true v c t u f = refl
 choice false v c t u f = go (holds c f)
   where
     go : (b : Bool) → (b && holds t f) || (not b && holds u f) ≡ holds (cond b t u) f
-    go true = or_false (holds t f)
+    go true = or-false (holds t f)
     go false = refl
 
 plain_same : (i : Instruction) (f : Bits) (k : ℕ) → changed (changes i) f k ≡ changed (plain i (holds at_basement f)) f k

@@ -2,7 +2,7 @@
 -- Assumes nothing.
 use mathlib.Core.Path.{◌≡◌, refl, sym, ap, ap₂, subst, ◌∙◌}
 use mathlib.Core.Logic.{◌↔◌}
-use mathlib.Core.Bool.{Bool, true, false, not, cond, ◌&&◌, ◌||◌, and_false}
+use mathlib.Core.Bool.{Bool, true, false, not, cond, ◌&&◌, ◌||◌, and-false}
 use mathlib.Core.List.{List, [], ◌∷◌}
 use Prim.Native.Nat.{ℕ, suc, ◌+◌, ◌≤◌, ◌<◌}
 use native.Mathlib.Omega.{arith}
@@ -266,7 +266,7 @@ came_none x d (desk.reports r) o = refl
 came_none x d (desk.event e c) o =
     ap (λ (b : Bool). digit (eqb e 3 && (b && (bit d.station.bits drive_in && eqb (numbers_in d.numbers drive_in) x))))
     (ne_eqb (desk_answer_number d (desk.event e c)) 0 o)
-    ∙ ap digit (and_false (eqb e 3))
+    ∙ ap digit (and-false (eqb e 3))
 came_none x d (desk.pictures p n ns) o = refl
 came_none x d desk.ask o = refl
 
@@ -276,7 +276,7 @@ went_none x d (desk.reports r) o = refl
 went_none x d (desk.event e c) o =
     ap (λ (b : Bool). digit (eqb e 3 && (b && (bit d.station.bits drive_out && eqb (numbers_in d.numbers raised_car) x))))
     (ne_eqb (desk_answer_number d (desk.event e c)) 0 o)
-    ∙ ap digit (and_false (eqb e 3))
+    ∙ ap digit (and-false (eqb e 3))
 went_none x d (desk.pictures p n ns) o = refl
 went_none x d desk.ask o = refl
 

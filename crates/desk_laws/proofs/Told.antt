@@ -1,12 +1,13 @@
 -- What the desk tells: where a card's car is, and which card is leaving. Assumes nothing.
 use mathlib.Core.Path.{◌≡◌, refl, sym, ap, fun_ext, ◌∙◌}
-use mathlib.Core.Bool.{Bool, true, false, cond, not, ◌&&◌, or_false}
+use mathlib.Core.Bool.{Bool, true, false, cond, not, ◌&&◌, or-false}
 use mathlib.Core.List.{List, [], ◌∷◌}
 use Prim.Native.Nat.{ℕ}
 use native.Mathlib.Omega.{arith}
 use lib.Dec.{ltb}
 use borrow.Author.Tests.{lt-ltb, le-ltb, ne_eqb}
 use Rattle.bits.specs.Bits.{Bits, bit}
+use Rattle.bits.specs.Places.{elem}
 use Rattle.bits.specs.Search.{least}
 use Rattle.bits.proofs.Cases.{split, clash, both, true→T}
 use Rattle.floor.specs.Floor.{raised_car, drive_out}
@@ -18,6 +19,7 @@ use Rattle.floor.proofs.Reading.{nth_holds}
 use Rattle.floor.proofs.Standing.{or_else}
 use Rattle.cars.specs.Lists.{anchor}
 use Rattle.station.specs.declared.Station.{Station}
+use Rattle.station.specs.Held.{code_at, held_area}
 use Rattle.station.specs.Station.{marked}
 use Rattle.station_laws.proofs.Fits.{fit_has}
 use Rattle.cards.specs.Following.{no_source}
@@ -40,8 +42,8 @@ use Rattle.desk_laws.proofs.Calls.{fit_parts}
 -- parts are under the place of a car exactly if they are under it
 pub under_is : (parts : Bits) (x : Car) → Stands x → is_under parts (anchor x) ≡ on_parts parts x
 under_is parts (pair c) h = rw (lt-ltb c 20 (omega arith))
-under_is parts (single c) h = rw (le-ltb c 20 h.0) (or_false (parts c))
-under_is parts raised h = or_false (parts raised_car)
+under_is parts (single c) h = rw (le-ltb c 20 h.0) (or-false (parts c))
+under_is parts raised h = or-false (parts raised_car)
 
 -- no car stands nowhere
 somewhere : (x : Car) → Stands x → anchor x ≡ no_source → ⊥
@@ -51,7 +53,9 @@ somewhere raised h e = omega arith
 
 mover_is : (s : Station) (x : Car) → Stands x → mover_of s (anchor x) ≡ least s.count (moves_car s x)
 unfolding mover_of
-mover_is s x h = ap (least s.count) (fun_ext (λ i. ap (λ (b : Bool). not (marked s i) && b) (under_is _ x h)))
+mover_is s x h =
+    ap (least s.count)
+    (fun_ext (λ i. ap (λ (b : Bool). not (marked s i) && b) (under_is (λ k. elem k (held_area (code_at s.set i))) x h)))
 
 placed_at : (d : Desk) (c : ℕ) (x : Car) → Stands x
     → let i = least d.station.count (moves_car d.station x) in

@@ -1,1 +1,2 @@
 // The promises of the desk; no code.
+#![tactic(auto)]

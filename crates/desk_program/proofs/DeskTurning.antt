@@ -2,23 +2,23 @@
 -- stops. Assumes nothing.
 use mathlib.Core.Path.{◌≡◌, refl, sym, ap, subst, ◌∙◌}
 use mathlib.Core.Bool.{Bool, true, false, ◌||◌}
-use mathlib.Core.List.{List, ◌++◌}
-use Prim.Native.Nat.{ℕ, ◌≤◌, ◌<◌, ◌-◌, ◌+◌}
+use mathlib.Core.List.{List}
+use Prim.Native.Nat.{ℕ, ◌≤◌}
 use native.Mathlib.Omega.{arith}
 use borrow.Author.Tests.{le-ltb}
-use lib.ListN.{length, take, drop, length-take, length-drop, length_append}
-use lib.Seq.{slice, length-take-le}
+use lib.ListN.{length, take, drop, length-take, length-drop, length-append}
+use lib.Seq.{slice}
 use Rattle.bits.proofs.Cases.{neither, clash}
 use Rattle.streams.specs.declared.Input.{Input}
 use Rattle.streams.specs.declared.Input.TheVariants.{Bytes}
 use Rattle.streams.specs.Input.{Fills}
-use Rattle.service.specs.Turns.{Holding, Holds, holding_front}
+use Rattle.service.specs.Turns.{Holds, holding_front}
 use Rattle.desk.specs.declared.Desk.{Desk}
 use Rattle.desk_buffer.specs.declared.DeskServed.{DeskServed}
 use Rattle.desk_buffer.specs.DeskServing.{DeskServing, DeskServes, desk_run, served_desk, desk_serving}
 use Rattle.desk_buffer.proofs.DeskRest.{desk_rest_is_short}
 use Rattle.desk_program.specs.declared.Between.{Between}
-use Rattle.desk_program.specs.DeskTurns.{desk_turning, AsDeskTurn, DeskGoes, DeskTurnedOver, DeskRoom}
+use Rattle.desk_program.specs.DeskTurns.{desk_turning, AsDeskTurn, DeskGoes, DeskTurnedOver}
 
 -- a read fills no more than the buffer
 pub filled : (before after : List ℕ) (have end : ℕ) (r : Input) → Fills before have r after → r ≡ Bytes end → end ≤ length before
@@ -42,7 +42,7 @@ module _ (d : Desk) (buf : List ℕ) (end : ℕ) (out sent : List ℕ) {w : Desk
   unfolding holding_front
   kept_long =
       let x = slice w.used end buf in
-      let a = length_append x (drop (length x) buf) in
+      let a = length-append x (drop (length x) buf) in
       let b = length-drop (length x) buf in
       let c = length-drop w.used (take end buf) in
       let e = length-take end buf in

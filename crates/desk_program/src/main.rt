@@ -1,5 +1,7 @@
 // Reads a desk's messages from standard input and writes the answer to each to standard output. What a turn leaves stands in specs/, what
 // is tried again and what is told of a failure in streams; no contract can say what is read and written. It keeps no journal.
+#![tactic(auto)]
+
 ghost use Rattle.std.specs.Prelude.{◌≡◌, true, false, ◌≤◌, ◌<◌, length};
 ghost use Rattle.streams.specs.Input.{Fills};
 ghost use Rattle.desk_program.specs.DeskTurns.{desk_turning, AsDeskTurn, DeskGoes, DeskTurnedOver, DeskRoom};
@@ -9,7 +11,7 @@ use streams::Input;
 
 // Between two turns: the desk, how many bytes are held at the front of the buffer, whether there are whole messages among them whose
 // answers had no room, and whether nothing more is to be read.
-#[derive(Drop)]
+#[derive(Clone, Copy)]
 struct Between {
     desk: Desk,
     have: usize,
@@ -18,15 +20,15 @@ struct Between {
 }
 
 // Reads once past the bytes that are held.
-fn read_on(buf: &mut [u8], have: usize) -> Input
+fn read_on(rt: &HostRuntime, buf: &mut [u8], have: usize) -> Input
     ensures { Fills buf.old have result buf.new }
 {
-    streams::fill(libc::STDIN_FILENO, buf, have, b"desk: standard input")
+    streams::fill(rt, &mut rt.stdin(), buf, have, b"desk: standard input")
 }
 
 // Writes the first n bytes of the answers, and says whether that went well.
-fn say(out: &[u8], n: usize) -> bool {
-    streams::send(libc::STDOUT_FILENO, out, n, b"desk: standard output")
+fn say(rt: &HostRuntime, out: &[u8], n: usize) -> bool {
+    streams::send(rt, &mut rt.stdout(), out, n, b"desk: standard output")
 }
 
 // Nothing more is read or written.
@@ -42,12 +44,19 @@ fn stopped(desk: Desk) -> Between
 }
 
 // Answers what came whole, as long as there is room for the answers, and holds the rest.
-fn answer(d: Desk, buf: &mut [u8], end: usize, out: &mut [u8], sent: &mut [u8]) -> Between
+fn answer(
+    rt: &HostRuntime,
+    d: Desk,
+    buf: &mut [u8],
+    end: usize,
+    out: &mut [u8],
+    sent: &mut [u8],
+) -> Between
     requires { (end ≤ length buf.old) × DeskRoom buf.old sent.old }
     ensures { DeskGoes result buf.new × AsDeskTurn (desk_turning d buf.old end out.old sent.old) result buf.new out.new sent.new }
 {
     let w = desk_buffer::serve(d, &buf[..end], out, sent);
-    let said = say(out, w.made);
+    let said = say(rt, out, w.made);
     let have = service::buffer::hold(buf, w.used, end);
     let desk = w.desk;
     Between {
@@ -59,28 +68,34 @@ fn answer(d: Desk, buf: &mut [u8], end: usize, out: &mut [u8], sent: &mut [u8]) 
 }
 
 // The end of the input, where the first `have` bytes are left over: they are answered with 1.
-fn close(buf: &[u8], have: usize, out: &mut [u8])
+fn close(rt: &HostRuntime, buf: &[u8], have: usize, out: &mut [u8])
     requires { have ≤ length buf.now }
 {
     let w = service::finish(&buf[..have], out);
-    say(out, w.size);
+    say(rt, out, w.size);
 }
 
 // Answers what is held where its answers had no room before; else reads once, and answers what came whole.
-fn one_turn(b: Between, buf: &mut [u8], out: &mut [u8], sent: &mut [u8]) -> Between
+fn one_turn(
+    rt: &HostRuntime,
+    b: Between,
+    buf: &mut [u8],
+    out: &mut [u8],
+    sent: &mut [u8],
+) -> Between
     requires { DeskGoes b buf.old × (b.stop ≡ false) × DeskRoom buf.old sent.old }
     ensures { result.stop ≡ false → DeskGoes result buf.new × DeskTurnedOver b buf.old out.old sent.old result buf.new out.new sent.new }
 {
     let d = b.desk;
     let have = b.have;
     if b.full {
-        return answer(d, buf, have, out, sent);
+        return answer(rt, d, buf, have, out, sent);
     }
-    let input = read_on(buf, have);
+    let input = read_on(rt, buf, have);
     match input {
-        Input::Bytes(end) => answer(d, buf, end, out, sent),
+        Input::Bytes(end) => answer(rt, d, buf, end, out, sent),
         Input::Ended => {
-            close(buf, have, out);
+            close(rt, buf, have, out);
             stopped(d)
         }
         _ => stopped(d),
@@ -88,7 +103,7 @@ fn one_turn(b: Between, buf: &mut [u8], out: &mut [u8], sent: &mut [u8]) -> Betw
 }
 
 // Turn after turn; no input is so long that it takes more.
-fn session(desk: Desk, buf: &mut [u8], out: &mut [u8], sent: &mut [u8])
+fn session(rt: &HostRuntime, desk: Desk, buf: &mut [u8], out: &mut [u8], sent: &mut [u8])
     requires { DeskRoom buf.old sent.old }
 {
     let mut b = Between {
@@ -99,7 +114,7 @@ fn session(desk: Desk, buf: &mut [u8], out: &mut [u8], sent: &mut [u8])
     };
     let mut turns = u64::MAX;
     while 0 < turns {
-        b = one_turn(b, buf, out, sent);
+        b = one_turn(rt, b, buf, out, sent);
         if b.stop {
             return;
         }
@@ -108,16 +123,16 @@ fn session(desk: Desk, buf: &mut [u8], out: &mut [u8], sent: &mut [u8])
 }
 
 // As much input as an append to a journal carries beside the cards, and room for answers and for what the station is sent.
-fn main() {
-    if commands::told_version(b"desk", b"desk: standard output") {
+fn main(rt: HostRuntime) {
+    if commands::told_version(&rt, b"desk", b"desk: standard output") {
         return;
     }
-    if commands::has_words(b"desk: usage: desk\n") {
+    if commands::has_words(&rt, b"desk: usage: desk\n") {
         return;
     }
     let mut buf = [0u8; 65368];
     let mut out = [0u8; 327680];
     let mut sent = [0u8; 65368];
     let desk = Desk::start();
-    session(desk, &mut buf, &mut out, &mut sent);
+    session(&rt, desk, &mut buf, &mut out, &mut sent);
 }

@@ -1,16 +1,15 @@
 -- What the station inside a desk is sent makes it. Assumes nothing.
 use mathlib.Core.Path.{◌≡◌, refl, sym, ap, ap₂, subst, ◌∙◌}
 use mathlib.Core.Logic.{◌⊎◌, inl, inr, ⊎_elim}
-use mathlib.Core.Bool.{Bool, true, false, cond, ◌&&◌}
+use mathlib.Core.Bool.{Bool, true, false}
 use mathlib.Core.List.{List, [], ◌∷◌, ◌++◌, append-nil}
 use Prim.Native.Nat.{ℕ, zero, suc, ◌+◌, ◌*◌, ◌-◌, ◌^◌, ◌%◌, ◌≤◌, ◌<◌}
 use native.Mathlib.Omega.{arith}
-use borrow.Author.Tests.{eq-eqb, ne_eqb, eqb-true, eqb-false, leb-true, leb-false, ltb-true, ltb-false, le-leb, lt-leb, le-ltb}
+use borrow.Author.Tests.{eq-eqb, ne_eqb, eqb-true, leb-true, leb-false, ltb-true, ltb-false, le-leb, lt-leb, le-ltb}
 use lib.Dec.{eqb, ltb, leb}
-use lib.ListN.{length, get_or, take, drop, length-drop}
-use lib.Seq.{take-length, take-take, length-take-le, get_or-drop, get_or-take}
+use lib.ListN.{length, get_or, take, drop}
+use lib.Seq.{take-length, get_or-drop}
 use Rattle.bits.specs.Search.{least}
-use Rattle.bits.specs.Places.{join}
 use Rattle.bits.proofs.Cases.{split, clash, both}
 use Rattle.codec.specs.Bytes.{Bytes, from_little_endian, little_endian}
 use Rattle.codec.specs.Fours.{four_at}
@@ -25,14 +24,13 @@ use Rattle.wire.specs.declared.What.TheVariants.{Event, Image}
 use Rattle.wire.specs.declared.Frame.{Frame}
 use Rattle.wire.specs.declared.Frame.TheVariants.{Cut, Wrong, Whole}
 use Rattle.wire.specs.Kinds.{kinds_asked, result_kind, image_kind, ask_kind, in_range, plain}
-use Rattle.wire.specs.Reads.{frame_of, kind_at, length_at, sized, message_refused, bad_in, read_request, read_whole, read_asked}
+use Rattle.wire.specs.Reads.{frame_of, kind_at, sized, message_refused, bad_in, read_request, read_whole, read_asked}
 use Rattle.wire.specs.Writes.{message_bytes}
 use Rattle.wire.proofs.Parts.{from_on}
 use Rattle.service.specs.Service.{respond}
-use Rattle.journal.specs.Journal.{Messages, station_after_messages, Follows}
+use Rattle.journal.specs.Journal.{station_after_messages, Follows}
 use Rattle.desk.specs.declared.Desk.{Desk}
-use Rattle.desk.specs.Desk.{desk_fit, reply_number, reply_place, reply_issue}
-use Rattle.desk.specs.Calls.{desk_event, desk_take_image}
+use Rattle.desk.specs.Desk.{desk_fit, reply_place, reply_issue}
 use Rattle.desk.specs.Lines.{listed_cars, outstanding}
 use Rattle.desk_laws.specs.Runs as run
 use Rattle.desk_laws.specs.Runs.{DeskCall, call_desk, desk_answer_number, itself, under}
@@ -40,7 +38,7 @@ use Rattle.station_laws.specs.Runs as stationRun
 use Rattle.desk_laws.proofs.Calls.{its_own}
 use Rattle.desk_wire.specs.Shapes.{Shape, shaped_size, fields_in, entries_in}
 use Rattle.desk_wire.specs.DeskKinds.{shapes_asked, begin_kind, cards_kind}
-use Rattle.desk_wire.specs.DeskReads.{DeskReceived, frame_up_to, most_length, as_received, read_shape, read_shaped, read_shaped_in, read_desk_asked}
+use Rattle.desk_wire.specs.DeskReads.{DeskReceived, frame_up_to, as_received, read_shape, read_shaped, read_shaped_in, read_desk_asked}
 use Rattle.desk_wire.proofs.Framing.{whole_up, framed_up, cut_up}
 use Rattle.desk_service.specs.declared.DeskTold.{DeskTold}
 use Rattle.desk_service.specs.declared.DeskTold.TheVariants as told
@@ -48,7 +46,7 @@ use Rattle.desk_service.specs.DeskService.{DeskSaid, briefly, in_lines, in_set, 
 use Rattle.desk_service.specs.Private.{cards_read}
 use Rattle.desk_service.proofs.Saying.{begin_short, begin_zero, begin_card, image_short, image_none, image_many, image_cards}
 use Rattle.desk_buffer.proofs.Serving.{form_same, form_begin, form_image, form_none}
-use Rattle.desk_buffer.specs.DeskServing.{number_in, held_back, begin_form, image_form, station_form, passed_on, desk_run_ends, desk_step_at, desk_step, desk_run_of, desk_run}
+use Rattle.desk_buffer.specs.DeskServing.{number_in, held_back, begin_form, image_form, station_form, passed_on, desk_step_at, desk_step, desk_run_of}
 use Rattle.desk_runs.specs.DeskRuns.{ToldItself}
 use Rattle.desk_runs.specs.DeskSent.{DeskSends}
 use Rattle.desk_runs.specs.DeskHeard.{DeskHeard, makes, seeks, parts, lists, opens, compares, refuses, desk_heard, call_told, desk_reply_to}

@@ -1,5 +1,5 @@
 -- A run in lent room leaves a fit desk fit: every call does, and a question leaves the desk as it was. Assumes nothing.
-use mathlib.Core.Path.{◌≡◌, refl, sym, ap, subst, ◌∙◌}
+use mathlib.Core.Path.{◌≡◌, sym, ap, subst, ◌∙◌}
 use mathlib.Core.Bool.{true}
 use mathlib.Core.List.{List}
 use Prim.Native.Nat.{ℕ, zero, suc, ◌-◌}
@@ -15,7 +15,7 @@ use Rattle.desk.specs.Lines.{listed_cars, outstanding}
 use Rattle.desk_laws.proofs.Fits.{fit_kept}
 use Rattle.desk_wire.specs.DeskReads.{frame_up_to, most_length}
 use Rattle.desk_service.specs.DeskService.{DeskReplied, in_lines, in_set, answer_told, brief_bytes, told_bytes, respond_desk}
-use Rattle.desk_buffer.specs.DeskServing.{desk_step_at, desk_step, desk_run_of, desk_run}
+use Rattle.desk_buffer.specs.DeskServing.{desk_step_at, desk_step, desk_run_of}
 use Rattle.desk_runs.specs.DeskHeard.{DeskHeard, makes, seeks, parts, lists, opens, compares, refuses, desk_heard, desk_reply_to}
 use Rattle.desk_runs.specs.DeskStays.{DeskStaysFit}
 use Rattle.desk_runs.proofs.DeskRuns.{desk_message_is_call, fit_keeps, compare_keeps}

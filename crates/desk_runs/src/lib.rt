@@ -1,1 +1,2 @@
 // What is promised of a desk's messages; no code.
+#![tactic(auto)]

@@ -6,7 +6,7 @@ use Prim.Native.Nat.{ℕ, zero, suc, ◌+◌, ◌*◌, ◌-◌, ◌/◌, ◌%◌
 use native.Mathlib.Omega.{arith}
 use borrow.Author.Tests.{leb-true, leb-false, eq-eqb, ne_eqb}
 use lib.Dec.{eqb, leb}
-use lib.ListN.{length, take, drop, replicate, length_append}
+use lib.ListN.{length, take, drop, replicate, length-append}
 use lib.Seq.{take_at, take-length, length-take-le}
 use Rattle.bits.specs.Places.{join}
 use Rattle.bits.proofs.Cases.{split, clash, both, neither}
@@ -109,7 +109,7 @@ module _ (room : List ℕ) {r : Written} {last : List ℕ} where
 few : (xs : List Line) (l : Line) → length xs ≤ 62 → length (with_line xs l) ≤ 62
 few xs l h = split (eqb l.card 0 || leb 62 (length xs))
     (λ t. rw t h)
-    (λ t. rw t (let z = length_append xs (l ∷ []) in let k = leb-false 62 (length xs) (neither (eqb l.card 0) _ t).1 in omega arith))
+    (λ t. rw t (let z = length-append xs (l ∷ []) in let k = leb-false 62 (length xs) (neither (eqb l.card 0) _ t).1 in omega arith))
 
 few_all : (xs : List Line) (n : ℕ) (f : ℕ → Line) → length xs ≤ 62 → length (with_lines xs n f) ≤ 62
 unfolding with_lines

@@ -89,7 +89,7 @@ fn padded(run: &[u8]) -> [u8; 124]
     ensures { result ≡ run.now ++ replicate (124 - length run.now) 0 }
 {
     let mut b = [0u8; 124];
-    bytes::copy(run, &mut b);
+    codec::copy(run, &mut b);
     b
 }
 

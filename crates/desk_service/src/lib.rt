@@ -1,4 +1,6 @@
 // Messages answered on a desk. What they are answered with stands in specs/.
+#![tactic(auto)]
+
 ghost use Rattle.std.specs.Prelude.{◌≡◌};
 ghost use Rattle.desk.specs.Lines.{place_told};
 ghost use Rattle.wire.specs.Reads.{length_at};
@@ -13,7 +15,7 @@ mod kinds;
 mod telling;
 
 // What a message is told: an answer, the image, where a car is, or a card.
-#[derive(Drop)]
+#[derive(Clone, Copy)]
 pub enum DeskTold {
     Answer { number: u8, place: u8, issue: u16 },
     Held { bits: u64, apart: u64 },
@@ -22,14 +24,14 @@ pub enum DeskTold {
 }
 
 // What a message leaves: the next desk, and what it is told.
-#[derive(Drop)]
+#[derive(Clone, Copy)]
 pub struct DeskReply {
     pub desk: Desk,
     pub told: DeskTold,
 }
 
 // What an answered message leaves: the next desk, and what was written.
-#[derive(Drop)]
+#[derive(Clone, Copy)]
 pub struct DeskAnswered {
     pub desk: Desk,
     pub written: Written,

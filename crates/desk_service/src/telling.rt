@@ -20,7 +20,7 @@ fn put(src: &[u8], room: &mut [u8]) -> Written
             size: 0,
         };
     }
-    let size = bytes::copy(src, room);
+    let size = codec::copy(src, room);
     Written {
         answer: Answer::Taken,
         size,
@@ -131,7 +131,7 @@ fn with_lines(kind: u8, count: u8, lines: [u8; 496]) -> [u8; 501]
 {
     let size = 3 + 8 * (count as u16);
     let mut b = [0u8; 501];
-    bytes::copy(&lines, &mut b[5..501]);
+    codec::copy(&lines, &mut b[5..501]);
     b[0] = (size % 256) as u8;
     b[1] = (size / 256) as u8;
     b[2] = kind;
@@ -157,7 +157,7 @@ fn with_set(issue: u16, answered: u8, count: u8, set: [u8; 40]) -> [u8; 48]
 {
     let size = 6 + 5 * (count as u16);
     let mut b = [0u8; 48];
-    bytes::copy(&set, &mut b[8..48]);
+    codec::copy(&set, &mut b[8..48]);
     b[0] = (size % 256) as u8;
     b[1] = (size / 256) as u8;
     b[2] = 139;

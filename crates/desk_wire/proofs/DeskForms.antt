@@ -2,7 +2,7 @@
 use mathlib.Core.Path.{◌≡◌, refl, sym, ◌∙◌, ap}
 use mathlib.Core.Bool.{false, cond}
 use mathlib.Core.List.{List, [], ◌∷◌, ◌++◌}
-use Prim.Native.Nat.{ℕ, ◌+◌, ◌≤◌, ◌<◌}
+use Prim.Native.Nat.{ℕ, ◌≤◌, ◌<◌}
 use native.Mathlib.Omega.{arith}
 use borrow.Author.Tests.{le-ltb, ne_eqb}
 use lib.Dec.{eqb}
@@ -11,7 +11,7 @@ use Rattle.answers.specs.declared.Answer.TheVariants.{UnknownKind}
 use Rattle.wire.specs.declared.Frame.{Frame}
 use Rattle.wire.specs.declared.Frame.TheVariants.{Cut, Wrong, Whole}
 use Rattle.wire.specs.Kinds.{SizedKind, kinds_known, kinds_asked}
-use Rattle.wire.specs.Reads.{length_at, kind_at, frame_of, read_whole, read_framed, read_asked}
+use Rattle.wire.specs.Reads.{length_at, kind_at, read_whole, read_framed, read_asked}
 use Rattle.wire_laws.proofs.Asked.{alike, unknown}
 use Rattle.wire_laws.proofs.Back.{reads_back}
 use Rattle.wire_laws.proofs.Form.{one_form_lem}

@@ -4,8 +4,8 @@ use mathlib.Core.Bool.{Bool, true, false}
 use mathlib.Core.List.{List, [], ◌∷◌, ◌++◌}
 use Prim.Native.Nat.{ℕ, ◌+◌, ◌-◌, ◌≤◌, ◌<◌}
 use native.Mathlib.Omega.{arith}
-use borrow.Author.Tests.{le-ltb, eq-eqb, eqb-true}
-use lib.Dec.{ltb, eqb}
+use borrow.Author.Tests.{le-ltb, eqb-true}
+use lib.Dec.{eqb}
 use lib.ListN.{length, take, drop, length-drop}
 use Rattle.bits.proofs.Cases.{clash}
 use Rattle.codec.specs.Bytes.{little_endian, Bytes}
@@ -20,7 +20,7 @@ use Rattle.wire.specs.declared.Frame.TheVariants.{Cut, Wrong, Whole}
 use Rattle.wire.specs.declared.What.TheVariants.{Ask}
 use Rattle.wire.specs.Kinds.{kinds_known, kind_of, plain}
 use Rattle.wire.specs.Reads.{length_at, kind_at, message_taken, read_whole}
-use Rattle.wire.specs.Writes.{Writing, message_bytes}
+use Rattle.wire.specs.Writes.{message_bytes}
 use Rattle.wire.proofs.Frames.{when}
 use Rattle.wire_laws.specs.Statements.{Form}
 use Rattle.wire_laws.proofs.Messages.{parts}

@@ -1,12 +1,12 @@
 -- What a frame of some greatest length says of the bytes that it is taken from, and that a message is read from exactly its own bytes.
 -- Assumes nothing.
-use mathlib.Core.Path.{◌≡◌, refl, sym, ◌∙◌, ap}
+use mathlib.Core.Path.{◌≡◌, sym, ◌∙◌, ap}
 use mathlib.Core.List.{List, ◌++◌}
 use Prim.Native.Nat.{ℕ, ◌+◌, ◌≤◌}
 use native.Mathlib.Omega.{arith}
 use borrow.Author.Tests.{le-ltb, ltb-false}
 use lib.Dec.{ltb}
-use lib.ListN.{length, take, length_append, get_or-append}
+use lib.ListN.{length, take, length-append, get_or-append}
 use lib.Seq.{get_or-take, length-take-le, take-append_seam}
 use Rattle.wire.specs.declared.Frame.{Frame}
 use Rattle.wire.specs.declared.Frame.TheVariants.{Cut, Wrong, Whole}
@@ -77,5 +77,5 @@ read_up most ks shapes m t e l h =
     let a = get_or-append m t 0 0 (omega arith) in
     let b = get_or-append m t 0 1 (omega arith) in
     let f : frame_up_to most (m ++ t) ≡ Whole (length m) = framed_up most (m ++ t) (length m)
-    (record { long = rw (a, b) (sym e); low = l; high = h; within = rw (length_append m t) (omega arith) }) in
+    (record { long = rw (a, b) (sym e); low = l; high = h; within = rw (length-append m t) (omega arith) }) in
     ap (λ (g : Frame). read_shaped_in ks shapes g (m ++ t)) f ∙ ap (read_shaped ks shapes) (take-append_seam m t)

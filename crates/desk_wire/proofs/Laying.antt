@@ -4,7 +4,7 @@ use mathlib.Core.Path.{◌≡◌, refl, sym, ◌∙◌, ap, ap₂}
 use mathlib.Core.List.{List, [], ◌∷◌, ◌++◌, append_assoc}
 use Prim.Native.Nat.{ℕ, zero, suc, ◌+◌, ◌*◌, ◌≤◌}
 use native.Mathlib.Omega.{arith}
-use lib.ListN.{length, get_or, take, drop, length_append, length-drop, take-append-drop}
+use lib.ListN.{length, take, drop, length-append, length-drop, take-append-drop}
 use lib.Seq.{take_all, take-add, drop_at}
 use Rattle.codec.specs.Bytes.{little_endian, from_little_endian, Bytes}
 use Rattle.codec.proofs.Numbers.{bytes_drop, number_back, number_form}
@@ -20,7 +20,7 @@ laid_length : (ws ns : List ℕ) → InWidths ws ns → length (laid_out ws ns) 
 laid_length [] [] f = refl
 laid_length [] (n ∷ ns) f = absurd f
 laid_length (w ∷ ws) [] f = absurd f
-laid_length (w ∷ ws) (n ∷ ns) f = length_append (little_endian w n) (laid_out ws ns) ∙ ap₂ (λ (a b : ℕ). a + b) (number_length w n) (laid_length ws ns f.1)
+laid_length (w ∷ ws) (n ∷ ns) f = length-append (little_endian w n) (laid_out ws ns) ∙ ap₂ (λ (a b : ℕ). a + b) (number_length w n) (laid_length ws ns f.1)
 
 read_laid : (ws ns t : List ℕ) → InWidths ws ns → read_out ws (laid_out ws ns ++ t) ≡ ns
 read_laid [] [] t f = refl
@@ -37,7 +37,7 @@ each_length ws [] f = omega arith
 each_length ws (x ∷ xs) f =
     let a = laid_length ws x f.0 in
     let b = each_length ws xs f.1 in
-    length_append (laid_out ws x) (laid_each ws xs) ∙ ap₂ (λ (a b : ℕ). a + b) a b ∙ omega arith
+    length-append (laid_out ws x) (laid_each ws xs) ∙ ap₂ (λ (a b : ℕ). a + b) a b ∙ omega arith
 
 read_each_lem : (ws : List ℕ) (xs : List (List ℕ)) → EachInWidths ws xs → read_each ws (length xs) (laid_each ws xs) ≡ xs
 read_each_lem ws [] f = refl
@@ -66,7 +66,7 @@ body_back k ns xs f g =
     let l = laid_length k.fields ns f in
     let past : drop (widths_sum k.fields) (front ++ tail) ≡ tail = drop_at front tail (widths_sum k.fields) l in
     record {
-      size = length_append front tail ∙ ap₂ (λ (a b : ℕ). a + b) l (sym (ap (tail_size k.each) past ∙ tail_length k.each xs g));
+      size = length-append front tail ∙ ap₂ (λ (a b : ℕ). a + b) l (sym (ap (tail_size k.each) past ∙ tail_length k.each xs g));
       fields = read_laid k.fields ns tail f;
       entries = ap (read_tail k.each) past ∙ read_tail_back k.each xs g;
     }

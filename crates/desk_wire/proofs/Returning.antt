@@ -1,5 +1,5 @@
 -- What was written reads back as what was meant: by its shape, and the station's messages by the station's own law. Assumes nothing.
-use mathlib.Core.Path.{◌≡◌, refl, sym, ◌∙◌, ap, ap₂}
+use mathlib.Core.Path.{◌≡◌, refl, sym, ◌∙◌, ap}
 use mathlib.Core.Bool.{Bool, true, false, cond}
 use mathlib.Core.List.{List, [], ◌∷◌, ◌++◌}
 use Prim.Native.Nat.{ℕ, ◌+◌, ◌≤◌, ◌<◌, ◌^◌}
@@ -8,7 +8,6 @@ use borrow.Author.Tests.{eq-eqb, eqb-true, ltb-false}
 use lib.Dec.{ltb, eqb}
 use lib.ListN.{length, take, drop}
 use Rattle.bits.proofs.Cases.{split, clash}
-use Rattle.codec.specs.Bytes.{little_endian, from_little_endian}
 use Rattle.codec.proofs.Numbers.{number_back, two_back}
 use Rattle.answers.specs.declared.Answer.{Answer}
 use Rattle.answers.specs.declared.Answer.TheVariants.{Taken, UnknownKind, BadField, TooMany, NoRoom}
@@ -17,16 +16,16 @@ use Rattle.wire.specs.declared.What.{What}
 use Rattle.wire.specs.declared.What.TheVariants.{Request, Event, Result, Image, Ask, Answer as AnswerOf, Held}
 use Rattle.wire.specs.declared.Message.{Message}
 use Rattle.wire.specs.Kinds.{SizedKind, kinds_known, kind_of}
-use Rattle.wire.specs.Reads.{length_at, kind_at, message_taken, read_whole, read_message}
-use Rattle.wire.specs.Writes.{Writing, nothing_written, put, message_bytes, writing_message, one_form}
+use Rattle.wire.specs.Reads.{length_at, kind_at, read_whole}
+use Rattle.wire.specs.Writes.{Writing, nothing_written, writing_message, one_form}
 use Rattle.wire_laws.specs.Statements.{MessageTyped}
 use Rattle.wire_laws.proofs.Messages.{read_whole_lem}
 use Rattle.wire_laws.proofs.Back.{wrote, reads_back}
 use Rattle.desk_wire.specs.Shapes.{InWidths, TailInWidths, Shape, shaped_body}
-use Rattle.desk_wire.specs.DeskReads.{DeskMessage, of_station, shaped, DeskReceived, desk_message_taken, as_received, read_shape, read_shaped, read_shaped_in, read_up_to}
+use Rattle.desk_wire.specs.DeskReads.{of_station, shaped, desk_message_taken, as_received, read_shape, read_shaped, read_shaped_in, read_up_to}
 use Rattle.desk_wire.specs.DeskWrites.{shaped_bytes, writing_shape, writing_shaped, is_shaped, writing_with, desk_one_form}
 use Rattle.desk_wire.specs.DeskForms.{ReadsBackBy, TypedAs, TypedBy, KindsFit}
-use Rattle.desk_wire.proofs.Laying.{Body-back, body_back}
+use Rattle.desk_wire.proofs.Laying.{body_back}
 use Rattle.desk_wire.proofs.Framing.{FramedUpTo, framed_up, cut_up, read_up}
 
 -- ---- what a call that wrote says

@@ -1,8 +1,8 @@
 -- What the bytes of a desk's message say: the station's kinds by the station's own definitions, the others by their shapes. The refusals
 -- and their order are document 01's. Assumes nothing.
-use Rattle.std.specs.Prelude.{Bool, true, false, cond, List, [], ◌∷◌, ℕ, ◌+◌, ltb, eqb, length, take, drop}
+use Rattle.std.specs.Prelude.{cond, List, [], ◌∷◌, ℕ, ◌+◌, ltb, eqb, length, take, drop}
 use Rattle.answers.specs.declared.Answer.{Answer}
-use Rattle.answers.specs.declared.Answer.TheVariants.{Taken, TooFewBytes, BadLength, UnknownKind, BadField}
+use Rattle.answers.specs.declared.Answer.TheVariants.{Taken, TooFewBytes, BadLength, BadField}
 use Rattle.answers.specs.Answers.{nowhere}
 use Rattle.wire.specs.declared.What.TheVariants.{Ask}
 use Rattle.wire.specs.declared.Message.{Message}

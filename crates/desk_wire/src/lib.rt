@@ -1,1 +1,2 @@
 // The form of a desk's messages: definitions and laws; no code.
+#![tactic(auto)]

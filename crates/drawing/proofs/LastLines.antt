@@ -2,13 +2,12 @@
 -- does. Assumes nothing.
 use mathlib.Core.Path.{◌≡◌, refl, sym, ap, ap₂, ◌∙◌}
 use mathlib.Core.Bool.{Bool, true, false, cond, ◌&&◌, ◌||◌}
-use mathlib.Core.List.{List, [], ◌∷◌}
+use mathlib.Core.List.{List}
 use Prim.Native.Nat.{ℕ}
 use lib.Dec.{T, eqb, ltb}
 use Rattle.bits.proofs.Cases.{split}
 use Rattle.codec.specs.Text.{ascii}
 use Rattle.floor.specs.Floor.{raised_car, height_low, height_high, drive_in, drive_out}
-use Rattle.drawing.specs.declared.Lift.{Lift}
 use Rattle.drawing.specs.Drawing.{apart_words}
 use Rattle.drawing.specs.Reading.{first_line, same, begins, is_last, is_line, apart_drawn, last_drawn}
 use Rattle.drawing.specs.Private.{apart_lift, words_of, apart_told, last_told, lift_bit}

@@ -1,16 +1,16 @@
 -- Hex digits: their values, those gathered from a text and as a number, and an image's line byte by byte. Assumes nothing.
 use mathlib.Core.Path.{◌≡◌, refl, sym, ap, ap₂, ◌∙◌}
 use mathlib.Core.Logic.{◌⊎◌, inl, inr, ⊎_elim}
-use mathlib.Core.Bool.{Bool, true, false, not, cond, ◌&&◌, ◌||◌}
+use mathlib.Core.Bool.{Bool, true, false, not, cond}
 use mathlib.Core.List.{List, [], ◌∷◌, ◌++◌, append_assoc, append-nil}
 use Prim.Native.Nat.{ℕ, zero, suc, ◌+◌, ◌*◌, ◌-◌, ◌/◌, ◌^◌, ◌≤◌, ◌<◌}
 use native.Mathlib.Nat.{pow-suc, pow-le-pow_right}
 use native.Mathlib.Omega.{arith}
 use native.Mathlib.Numerals.{add-one}
-use lib.Dec.{eqb, ltb, leb}
-use lib.ListN.{length, get_or, set, take, drop, replicate, length_append, length-set, drop_of_length-le}
+use lib.Dec.{eqb, ltb}
+use lib.ListN.{length, get_or, set, take, drop, replicate, length-append, length-set, drop_of_length-le}
 use lib.Seq.{drop-cons, take-suc-set, length-take-le, get_or-take}
-use borrow.Author.Tests.{lt-ltb, le-ltb, le-leb, lt-leb, eq-eqb, ne_eqb, eqb-true, ltb-true, not-false}
+use borrow.Author.Tests.{lt-ltb, le-ltb, eq-eqb, ne_eqb, eqb-true, ltb-true, not-false}
 use Rattle.bits.proofs.Cases.{split, alike}
 use Rattle.bits.proofs.Search.{every_at, every_is}
 use Rattle.bits.proofs.Least.{Passed, every_not}
@@ -19,36 +19,6 @@ use Rattle.drawing.specs.declared.Hex.{Hex}
 use Rattle.drawing.specs.declared.Hex.TheVariants.{Image, Asked, NotHex}
 use Rattle.drawing.specs.Hex.{digit_of, all_digits, is_blank, unblanked, hex_number, is_count, hex_said, hex_in, hex_line}
 use Rattle.drawing.specs.Private.{table, hex_at, Gathers}
-
--- ---- the value of a digit, by its range
-
-module _ (b : ℕ) where
-  pub figure : 48 ≤ b → b < 58 → b - 48 ≡ digit_of b
-  figure l h = rw (le-leb 48 b l, le-leb b 57 (omega arith))
-
-  not_figure : 58 ≤ b → leb 48 b && leb b 57 ≡ false
-  not_figure l = rw (le-leb 48 b (omega arith), lt-leb b 57 (omega arith))
-
-  pub large : 65 ≤ b → b < 71 → b - 55 ≡ digit_of b
-  large l h = rw (not_figure (omega arith), le-leb 65 b l, le-leb b 70 (omega arith))
-
-  not_large : 71 ≤ b → leb 65 b && leb b 70 ≡ false
-  not_large l = rw (le-leb 65 b (omega arith), lt-leb b 70 (omega arith))
-
-  pub small : 97 ≤ b → b < 103 → b - 87 ≡ digit_of b
-  small l h = rw (not_figure (omega arith), not_large (omega arith), le-leb 97 b l, le-leb b 102 (omega arith))
-
-  pub below_figures : b < 48 → 16 ≡ digit_of b
-  below_figures h = rw (lt-leb 48 b h, lt-leb 65 b (omega arith), lt-leb 97 b (omega arith))
-
-  pub below_large : 58 ≤ b → b < 65 → 16 ≡ digit_of b
-  below_large l h = rw (not_figure l, lt-leb 65 b h, lt-leb 97 b (omega arith))
-
-  pub below_small : 71 ≤ b → b < 97 → 16 ≡ digit_of b
-  below_small l h = rw (not_figure (omega arith), not_large l, lt-leb 97 b h)
-
-  pub past_small : 103 ≤ b → 16 ≡ digit_of b
-  past_small l = rw (not_figure (omega arith), not_large (omega arith), le-leb 97 b (omega arith), lt-leb b 102 (omega arith))
 
 -- ---- gathered from a text
 
@@ -102,7 +72,7 @@ module _ (s : List ℕ) where
           let few = v.few in
           let k = length-take-le count bytes (omega (arith, v.room)) in
           let l = ap length (v.held ∙ ap (λ (x : List ℕ). take count bytes ++ x) (taken e))
-          ∙ length_append (take count bytes) (get_or s i 0 ∷ unblanked (drop (suc i) s)) in
+          ∙ length-append (take count bytes) (get_or s i 0 ∷ unblanked (drop (suc i) s)) in
           record { many = omega arith; held = λ (x : 33 ≤ 32). absurd (omega arith) }
 
     pub gather_ends : length s ≤ i → Gathers s (record { count = count; bytes = bytes })

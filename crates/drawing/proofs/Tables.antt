@@ -5,7 +5,7 @@ use Prim.Native.Nat.{ℕ, zero, suc, ◌+◌, ◌≤◌, ◌<◌}
 use native.Mathlib.Omega.{arith}
 use native.Mathlib.Numerals.{add-one}
 use lib.Dec.{ltb}
-use lib.ListN.{length, get_or, set, drop, replicate, length_append, length-drop, drop_of_length-le, get_or-replicate, get_or-append}
+use lib.ListN.{length, get_or, set, drop, replicate, length-append, length-drop, drop_of_length-le, get_or-replicate, get_or-append}
 use lib.Seq.{set_at, set-set, set-get_or, get_or-set_same, drop-cons, get_or_at}
 use borrow.Author.Tests.{ltb-true, ltb-false}
 use Rattle.bits.proofs.Cases.{split}
@@ -15,7 +15,7 @@ module _ {A : Type 0} (f : ℕ → A) where
   pub length_table : (n : ℕ) → length (table n f) ≡ n
   unfolding table
   length_table zero = refl
-  length_table (suc n) = simp length_append (omega (arith, length_table n))
+  length_table (suc n) = simp length-append (omega (arith, length_table n))
 
   pub get_d_table : (n i : ℕ) (d : A) → i < n → get_or (table n f) i d ≡ f i
   unfolding table
@@ -51,7 +51,7 @@ module _ {A : Type 0} (f : ℕ → A) (l : List A) where
 
   pub length_upto : (n : ℕ) → n ≤ length l → length (upto f l n) ≡ length l
   unfolding upto
-  length_upto n h = simp (length_append, length_table, length-drop) (omega arith)
+  length_upto n h = simp (length-append, length_table, length-drop) (omega arith)
 
   pub upto_turn : (n : ℕ) (d : A) → n < length l → set (upto f l n) n (f n) ≡ upto f l (n + 1)
   unfolding upto table

@@ -5,7 +5,7 @@ use mathlib.Core.List.{List, [], ◌∷◌, ◌++◌, append_assoc}
 use Prim.Native.Nat.{ℕ, ◌+◌, ◌-◌, ◌≤◌, ◌<◌}
 use native.Mathlib.Omega.{arith}
 use lib.Dec.{eqb}
-use lib.ListN.{length, get_or, length_append, get_or-append}
+use lib.ListN.{length, get_or, length-append, get_or-append}
 use lib.Seq.{get_or-append-add}
 use borrow.Author.Tests.{ne_eqb}
 use Rattle.bits.proofs.Cases.{split}
@@ -33,9 +33,6 @@ unfolding ascii
 car_short true = omega arith
 car_short false = omega arith
 
-pub end_none : (d : ℕ) → (d ≡ 1 → ⊥) → (d ≡ 2 → ⊥) → ended_line (drive_word d) ≡ 10 ∷ []
-end_none d n m = rw (ne_eqb d 1 n, ne_eqb d 2 m) refl
-
 pub end_short : (d : ℕ) → length (ended_line (drive_word d)) ≤ 5
 unfolding ascii
 end_short d = split (eqb d 1) (λ e. rw e (omega arith)) (λ e. rw e (split (eqb d 2) (λ f. rw f (omega arith)) (λ f. rw f (omega arith))))
@@ -47,8 +44,8 @@ module _ (h : ℕ) (car : Bool) (d : ℕ) where
 
   pub words_size : length (lift_words h car d) ≡ length (height_name h) + length (car_word car) + length (ended_line (drive_word d))
   words_size =
-      ap length words_parts ∙ length_append (height_name h) (car_word car ++ ended_line (drive_word d))
-      ∙ omega (arith, length_append (car_word car) (ended_line (drive_word d)))
+      ap length words_parts ∙ length-append (height_name h) (car_word car ++ ended_line (drive_word d))
+      ∙ omega (arith, length-append (car_word car) (ended_line (drive_word d)))
 
   pub words_short : length (lift_words h car d) ≤ 17
   words_short = omega (arith, words_size, name_short h, car_short car, end_short d)

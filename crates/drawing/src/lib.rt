@@ -1,5 +1,7 @@
 // The floor on paper: a record as a drawing of six lines, and a drawing read; what is set apart likewise, in a second one; and an image in
 // hex. What these are stands in specs/. `apart` says that the number is what is set apart.
+#![tactic(auto)]
+
 ghost use Rattle.std.specs.Prelude.{◌≡◌, ◌++◌, ◌+◌, ◌≤◌, ◌<◌, length, get_or, drop, true};
 ghost use Rattle.bits.specs.Bits.{bit, image};
 ghost use Rattle.drawing.specs.Drawing.{letter, LeavesDrawing, has_drawing, writing_drawing};
@@ -17,14 +19,14 @@ use grid::{FREE, occupied};
 use lift_line::LIFT_LINE;
 
 // What writing says: 0 and how many bytes the drawing takes, or the number that refuses it.
-#[derive(Drop)]
+#[derive(Clone, Copy)]
 pub struct Written {
     pub number: u8,
     pub size: u8,
 }
 
 // What reading says: 0 and the number that is drawn, or the number that refuses it; and the first bad line, or 255.
-#[derive(Drop)]
+#[derive(Clone, Copy)]
 pub struct Found {
     pub number: u8,
     pub place: u8,
@@ -32,7 +34,7 @@ pub struct Found {
 }
 
 // What a text in hex says: a record; a record and what is set apart, as an ask returns them; or neither.
-#[derive(Drop)]
+#[derive(Clone, Copy)]
 pub enum Hex {
     Image(u64),
     Asked(u64, u64),
@@ -41,7 +43,7 @@ pub enum Hex {
 
 // What is told in the last line of the lift: its height, whether a car is on it, and the drive that is under way, 1 in, 2 out. Read from a text, 3 stands for
 // a height or a drive that is none.
-#[derive(Drop)]
+#[derive(Clone, Copy)]
 struct Lift {
     height: u8,
     car: bool,
@@ -49,7 +51,7 @@ struct Lift {
 }
 
 // The bytes of a text that are no blanks, up to 32, and how many they are; 33 where there are more.
-#[derive(Drop)]
+#[derive(Clone, Copy)]
 struct Gathered {
     count: usize,
     bytes: [u8; 32],

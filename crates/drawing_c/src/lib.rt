@@ -1,5 +1,7 @@
 // The entries for a host in C that draws records, and what is set apart, and reads drawings: numbers and runs of bytes alone. An answer is
 // its number plus 256 times a place, and a refused call writes nothing. What each answers and leaves stands in specs/Entries.antt.
+#![tactic(auto)]
+
 ghost use Rattle.std.specs.Prelude.{◌≡◌, true, false, ◌+◌, ◌*◌};
 ghost use Rattle.answers.specs.Answers.{nowhere};
 ghost use Rattle.rooms.specs.Rooms.{LeavesRoom};

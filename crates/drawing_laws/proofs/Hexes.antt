@@ -7,7 +7,7 @@ use native.Mathlib.Omega.{arith}
 use native.Mathlib.Nat.{pow-suc, one-le-pow, mod-eq_of_lt}
 use lib.Arith.{mod-mul}
 use lib.Dec.{T, eqb, ltb}
-use lib.ListN.{length, get_or, length_append, get_or-append}
+use lib.ListN.{length, get_or, length-append, get_or-append}
 use lib.Seq.{get_or-append-add}
 use borrow.Author.Tests.{eqb-true, ltb-true, ltb-false, lt-ltb, not-true}
 use Rattle.bits.specs.Search.{every}
@@ -158,7 +158,7 @@ asked_reads_back r a h k =
     let m : length c ≡ 16 = digits_length 8 r in
     let n : length d ≡ 16 = digits_length 8 a in
     let u : unblanked (hex_line 8 r ++ hex_line 8 a) ≡ c ++ d = unblanked_append (hex_line 8 r) (hex_line 8 a) ∙ ap₂ (λ (x y : List ℕ). x ++ y) (unblanked_line 8 r) (unblanked_line 8 a) in
-    let v : length (c ++ d) ≡ 32 = length_append c d ∙ omega arith in
+    let v : length (c ++ d) ≡ 32 = length-append c d ∙ omega arith in
     let f : all_digits 32 (c ++ d) ≡ true = few (c ++ d) 32 (λ j l. append_small c d j (λ i p. digit_small 8 r i (omega arith)) (λ i p. digit_small 8 a i (omega arith)) (omega arith)) in
     let x : hex_number 8 0 (c ++ d) ≡ r = number_first 8 0 c d (omega arith) ∙ number_back 8 r ∙ mod-eq_of_lt h in
     let y : hex_number 8 8 (c ++ d) ≡ a = number_behind 8 0 8 c d m ∙ number_back 8 a ∙ mod-eq_of_lt k in

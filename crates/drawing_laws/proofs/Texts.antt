@@ -7,7 +7,7 @@ use Prim.Native.Nat.{ℕ, zero, suc, ◌+◌, ◌-◌, ◌*◌, ◌≤◌, ◌<�
 use native.Mathlib.Omega.{arith}
 use native.Mathlib.Nat.{zero-add}
 use lib.Dec.{eqb, ltb}
-use lib.ListN.{length, get_or, drop, length_append, get_or-append}
+use lib.ListN.{length, get_or, drop, length-append, get_or-append}
 use lib.Seq.{drop-cons, drop-append_seam, get_or_at}
 use borrow.Author.Tests.{eqb-true, eqb-false, ltb-true, ltb-false}
 use Rattle.bits.specs.Bits.{Bits, bit, digit}
@@ -62,7 +62,7 @@ module _ (s : List ℕ) where
   pub firsts_length : (p : ℕ) → length (firsts p s) ≡ p
   unfolding firsts
   firsts_length zero = refl
-  firsts_length (suc p) = length_append (firsts p s) (line_at p s ∷ []) ∙ omega (arith, firsts_length p)
+  firsts_length (suc p) = length-append (firsts p s) (line_at p s ∷ []) ∙ omega (arith, firsts_length p)
 
   pub firsts_at : (p j : ℕ) → j < p → get_or (firsts p s) j [] ≡ line_at j s
   unfolding firsts

@@ -1,6 +1,8 @@
 // Reads standard input to its end. An image in hex comes out as its drawing, and a drawing as the image in hex, on standard output; with
 // what is set apart, as an ask returns the two, as two drawings and two lines. What is refused is told in one line on standard error. What is written and read stands in drawing, what is tried again and what is told of a
 // failure in streams; no contract can say what comes in and goes out.
+#![tactic(auto)]
+
 ghost use Rattle.std.specs.Prelude.{◌≤◌, length};
 
 use drawing::Hex;
@@ -29,135 +31,137 @@ const LINES: u8 = 6;
 const PAST_LAST: u8 = 6;
 
 // Reads to the end of the input, or until the buffer is full.
-fn read_all(buf: &mut [u8]) -> Came
+fn read_all(rt: &HostRuntime, buf: &mut [u8]) -> Came
     ensures { result.have ≤ length buf.new }
 {
-    streams::read_all(libc::STDIN_FILENO, buf, b"draw: standard input")
+    streams::read_all(rt, &mut rt.stdin(), buf, b"draw: standard input")
 }
 
 // Writes the first n bytes of a text; where that fails, it is told.
-fn say(text: &[u8], n: usize) -> bool {
-    streams::send(libc::STDOUT_FILENO, text, n, b"draw: standard output")
+fn say(rt: &HostRuntime, text: &[u8], n: usize) -> bool {
+    streams::send(rt, &mut rt.stdout(), text, n, b"draw: standard output")
 }
 
 // Tells something on standard error.
-fn tell(text: &[u8]) {
+fn tell(rt: &HostRuntime, text: &[u8]) {
     streams::send(
-        libc::STDERR_FILENO,
+        rt,
+        &mut rt.stderr(),
         text,
         text.len(),
         b"draw: standard error",
     );
 }
 
-fn tell_number(n: u64) {
+fn tell_number(rt: &HostRuntime, n: u64) {
     let mut digits = [0u8; 20];
     let k = io::decimal(n, &mut digits);
-    tell(&digits[..k]);
+    tell(rt, &digits[..k]);
 }
 
-fn tell_unsound() {
-    tell(b"draw: 15: the record is not sound\n");
+fn tell_unsound(rt: &HostRuntime) {
+    tell(rt, b"draw: 15: the record is not sound\n");
 }
 
 // Tells which line is the first bad one, where the drawing's own begin after so many: people count lines from 1, places are counted from 0.
-fn tell_bad_line(place: u8, before: u8) {
+fn tell_bad_line(rt: &HostRuntime, place: u8, before: u8) {
     if place == PAST_LAST {
-        tell(b"draw: 41, place 6: text after the last line\n");
+        tell(rt, b"draw: 41, place 6: text after the last line\n");
         return;
     }
-    tell(b"draw: 41, place ");
-    tell_number(place as u64);
-    tell(b": not a drawing; line ");
-    tell_number(place as u64 + before as u64 + 1);
-    tell(b" is the first bad one\n");
+    tell(rt, b"draw: 41, place ");
+    tell_number(rt, place as u64);
+    tell(rt, b": not a drawing; line ");
+    tell_number(rt, place as u64 + before as u64 + 1);
+    tell(rt, b" is the first bad one\n");
 }
 
 // The drawing of an image.
-fn show(image: u64) {
+fn show(rt: &HostRuntime, image: u64) {
     let mut text = [0u8; LONGEST_DRAWING];
     let w = drawing::write(false, image, &mut text);
     if w.number == TAKEN {
-        say(&text, w.size as usize);
+        say(rt, &text, w.size as usize);
         return;
     }
-    tell_unsound();
+    tell_unsound(rt);
 }
 
 // The drawings of an image and of what is set apart.
-fn show_both(image: u64, apart: u64) {
+fn show_both(rt: &HostRuntime, image: u64, apart: u64) {
     let mut text = [0u8; LONGEST_DRAWING];
     let w = drawing::write(false, image, &mut text);
     let mut second = [0u8; LONGEST_APART];
     let v = drawing::write(true, apart, &mut second);
     if w.number != TAKEN {
-        tell_unsound();
+        tell_unsound(rt);
         return;
     }
     if v.number != TAKEN {
-        tell(b"draw: 15: what is set apart has a bit above 52\n");
+        tell(rt, b"draw: 15: what is set apart has a bit above 52\n");
         return;
     }
-    if say(&text, w.size as usize) {
-        say(&second, v.size as usize);
+    if say(rt, &text, w.size as usize) {
+        say(rt, &second, v.size as usize);
     }
 }
 
 // Draws the image that some hex says.
-fn draw_image(input: &[u8]) {
+fn draw_image(rt: &HostRuntime, input: &[u8]) {
     if LONGEST < input.len() {
-        tell(b"draw: not an image in hex: more than 65536 bytes\n");
+        tell(rt, b"draw: not an image in hex: more than 65536 bytes\n");
         return;
     }
     let hex = drawing::read_hex(input);
     match hex {
-        Hex::Image(image) => show(image),
-        Hex::Asked(image, apart) => show_both(image, apart),
+        Hex::Image(image) => show(rt, image),
+        Hex::Asked(image, apart) => show_both(rt, image, apart),
         Hex::NotHex => tell(
+            rt,
             b"draw: not an image in hex: sixteen or thirty-two digits are wanted\n",
         ),
     }
 }
 
 // Says a number in hex.
-fn say_hex(number: u64) -> bool {
+fn say_hex(rt: &HostRuntime, number: u64) -> bool {
     let line = drawing::hex_line(number);
-    say(&line, 24)
+    say(rt, &line, 24)
 }
 
 // Tells why a drawing is refused.
-fn tell_refused(number: u8, place: u8) {
+fn tell_refused(rt: &HostRuntime, number: u8, place: u8) {
     if number == BAD_LINE {
-        tell_bad_line(place, 0);
+        tell_bad_line(rt, place, 0);
         return;
     }
-    tell_unsound();
+    tell_unsound(rt);
 }
 
 // Says the image of a drawing.
-fn read_one(input: &[u8]) {
+fn read_one(rt: &HostRuntime, input: &[u8]) {
     let found = drawing::read(false, input);
     if found.number == TAKEN {
-        say_hex(found.bits);
+        say_hex(rt, found.bits);
         return;
     }
-    tell_refused(found.number, found.place);
+    tell_refused(rt, found.number, found.place);
 }
 
 // Says the image of a drawing and what a second one behind it shows as set apart.
-fn read_both(first: &[u8], second: &[u8]) {
+fn read_both(rt: &HostRuntime, first: &[u8], second: &[u8]) {
     let found = drawing::read(false, first);
     let apart = drawing::read(true, second);
     if found.number != TAKEN {
-        tell_refused(found.number, found.place);
+        tell_refused(rt, found.number, found.place);
         return;
     }
     if apart.number != TAKEN {
-        tell_bad_line(apart.place, LINES);
+        tell_bad_line(rt, apart.place, LINES);
         return;
     }
-    if say_hex(found.bits) {
-        say_hex(apart.bits);
+    if say_hex(rt, found.bits) {
+        say_hex(rt, apart.bits);
     }
 }
 
@@ -169,16 +173,16 @@ fn sixth_end(input: &[u8]) -> usize
 }
 
 // A second drawing begins with one of its marks; other text after the last line is refused with the first.
-fn read_drawing(input: &[u8]) {
+fn read_drawing(rt: &HostRuntime, input: &[u8]) {
     let end = sixth_end(input);
     let second = &input[end..];
     if 0 < second.len() {
         if (second[0] == b'x') | (second[0] == b'.') {
-            read_both(&input[..end], second);
+            read_both(rt, &input[..end], second);
             return;
         }
     }
-    read_one(input);
+    read_one(rt, input);
 }
 
 // Hex begins with a digit or a blank, as no line of a floor does.
@@ -193,30 +197,30 @@ fn begins_hex(input: &[u8]) -> bool {
     }
 }
 
-fn answer(input: &[u8]) {
+fn answer(rt: &HostRuntime, input: &[u8]) {
     if begins_hex(input) {
-        draw_image(input);
+        draw_image(rt, input);
         return;
     }
-    read_drawing(input);
+    read_drawing(rt, input);
 }
 
 // Answers what is read, unless that failed.
-fn session(buf: &mut [u8]) {
-    let came = read_all(buf);
+fn session(rt: &HostRuntime, buf: &mut [u8]) {
+    let came = read_all(rt, buf);
     if came.failed {
         return;
     }
-    answer(&buf[..came.have]);
+    answer(rt, &buf[..came.have]);
 }
 
-fn main() {
-    if commands::told_version(b"draw", b"draw: standard output") {
+fn main(rt: HostRuntime) {
+    if commands::told_version(&rt, b"draw", b"draw: standard output") {
         return;
     }
-    if commands::has_words(b"draw: usage: draw < IMAGE-OR-DRAWING\n") {
+    if commands::has_words(&rt, b"draw: usage: draw < IMAGE-OR-DRAWING\n") {
         return;
     }
     let mut buf = [0u8; ROOM];
-    session(&mut buf);
+    session(&rt, &mut buf);
 }

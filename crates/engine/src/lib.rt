@@ -1,4 +1,6 @@
 // What an instruction or a car event does to a record: whether it is allowed or why not, and the next record.
+#![tactic(auto)]
+
 ghost use Rattle.std.specs.Prelude.{◌≡◌, true};
 ghost use Rattle.bits.specs.Bits.{bit, image};
 ghost use Rattle.rules.specs.declared.Event.TheVariants.{EndDone};
@@ -145,7 +147,7 @@ pub fn code_moved(x: Code, r: u64) -> Moved
 }
 
 // What five bytes are told on a record: whether they say an instruction, its area, or none, and whether it is allowed.
-#[derive(Drop)]
+#[derive(Clone, Copy)]
 pub struct Judged {
     pub area: u64,
     pub good: bool,

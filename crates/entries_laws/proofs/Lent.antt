@@ -3,16 +3,15 @@
 use mathlib.Core.Path.{◌≡◌, refl, sym, ap, subst, ◌∙◌}
 use mathlib.Core.Bool.{Bool, true, false, ◌&&◌}
 use mathlib.Core.List.{List, [], ◌∷◌, ◌++◌}
-use Prim.Native.Nat.{ℕ, ◌+◌, ◌*◌, ◌%◌, ◌≤◌}
+use Prim.Native.Nat.{ℕ, ◌*◌, ◌%◌, ◌≤◌}
 use native.Mathlib.Omega.{arith}
 use borrow.Author.Tests.{le-leb, lt-ltb, le-ltb, leb-true, leb-false, ltb-false, eqb-false, eq-eqb}
 use lib.Dec.{eqb, leb, ltb}
-use lib.ListN.{length, take, drop, length_append, length-drop}
+use lib.ListN.{length, take, drop, length-append, length-drop}
 use lib.Seq.{length-take-le}
 use Rattle.bits.proofs.Cases.{split, clash}
 use Rattle.codec.specs.Bytes.{Bytes}
 use Rattle.rules.specs.Codes.{most_in_set}
-use Rattle.answers.specs.declared.Answer.{Answer}
 use Rattle.answers.specs.declared.Answer.TheVariants.{NoRoom, TooFewBytes}
 use Rattle.answers.specs.Answers.{number_of}
 use Rattle.answers.proofs.Promises.{number_byte}
@@ -87,7 +86,7 @@ pub record Done (e : Entry) (x : Reply) : Type 0 where
 
 -- a station written over the first bytes of a room
 written_long : (s : Station) (past : List ℕ) → StationTyped s → 60 ≤ length (station_bytes s ++ past)
-written_long s past T = let l = station_fits s T in rw (length_append (station_bytes s) past) (omega arith)
+written_long s past T = let l = station_fits s T in rw (length-append (station_bytes s) past) (omega arith)
 
 -- a call's entry
 entered : (c : Station → Outcome) (room : List ℕ) (x : Reply) → 60 ≤ length room → StationTyped x.station → (c (station_of room)).station ≡ x.station

@@ -6,7 +6,7 @@ use native.Mathlib.Omega.{arith}
 use native.Mathlib.Nat.{pow-suc}
 use borrow.Author.Tests.{eqb-true}
 use lib.Dec.{eqb, ltb}
-use lib.ListN.{get_or, length, take, drop, replicate, length_append, length-drop}
+use lib.ListN.{get_or, length, take, drop, replicate, length-append, length-drop}
 use lib.Seq.{length-take-le}
 use Rattle.bits.specs.Search.{least}
 use Rattle.bits.proofs.Cases.{split}
@@ -113,7 +113,7 @@ request_fine m =
     let l = eqb-true (length m) (5 + 5 * n) e in
     let d : length set ≡ 5 * n = length-drop 5 m ∙ omega arith in
     let k = length-take-le (5 * n) set (omega arith) in
-    record { made = λ _. rw (length_append (take (5 * n) set) (replicate (40 - 5 * n) 0), k) (omega arith); low = omega arith }))
+    record { made = λ _. rw (length-append (take (5 * n) set) (replicate (40 - 5 * n) 0), k) (omega arith); low = omega arith }))
     (λ _. record { made = tt; low = omega arith })))
 
 whole_fine : (m : List ℕ) → Bytes m → Received-fine (read_whole kinds_asked m)

@@ -1,11 +1,11 @@
 -- The question whether two may stand in one set says what a request of the two is told. Assumes nothing.
 use mathlib.Core.Path.{◌≡◌, refl, sym, ap, ap₂, ◌∙◌}
-use mathlib.Core.Bool.{Bool, true, false, not, cond, or_false}
+use mathlib.Core.Bool.{Bool, true, false, not, cond, or-false}
 use mathlib.Core.List.{List, [], ◌++◌}
 use Prim.Native.Nat.{ℕ, zero, suc, ◌≤◌}
 use native.Mathlib.Omega.{arith}
 use borrow.Author.Tests.{le-ltb}
-use lib.ListN.{length, get_or, take}
+use lib.ListN.{length, take}
 use lib.Seq.{take_at, drop_at, get_or-take}
 use Rattle.bits.specs.Places.{share}
 use Rattle.bits.specs.Search.{some, IsLeast}
@@ -21,9 +21,8 @@ use Rattle.rules.specs.Rules.{well_formed, area_of, overlap}
 use Rattle.rules.specs.Codes.{read_code, read_bytes, code_from}
 use Rattle.rules.specs.Verdicts.{on_code, sharing_of}
 use Rattle.rules.proofs.CodeLaws.{one_form_lem}
-use Rattle.station.specs.declared.Station.{Station}
 use Rattle.station.specs.Held.{code_at, is_good, held_area, bad, overlaps_earlier}
-use Rattle.station_laws.specs.Runs.{request, answer_number, fault_index}
+use Rattle.station_laws.specs.Runs.{request, fault_index}
 use Rattle.station_laws.proofs.Demands.{accepted_exactly, places_right}
 use Rattle.station_c.specs.Sets.{sharing_said, pair_answer}
 use Rattle.station_c.proofs.Pairs.{share_either}
@@ -106,7 +105,7 @@ module _ (one other : List ℕ) (h : length one ≡ 5) (k : 5 ≤ length other) 
   overlapping : overlaps_earlier (one ++ other) 1
       ≡ share (on_code area_of [] (read_code (code_from other))) (on_code area_of [] (read_code (code_from one)))
   unfolding overlaps_earlier some
-  overlapping = or_false (share (held_area (code_at (one ++ other) 1)) (held_area (code_at (one ++ other) 0))) ∙ sharing
+  overlapping = or-false (share (held_area (code_at (one ++ other) 1)) (held_area (code_at (one ++ other) 0))) ∙ sharing
 
   none_before : overlaps_earlier (one ++ other) 0 ≡ false
   unfolding overlaps_earlier some

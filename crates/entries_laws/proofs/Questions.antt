@@ -1,8 +1,8 @@
 -- A question on a record is told what a request of its one instruction would be. Assumes nothing.
-use mathlib.Core.Path.{◌≡◌, refl, sym, ap, ◌∙◌}
+use mathlib.Core.Path.{◌≡◌, refl, ap, ◌∙◌}
 use native.Mathlib.Omega.{arith}
-use mathlib.Core.Bool.{Bool, true, false, cond, ◌&&◌, and_false, or_false}
-use mathlib.Core.List.{List, []}
+use mathlib.Core.Bool.{true, false, cond, ◌&&◌, and-false, or-false}
+use mathlib.Core.List.{List}
 use Prim.Native.Nat.{ℕ, ◌≤◌}
 use borrow.Author.Tests.{le-ltb}
 use lib.ListN.{length}
@@ -15,14 +15,14 @@ use Rattle.bits.proofs.Search.{none_is}
 use Rattle.floor.specs.Floor.{lift}
 use Rattle.floor.specs.Tests.{holds, under_way}
 use Rattle.floor.specs.Sound.{sound}
-use Rattle.answers.specs.Answers.{number_of, nowhere}
+use Rattle.answers.specs.Answers.{number_of}
 use Rattle.rules.specs.declared.Reading.{Reading}
 use Rattle.rules.specs.declared.Reading.TheVariants.{Good, Bad}
 use Rattle.rules.specs.declared.Verdict.{Verdict}
 use Rattle.rules.specs.declared.Verdict.TheVariants.{Allowed, NotAllowed, IllFormed}
 use Rattle.rules.specs.Rules.{area_of, allowed, next_record}
 use Rattle.rules.specs.Codes.{read_code, read_bytes, code_from}
-use Rattle.rules.specs.Verdicts.{is_allowed, verdict_of, moved_by, moved_of, answer_for, on_code, code_verdict}
+use Rattle.rules.specs.Verdicts.{is_allowed, verdict_of, moved_by, moved_of, answer_for, code_verdict}
 use Rattle.rules.proofs.Reasons.{allows_is}
 use Rattle.station.specs.Held.{code_at, held_parts, touches, is_good, held_area, held_allowed, overlaps_earlier, lift_in, crosses_drive, crosses}
 use Rattle.station.specs.Station.{closed}
@@ -36,7 +36,7 @@ use Rattle.entries_laws.specs.Statements.{QuestionIsRequest}
 -- where nothing is set apart, nothing touches it
 untouched : (set : List ℕ) (i : ℕ) → touches set 0 i ≡ false
 unfolding touches
-untouched set i = none_is 64 _ (λ k h. rw (bit_none k) (and_false (bit (held_parts (code_at set i)) k)))
+untouched set i = none_is 64 _ (λ k h. rw (bit_none k) (and-false (bit (held_parts (code_at set i)) k)))
 
 module _ (r after : ℕ) (five : List ℕ) (e : sound r ≡ true) (h : 5 ≤ length five) where
   -- what a request is told for a verdict on its one instruction, and a question
@@ -47,12 +47,12 @@ module _ (r after : ℕ) (five : List ℕ) (e : sound r ≡ true) (h : 5 ≤ len
 
   pub asked : (g : Reading) → read_code (code_from five) ≡ g → number_of (request_answer r five) ≡ answer_number (closed r after 0) (request 1 five)
   unfolding station.request station.requested station.cleared station.spared station.accepted least some code_at is_good held_area held_allowed overlaps_earlier lift_in crosses_drive crosses code_verdict moved moved_of read_bytes
-  asked Bad p = ap number_of (clear_says r five h (rw p (and_false (holds under_way (bit r))))) ∙ rw (le-ltb (length five) 5 h, p, fit_closed r after 0 e (omega arith))
+  asked Bad p = ap number_of (clear_says r five h (rw p (and-false (holds under_way (bit r))))) ∙ rw (le-ltb (length five) 5 h, p, fit_closed r after 0 e (omega arith))
   asked (Good i) p = split (holds under_way (bit r) && share (area_of i) lift)
       (λ c. let (u, l) = both (holds under_way (bit r)) (share (area_of i) lift) c in
       ap number_of (crossed_says r five h (rw p c)) ∙ rw (p, fit_closed r after 0 e (omega arith), u, l))
       (λ c. ap number_of (clear_says r five h (rw p c))
-      ∙ rw (le-ltb (length five) 5 h, p, fit_closed r after 0 e (omega arith), or_false (share (area_of i) lift), c, untouched five 0)
+      ∙ rw (le-ltb (length five) 5 h, p, fit_closed r after 0 e (omega arith), or-false (share (area_of i) lift), c, untouched five 0)
       (told (verdict_of i r) (image (next_record i (bit r))) ∙ rw (allows_is i r) (split (allowed i (bit r)) (λ a. rw a) (λ a. rw (a, p)))))
 
 pub question_is_request : QuestionIsRequest

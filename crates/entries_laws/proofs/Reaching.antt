@@ -3,12 +3,12 @@
 use mathlib.Core.Path.{◌≡◌, refl, sym, ap, subst, ◌∙◌}
 use mathlib.Core.Bool.{true}
 use mathlib.Core.List.{List, [], ◌∷◌, ◌++◌}
-use Prim.Native.Nat.{ℕ, ◌+◌, ◌*◌, ◌-◌, ◌%◌, ◌≤◌, ◌^◌, ◌<◌}
+use Prim.Native.Nat.{ℕ, ◌*◌, ◌-◌, ◌%◌, ◌≤◌, ◌^◌, ◌<◌}
 use native.Mathlib.Omega.{arith}
 use borrow.Author.Tests.{eqb-true, eqb-false}
 use lib.Bits.{or_lt}
 use lib.Dec.{eqb}
-use lib.ListN.{length, take, replicate, length_append, length-replicate}
+use lib.ListN.{length, take, replicate, length-append, length-replicate}
 use lib.Seq.{length-take-le}
 use Rattle.bits.specs.Bits.{bit}
 use Rattle.bits.proofs.Cases.{split}
@@ -141,7 +141,7 @@ places_step s t c (refuses n) m h = h
 places_step s t c (opens {n} {set} A) m h =
     let k = length-take-le (5 * n) set (m A.orderly.readable.few) in
     let l = A.orderly.readable.few in
-    length_append (take (5 * n) set) (replicate (40 - 5 * n) 0) ∙ rw (k, length-replicate {A = ℕ} (40 - 5 * n) 0) (omega arith)
+    length-append (take (5 * n) set) (replicate (40 - 5 * n) 0) ∙ rw (k, length-replicate {A = ℕ} (40 - 5 * n) 0) (omega arith)
 places_step s t c (fails {i} w) m h = after_result (λ (x : Station). length x.set ≡ 40) s i s.bits s.apart (λ _. refl) (λ _. h)
 places_step s t c (succeeds {i} p w a) m h = after_result (λ (x : Station). length x.set ≡ 40) s i (following s i) s.apart (λ _. refl) (λ _. h)
 places_step s t c (sticks {i} p w) m h = after_result (λ (x : Station). length x.set ≡ 40) s i s.bits (apart_with s i) (λ _. refl) (λ _. h)

@@ -20,7 +20,7 @@ use Rattle.station_laws.proofs.Demands.{any_order}
 use Rattle.station_laws.proofs.Motion.{however_far}
 use Rattle.station_laws.proofs.Recovery.{never_locks_up}
 use Rattle.rooms.specs.Rooms.{station_of}
-use Rattle.entries_laws.specs.Uses.{Use, start, request, event, result, image, ask, message, entry_used, uses, AsPassed, AllPassed, roomy, call_by, calls_by, NoStarts, RoomBegun}
+use Rattle.entries_laws.specs.Uses.{Use, start, request, event, result, image, ask, message, entry_used, uses, AsPassed, AllPassed, roomy, call_by, calls_by, NoStarts}
 use Rattle.entries_laws.specs.Statements.{RoomsAreRuns, RoomsLaidOut, RoomsCounted, RoomsAnyOrder, RoomsHoweverFar, RoomsNeverLockUp}
 use Rattle.entries_laws.proofs.Lent.{Lent, done, skipped, long_enough, too_short, lent_used, lent_uses, begun, begun_begins, meant_calls, accepted_by}
 

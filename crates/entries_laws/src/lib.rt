@@ -1,1 +1,2 @@
 // The station behind its bytes: messages and entries as calls; no code.
+#![tactic(auto)]

@@ -9,55 +9,55 @@ use std::num::wrapping_sub_u16;
 
 // ---- what is written
 
-pub fn text(t: &[u8]) {
-    io::write_all(1, t);
+pub fn text(rt: &HostRuntime, t: &[u8]) {
+    let _ = rt.write_all(t);
 }
 
 // The lowest byte as the paper writes it.
-fn show_byte(r: u64) {
+fn show_byte(rt: &HostRuntime, r: u64) {
     let digits = b"0123456789ABCDEF";
     let high = (r / 16 % 16) as usize;
     let low = (r % 16) as usize;
-    text(&[b' ', digits[high], digits[low]]);
+    text(rt, &[b' ', digits[high], digits[low]]);
 }
 
-fn show_four(r: u64) {
-    show_byte(r);
-    show_byte(r / 0x100);
-    show_byte(r / 0x1_0000);
-    show_byte(r / 0x100_0000);
+fn show_four(rt: &HostRuntime, r: u64) {
+    show_byte(rt, r);
+    show_byte(rt, r / 0x100);
+    show_byte(rt, r / 0x1_0000);
+    show_byte(rt, r / 0x100_0000);
 }
 
 // An image as the paper writes it, the lowest byte first.
-fn show(r: u64) {
-    text(b" |");
-    show_four(r);
-    show_four(r / 0x1_0000_0000);
+fn show(rt: &HostRuntime, r: u64) {
+    text(rt, b" |");
+    show_four(rt, r);
+    show_four(rt, r / 0x1_0000_0000);
 }
 
 // How many cars a record has, if it is sound.
-fn show_cars(r: u64) {
-    text(b" | ");
+fn show_cars(rt: &HostRuntime, r: u64) {
+    text(rt, b" | ");
     match floor::cars(r) {
         Total::Cars(n) => {
-            io::print_decimal(1, n);
-            text(b" cars");
+            let _ = rt.print(n);
+            text(rt, b" cars");
         }
-        Total::Unsound => text(b"not sound"),
+        Total::Unsound => text(rt, b"not sound"),
     }
 }
 
 // A call's answer: its number, and the place where it names one.
-pub fn told(name: &[u8], o: Outcome) -> Station {
+pub fn told(rt: &HostRuntime, name: &[u8], o: Outcome) -> Station {
     let answer = o.answer;
     let place = answer.place();
-    text(b" | ");
-    text(name);
-    text(b": ");
-    io::print_decimal(1, answer.number() as u64);
+    text(rt, b" | ");
+    text(rt, name);
+    text(rt, b": ");
+    let _ = rt.print(answer.number() as u64);
     if place != NOWHERE {
-        text(b" at ");
-        io::print_decimal(1, place as u64);
+        text(rt, b" at ");
+        let _ = rt.print(place as u64);
     }
     o.station
 }
@@ -88,14 +88,15 @@ fn pair_of(i: Instruction, j: Instruction) -> [u8; 40] {
 }
 
 // One instruction is asked for.
-fn asked(s: Station, name: &[u8], i: Instruction) -> Station {
-    told(name, s.request(1, set_of(i)))
+fn asked(rt: &HostRuntime, s: Station, name: &[u8], i: Instruction) -> Station {
+    told(rt, name, s.request(1, set_of(i)))
 }
 
 // The result of an instruction of the present set.
-fn ended(s: Station, name: &[u8], number: u8, ending: u8) -> Station {
+fn ended(rt: &HostRuntime, s: Station, name: &[u8], number: u8, ending: u8) -> Station {
     let issue = wrapping_sub_u16(s.next, 1);
     told(
+        rt,
         name,
         s.result(Report {
             issue,
@@ -106,17 +107,18 @@ fn ended(s: Station, name: &[u8], number: u8, ending: u8) -> Station {
 }
 
 // One instruction is asked for and done, and the record shown.
-fn moved(s: Station, name: &[u8], i: Instruction) -> Station {
-    let t = asked(s, name, i);
-    let u = ended(t, b"done", 0, 1);
-    show(u.bits);
+fn moved(rt: &HostRuntime, s: Station, name: &[u8], i: Instruction) -> Station {
+    let t = asked(rt, s, name, i);
+    let u = ended(rt, t, b"done", 0, 1);
+    show(rt, u.bits);
     u
 }
 
 // A start with this image.
-fn placed(r: u64) -> Station {
-    show(r);
+fn placed(rt: &HostRuntime, r: u64) -> Station {
+    show(rt, r);
     told(
+        rt,
         b"image",
         Station::start().image(Picture { bits: r, apart: 0 }),
     )
@@ -124,39 +126,40 @@ fn placed(r: u64) -> Station {
 
 // ---- the examples
 
-fn p1() {
-    text(b"P1");
+fn p1(rt: &HostRuntime) {
+    text(rt, b"P1");
     let s = Station::start();
-    show(s.bits);
-    show_cars(s.bits);
-    text(b"\n");
+    show(rt, s.bits);
+    show_cars(rt, s.bits);
+    text(rt, b"\n");
 }
 
-fn p2() -> Station {
-    text(b"P2");
-    let s = told(b"begin in", Station::start().event(1));
-    let t = told(b"done", s.event(3));
-    let u = told(b"begin in", t.event(1));
-    text(b"\n");
+fn p2(rt: &HostRuntime) -> Station {
+    text(rt, b"P2");
+    let s = told(rt, b"begin in", Station::start().event(1));
+    let t = told(rt, b"done", s.event(3));
+    let u = told(rt, b"begin in", t.event(1));
+    text(rt, b"\n");
     u
 }
 
-fn p3() {
-    text(b"P3");
-    told(b"begin out", Station::start().event(2));
-    text(b"\n");
+fn p3(rt: &HostRuntime) {
+    text(rt, b"P3");
+    told(rt, b"begin out", Station::start().event(2));
+    text(rt, b"\n");
 }
 
-fn p4(s: Station) -> Station {
-    text(b"P4");
-    let t = moved(s, b"lift to basement", Instruction::Lift { height: 2 });
-    text(b"\n");
+fn p4(rt: &HostRuntime, s: Station) -> Station {
+    text(rt, b"P4");
+    let t = moved(rt, s, b"lift to basement", Instruction::Lift { height: 2 });
+    text(rt, b"\n");
     t
 }
 
-fn p5(s: Station) {
-    text(b"P5");
+fn p5(rt: &HostRuntime, s: Station) {
+    text(rt, b"P5");
     let t = moved(
+        rt,
         s,
         b"row 1 mask 6 lower half",
         Instruction::Belts {
@@ -166,23 +169,23 @@ fn p5(s: Station) {
             size: 0,
         },
     );
-    asked(t, b"lift to street", Instruction::Lift { height: 0 });
-    text(b"\n");
+    asked(rt, t, b"lift to street", Instruction::Lift { height: 0 });
+    text(rt, b"\n");
 }
 
-fn p6() {
-    text(b"P6");
-    let s = placed(0x49_1B00_0000_3C00);
-    show_cars(s.bits);
-    let t = asked(s, b"lift to rotation", Instruction::Lift { height: 1 });
-    asked(t, b"lift to street", Instruction::Lift { height: 0 });
-    text(b"\n");
+fn p6(rt: &HostRuntime) {
+    text(rt, b"P6");
+    let s = placed(rt, 0x49_1B00_0000_3C00);
+    show_cars(rt, s.bits);
+    let t = asked(rt, s, b"lift to rotation", Instruction::Lift { height: 1 });
+    asked(rt, t, b"lift to street", Instruction::Lift { height: 0 });
+    text(rt, b"\n");
 }
 
-fn p7() {
-    text(b"P7");
-    placed(0x9_1B00_0000_0001);
-    text(b"\n");
+fn p7(rt: &HostRuntime) {
+    text(rt, b"P7");
+    placed(rt, 0x9_1B00_0000_0001);
+    text(rt, b"\n");
 }
 
 // The left lowered shuttles of rows 1 and 2, higher.
@@ -193,24 +196,26 @@ const UP: Instruction = Instruction::Shuttles {
     toward: 1,
 };
 
-fn p8() {
-    text(b"P8");
+fn p8(rt: &HostRuntime) {
+    text(rt, b"P8");
     moved(
-        placed(0x9_1B00_0000_0003),
+        rt,
+        placed(rt, 0x9_1B00_0000_0003),
         b"left lowered rows 1 and 2 higher",
         UP,
     );
-    text(b"\n");
+    text(rt, b"\n");
 }
 
-fn p9() {
-    text(b"P9");
+fn p9(rt: &HostRuntime) {
+    text(rt, b"P9");
     asked(
-        placed(0x9_1B00_0000_0006),
+        rt,
+        placed(rt, 0x9_1B00_0000_0006),
         b"left lowered rows 1 and 2 higher",
         UP,
     );
-    text(b"\n");
+    text(rt, b"\n");
 }
 
 // The tilted shuttle of row 3 is lowered.
@@ -223,53 +228,63 @@ fn lowers(side: u8) -> Instruction {
 }
 
 // The second of the set with this result.
-fn p10(name: &[u8], ending: u8) {
-    text(b"P10");
+fn p10(rt: &HostRuntime, name: &[u8], ending: u8) {
+    text(rt, b"P10");
     let set = pair_of(lowers(0), lowers(1));
-    let s = told(b"both lowered", Station::start().request(2, set));
-    let t = ended(s, b"done", 0, 1);
-    let u = ended(t, name, 1, ending);
-    show(u.bits);
-    text(b"\n");
+    let s = told(rt, b"both lowered", Station::start().request(2, set));
+    let t = ended(rt, s, b"done", 0, 1);
+    let u = ended(rt, t, name, 1, ending);
+    show(rt, u.bits);
+    text(rt, b"\n");
 }
 
-fn p11() {
-    text(b"P11");
-    moved(placed(0x29_1B00_0000_00C0), b"rotate", Instruction::Rotate);
-    text(b"\nP11");
-    asked(placed(0x29_1B00_0000_0180), b"rotate", Instruction::Rotate);
-    text(b"\n");
+fn p11(rt: &HostRuntime) {
+    text(rt, b"P11");
+    moved(
+        rt,
+        placed(rt, 0x29_1B00_0000_00C0),
+        b"rotate",
+        Instruction::Rotate,
+    );
+    text(rt, b"\nP11");
+    asked(
+        rt,
+        placed(rt, 0x29_1B00_0000_0180),
+        b"rotate",
+        Instruction::Rotate,
+    );
+    text(rt, b"\n");
 }
 
-fn p12() {
-    text(b"P12");
+fn p12(rt: &HostRuntime) {
+    text(rt, b"P12");
     let set = pair_of(lowers(0), lowers(0));
-    told(b"same tilt twice", Station::start().request(2, set));
-    text(b"\n");
+    told(rt, b"same tilt twice", Station::start().request(2, set));
+    text(rt, b"\n");
 }
 
-fn lift_and_belts() {
-    p1();
-    let s = p2();
-    p3();
-    let t = p4(s);
-    p5(t);
-    p6();
+fn lift_and_belts(rt: &HostRuntime) {
+    p1(rt);
+    let s = p2(rt);
+    p3(rt);
+    let t = p4(rt, s);
+    p5(rt, t);
+    p6(rt);
 }
 
-fn shuttles_and_sets() {
-    p7();
-    p8();
-    p9();
-    p10(b"done", 1);
-    p10(b"failed", 0);
-    p11();
-    p12();
+fn shuttles_and_sets(rt: &HostRuntime) {
+    p7(rt);
+    p8(rt);
+    p9(rt);
+    p10(rt, b"done", 1);
+    p10(rt, b"failed", 0);
+    p11(rt);
+    p12(rt);
 }
 
 // Writes all.
-pub fn all() {
-    lift_and_belts();
-    shuttles_and_sets();
-    crate::run_only::all();
+pub fn all(rt: &HostRuntime) {
+    lift_and_belts(rt);
+    shuttles_and_sets(rt);
+    crate::run_only::all(rt);
 }

@@ -12,8 +12,8 @@
 // 128 and 129 is 3, since the kind is looked at before its length.
 use wire::What;
 
-fn text(t: &[u8]) {
-    io::write_all(1, t);
+fn text(rt: &HostRuntime, t: &[u8]) {
+    let _ = rt.write_all(t);
 }
 
 // The number that the station's reader answers, and the library's.
@@ -29,86 +29,95 @@ fn read(m: &[u8]) -> u8 {
     answer.number()
 }
 
-fn two(bits: u64, apart: u64) {
-    text(b" ");
-    io::print_hex(1, bits, 16);
-    text(b" ");
-    io::print_hex(1, apart, 16);
+fn two(rt: &HostRuntime, bits: u64, apart: u64) {
+    text(rt, b" ");
+    let _ = rt.print(format_args!("{:016x}", bits));
+    text(rt, b" ");
+    let _ = rt.print(format_args!("{:016x}", apart));
 }
 
 // The two numbers of an image, as the library reads it.
-fn numbers(m: &[u8]) {
+fn numbers(rt: &HostRuntime, m: &[u8]) {
     let got = wire::read(m);
     let message = got.message;
     let what = message.what;
     match what {
-        What::Image { bits, apart } => two(bits, apart),
-        What::Held { bits, apart } => two(bits, apart),
+        What::Image { bits, apart } => two(rt, bits, apart),
+        What::Held { bits, apart } => two(rt, bits, apart),
         _ => {}
     }
 }
 
 // Some bytes to both readers; of an image, its two numbers too.
-fn odd(name: &[u8], m: &[u8]) {
-    text(name);
-    text(b": ");
-    io::print_decimal(1, asked(m) as u64);
-    text(b" ");
-    io::print_decimal(1, read(m) as u64);
-    numbers(m);
-    text(b"\n");
+fn odd(rt: &HostRuntime, name: &[u8], m: &[u8]) {
+    text(rt, name);
+    text(rt, b": ");
+    let _ = rt.print(asked(m) as u64);
+    text(rt, b" ");
+    let _ = rt.print(read(m) as u64);
+    numbers(rt, m);
+    text(rt, b"\n");
 }
 
-fn cut_short() {
-    odd(b"no bytes", b"");
-    odd(b"one byte", b"\x02");
-    odd(b"FF FF", b"\xFF\xFF");
-    odd(b"03 00 63 00", b"\x03\x00\x63\x00");
-    odd(b"03 00 63 00 00", b"\x03\x00\x63\x00\x00");
+fn cut_short(rt: &HostRuntime) {
+    odd(rt, b"no bytes", b"");
+    odd(rt, b"one byte", b"\x02");
+    odd(rt, b"FF FF", b"\xFF\xFF");
+    odd(rt, b"03 00 63 00", b"\x03\x00\x63\x00");
+    odd(rt, b"03 00 63 00 00", b"\x03\x00\x63\x00\x00");
 }
 
-fn results() {
-    odd(b"04 00 03 00 07 01", b"\x04\x00\x03\x00\x07\x01");
+fn results(rt: &HostRuntime) {
+    odd(rt, b"04 00 03 00 07 01", b"\x04\x00\x03\x00\x07\x01");
     odd(
+        rt,
         b"06 00 03 00 FF FF 07 01",
         b"\x06\x00\x03\x00\xFF\xFF\x07\x01",
     );
     odd(
+        rt,
         b"06 00 03 00 FF FF 07 02",
         b"\x06\x00\x03\x00\xFF\xFF\x07\x02",
     );
     odd(
+        rt,
         b"06 00 03 00 FF FF 07 03",
         b"\x06\x00\x03\x00\xFF\xFF\x07\x03",
     );
 }
 
-fn told_answers() {
-    odd(b"04 00 80 00 00 FF", b"\x04\x00\x80\x00\x00\xFF");
+fn told_answers(rt: &HostRuntime) {
+    odd(rt, b"04 00 80 00 00 FF", b"\x04\x00\x80\x00\x00\xFF");
     odd(
+        rt,
         b"06 00 80 00 00 FF FF FF",
         b"\x06\x00\x80\x00\x00\xFF\xFF\xFF",
     );
 }
 
-fn images() {
+fn images(rt: &HostRuntime) {
     odd(
+        rt,
         b"12 00 04 00 01 .. 10",
         b"\x12\x00\x04\x00\x01\x02\x03\x04\x05\x06\x07\x08\x09\x0A\x0B\x0C\x0D\x0E\x0F\x10",
     );
     odd(
+        rt,
         b"12 00 81 00 01 .. 10",
         b"\x12\x00\x81\x00\x01\x02\x03\x04\x05\x06\x07\x08\x09\x0A\x0B\x0C\x0D\x0E\x0F\x10",
     );
     odd(
+        rt,
         b"12 00 04 00 00 .. 00 FF .. FF",
         b"\x12\x00\x04\x00\x00\x00\x00\x00\x00\x00\x00\x00\xFF\xFF\xFF\xFF\xFF\xFF\xFF\xFF",
     );
     odd(
+        rt,
         b"0A 00 04 00 01 .. 08",
         b"\x0A\x00\x04\x00\x01\x02\x03\x04\x05\x06\x07\x08",
     );
     odd(
+        rt,
         b"0A 00 81 00 01 .. 08",
         b"\x0A\x00\x81\x00\x01\x02\x03\x04\x05\x06\x07\x08",
     );
@@ -123,40 +132,40 @@ fn sized(to_station: bool, kind: u8, length: u8) -> u8 {
 }
 
 // A digit for each length.
-fn lengths(to_station: bool, kind: u8) {
+fn lengths(rt: &HostRuntime, to_station: bool, kind: u8) {
     let mut n: u8 = 2;
     while n <= 43 {
         let number = sized(to_station, kind, n);
-        io::print_decimal(1, number as u64);
+        let _ = rt.print(number as u64);
         n += 1;
     }
 }
 
-fn kind(kind: u8) {
-    text(b"kind ");
-    io::print_decimal(1, kind as u64);
-    text(b"\nstation ");
-    lengths(true, kind);
-    text(b"\nlibrary ");
-    lengths(false, kind);
-    text(b"\n");
+fn kind(rt: &HostRuntime, kind: u8) {
+    text(rt, b"kind ");
+    let _ = rt.print(kind as u64);
+    text(rt, b"\nstation ");
+    lengths(rt, true, kind);
+    text(rt, b"\nlibrary ");
+    lengths(rt, false, kind);
+    text(rt, b"\n");
 }
 
-fn to_station() {
-    kind(1);
-    kind(2);
-    kind(3);
-    kind(4);
-    kind(5);
+fn to_station(rt: &HostRuntime) {
+    kind(rt, 1);
+    kind(rt, 2);
+    kind(rt, 3);
+    kind(rt, 4);
+    kind(rt, 5);
 }
 
 // Writes all.
-pub fn all() {
-    cut_short();
-    results();
-    told_answers();
-    images();
-    to_station();
-    kind(128);
-    kind(129);
+pub fn all(rt: &HostRuntime) {
+    cut_short(rt);
+    results(rt);
+    told_answers(rt);
+    images(rt);
+    to_station(rt);
+    kind(rt, 128);
+    kind(rt, 129);
 }

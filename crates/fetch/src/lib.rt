@@ -1,4 +1,6 @@
 // A test for planners: whether a drive-in now locks nobody in. What it promises is stated in the crate fetch_laws.
+#![tactic(auto)]
+
 ghost use Rattle.std.specs.Prelude.{◌≡◌, leb};
 ghost use Rattle.bits.specs.Bits.{bit, count};
 ghost use Rattle.bits.specs.Places.{places};

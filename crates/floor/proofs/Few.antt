@@ -2,7 +2,7 @@
 -- no more than thirty. With the lift empty at street it has at most 28: of the eleven half cells left of the lift and the seven right of it
 -- an even number is occupied each. Assumes nothing.
 use mathlib.Core.Path.{◌≡◌, refl, ap}
-use mathlib.Core.Bool.{true, false, not, and_false}
+use mathlib.Core.Bool.{true, false, not, and-false}
 use mathlib.Core.List.{[], ◌∷◌, ◌++◌}
 use Prim.Native.Nat.{ℕ, ◌%◌, ◌≤◌}
 use native.Mathlib.Omega.{arith}
@@ -45,8 +45,8 @@ module _ (f : Bits) (r : T (all_hold sound_rules f)) where
     where
       above : holds at_basement f ≡ false
       above = split (f height_high)
-          (λ t. let z : holds (height_is street) f ≡ false = rw t (and_false (holds (free (height_low ∷ [])) f)) in clash s z)
-          (λ t. rw t (and_false (holds (free (height_low ∷ [])) f)))
+          (λ t. let z : holds (height_is street) f ≡ false = rw t (and-false (holds (free (height_low ∷ [])) f)) in clash s z)
+          (λ t. rw t (and-false (holds (free (height_low ∷ [])) f)))
 
   module _ (w : Whole 20 f) where
     -- below a free cell an even number is occupied

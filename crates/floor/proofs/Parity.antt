@@ -1,7 +1,7 @@
 -- Row 1 tested by parities: a number each of whose bits says whether an odd number of the bits up to it is 1, made by doubling a window.
 -- Assumes nothing.
 use mathlib.Core.Path.{◌≡◌, refl, sym, ap, ap₂, ◌∙◌}
-use mathlib.Core.Bool.{Bool, true, false, not, ◌&&◌, and_false}
+use mathlib.Core.Bool.{Bool, true, false, not, ◌&&◌, and-false}
 use Prim.Native.Nat.{ℕ, zero, suc, ◌+◌, ◌-◌, ◌*◌, ◌/◌, ◌%◌, ◌^◌, ◌<◌}
 use native.Mathlib.Omega.{arith}
 use lib.Bits.{bit_and, bit_xor, xor_shr, xor_add_and}
@@ -98,7 +98,7 @@ module _ (r p : ℕ) (v : Window (bit (r % 2 ^ 20)) 32 p) where
     where
       free : (k : ℕ) → k < 21 → eqb (below row k % 2) 1 && not (row k) ≡ false
       free k l = split (eqb (below row k % 2) 1)
-          (λ o. rw (w k (omega arith) (eqb-true _ 1 o)).1 (and_false (eqb (below row k % 2) 1)))
+          (λ o. rw (w k (omega arith) (eqb-true _ 1 o)).1 (and-false (eqb (below row k % 2) 1)))
           (λ o. rw o)
 
   pub row_law : eqb torn 0 ≡ paired 20 0 false (bit r)

@@ -1,4 +1,6 @@
 // The floor in code: the belt under a cell, whether a record is sound, and how many cars it has.
+#![tactic(auto)]
+
 ghost use Rattle.std.specs.Prelude.{◌≡◌, false, [], ◌∷◌};
 ghost use Rattle.bits.specs.Bits.{bit};
 ghost use Rattle.bits.specs.Places.{places};
@@ -17,14 +19,14 @@ use masks::{
 };
 
 // The belt under a cell: its row, and its number in the row from the left.
-#[derive(Drop)]
+#[derive(Clone, Copy)]
 pub enum Belt {
     On(u8, u8),
     NoCell,
 }
 
 // How many cars a record has.
-#[derive(Drop)]
+#[derive(Clone, Copy)]
 pub enum Total {
     Cars(u64),
     Unsound,

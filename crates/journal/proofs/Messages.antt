@@ -1,5 +1,5 @@
 -- A run over whole messages, and then what stands behind them. Every run is such a one. Assumes nothing.
-use Rattle.std.proofs.Common.{◌≡◌, ℕ, zero, suc, ◌+◌, ◌≤◌, ◌⊎◌, List, [], ◌∷◌, ◌++◌, length, take, drop, sym, refl, ap, ◌∙◌, inl, inr, append_assoc, arith, length_append, take-append-drop, drop_at}
+use Rattle.std.proofs.Common.{◌≡◌, ℕ, zero, suc, ◌+◌, ◌≤◌, ◌⊎◌, List, [], ◌∷◌, ◌++◌, length, take, drop, sym, refl, ap, ◌∙◌, inl, inr, append_assoc, arith, length-append, take-append-drop, drop_at}
 use Rattle.bits.specs.Places.{join}
 use Rattle.station.specs.declared.Station.{Station}
 use Rattle.wire.specs.declared.Frame.{Frame}
@@ -29,7 +29,7 @@ run_messages s (m ∷ ms) rest (e, w) =
     ∙ run_message s m (join ms ++ rest) e
     ∙ ap (run_further (length m) (answer_bytes x.answer)) (run_messages x.station ms rest w)
     ∙ further_more (length m) (length (join ms)) (answer_bytes x.answer) (replies_to x.station ms) (run (station_after_messages x.station ms) rest)
-    ∙ rw (length_append m (join ms))
+    ∙ rw (length-append m (join ms))
 
 -- one message more at the front
 before : (f : Frame) (n : ℕ) (bytes : List ℕ) → frame_of bytes ≡ Whole n → Behind f (drop n bytes) → Behind f bytes

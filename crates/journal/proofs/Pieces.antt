@@ -1,5 +1,5 @@
 -- However a journal is cut into pieces, its replay tells the same; and a turn over a buffer is one piece. Assumes nothing.
-use Rattle.std.proofs.Common.{◌≡◌, ℕ, ◌+◌, ◌-◌, ◌%◌, ◌^◌, ◌<◌, ◌≤◌, Bool, true, false, cond, ◌⊎◌, List, [], ◌∷◌, ◌++◌, length, take, drop, sym, refl, ap, ◌∙◌, inl, inr, append_assoc, append-nil, add_assoc, arith, length_append, length-drop, length-take, take_at, drop_at, le-leb}
+use Rattle.std.proofs.Common.{◌≡◌, ℕ, ◌+◌, ◌-◌, ◌%◌, ◌^◌, ◌<◌, ◌≤◌, Bool, true, false, cond, ◌⊎◌, List, [], ◌∷◌, ◌++◌, length, take, drop, sym, refl, ap, ◌∙◌, inl, inr, append_assoc, append-nil, add_assoc, arith, length-append, length-drop, length-take, take_at, drop_at, le-leb}
 use Rattle.bits.specs.Places.{join}
 use Rattle.station.specs.declared.Station.{Station}
 use Rattle.station.specs.Station.{start_of}
@@ -105,7 +105,7 @@ turned_as s held piece past room h =
     let buf = held ++ (piece ++ past) in
     let rest = drop (run s input).used input in
     let t : take (length held + length piece) buf ≡ input =
-    rw (← append_assoc held piece past) (take_at input past (length held + length piece) (length_append held piece)) in
+    rw (← append_assoc held piece past) (take_at input past (length held + length piece) (length-append held piece)) in
     rw (t, le-leb (enough (length input)) (length room) h)
     (record { station = refl; have = refl; stop = refl; rest = take_at rest (drop (length rest) buf) (length rest) refl })
 
@@ -118,7 +118,7 @@ replay_feeds s n held piece past room pieces h small =
     let a = turned_as s held piece past room h in
     let r = run s input in
     let u = used_within s input in
-    let l = length_append held piece in
+    let l = length-append held piece in
     let d = length-drop r.used input in
     let k = a.have in
     let whole : counted (n + (end - t.says.have)) ≡ n + r.used =

@@ -1,5 +1,5 @@
 -- Which bytes are damaged, and that what a run takes is whole messages, so that a journal stays one. Assumes nothing.
-use Rattle.std.proofs.Common.{◌≡◌, ℕ, ◌+◌, ◌≤◌, Bool, true, false, cond, ◌⊎◌, List, [], ◌∷◌, ◌++◌, length, take, sym, refl, ap, ◌∙◌, ap₂, inl, inr, append_assoc, append-nil, add-zero, arith, length_append, length-take-le, take_at}
+use Rattle.std.proofs.Common.{◌≡◌, ℕ, ◌+◌, ◌≤◌, Bool, true, false, cond, ◌⊎◌, List, [], ◌∷◌, ◌++◌, length, take, sym, refl, ap, ◌∙◌, ap₂, inl, inr, append_assoc, append-nil, add-zero, arith, length-append, length-take-le, take_at}
 use Rattle.bits.specs.Places.{join}
 use Rattle.bits.proofs.Cases.{clash}
 use Rattle.answers.specs.declared.Answer.TheVariants.{BadLength}
@@ -8,7 +8,7 @@ use Rattle.station.specs.Station.{start_of}
 use Rattle.wire.specs.declared.Frame.{Frame}
 use Rattle.wire.specs.declared.Frame.TheVariants.{Cut, Wrong}
 use Rattle.wire.specs.Reads.{frame_of}
-use Rattle.service.specs.Service.{answer_message, answer_bytes}
+use Rattle.service.specs.Service.{respond, answer_message, answer_bytes}
 use Rattle.service.specs.Runs.{Ran, run, run_further}
 use Rattle.service.proofs.Running.{turn_wrong}
 use Rattle.journal.specs.Journal.{Messages, station_after_messages, replies_to, Replayed, replay, counted, Follows}
@@ -58,7 +58,7 @@ front s bytes rest ms e u = rw (u, e) (take_at (join ms) rest (length (join ms))
 -- which are no more than there are
 within_by : (s : Station) (bytes rest : List ℕ) (ms : List (List ℕ)) → bytes ≡ join ms ++ rest → (run s bytes).used ≡ length (join ms)
     → (run s bytes).used ≤ length bytes
-within_by s bytes rest ms e u = rw (u, ap length e, length_append (join ms) rest) (omega arith)
+within_by s bytes rest ms e u = rw (u, ap length e, length-append (join ms) rest) (omega arith)
 
 pub used_within : (s : Station) (input : List ℕ) → (run s input).used ≤ length input
 used_within s input = by (parsed input)
@@ -108,7 +108,7 @@ join_both (m ∷ ms) ks = ap (◌++◌ m) (join_both ms ks) ∙ sym (append_asso
 
 pub after_both : (s : Station) (ms ks : List (List ℕ)) → station_after_messages s (ms ++ ks) ≡ station_after_messages (station_after_messages s ms) ks
 after_both s [] ks = refl
-after_both s (m ∷ ms) ks = after_both _ ms ks
+after_both s (m ∷ ms) ks = after_both (respond s m).station ms ks
 
 -- a count goes on past its end as the whole would
 wrapped : (a b : ℕ) → counted (counted a + b) ≡ counted (a + b)
@@ -125,7 +125,7 @@ keeps_up ms input w =
     ap (λ (l : List ℕ). replay (join ms ++ l)) k.bytes_are
     ∙ ap replay (sym (join_both ms ks))
     ∙ replay_messages start_of (ms ++ ks) (both_messages ms ks w k.each)
-    ∙ rw (after_both start_of ms ks, join_both ms ks, length_append (join ms) (join ks), ← ap (λ (r : Replayed). r.station) told, ← k.station, used)
+    ∙ rw (after_both start_of ms ks, join_both ms ks, length-append (join ms) (join ks), ← ap (λ (r : Replayed). r.station) told, ← k.station, used)
 
 pub stays_journaled : StaysJournaled
 stays_journaled s next n bytes j f =
@@ -141,5 +141,5 @@ stays_journaled s next n bytes j f =
             bytes_are = ap₂ ◌++◌ g.bytes_are f.bytes_are ∙ sym (join_both ms ks);
             station = f.station ∙ ap (λ (x : Station). station_after_messages x ks) g.station ∙ sym (after_both start_of ms ks);
           };
-      long = rw (j.long, length_append j.bytes bytes) (wrapped (length j.bytes) (length bytes));
+      long = rw (j.long, length-append j.bytes bytes) (wrapped (length j.bytes) (length bytes));
     }

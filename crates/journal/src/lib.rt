@@ -1,5 +1,7 @@
 // A journal is the recorded messages themselves: every whole message that a station was sent, one behind the other. Its replay gives the
 // station that they make. Nothing here reads or writes. What a journal is, and what its replay gives, stands in specs/.
+#![tactic(auto)]
+
 ghost use Rattle.std.specs.Prelude.{◌≡◌};
 ghost use Rattle.journal.specs.Pieces.{replay_begun, Replays, replaying};
 
@@ -7,7 +9,7 @@ use station::Station;
 
 // How far a journal is replayed: the station after its whole messages, how many bytes these are, how many bytes behind them are held at the
 // front of the buffer, and whether the journal is damaged: what stands there is a length out of range.
-#[derive(Drop)]
+#[derive(Clone, Copy)]
 pub struct Replay {
     pub station: Station,
     pub whole: usize,

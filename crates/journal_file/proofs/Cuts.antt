@@ -7,7 +7,7 @@ use Prim.Native.Nat.{ℕ, zero, suc, ◌+◌, ◌-◌, ◌%◌, ◌^◌, ◌≤�
 use native.Mathlib.Omega.{arith}
 use borrow.Author.Tests.{le-leb, le-ltb, lt-ltb, ltb-true, ltb-false, eq-eqb, eqb-true, eqb-false}
 use lib.Dec.{eqb, leb, ltb}
-use lib.ListN.{length, get_or, take, drop, replicate, length_append, length-replicate}
+use lib.ListN.{length, get_or, take, drop, replicate, length-append, length-replicate}
 use lib.Seq.{take-take, get_or-take, take-append-le, length-take-le}
 use Rattle.bits.proofs.Cases.{split, off, both}
 use Rattle.codec.specs.Fours.{four_at}
@@ -113,7 +113,7 @@ module _ (sum kind at n : ℕ) (bytes : List ℕ) (small : sum < 2 ^ 32) (fits :
 
   as_long : length z ≡ length bytes + 13
   as_long =
-      let l = length_append (take n whole_append) (replicate (length whole_append - n) 0) in
+      let l = length-append (take n whole_append) (replicate (length whole_append - n) 0) in
       let k = length-replicate {A = ℕ} (length whole_append - n) 0 in
       omega (arith, l, k, front_long, size, inside)
 

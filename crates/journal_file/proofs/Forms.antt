@@ -6,7 +6,7 @@ use Prim.Native.Nat.{ℕ, suc, ◌+◌, ◌^◌, ◌≤◌, ◌<◌}
 use native.Mathlib.Omega.{arith}
 use borrow.Author.Tests.{le-leb, le-ltb, eq-eqb, ltb-true, ltb-false}
 use lib.Dec.{eqb, leb, ltb}
-use lib.ListN.{length, get_or, take, drop, length_append, length-take, get_or-eq_default}
+use lib.ListN.{length, get_or, take, drop, length-append, length-take, get_or-eq_default}
 use lib.Seq.{take_at, get_or_at, get_or-take, get_or-drop}
 use Rattle.bits.proofs.Cases.{split}
 use Rattle.codec.specs.Bytes.{little_endian, from_little_endian, Bytes}
@@ -28,7 +28,7 @@ behind n (b ∷ before) s = read_tail n (length before) b (before ++ s) ∙ behi
 pub four_behind : (before : List ℕ) (x : ℕ) (past : List ℕ) (k : ℕ) → x < 2 ^ 32 → length before ≡ k → four_at k (before ++ (little_endian 4 x ++ past)) ≡ x
 unfolding four_at
 four_behind before x past k h e =
-    let l = length_append before (little_endian 4 x ++ past) in
+    let l = length-append before (little_endian 4 x ++ past) in
     rw (← e, le-leb (length before + 4) (length (before ++ (little_endian 4 x ++ past))) (omega (arith, l)))
     (behind 4 before (little_endian 4 x ++ past) ∙ number_back 4 x past (omega arith))
 
@@ -67,7 +67,7 @@ module _ (sum kind : ℕ) (bytes past : List ℕ) (small : sum < 2 ^ 32) (fits :
       ∙ ap (◌++◌ (opening_of crc_over sum kind n)) (append_assoc bytes (closing_of second) past)
 
   long : length m ≡ n + 13 + length past
-  long = let l = length_append bytes (little_endian 4 second ++ (end_mark ∷ past)) in omega arith
+  long = let l = length-append bytes (little_endian 4 second ++ (end_mark ∷ past)) in omega arith
 
   carries : carried_of m ≡ n
   carries = read_tail 3 0 kind (little_endian 3 n ++ (little_endian 4 first ++ rest)) ∙ number_back 3 n (little_endian 4 first ++ rest) (omega arith)
@@ -87,12 +87,12 @@ module _ (sum kind : ℕ) (bytes past : List ℕ) (small : sum < 2 ^ 32) (fits :
       let e : carried_of m + 8 ≡ 8 + n = omega (arith, carries) in
       ap (λ (k : ℕ). four_at k m) e
       ∙ ap (four_at (8 + n)) (sym (append_assoc (opening_of crc_over sum kind n) bytes (little_endian 4 second ++ (end_mark ∷ past))))
-      ∙ four_behind front second (end_mark ∷ past) (8 + n) second_small (length_append (opening_of crc_over sum kind n) bytes)
+      ∙ four_behind front second (end_mark ∷ past) (8 + n) second_small (length-append (opening_of crc_over sum kind n) bytes)
 
   ended : get_or m (carried_of m + 12) 0 ≡ end_mark
   ended =
       let e : carried_of m + 12 ≡ length (front ++ little_endian 4 second) =
-      omega (arith, carries, length_append front (little_endian 4 second), length_append (opening_of crc_over sum kind n) bytes) in
+      omega (arith, carries, length-append front (little_endian 4 second), length-append (opening_of crc_over sum kind n) bytes) in
       ap (λ (k : ℕ). get_or m k 0) e
       ∙ ap (λ (l : List ℕ). get_or l (length (front ++ little_endian 4 second)) 0)
       (sym (append_assoc (opening_of crc_over sum kind n) bytes (little_endian 4 second ++ (end_mark ∷ past))) ∙ sym (append_assoc front (little_endian 4 second) (end_mark ∷ past)))

@@ -6,7 +6,7 @@ use Prim.Native.Nat.{ℕ, ◌+◌, ◌^◌, ◌≤◌, ◌<◌}
 use native.Mathlib.Omega.{arith}
 use borrow.Author.Tests.{le-ltb, eq-eqb}
 use lib.Dec.{eqb, ltb}
-use lib.ListN.{length, get_or, take, drop, length_append}
+use lib.ListN.{length, get_or, take, drop, length-append}
 use lib.Seq.{take_at, drop_at}
 use Rattle.bits.specs.Search.{every}
 use Rattle.codec.specs.Bytes.{little_endian}
@@ -51,12 +51,12 @@ module _ (name : List ℕ) (s : Station) (past : List ℕ) (named : length name 
   sixty = station_fits s typed
 
   over_long : length over_it ≡ 124
-  over_long = let l = length_append name bytes in let k = sixty in let j = named in omega arith
+  over_long = let l = length-append name bytes in let k = sixty in let j = named in omega arith
 
   long : 128 ≤ length m
   long =
-      let l = length_append name (bytes ++ (little_endian 4 sum ++ past)) in
-      let k = length_append bytes (little_endian 4 sum ++ past) in
+      let l = length-append name (bytes ++ (little_endian 4 sum ++ past)) in
+      let k = length-append bytes (little_endian 4 sum ++ past) in
       omega (arith, l, k, sixty, named)
 
   worded : is_text magic (take 20 m) ≡ true

@@ -5,7 +5,7 @@ use mathlib.Core.List.{List, [], ◌∷◌, ◌++◌}
 use Prim.Native.Nat.{ℕ, ◌+◌, ◌-◌, ◌*◌, ◌^◌, ◌≤◌, ◌<◌}
 use native.Mathlib.Omega.{arith}
 use lib.Dec.{eqb, leb, ltb}
-use lib.ListN.{length, get_or, take, drop, length_append, length-drop, get_or-append}
+use lib.ListN.{length, get_or, take, drop, length-append, length-drop, get_or-append}
 use lib.Seq.{take_at, drop_at, take-append-le, drop-append-le}
 use Rattle.bits.specs.Places.{join}
 use Rattle.bits.proofs.Cases.{split}
@@ -96,7 +96,7 @@ next_small {r} {a} t h =
 
 pub four_more : (p : ℕ) (a rest : List ℕ) → p + 4 ≤ length a → four_at p (a ++ rest) ≡ four_at p a
 four_more p a rest h =
-    four_at_lem (a ++ rest) p (omega (arith, length_append a rest)) ∙ ap (from_little_endian 4 0) (drop-append-le p a rest (omega arith))
+    four_at_lem (a ++ rest) p (omega (arith, length-append a rest)) ∙ ap (from_little_endian 4 0) (drop-append-le p a rest (omega arith))
     ∙ read (drop p a) (omega (arith, length-drop p a)) ∙ sym (four_at_lem a p h)
   where
     read : (x : List ℕ) → 4 ≤ length x → from_little_endian 4 0 (x ++ rest) ≡ from_little_endian 4 0 x
@@ -111,7 +111,7 @@ whole_more {sum} {a} rest w =
     let n = carried_of a in
     let inside = w.within in
     let same = carried_more a rest (omega arith) in
-    let long : carried_of (a ++ rest) + 13 ≤ length (a ++ rest) = omega (arith, length_append a rest) in
+    let long : carried_of (a ++ rest) + 13 ≤ length (a ++ rest) = omega (arith, length-append a rest) in
     let payload : payload_of (a ++ rest) ≡ payload_of a =
     ap₂ take same (drop-append-le 8 a rest (omega arith)) ∙ take-append-le n (drop 8 a) rest (omega (arith, length-drop 8 a)) in
     let title : titled crc_over sum (a ++ rest) ≡ true =
@@ -148,8 +148,8 @@ first_same sum k a b more others l u w v p q =
 
 same_appends : (ls ks : List (List ℕ)) (k : ℕ) (r q p : Replay) → r.sum < 2 ^ 32 → Leads r ls q → Leads r ks p → Burst k (join ls) (join ks) → join ls ≡ join ks
 same_appends [] [] k r q p l x y u = refl
-same_appends [] (b ∷ ks) k r q p l x y u = absurd (omega (arith, u.long, length_append b (join ks), y.0))
-same_appends (a ∷ ls) [] k r q p l x y u = absurd (omega (arith, u.long, length_append a (join ls), x.0))
+same_appends [] (b ∷ ks) k r q p l x y u = absurd (omega (arith, u.long, length-append b (join ks), y.0))
+same_appends (a ∷ ls) [] k r q p l x y u = absurd (omega (arith, u.long, length-append a (join ls), x.0))
 same_appends (a ∷ ls) (b ∷ ks) k r q p l x y u =
     let ta = took r a x.0 x.1 in
     let tb = took r b y.0 y.1 in
@@ -180,7 +180,7 @@ module _ (file : List ℕ) (j : IsJournal file) where
       ∙ ap (crc_over 0) (sym (ap (take 124) j.bytes_are ∙ take-append-le 124 j.head (join j.appends) (omega arith)))
 
   file_long : 128 ≤ length file
-  file_long = let h = j.headed.0 in omega (arith, ap length j.bytes_are, length_append j.head (join j.appends))
+  file_long = let h = j.headed.0 in omega (arith, ap length j.bytes_are, length-append j.head (join j.appends))
 
   begins_small : (file_replay_begun crc_over j.head).sum < 2 ^ 32
   begins_small = rw (head_sum_is j.head j.headed.0, head_right) (crc_lt 0 (take 124 j.head) (omega arith))

@@ -1,5 +1,7 @@
 // A journal's file as bytes: its head, and its appends, each with a checksum that goes on from the one before. Nothing here reads or writes
 // a file. What each byte says, and which bytes are a journal, stands in specs/.
+#![tactic(auto)]
+
 ghost use Rattle.std.specs.Prelude.{◌≡◌, not, [], ◌∷◌, ◌+◌, ◌≤◌, eqb, length, take, drop};
 ghost use Rattle.codec.specs.Bytes.{from_little_endian};
 ghost use Rattle.rooms.specs.Rooms.{lent_station};
@@ -26,7 +28,7 @@ const END: u8 = 10;
 
 // What stands at the front of some bytes: whether it is a whole append, or the bytes end inside of one; its kind, how many bytes it carries,
 // and its checksum.
-#[derive(Drop)]
+#[derive(Clone, Copy)]
 pub struct Front {
     pub whole: bool,
     pub short: bool,
@@ -197,7 +199,7 @@ pub fn is_zeroed(t: &[u32], sum: u32, at: usize, m: &[u8]) -> bool
 // ---- the head
 
 // What the bytes are that a file begins with: no journal, one of another format, damaged, one whose station is not fit, or a good one.
-#[derive(Drop)]
+#[derive(Clone, Copy)]
 pub enum Kind {
     NoJournal,
     OtherFormat,
@@ -207,7 +209,7 @@ pub enum Kind {
 }
 
 // A head: what it is, the station to begin with, and the checksum that the first append goes on from.
-#[derive(Drop)]
+#[derive(Clone, Copy)]
 pub struct Head {
     pub kind: Kind,
     pub station: Station,
@@ -327,7 +329,7 @@ pub fn head_of(t: &[u32], m: &[u8]) -> Head
 // ---- a replay
 
 // The station after the appends so far, the checksum of the last one, and whether it says that the journal is closed.
-#[derive(Drop)]
+#[derive(Clone, Copy)]
 pub struct Replay {
     pub station: Station,
     pub sum: u32,
@@ -335,7 +337,7 @@ pub struct Replay {
 }
 
 // What became of an append: the replay then, and how many bytes it took; where none was taken, whether the bytes end inside of one.
-#[derive(Drop)]
+#[derive(Clone, Copy)]
 pub struct Step {
     pub replay: Replay,
     pub took: usize,

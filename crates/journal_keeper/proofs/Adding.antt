@@ -1,6 +1,6 @@
 -- A journal with one append more is a journal again, where the append was made by the right tables: the messages of a read, the mark of a
 -- session's end, or numbers of cards and messages behind them. Assumes nothing.
-use Rattle.std.proofs.Common.{◌≡◌, ℕ, zero, suc, ◌+◌, ◌^◌, ◌<◌, ◌≤◌, Bool, true, false, ◌&&◌, ltb, ◌⊎◌, List, [], ◌∷◌, ◌++◌, length, get_or, take, drop, sym, refl, ap, ◌∙◌, subst, ap₂, inl, inr, arith, length_append, ltb-false}
+use Rattle.std.proofs.Common.{◌≡◌, ℕ, zero, suc, ◌+◌, ◌^◌, ◌<◌, ◌≤◌, Bool, true, false, ◌&&◌, ltb, ◌⊎◌, List, [], ◌∷◌, ◌++◌, length, get_or, take, drop, sym, refl, ap, ◌∙◌, subst, ap₂, inl, inr, arith, length-append, ltb-false}
 use Rattle.bits.specs.Places.{join}
 use Rattle.codec.specs.Bytes.{Bytes}
 use Rattle.station.specs.declared.Station.{Station}
@@ -43,10 +43,10 @@ long_more : (head : List ℕ) (appends : List (List ℕ)) (a : List ℕ) (n m : 
     → counted (n + counted (m + 13)) ≡ counted (length (head ++ join (appends ++ (a ∷ []))))
 long_more head appends a n m e l =
     let x = ap (λ (z : List ℕ). length (head ++ z)) (join_both appends (a ∷ [])) in
-    let p = length_append head (join appends) in
-    let q = length_append head (join appends ++ (a ++ [])) in
-    let r = length_append (join appends) (a ++ []) in
-    let s = length_append a [] in
+    let p = length-append head (join appends) in
+    let q = length-append head (join appends ++ (a ++ [])) in
+    let r = length-append (join appends) (a ++ []) in
+    let s = length-append a [] in
     wrapped n (length (head ++ join appends)) (length (head ++ join (appends ++ (a ∷ [])))) (length head) (length (join appends)) (length (a ++ [])) m e
     (x ∙ q ∙ ap (◌+◌ (length head)) r) p (omega (arith, s, l))
   where

@@ -39,7 +39,7 @@ Noted ended j = ended ≡ true → j.kept ≡ true → j.ended ≡ true
 -- a journal with another station, where nothing is appended for it
 abbrev pub moved_to : Journal → Station → Journal
 moved_to j next =
-    record { station = next; sum = j.sum; length = j.length; kept = j.kept; fd = j.fd; called = j.called; ended = j.ended; safe = j.safe }
+    record { station = next; sum = j.sum; length = j.length; kept = j.kept; called = j.called; ended = j.ended; safe = j.safe }
 
 -- ---- what is promised of a call
 

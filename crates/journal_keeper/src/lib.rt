@@ -1,25 +1,31 @@
 // The journal that a session keeps: the whole messages of each read are appended to it, and waited for until they are on the disk, before
 // any of them is answered; so are the numbers of a desk's cards, and what ends a session. What a journal is stands in the crate
 // journal_file; no contract can say what a file holds.
+#![tactic(auto)]
+
 ghost use Rattle.std.specs.Prelude.{◌≡◌, ◌≤◌, true, false};
 ghost use Rattle.station.specs.Station.{start_of};
-ghost use Rattle.libc.specs.Io.{Ended};
 ghost use Rattle.journal_keeper.specs.Keeping.{moved_to, AppendAdded, MessagesKept, CardsKept, EndNoted};
 
+mod cutting;
 pub mod opening;
 
 use station::Station;
+use std::fs::{File, read_link};
+use std::io::{Error, Result};
+use std::os::fd::AsRawFd;
+use std::path::PathBuf;
 
-// The station, and the journal that makes it: whether one is kept, its descriptor, under which name the system has the file, how many bytes
-// it has, the checksum of its last append, whether that is the mark of a session's end, and whether its bytes are safe, which is to say all
-// on the disk and nothing else with them. Where none is kept nothing is asked of a disk.
-#[derive(Drop)]
+// The station, and the journal that makes it: whether one is kept, under which name the system has the file, how many bytes it has, the
+// checksum of its last append, whether that is the mark of a session's end, and whether its bytes are safe, which is to say all on the disk
+// and nothing else with them. Where none is kept nothing is asked of a disk. The file itself, which is open where one is kept, is handed over
+// beside it: what a file holds no contract can say, and all that is here is a value.
+#[derive(Clone, Copy)]
 pub struct Journal {
     pub station: Station,
     pub sum: u32,
     pub length: usize,
     pub kept: bool,
-    pub fd: i32,
     pub called: u32,
     pub ended: bool,
     pub safe: bool,
@@ -34,7 +40,6 @@ fn without(station: Station) -> Journal
         sum: 0,
         length: 0,
         kept: false,
-        fd: 0,
         called: 0,
         ended: false,
         safe: true,
@@ -64,77 +69,35 @@ pub fn lost() -> Journal
     given_up(unkept())
 }
 
-// The digits of a number below 10,000, and zeros behind them.
-fn digits_of(n: usize) -> [u8; 4] {
-    if n < 10 {
-        return [(48 + n) as u8, 0, 0, 0];
-    }
-    if n < 100 {
-        return [(48 + n / 10) as u8, (48 + n % 10) as u8, 0, 0];
-    }
-    if n < 1000 {
-        return [
-            (48 + n / 100) as u8,
-            (48 + n / 10 % 10) as u8,
-            (48 + n % 10) as u8,
-            0,
-        ];
-    }
-    [
-        (48 + n / 1000 % 10) as u8,
-        (48 + n / 100 % 10) as u8,
-        (48 + n / 10 % 10) as u8,
-        (48 + n % 10) as u8,
-    ]
+// The system's error number for a file that is not open.
+const NOT_OPEN: i32 = 9;
+
+// Why nothing can be done with a file that is not open.
+pub(crate) fn not_open() -> Error {
+    Error::from_raw_os_error(NOT_OPEN)
 }
 
-// A descriptor as a number of more bits.
-fn widened(fd: i32) -> isize {
-    fd as isize
+// What the system calls a file.
+fn name_of(rt: &HostRuntime, file: &File) -> Result<PathBuf> {
+    let fd = file.as_raw_fd();
+    let link = format!(in rt.alloc(); "/proc/self/fd/{fd}")?;
+    read_link(rt, link)
 }
 
-// The path by which the system tells what a descriptor's file is called.
-fn link_of(fd: i32) -> [u8; 4096]
-    ensures { Ended result }
-{
-    let mut path = [0u8; 4096];
-    let d = digits_of(io::count(widened(fd), &path));
-    path[0] = b'/';
-    path[1] = b'p';
-    path[2] = b'r';
-    path[3] = b'o';
-    path[4] = b'c';
-    path[5] = b'/';
-    path[6] = b's';
-    path[7] = b'e';
-    path[8] = b'l';
-    path[9] = b'f';
-    path[10] = b'/';
-    path[11] = b'f';
-    path[12] = b'd';
-    path[13] = b'/';
-    path[14] = d[0];
-    path[15] = d[1];
-    path[16] = d[2];
-    path[17] = d[3];
-    path[4095] = 0;
-    path
-}
-
-// What the system calls a descriptor's file, as a checksum: another one once the file was renamed, replaced or removed.
-fn called_now(fd: i32) -> u32 {
-    let path = link_of(fd);
-    let mut text = io::buffer();
-    let got = libc::readlink(&path, &mut text);
-    let n = io::count(got, &text);
-    checksum::continue_over(0, &text[..n])
+// What the system calls a file, as a checksum: another one once the file was renamed, replaced or removed. A name that can't be read counts
+// as an empty one.
+fn called_now(rt: &HostRuntime, file: &File) -> u32 {
+    match name_of(rt, file) {
+        Ok(path) => checksum::continue_over(0, path.as_str().as_bytes()),
+        Err(_) => checksum::continue_over(0, b""),
+    }
 }
 
 // Whether the file still has the name that it was opened under; where it hasn't, that is told.
-fn still_called(fd: i32, called: u32) -> bool {
-    if called_now(fd) != called {
-        io::write_all(
-            libc::STDERR_FILENO,
+fn still_called(rt: &HostRuntime, file: &File, called: u32) -> bool {
+    if called_now(rt, file) != called {
+        streams::tell(
+            rt,
             b"station: the journal was renamed, replaced or removed\n",
         );
         return false;
@@ -145,20 +108,22 @@ fn still_called(fd: i32, called: u32) -> bool {
 // Whether what was written is at the end of a file that is so long now, alone, on the disk and under its name; where it isn't, that is
 // told. Name and length are looked at after the write: of two stations that append at once, neither answers, or only the one whose bytes
 // come first.
-fn is_there(fd: i32, called: u32, after: usize) -> bool {
-    if libc::fdatasync(fd) != 0 {
-        os::fail(b"station: the journal can't be synced");
+fn is_there(rt: &HostRuntime, file: &File, called: u32, after: usize) -> bool {
+    if let Err(e) = file.sync_data() {
+        streams::fail(rt, b"station: the journal can't be synced", e);
         return false;
     }
-    if !still_called(fd, called) {
+    if !still_called(rt, file, called) {
         return false;
     }
-    journal_files::has_length(fd, after)
+    journal_files::has_length(rt, file, after)
 }
 
-// Puts an append of this kind behind the journal, whose last one has the checksum `was`; it has this station then.
-fn add(
+// Puts an append of this kind behind the journal in a file, whose last one has the checksum `was`; it has this station then.
+fn add_to(
+    rt: &HostRuntime,
     t: &[u32],
+    file: &File,
     j: Journal,
     was: u32,
     kind: u8,
@@ -172,14 +137,14 @@ fn add(
         j.length,
         std::num::wrapping_add_usize(bytes.len(), 13),
     );
-    if !journal_files::has_length(j.fd, j.length) {
+    if !journal_files::has_length(rt, file, j.length) {
         return lost();
     }
-    let a = journal_files::write_append(t, j.fd, was, kind, bytes);
+    let a = journal_files::write_append(rt, t, file, was, kind, bytes);
     if !a.well {
         return lost();
     }
-    if !is_there(j.fd, j.called, length) {
+    if !is_there(rt, file, j.called, length) {
         return lost();
     }
     Journal {
@@ -187,10 +152,36 @@ fn add(
         sum: a.sum,
         length,
         kept: true,
-        fd: j.fd,
         called: j.called,
         ended,
         safe: true,
+    }
+}
+
+// The same where the file is open; where it isn't, that is told.
+fn add(
+    rt: &HostRuntime,
+    t: &[u32],
+    file: &Option<File>,
+    j: Journal,
+    was: u32,
+    kind: u8,
+    bytes: &[u8],
+    next: Station,
+    ended: bool,
+) -> Journal
+    ensures { AppendAdded t.now j was kind bytes.now next ended result }
+{
+    match file {
+        Some(open) => add_to(rt, t, open, j, was, kind, bytes, next, ended),
+        None => {
+            streams::fail(
+                rt,
+                b"station: the journal's length can't be told",
+                not_open(),
+            );
+            lost()
+        }
     }
 }
 
@@ -204,21 +195,35 @@ fn moved(j: Journal, next: Station) -> Journal
 }
 
 // Appends the messages that take the journal's station to the next.
-pub fn append(t: &[u32], j: Journal, next: Station, bytes: &[u8]) -> Journal
+pub fn append(
+    rt: &HostRuntime,
+    t: &[u32],
+    file: &Option<File>,
+    j: Journal,
+    next: Station,
+    bytes: &[u8],
+) -> Journal
     ensures { MessagesKept t.now j next bytes.now result }
 {
     if j.kept & (0 < bytes.len()) {
-        return add(t, j, j.sum, 1, bytes, next, false);
+        return add(rt, t, file, j, j.sum, 1, bytes, next, false);
     }
     moved(j, next)
 }
 
 // Appends numbers of cards, 168 bytes, and behind them the messages that take the journal's station to the next, or none.
-pub fn append_cards(t: &[u32], j: Journal, next: Station, bytes: &[u8]) -> Journal
+pub fn append_cards(
+    rt: &HostRuntime,
+    t: &[u32],
+    file: &Option<File>,
+    j: Journal,
+    next: Station,
+    bytes: &[u8],
+) -> Journal
     ensures { CardsKept t.now j next bytes.now result }
 {
     if j.kept {
-        return add(t, j, j.sum, 5, bytes, next, false);
+        return add(rt, t, file, j, j.sum, 5, bytes, next, false);
     }
     moved(j, next)
 }
@@ -231,7 +236,14 @@ fn carried(n: usize) -> usize
 }
 
 // Notes what ended the session, with what was left of the input.
-pub fn note(t: &[u32], j: Journal, kind: u8, left: &[u8]) -> Journal
+pub fn note(
+    rt: &HostRuntime,
+    t: &[u32],
+    file: &Option<File>,
+    j: Journal,
+    kind: u8,
+    left: &[u8],
+) -> Journal
     ensures { EndNoted t.now j kind result }
 {
     let station = j.station;
@@ -240,7 +252,7 @@ pub fn note(t: &[u32], j: Journal, kind: u8, left: &[u8]) -> Journal
     }
     if j.kept {
         let n = carried(left.len());
-        return add(t, j, j.sum, kind, &left[..n], station, true);
+        return add(rt, t, file, j, j.sum, kind, &left[..n], station, true);
     }
     j
 }

@@ -1,8 +1,8 @@
 -- A journal that another follows: the new one goes on where the old one ends, and the old one ends there. Assumes nothing.
 use mathlib.Core.Path.{◌≡◌, refl, sym, ap, subst, ◌∙◌}
 use mathlib.Core.Bool.{Bool, true, false, cond, not}
-use mathlib.Core.List.{List, [], ◌∷◌, ◌++◌, append-nil}
-use Prim.Native.Nat.{ℕ, ◌+◌, ◌^◌, ◌≤◌, ◌<◌}
+use mathlib.Core.List.{List, [], ◌∷◌, append-nil}
+use Prim.Native.Nat.{ℕ, ◌^◌, ◌≤◌, ◌<◌}
 use native.Mathlib.Omega.{arith}
 use lib.ListN.{length, replicate}
 use Rattle.bits.specs.Bits.{bit, packed}
@@ -24,7 +24,7 @@ use Rattle.service.specs.Runs.{run}
 use Rattle.service.proofs.Called.{respond_fit}
 use Rattle.rooms.specs.Rooms.{station_bytes}
 use Rattle.rooms.specs.Promises.{StationTyped}
-use Rattle.journal.specs.Journal.{Messages, station_after_messages, Follows}
+use Rattle.journal.specs.Journal.{station_after_messages, Follows}
 use Rattle.journal.specs.Statements.{two_messages}
 use Rattle.checksum.specs.Checksum.{crc_over}
 use Rattle.checksum.proofs.Promises.{in_range}
@@ -33,13 +33,13 @@ use Rattle.journal_file.specs.declared.Front.{Front}
 use Rattle.journal_file.specs.declared.Head.{Head}
 use Rattle.journal_file.specs.declared.Replay.{Replay}
 use Rattle.journal_file.specs.declared.Step.{Step}
-use Rattle.journal_file.specs.Appends.{Over, closed_kind, carries_messages, carried_messages, sum_after, append_of, front_of}
+use Rattle.journal_file.specs.Appends.{closed_kind, carries_messages, carried_messages, sum_after, append_of, front_of}
 use Rattle.journal_file.specs.Heads.{title_bytes, head_sum, head_of}
 use Rattle.journal_file.specs.Replaying.{not_taken, append_taken, messages_taken, mark_taken, step_by, step_of, file_replay_begun, Leads}
 use Rattle.journal_file.specs.Statements.{recorded_in}
-use Rattle.journal_laws.specs.Following.{head_for, Unbroken, TakesOver, StartFit, FollowGoesOn, AsOneFile, closing_mark, MarkCloses, ClosedTakesNothing, ClosedIsLast, example_name, example_begun, example_append, example_end, Followed}
+use Rattle.journal_laws.specs.Following.{head_for, Unbroken, TakesOver, StartFit, FollowGoesOn, AsOneFile, closing_mark, MarkCloses, ClosedTakesNothing, ClosedIsLast, example_name, example_end, Followed}
 use Rattle.journal_file.proofs.Taking.{last_of}
-use Rattle.journal_file.proofs.Forms.{append_reads_back, payload_back}
+use Rattle.journal_file.proofs.Forms.{append_reads_back}
 use Rattle.journal_file.proofs.HeadForms.{head_reads_back}
 use Rattle.journal_file.proofs.Files.{both_follow, run_of_lem, replay_follows, follows_goes_on, file_keeps_up}
 

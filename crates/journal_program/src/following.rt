@@ -13,11 +13,13 @@ ghost use Rattle.journal_program.specs.Telling.{EndsIfWell, Ends};
 use crate::{older, reading};
 use journal_reader::Reading;
 use station::Station;
+use std::fs::File;
+use std::os::unix::fs::FileExt;
 use streams::Input;
 
 // Where a journal ends: the garage's name, its station, the checksum of its last append, how many bytes it has, whether it is closed,
 // whether version 1.0 wrote it, and whether it can be followed; why not was told.
-#[derive(Drop)]
+#[derive(Clone, Copy)]
 pub struct End {
     pub garage: [u8; 40],
     pub station: Station,
@@ -48,16 +50,17 @@ pub fn unended() -> End
 // ---- the old one
 
 // Where a journal ends that was read to its last append, behind which nothing may stand.
-fn end_at(t: &[u32], q: Reading, garage: [u8; 40], buf: &[u8]) -> End
+fn end_at(rt: &HostRuntime, t: &[u32], q: Reading, garage: [u8; 40], buf: &[u8]) -> End
     requires { FileJournaled q.replay q.place }
     ensures { EndsIfWell result }
 {
     let rest = reading::rest(t, q, buf);
-    if !reading::is_sound(q, rest) {
+    if !reading::is_sound(rt, q, rest) {
         return unended();
     }
     if 0 < reading::left_in(q) {
         journal_files::tell(
+            rt,
             b"station: behind the journal's last append are bytes that were never answered: start the station on it once\n",
         );
         return unended();
@@ -76,11 +79,12 @@ fn end_at(t: &[u32], q: Reading, garage: [u8; 40], buf: &[u8]) -> End
 }
 
 // Whether a file begins as a journal does.
-fn is_journal(fd: i32) -> bool {
+fn is_journal(file: &File) -> bool {
     let mut words = [0u8; 20];
-    let got = libc::pread(fd, &mut words, 0);
-    let n = io::count(got, &words);
-    commands::is_text(&words[..n], b"Vargsnida, journal.\n")
+    match file.read_at(&mut words, 0) {
+        Ok(n) => commands::is_text(&words[..n], b"Vargsnida, journal.\n"),
+        Err(_) => false,
+    }
 }
 
 // The 40 bytes of a garage's name that stand at this place.
@@ -88,38 +92,45 @@ fn name_at(bytes: &[u8], from: usize) -> [u8; 40] {
     let mut name = [0u8; 40];
     if from <= bytes.len() {
         if 40 <= bytes.len() - from {
-            bytes::copy(&bytes[from..from + 40], &mut name);
+            codec::copy(&bytes[from..from + 40], &mut name);
         }
     }
     name
 }
 
-// Where the journal behind a descriptor ends; where a garage is asked for, it must be its, and a journal of version 1.0 is.
-fn ended(t: &[u32], fd: i32, asked: &[u8], buf: &mut [u8], room: &mut [u8]) -> End
+// Where the journal in a file ends; where a garage is asked for, it must be its, and a journal of version 1.0 is.
+fn ended(
+    rt: &HostRuntime,
+    t: &[u32],
+    file: &File,
+    asked: &[u8],
+    buf: &mut [u8],
+    room: &mut [u8],
+) -> End
     requires { BuffersLent t.now room.old }
     ensures { EndsIfWell result }
 {
     if 0 < asked.len() {
-        if !is_journal(fd) {
-            return older::ended(fd, name_at(asked, 0), buf, room);
+        if !is_journal(file) {
+            return older::ended(rt, file, name_at(asked, 0), buf, room);
         }
     }
-    let start = reading::begun(t, fd, asked, buf);
+    let start = reading::begun(rt, t, file, asked, buf);
     if !start.well {
         return unended();
     }
     let garage = name_at(buf, 24);
-    let q = reading::read_on(t, fd, asked, start, false, buf, room);
+    let q = reading::read_on(rt, t, file, asked, start, false, buf, room);
     if !q.well {
         return unended();
     }
-    end_at(t, q, garage, buf)
+    end_at(rt, t, q, garage, buf)
 }
 
 // ---- the closed copy
 
 // How much is left to copy, and whether all went well so far.
-#[derive(Drop)]
+#[derive(Clone, Copy)]
 struct Left {
     left: usize,
     well: bool,
@@ -132,12 +143,26 @@ fn least(a: usize, b: usize) -> usize
 }
 
 // Copies one piece of what is left.
-fn copy_piece(from: i32, to: i32, left: usize, buf: &mut [u8]) -> Left {
-    let input = streams::fill(from, buf, 0, b"station: the journal can't be read");
+fn copy_piece(rt: &HostRuntime, from: &File, to: &File, left: usize, buf: &mut [u8]) -> Left {
+    let mut reader: &File = from;
+    let mut writer: &File = to;
+    let input = streams::fill(
+        rt,
+        &mut reader,
+        buf,
+        0,
+        b"station: the journal can't be read",
+    );
     match input {
         Input::Bytes(end) => {
             let n = least(left, end);
-            let well = streams::send(to, buf, n, b"station: the new journal can't be written");
+            let well = streams::send(
+                rt,
+                &mut writer,
+                buf,
+                n,
+                b"station: the new journal can't be written",
+            );
             Left {
                 left: left - n,
                 well,
@@ -148,7 +173,7 @@ fn copy_piece(from: i32, to: i32, left: usize, buf: &mut [u8]) -> Left {
 }
 
 // Copies the first bytes of the old journal, piece by piece; no file is so long that it takes more.
-fn copy_bytes(from: i32, to: i32, size: usize, buf: &mut [u8]) -> bool {
+fn copy_bytes(rt: &HostRuntime, from: &File, to: &File, size: usize, buf: &mut [u8]) -> bool {
     let mut q = Left {
         left: size,
         well: true,
@@ -158,7 +183,7 @@ fn copy_bytes(from: i32, to: i32, size: usize, buf: &mut [u8]) -> bool {
         if q.left == 0 {
             return q.well;
         }
-        q = copy_piece(from, to, q.left, buf);
+        q = copy_piece(rt, from, to, q.left, buf);
         if !q.well {
             return false;
         }
@@ -168,142 +193,190 @@ fn copy_bytes(from: i32, to: i32, size: usize, buf: &mut [u8]) -> bool {
 }
 
 // Writes the mark that closes the copy.
-fn write_mark(t: &[u32], to: i32, e: End) -> bool {
+fn write_mark(rt: &HostRuntime, t: &[u32], to: &File, e: End) -> bool {
     if e.older {
-        return older::write_mark(to);
+        return older::write_mark(rt, to);
     }
-    let a = journal_files::write_append(t, to, e.sum, 4, &[]);
+    let a = journal_files::write_append(rt, t, to, e.sum, 4, &[]);
     a.well
 }
 
 // Writes the old journal's bytes, and the mark that closes it.
-fn copy_closed(t: &[u32], from: i32, to: i32, e: End, buf: &mut [u8]) -> bool {
-    if libc::lseek(from, 0, libc::SEEK_SET) != 0 {
-        os::fail(b"station: the journal can't be read");
+fn copy_closed(
+    rt: &HostRuntime,
+    t: &[u32],
+    from: &File,
+    to: &File,
+    e: End,
+    buf: &mut [u8],
+) -> bool {
+    if let Err(e) = journal_files::seek_start(from) {
+        streams::fail(rt, b"station: the journal can't be read", e);
         return false;
     }
-    if !copy_bytes(from, to, e.place, buf) {
+    if !copy_bytes(rt, from, to, e.place, buf) {
         return false;
     }
-    write_mark(t, to, e)
+    write_mark(rt, t, to, e)
 }
 
 // Makes a file anew.
-fn made(name: &[u8]) -> i32 {
-    let fd = os::open_overwrite(name);
-    if fd < 0 {
-        os::fail(b"station: the new journal can't be made");
+fn made(rt: &HostRuntime, name: &[u8]) -> Option<File> {
+    match journal_files::open_overwrite(rt, name) {
+        Ok(file) => Some(file),
+        Err(e) => {
+            streams::fail(rt, b"station: the new journal can't be made", e);
+            None
+        }
     }
-    fd
 }
 
 // Makes the closed copy, and waits until it is on the disk.
-fn write_part(t: &[u32], from: i32, part: &[u8], e: End, buf: &mut [u8]) -> bool {
-    let to = made(part);
-    if to < 0 {
-        return false;
+fn write_part(
+    rt: &HostRuntime,
+    t: &[u32],
+    from: &File,
+    part: &[u8],
+    e: End,
+    buf: &mut [u8],
+) -> bool {
+    match made(rt, part) {
+        None => false,
+        Some(to) => {
+            if !copy_closed(rt, t, from, &to, e, buf) {
+                return false;
+            }
+            journal_files::is_settled(rt, to, part)
+        }
     }
-    if !copy_closed(t, from, to, e, buf) {
-        return false;
-    }
-    journal_files::is_settled(to, part)
 }
 
 // ---- the new one
 
 // Whether the new journal may be made: there is none yet, or only one that was never finished.
-fn is_free(new: &[u8], part: &[u8]) -> bool {
-    if journal_files::is_missing(new) {
+fn is_free(rt: &HostRuntime, new: &[u8], part: &[u8]) -> bool {
+    if journal_files::is_missing(rt, new) {
         return true;
     }
-    if !journal_files::is_missing(part) {
+    if !journal_files::is_missing(rt, part) {
         return true;
     }
-    journal_files::tell(b"station: the new journal is there already\n");
+    journal_files::tell(rt, b"station: the new journal is there already\n");
     false
 }
 
 // Writes the head that begins with the old journal's end, and waits until it is on the disk.
-fn write_new(t: &[u32], new: &[u8], garage: &[u8], e: End) -> bool
+fn write_new(rt: &HostRuntime, t: &[u32], new: &[u8], garage: &[u8], e: End) -> bool
     requires { Ends e }
 {
-    let fd = made(new);
-    if fd < 0 {
-        return false;
+    match made(rt, new) {
+        None => false,
+        Some(file) => {
+            let station = e.station;
+            if !journal_files::write_head(rt, t, &file, garage, station) {
+                return false;
+            }
+            journal_files::is_settled(rt, file, new)
+        }
     }
-    let station = e.station;
-    if !journal_files::write_head(t, fd, garage, station) {
-        return false;
-    }
-    journal_files::is_settled(fd, new)
 }
 
 // ---- both
 
 // Puts the closed copy in the old journal's place, and waits until that is on the disk.
-fn put_in_place(old: &[u8], part: &[u8]) {
-    if os::rename(part, old) != 0 {
-        os::fail(b"station: the old journal can't be closed");
+fn put_in_place(rt: &HostRuntime, old: &[u8], part: &[u8]) {
+    if let Err(e) = journal_files::rename(rt, part, old) {
+        streams::fail(rt, b"station: the old journal can't be closed", e);
         return;
     }
-    if journal_files::sync_folder(old) {
-        journal_files::sync_folder(part);
+    if journal_files::sync_folder(rt, old) {
+        journal_files::sync_folder(rt, part);
     }
 }
 
 // Follows a journal that can be followed and is not closed yet.
-fn change_over(t: &[u32], fd: i32, old: &[u8], new: &[u8], part: &[u8], e: End, buf: &mut [u8])
+fn change_over(
+    rt: &HostRuntime,
+    t: &[u32],
+    file: &File,
+    old: &[u8],
+    new: &[u8],
+    part: &[u8],
+    e: End,
+    buf: &mut [u8],
+)
     requires { EndsIfWell e }
 {
     if !e.well {
         return;
     }
     if e.closed {
-        journal_files::tell(b"station: the journal is closed: another one follows it already\n");
+        journal_files::tell(
+            rt,
+            b"station: the journal is closed: another one follows it already\n",
+        );
         return;
     }
-    if !write_part(t, fd, part, e, buf) {
+    if !write_part(rt, t, file, part, e, buf) {
         return;
     }
     let garage = e.garage;
-    if !write_new(t, new, &garage, e) {
+    if !write_new(rt, t, new, &garage, e) {
         return;
     }
-    put_in_place(old, part);
+    put_in_place(rt, old, part);
 }
 
 // Whether the journal of this name has cards, which the new one would not have; then that is told.
-fn loses_cards(old: &[u8]) -> bool {
+fn loses_cards(rt: &HostRuntime, old: &[u8]) -> bool {
     let t = checksum::tables();
     let mut buf = [0u8; 131104];
     let mut room = [0u8; 327680];
-    if journal_keeper::opening::has_cards(&t, old, &mut buf, &mut room) {
-        journal_files::tell(b"station: the journal has cards: it can't be followed\n");
+    if journal_keeper::opening::has_cards(rt, &t, old, &mut buf, &mut room) {
+        journal_files::tell(
+            rt,
+            b"station: the journal has cards: it can't be followed\n",
+        );
         return true;
     }
     false
 }
 
 // Follows the old journal by the new one, unless that would lose cards.
-pub fn follow(old: &[u8], new: &[u8], part: &[u8], asked: &[u8]) {
-    if loses_cards(old) {
+pub fn follow(rt: &HostRuntime, old: &[u8], new: &[u8], part: &[u8], asked: &[u8]) {
+    if loses_cards(rt, old) {
         return;
     }
-    follow_on(old, new, part, asked);
+    follow_on(rt, old, new, part, asked);
+}
+
+// The same of the old journal in its file, with tables, a buffer and room.
+fn follow_in(
+    rt: &HostRuntime,
+    t: &[u32],
+    file: &File,
+    old: &[u8],
+    new: &[u8],
+    part: &[u8],
+    asked: &[u8],
+    buf: &mut [u8],
+    room: &mut [u8],
+)
+    requires { BuffersLent t.now room.old }
+{
+    let e = ended(rt, t, file, asked, buf, room);
+    change_over(rt, t, file, old, new, part, e, buf);
 }
 
 // What is closed is made under the name of its part.
-fn follow_on(old: &[u8], new: &[u8], part: &[u8], asked: &[u8]) {
-    let fd = journal_files::open_update(old);
-    if fd < 0 {
-        return;
+fn follow_on(rt: &HostRuntime, old: &[u8], new: &[u8], part: &[u8], asked: &[u8]) {
+    if let Some(file) = journal_files::open_update(rt, old) {
+        if !is_free(rt, new, part) {
+            return;
+        }
+        let t = checksum::tables();
+        let mut buf = [0u8; 131104];
+        let mut room = [0u8; 655520];
+        follow_in(rt, &t, &file, old, new, part, asked, &mut buf, &mut room);
     }
-    if !is_free(new, part) {
-        return;
-    }
-    let t = checksum::tables();
-    let mut buf = [0u8; 131104];
-    let mut room = [0u8; 655520];
-    let e = ended(&t, fd, asked, &mut buf, &mut room);
-    change_over(&t, fd, old, new, part, e, &mut buf);
 }

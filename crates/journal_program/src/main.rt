@@ -1,52 +1,57 @@
 // What is done with a journal while no station runs on it: it is described, the messages that it recorded are written, or a new journal that
 // follows it is made. bin/station starts this program for the words --describe, --recorded and --follow. No contract can say what a file
 // holds; what a journal's bytes are stands in journal_file, and how one is read in journal_reader.
+#![tactic(auto)]
+
+ghost use Rattle.std.specs.Prelude.{◌≤◌};
 
 mod describing;
 mod following;
 mod older;
 mod reading;
 
+use std::io::Error;
+
 // Tells how the command is used.
-fn wrong() {
-    io::write_all(
-        libc::STDERR_FILENO,
+fn wrong(rt: &HostRuntime) {
+    streams::tell(
+        rt,
         b"station: usage: station --describe FILE, --recorded FILE or --follow OLD NEW [--garage NAME]\n",
     );
 }
 
+// Tells that a journal can't be opened, since its name can't be had.
+fn nameless(rt: &HostRuntime, error: Error) {
+    streams::fail(rt, b"station: the journal can't be opened", error);
+}
+
 // Whether argument i is this word.
-fn is_word(i: usize, text: &[u8]) -> bool {
+fn is_word(rt: &HostRuntime, i: usize, text: &[u8]) -> bool {
     let mut room = [0u8; 16];
-    let n = os::arg(i, &mut room);
+    let n = commands::word(rt, i, &mut room);
     commands::is_text(&room[..n], text)
 }
 
-// Whether a word was handed over whole and is not empty; else that is told.
-fn is_name(n: usize) -> bool {
-    if os::errno() != 0 {
-        os::fail(b"station: the journal can't be opened");
-        return false;
-    }
-    if n == 0 {
-        wrong();
-        return false;
-    }
-    true
-}
-
-// The journal that argument 2 names: described, or its messages written.
-fn read_named(tell: bool) {
-    let mut name = io::buffer();
-    let n = os::arg(2, &mut name);
-    if !is_name(n) {
+// The journal of this name: described, or its messages written.
+fn read_one(rt: &HostRuntime, name: &[u8], tell: bool) {
+    if name.len() == 0 {
+        wrong(rt);
         return;
     }
     if tell {
-        reading::recorded(&name[..n]);
+        reading::recorded(rt, name);
         return;
     }
-    describing::describe(&name[..n]);
+    describing::describe(rt, name);
+}
+
+// The journal that argument 2 names: described, or its messages written.
+fn read_named(rt: &HostRuntime, tell: bool) {
+    let mut name = io::buffer();
+    match commands::whole_word(rt, 2, &mut name) {
+        Ok(n) => read_one(rt, &name[..n], tell),
+        Err(e) => nameless(rt, e),
+    }
 }
 
 // Whether a word is the name of a file that is made for a journal, and not a journal's own.
@@ -58,65 +63,83 @@ fn is_part(name: &[u8]) -> bool {
     commands::is_text(&name[from..], b".part")
 }
 
-// The journal that argument 2 names is followed by the one that argument 3 names.
-fn follow_named(garage: &[u8]) {
-    let mut old = io::buffer();
-    let n = os::arg(2, &mut old);
-    if !is_name(n) {
+// The journal of one name is followed by one of another, which has n bytes.
+fn follow_by(rt: &HostRuntime, old: &[u8], new: &[u8; 4096], n: usize, garage: &[u8])
+    requires { n ≤ 4096 }
+{
+    if n == 0 {
+        wrong(rt);
+        return;
+    }
+    if is_part(old) | is_part(&new[..n]) {
+        wrong(rt);
+        return;
+    }
+    let mut part = *new;
+    let m = journal_files::beside(&mut part, n, b".part");
+    following::follow(rt, old, &new[..n], &part[..m], garage);
+}
+
+// The journal of this name is followed by the one that argument 3 names.
+fn follow_old(rt: &HostRuntime, old: &[u8], garage: &[u8]) {
+    if old.len() == 0 {
+        wrong(rt);
         return;
     }
     let mut new = io::buffer();
-    let k = os::arg(3, &mut new);
-    if !is_name(k) {
-        return;
+    match commands::whole_word(rt, 3, &mut new) {
+        Ok(n) => follow_by(rt, old, &new, n, garage),
+        Err(e) => nameless(rt, e),
     }
-    if is_part(&old[..n]) | is_part(&new[..k]) {
-        wrong();
-        return;
+}
+
+// The journal that argument 2 names is followed by the one that argument 3 names.
+fn follow_named(rt: &HostRuntime, garage: &[u8]) {
+    let mut old = io::buffer();
+    match commands::whole_word(rt, 2, &mut old) {
+        Ok(n) => follow_old(rt, &old[..n], garage),
+        Err(e) => nameless(rt, e),
     }
-    let mut part = new;
-    let m = journal_files::beside(&mut part, k, b".part");
-    following::follow(&old[..n], &new[..k], &part[..m], garage);
 }
 
 // The garage that argument 5 names.
-fn follow_in_garage() {
+fn follow_in_garage(rt: &HostRuntime) {
     let mut name = [0u8; 40];
-    let n = os::arg(5, &mut name);
-    if os::errno() != 0 {
-        wrong();
-        return;
+    match commands::whole_word(rt, 5, &mut name) {
+        Ok(n) => {
+            if !journal_file::is_garage(&name[..n]) {
+                wrong(rt);
+                return;
+            }
+            follow_named(rt, &name);
+        }
+        Err(_) => wrong(rt),
     }
-    if !journal_file::is_garage(&name[..n]) {
-        wrong();
-        return;
-    }
-    follow_named(&name);
 }
 
-fn main() {
-    let count = os::arg_count();
+fn main(rt: HostRuntime) {
+    let count = commands::word_count(&rt);
     if count == 3 {
-        if is_word(1, b"--describe") {
-            read_named(false);
+        if is_word(&rt, 1, b"--describe") {
+            read_named(&rt, false);
             return;
         }
-        if is_word(1, b"--recorded") {
-            read_named(true);
+        if is_word(&rt, 1, b"--recorded") {
+            read_named(&rt, true);
             return;
         }
     }
     if count == 4 {
-        if is_word(1, b"--follow") {
-            follow_named(&[]);
+        if is_word(&rt, 1, b"--follow") {
+            follow_named(&rt, &[]);
             return;
         }
     }
     if count == 6 {
-        if is_word(1, b"--follow") & is_word(4, b"--garage") {
-            follow_in_garage();
+        if is_word(&rt, 1, b"--follow") & is_word(&rt, 4, b"--garage") {
+            follow_in_garage(&rt);
             return;
         }
     }
-    wrong();
+    wrong(&rt);
 }

@@ -7,10 +7,12 @@ ghost use Rattle.journal_program.specs.Telling.{RoomToTell, OlderReads, EndsIfWe
 
 use crate::following::{End, unended};
 use journal::Replay;
+use std::fs::File;
+use std::os::unix::fs::FileExt;
 use streams::Input;
 
 // How far it is read: what its replay tells so far, whether there may be more of it, and whether all reads went well.
-#[derive(Drop)]
+#[derive(Clone, Copy)]
 struct Older {
     replay: Replay,
     going: bool,
@@ -31,12 +33,19 @@ fn replayed(r: Replay, buf: &mut [u8], end: usize, room: &mut [u8]) -> Older
 }
 
 // Reads once, and replays what came whole.
-fn read_piece(fd: i32, r: Replay, buf: &mut [u8], room: &mut [u8]) -> Older
+fn read_piece(rt: &HostRuntime, file: &File, r: Replay, buf: &mut [u8], room: &mut [u8]) -> Older
     requires { (r.have < 45) × RoomToTell buf.old room.old × Journaled r.station r.whole }
     ensures { OlderReads result }
 {
     let have = r.have;
-    let input = streams::fill(fd, buf, have, b"station: the journal can't be read");
+    let mut from: &File = file;
+    let input = streams::fill(
+        rt,
+        &mut from,
+        buf,
+        have,
+        b"station: the journal can't be read",
+    );
     match input {
         Input::Bytes(end) => replayed(r, buf, end, room),
         Input::Ended => Older {
@@ -53,7 +62,7 @@ fn read_piece(fd: i32, r: Replay, buf: &mut [u8], room: &mut [u8]) -> Older
 }
 
 // Piece after piece; no file is so long that it takes more.
-fn replay_all(fd: i32, buf: &mut [u8], room: &mut [u8]) -> Older
+fn replay_all(rt: &HostRuntime, file: &File, buf: &mut [u8], room: &mut [u8]) -> Older
     requires { RoomToTell buf.old room.old }
     ensures { Journaled result.replay.station result.replay.whole }
 {
@@ -66,7 +75,7 @@ fn replay_all(fd: i32, buf: &mut [u8], room: &mut [u8]) -> Older
     let mut pieces = u64::MAX;
     while 0 < pieces {
         let r = q.replay;
-        q = read_piece(fd, r, buf, room);
+        q = read_piece(rt, file, r, buf, room);
         if !q.going {
             return q;
         }
@@ -76,23 +85,22 @@ fn replay_all(fd: i32, buf: &mut [u8], room: &mut [u8]) -> Older
 }
 
 // Whether the length behind so many bytes is the one that closes the journal.
-fn is_closed(fd: i32, whole: usize) -> bool {
+fn is_closed(file: &File, whole: usize) -> bool {
     let mut length = [0u8; 2];
-    let got = libc::pread(fd, &mut length, journal_files::place(whole));
-    if io::count(got, &length) != 2 {
-        return false;
+    match file.read_at(&mut length, journal_files::place(whole).cast_unsigned()) {
+        Ok(2) => (length[0] == 255) & (length[1] == 255),
+        _ => false,
     }
-    (length[0] == 255) & (length[1] == 255)
 }
 
 // Where it ends, unless it is damaged or has no message.
-fn end_of(r: Replay, garage: [u8; 40], closed: bool) -> End
+fn end_of(rt: &HostRuntime, r: Replay, garage: [u8; 40], closed: bool) -> End
     requires { Journaled r.station r.whole }
     ensures { EndsIfWell result }
 {
     if (r.damaged & !closed) | (r.whole == 0) {
-        io::write_all(
-            libc::STDERR_FILENO,
+        journal_files::tell(
+            rt,
             b"station: the file is no journal, of version 1.0 neither, or it is empty or damaged\n",
         );
         return unended();
@@ -110,22 +118,28 @@ fn end_of(r: Replay, garage: [u8; 40], closed: bool) -> End
 }
 
 // Reads it to its end.
-fn read_all(fd: i32, garage: [u8; 40], buf: &mut [u8], room: &mut [u8]) -> End
+fn read_all(rt: &HostRuntime, file: &File, garage: [u8; 40], buf: &mut [u8], room: &mut [u8]) -> End
     requires { RoomToTell buf.old room.old }
     ensures { EndsIfWell result }
 {
-    let q = replay_all(fd, buf, room);
+    let q = replay_all(rt, file, buf, room);
     let r = q.replay;
     if !q.well {
         return unended();
     }
-    let closed = is_closed(fd, r.whole);
-    end_of(r, garage, r.damaged & closed)
+    let closed = is_closed(file, r.whole);
+    end_of(rt, r, garage, r.damaged & closed)
 }
 
 // Where a journal of version 1.0 ends, which is taken for this garage's, or why it can't be followed is told. The room has place for all
 // answers to a full buffer.
-pub fn ended(fd: i32, garage: [u8; 40], buf: &mut [u8], room: &mut [u8]) -> End
+pub fn ended(
+    rt: &HostRuntime,
+    file: &File,
+    garage: [u8; 40],
+    buf: &mut [u8],
+    room: &mut [u8],
+) -> End
     ensures { EndsIfWell result }
 {
     if buf.len() < 45 {
@@ -134,11 +148,18 @@ pub fn ended(fd: i32, garage: [u8; 40], buf: &mut [u8], room: &mut [u8]) -> End
     if room.len() / 5 < buf.len() {
         return unended();
     }
-    read_all(fd, garage, buf, room)
+    read_all(rt, file, garage, buf, room)
 }
 
 // Writes the length that closes it.
-pub fn write_mark(fd: i32) -> bool {
+pub fn write_mark(rt: &HostRuntime, file: &File) -> bool {
     let mark = [255u8; 2];
-    streams::send(fd, &mark, 2, b"station: the new journal can't be written")
+    let mut to: &File = file;
+    streams::send(
+        rt,
+        &mut to,
+        &mark,
+        2,
+        b"station: the new journal can't be written",
+    )
 }

@@ -7,14 +7,17 @@ ghost use Rattle.journal_reader.specs.Reading.{BuffersLent, StandsIn};
 ghost use Rattle.journal_program.specs.Telling.{WithinIfWell, IsAppend, ReadsOn};
 
 use journal_reader::{Reading, Rest};
+use std::fs::File;
 
 // Opens a journal to read it.
-pub fn open(name: &[u8]) -> i32 {
-    let fd = os::open_read(name);
-    if fd < 0 {
-        os::fail(b"station: the journal can't be opened");
+pub fn open(rt: &HostRuntime, name: &[u8]) -> Option<File> {
+    match journal_files::open_read(rt, name) {
+        Ok(file) => Some(file),
+        Err(e) => {
+            streams::fail(rt, b"station: the journal can't be opened", e);
+            None
+        }
     }
-    fd
 }
 
 // Nothing more is to be read: why not was told.
@@ -28,16 +31,16 @@ pub fn ended(q: Reading) -> Reading
 }
 
 // Reads the head. What is no journal, or not of the garage that is asked for, is told, and not read on.
-pub fn begun(t: &[u32], fd: i32, asked: &[u8], buf: &mut [u8]) -> Reading
+pub fn begun(rt: &HostRuntime, t: &[u32], file: &File, asked: &[u8], buf: &mut [u8]) -> Reading
     ensures { WithinIfWell result (length buf.new) × (result.well ≡ true → t.now ≡ slices → StandsIn asked.now result buf.new) }
 {
-    let b = journal_reader::begin(t, fd, buf, b"station: the journal can't be read");
+    let b = journal_reader::begin(rt, t, file, buf, b"station: the journal can't be read");
     let q = b.reading;
     let kind = b.kind;
     if !q.well {
         return ended(q);
     }
-    if !journal_files::is_good(kind, q.end == 0) {
+    if !journal_files::is_good(rt, kind, q.end == 0) {
         return ended(q);
     }
     if q.end < 128 {
@@ -47,7 +50,7 @@ pub fn begun(t: &[u32], fd: i32, asked: &[u8], buf: &mut [u8]) -> Reading
         return ended(q);
     }
     if 0 < asked.len() {
-        if !journal_files::is_of(asked, &buf[24..64]) {
+        if !journal_files::is_of(rt, asked, &buf[24..64]) {
             return ended(q);
         }
     }
@@ -77,11 +80,12 @@ fn lead_in(append: &[u8]) -> usize
 }
 
 // Writes what was recorded in an append.
-fn write_messages(append: &[u8], messages: &[u8]) -> bool
+fn write_messages(rt: &HostRuntime, append: &[u8], messages: &[u8]) -> bool
     requires { messages.now ≡ recorded_in (append.now ∷ []) }
 {
     streams::send(
-        libc::STDOUT_FILENO,
+        rt,
+        &mut rt.stdout(),
         messages,
         messages.len(),
         b"station: standard output",
@@ -89,18 +93,19 @@ fn write_messages(append: &[u8], messages: &[u8]) -> bool
 }
 
 // Writes the messages that an append carries.
-fn say_messages(append: &[u8]) -> bool
+fn say_messages(rt: &HostRuntime, append: &[u8]) -> bool
     requires { IsAppend append.now }
 {
     let n = size_in(append);
     let lead = lead_in(append);
-    write_messages(append, &append[8 + lead..8 + n])
+    write_messages(rt, append, &append[8 + lead..8 + n])
 }
 
 // Takes the next append, and writes its messages where that is asked for. Where they can't be written nothing more is read.
 fn one_append(
+    rt: &HostRuntime,
     t: &[u32],
-    fd: i32,
+    file: &File,
     asked: &[u8],
     q: Reading,
     tell: bool,
@@ -110,11 +115,19 @@ fn one_append(
     requires { BuffersLent t.now room.old × StandsIn asked.now q buf.old }
     ensures { ReadsOn asked.now result buf.new }
 {
-    let r = journal_reader::next(t, fd, q, buf, room, b"station: the journal can't be read");
+    let r = journal_reader::next(
+        rt,
+        t,
+        file,
+        q,
+        buf,
+        room,
+        b"station: the journal can't be read",
+    );
     if r.well & r.took & tell {
         let from = r.from;
         let at = r.at;
-        if !say_messages(&buf[from..at]) {
+        if !say_messages(rt, &buf[from..at]) {
             return ended(r);
         }
     }
@@ -123,8 +136,9 @@ fn one_append(
 
 // Append after append; no file is so long that it takes more.
 pub fn read_on(
+    rt: &HostRuntime,
     t: &[u32],
-    fd: i32,
+    file: &File,
     asked: &[u8],
     start: Reading,
     tell: bool,
@@ -137,7 +151,7 @@ pub fn read_on(
     let mut q = start;
     let mut appends = u64::MAX;
     while 0 < appends {
-        q = one_append(t, fd, asked, q, tell, buf, room);
+        q = one_append(rt, t, file, asked, q, tell, buf, room);
         if !q.took {
             return q;
         }
@@ -169,40 +183,38 @@ pub fn rest(t: &[u32], q: Reading, buf: &[u8]) -> Rest {
 }
 
 // Whether nothing stands behind the last append, or what was never answered; else the damage is told.
-pub fn is_sound(q: Reading, rest: Rest) -> bool {
+pub fn is_sound(rt: &HostRuntime, q: Reading, rest: Rest) -> bool {
     match rest {
         Rest::Damaged => {
-            journal_files::tell_damage(q.place, q.appends, q.messages);
+            journal_files::tell_damage(rt, q.place, q.appends, q.messages);
             false
         }
         _ => true,
     }
 }
 
-// Writes the messages that the journal behind a descriptor has recorded.
-fn say_recorded(t: &[u32], fd: i32, buf: &mut [u8], room: &mut [u8])
+// Writes the messages that the journal in a file has recorded.
+fn say_recorded(rt: &HostRuntime, t: &[u32], file: &File, buf: &mut [u8], room: &mut [u8])
     requires { BuffersLent t.now room.old }
 {
-    let start = begun(t, fd, &[], buf);
+    let start = begun(rt, t, file, &[], buf);
     if !start.well {
         return;
     }
-    let q = read_on(t, fd, &[], start, true, buf, room);
+    let q = read_on(rt, t, file, &[], start, true, buf, room);
     if !q.well {
         return;
     }
     let rest = rest(t, q, buf);
-    is_sound(q, rest);
+    is_sound(rt, q, rest);
 }
 
 // Writes the messages that a journal has recorded.
-pub fn recorded(name: &[u8]) {
-    let fd = open(name);
-    if fd < 0 {
-        return;
+pub fn recorded(rt: &HostRuntime, name: &[u8]) {
+    if let Some(file) = open(rt, name) {
+        let t = checksum::tables();
+        let mut buf = [0u8; 131104];
+        let mut room = [0u8; 327680];
+        say_recorded(rt, &t, &file, &mut buf, &mut room);
     }
-    let t = checksum::tables();
-    let mut buf = [0u8; 131104];
-    let mut room = [0u8; 327680];
-    say_recorded(&t, fd, &mut buf, &mut room);
 }

@@ -1,5 +1,5 @@
 -- A journal that is read append by append stands in the buffer as a head and appends make it. Assumes nothing.
-use Rattle.std.proofs.Common.{◌≡◌, ℕ, ◌+◌, ◌-◌, ◌%◌, ◌^◌, ◌<◌, ◌≤◌, Bool, true, false, cond, ◌||◌, ltb, List, [], ◌∷◌, ◌++◌, length, take, drop, sym, refl, ap, ◌∙◌, subst, ap₂, append-nil, arith, length_append, length-take, length-take-le, ltb-false, ltb-true, lt-ltb}
+use Rattle.std.proofs.Common.{◌≡◌, ℕ, ◌+◌, ◌-◌, ◌%◌, ◌^◌, ◌<◌, ◌≤◌, Bool, true, false, cond, ◌||◌, ltb, List, [], ◌∷◌, ◌++◌, length, take, drop, sym, refl, ap, ◌∙◌, subst, ap₂, append-nil, arith, length-append, length-take, length-take-le, ltb-false, ltb-true, lt-ltb}
 use Rattle.bits.specs.Places.{join}
 use Rattle.bits.proofs.Cases.{split}
 use Rattle.journal.specs.Journal.{counted}
@@ -76,7 +76,7 @@ module _ (t buf : List ℕ) (b : Beginning) (begins : ReadingBegins (crc_by t) b
   begins_cards asked named =
       let h = ltb-false end 128 enough_bytes in
       let long : length head ≡ 128 = length-take-le (cond (ltb end 128) end 128) buf (omega (arith, size_is, h, begins.0)) ∙ size_is in
-      let n = length_append head [] in
+      let n = length-append head [] in
       let z : 128 ≡ counted (length (head ++ [])) = omega (arith, long, n) in
       let w : b.reading.at - b.reading.from ≡ 128 = omega (arith, begins.4, begins.5) in
       record {
@@ -105,9 +105,9 @@ last_more head (b ∷ more) a = last_more b more a
 more_long : (head : List ℕ) (appends : List (List ℕ)) (a : List ℕ) → length (head ++ join (appends ++ (a ∷ []))) ≡ length (head ++ join appends) + length a
 more_long head appends a =
     let j : length (join (appends ++ (a ∷ []))) ≡ length (join appends ++ (a ++ [])) = ap length (join_both appends (a ∷ [])) in
-    let p = length_append head (join (appends ++ (a ∷ []))) in
-    let q = length_append head (join appends) in
-    let r = length_append (join appends) (a ++ []) in
+    let p = length-append head (join (appends ++ (a ∷ []))) in
+    let q = length-append head (join appends) in
+    let r = length-append (join appends) (a ++ []) in
     let s = ap length (append-nil a) in
     omega (arith, j, p, q, r, s)
 

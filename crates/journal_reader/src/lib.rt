@@ -1,6 +1,8 @@
-// Reads a journal from a descriptor, append by append, through a buffer that the caller lends. In the buffer stand the append that was taken
+// Reads a journal from a file, append by append, through a buffer that the caller lends. In the buffer stand the append that was taken
 // last, or the head, and behind it what follows in the file. What a journal's bytes are stands in journal_file; which bytes a read brings no
 // contract can say.
+#![tactic(auto)]
+
 ghost use Rattle.std.specs.Prelude.{◌≡◌, ◌+◌, ◌<◌, ◌≤◌, true, false, length, if◌then◌else◌, nat_lt};
 ghost use Rattle.checksum.specs.Slices.{crc_by};
 ghost use Rattle.journal_file.specs.Cards.{has_cards};
@@ -8,6 +10,7 @@ ghost use Rattle.journal_reader.specs.Reading.{ReadingWithin, ReadingBegins, Nex
 ghost use Rattle.journal_reader.specs.Private.{FilledUp, stopped_at, ReadingBrought, Steps};
 
 use journal_file::{Kind, Replay};
+use std::fs::File;
 use streams::Input;
 
 // An append has at most so many bytes.
@@ -19,7 +22,7 @@ pub const LEAST: usize = 131099;
 // How far a journal is read: the replay of what was taken; how many bytes of the file that is; where the last append of it, or the head,
 // begins in the buffer, where it ends, and how far the buffer is filled; whether there may be more in the file; whether all reads went well;
 // whether the last step took an append; how many appends and messages were taken.
-#[derive(Drop)]
+#[derive(Clone, Copy)]
 pub struct Reading {
     pub replay: Replay,
     pub place: usize,
@@ -34,14 +37,14 @@ pub struct Reading {
 }
 
 // What the head is, and the reading behind it.
-#[derive(Drop)]
+#[derive(Clone, Copy)]
 pub struct Beginning {
     pub kind: Kind,
     pub reading: Reading,
 }
 
 // What stands behind the last append that was taken: nothing, what a lost power supply left of an append that was never answered, or damage.
-#[derive(Drop)]
+#[derive(Clone, Copy)]
 pub enum Rest {
     Nothing,
     Torn,
@@ -51,7 +54,7 @@ pub enum Rest {
 // ---- what a buffer is filled with
 
 // How far a buffer is filled, whether it has room for more of the file, whether the file may have more, and whether all reads went well.
-#[derive(Drop)]
+#[derive(Clone, Copy)]
 struct Filled {
     end: usize,
     going: bool,
@@ -60,11 +63,12 @@ struct Filled {
 }
 
 // Reads once past the first `have` bytes.
-fn fill_once(fd: i32, buf: &mut [u8], have: usize, name: &[u8]) -> Filled
+fn fill_once(rt: &HostRuntime, file: &File, buf: &mut [u8], have: usize, name: &[u8]) -> Filled
     requires { have ≤ length buf.old }
     ensures { FilledUp buf.old have result buf.new }
 {
-    let input = streams::fill(fd, buf, have, name);
+    let mut from: &File = file;
+    let input = streams::fill(rt, &mut from, buf, have, name);
     match input {
         Input::Bytes(end) => Filled {
             end,
@@ -94,7 +98,7 @@ fn fill_once(fd: i32, buf: &mut [u8], have: usize, name: &[u8]) -> Filled
 }
 
 // Reads past the first `have` bytes until the buffer is full or the file ends.
-fn fill_up(fd: i32, buf: &mut [u8], have: usize, name: &[u8]) -> Filled
+fn fill_up(rt: &HostRuntime, file: &File, buf: &mut [u8], have: usize, name: &[u8]) -> Filled
     requires { have ≤ length buf.old }
     ensures { FilledUp buf.old have result buf.new }
 {
@@ -106,7 +110,7 @@ fn fill_up(fd: i32, buf: &mut [u8], have: usize, name: &[u8]) -> Filled
     };
     let mut reads = u64::MAX;
     while 0 < reads {
-        f = fill_once(fd, buf, f.end, name);
+        f = fill_once(rt, file, buf, f.end, name);
         if !f.going {
             return f;
         }
@@ -135,13 +139,13 @@ fn fits(q: Reading, n: usize) -> bool
 }
 
 // Reads on with the last append held at the front of the buffer.
-fn read_on(fd: i32, q: Reading, buf: &mut [u8], name: &[u8]) -> Reading
+fn read_on(rt: &HostRuntime, file: &File, q: Reading, buf: &mut [u8], name: &[u8]) -> Reading
     requires { ReadingWithin q (length buf.old) }
     ensures { ReadingBrought q buf.old result buf.new }
 {
     let replay = q.replay;
     let have = service::buffer::hold(buf, q.from, q.end);
-    let f = fill_up(fd, buf, have, name);
+    let f = fill_up(rt, file, buf, have, name);
     Reading {
         replay,
         place: q.place,
@@ -157,7 +161,7 @@ fn read_on(fd: i32, q: Reading, buf: &mut [u8], name: &[u8]) -> Reading
 }
 
 // Reads on where less than an append may stand in the buffer.
-fn bring(fd: i32, q: Reading, buf: &mut [u8], name: &[u8]) -> Reading
+fn bring(rt: &HostRuntime, file: &File, q: Reading, buf: &mut [u8], name: &[u8]) -> Reading
     requires { ReadingWithin q (length buf.old) }
     ensures { ReadingBrought q buf.old result buf.new }
 {
@@ -167,7 +171,7 @@ fn bring(fd: i32, q: Reading, buf: &mut [u8], name: &[u8]) -> Reading
     if LONGEST < q.end - q.at {
         return q;
     }
-    read_on(fd, q, buf, name)
+    read_on(rt, file, q, buf, name)
 }
 
 // ---- appends
@@ -257,13 +261,21 @@ fn take(t: &[u32], q: Reading, sum: u32, end: usize, buf: &[u8], room: &mut [u8]
 }
 
 // Takes the next append, which then stands in the buffer from `from` up to `at`. The room is for answers, which are not to be written.
-pub fn next(t: &[u32], fd: i32, q: Reading, buf: &mut [u8], room: &mut [u8], name: &[u8]) -> Reading
+pub fn next(
+    rt: &HostRuntime,
+    t: &[u32],
+    file: &File,
+    q: Reading,
+    buf: &mut [u8],
+    room: &mut [u8],
+    name: &[u8],
+) -> Reading
     ensures { Next t.now room.old q buf.old result buf.new }
 {
     if !fits(q, buf.len()) {
         return stopped(q, false);
     }
-    let b = bring(fd, q, buf, name);
+    let b = bring(rt, file, q, buf, name);
     if !b.well {
         return stopped(b, false);
     }
@@ -312,7 +324,7 @@ pub fn numbers_after(was: [u8; 168], q: Reading, buf: &[u8]) -> [u8; 168]
     }
     let from = q.from;
     let mut numbers = [0u8; 168];
-    bytes::copy(&buf[from + 8..from + 176], &mut numbers);
+    codec::copy(&buf[from + 8..from + 176], &mut numbers);
     numbers
 }
 
@@ -342,10 +354,10 @@ fn head_size(end: usize) -> usize
 }
 
 // Begins to read: what the head is.
-pub fn begin(t: &[u32], fd: i32, buf: &mut [u8], name: &[u8]) -> Beginning
+pub fn begin(rt: &HostRuntime, t: &[u32], file: &File, buf: &mut [u8], name: &[u8]) -> Beginning
     ensures { ReadingBegins (crc_by t.now) result buf.new }
 {
-    let f = fill_up(fd, buf, 0, name);
+    let f = fill_up(rt, file, buf, 0, name);
     let end = f.end;
     let size = head_size(end);
     let h = journal_file::head_of(t, &buf[..size]);

@@ -1,5 +1,7 @@
 // The service panel: of each condition of an instruction whether it holds on a plain floor, what is told where it is the first to fail, and
 // the parts of the garage that decide it.
+#![tactic(auto)]
+
 ghost use Rattle.std.specs.Prelude.{◌≡◌};
 ghost use Rattle.plain.specs.Plain.{plain_bits};
 ghost use Rattle.panel.specs.Panel.{explained};
@@ -13,7 +15,7 @@ mod deciding;
 mod shuttles;
 
 // A condition explained: whether there is one of this number, whether it holds, why not, and which cells, slots or whether the lift decide it.
-#[derive(Drop)]
+#[derive(Clone, Copy)]
 pub struct Explanation {
     pub there: bool,
     pub holds: bool,

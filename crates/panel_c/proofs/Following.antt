@@ -1,6 +1,6 @@
 -- The next record by the plain engine is the packed engine's: what the entry for it leaves, case by case. Assumes nothing.
 use mathlib.Core.Path.{◌≡◌, refl, sym, ap, ap₂, ◌∙◌}
-use mathlib.Core.Bool.{Bool, true, false, cond, ◌&&◌, ◌||◌, and_false}
+use mathlib.Core.Bool.{Bool, true, false, cond, ◌&&◌, ◌||◌, and-false}
 use mathlib.Core.List.{List, []}
 use Prim.Native.Nat.{ℕ, ◌^◌, ◌≤◌, ◌<◌}
 use native.Mathlib.Omega.{arith}
@@ -143,7 +143,7 @@ module _ (r : ℕ) (five room : List ℕ) where
         -- bytes that say no instruction have no area
         no_area : one ≡ Bad → crosses (code_from five) r ≡ false
         unfolding crosses held_area
-        no_area g = ap (λ (y : Reading). holds under_way (bit r) && share (on_code area_of [] y) lift) (reading ∙ g) ∙ and_false (holds under_way (bit r))
+        no_area g = ap (λ (y : Reading). holds under_way (bit r) && share (on_code area_of [] y) lift) (reading ∙ g) ∙ and-false (holds under_way (bit r))
 
         pub says_none : {x : ℕ} → one ≡ Bad → x ≡ returned (BadField nowhere) → LeavesRoom (next_into r five room) x room
         says_none g e =

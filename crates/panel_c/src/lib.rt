@@ -1,6 +1,8 @@
 // The entries of the plain station and of the service panel, for a host in C or Rust: numbers and runs of bytes alone. A station is lent as
 // 60 bytes, an answer is its number plus 256 times its place plus 65536 times its issue, and a refused call writes nothing. What each
 // answers and leaves stands in specs/Entries.antt, and for the plain station in that of rooms.
+#![tactic(auto)]
+
 ghost use Rattle.std.specs.Prelude.{◌≡◌, ◌≤◌, length};
 ghost use Rattle.codec.specs.Bytes.{little_endian};
 ghost use Rattle.answers.specs.declared.Answer.{Answer};
@@ -253,6 +255,6 @@ pub extern "C" fn panel_cars(image: u64, room: &mut [u8]) -> u32
     let f = plain::of_image(image);
     let walk = f.walk();
     let starts = walk.starts;
-    bytes::copy(&starts, room);
+    codec::copy(&starts, room);
     say(Answer::Taken) + 65536 * (walk.count as u32)
 }

@@ -10,7 +10,6 @@ use borrow.Author.Tests.{not-true, not-false}
 use Rattle.bits.specs.Bits.{Bits}
 use Rattle.bits.proofs.Cases.{clash, passed, failed}
 use Rattle.answers.specs.declared.Reason.{Reason}
-use Rattle.floor.specs.Tests.{holds}
 use Rattle.rules.specs.declared.Instruction.{Instruction}
 use Rattle.rules.specs.declared.Instruction.TheVariants.{Belts, Shuttles, Tilt, Lift, Rotate}
 use Rattle.rules.specs.declared.Verdict.{Verdict}

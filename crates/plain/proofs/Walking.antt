@@ -5,7 +5,7 @@ use mathlib.Core.List.{List, [], ◌∷◌, ◌++◌, map, append_assoc, append-
 use Prim.Native.Nat.{ℕ, zero, suc, ◌+◌, ◌-◌, ◌*◌, ◌≤◌, ◌<◌}
 use native.Mathlib.Omega.{arith}
 use native.Mathlib.Numerals.{add-one}
-use lib.ListN.{length, set, replicate, length_append}
+use lib.ListN.{length, set, replicate, length-append}
 use borrow.Author.Tests.{not-true, not-false}
 use Rattle.bits.specs.Bits.{Bits, digit}
 use Rattle.bits.specs.Places.{from}
@@ -37,7 +37,7 @@ unfolding noted walk_of
 walk_next l x h =
     let m = 31 - (length l + 1) in
     let s : 31 - length l ≡ suc m = omega arith in
-    let n : length l + 1 ≡ length (l ++ x ∷ []) = omega (arith, length_append l (x ∷ [])) in
+    let n : length l + 1 ≡ length (l ++ x ∷ []) = omega (arith, length-append l (x ∷ [])) in
     ap₂ (λ (ks : List ℕ) (c : ℕ). record { starts = ks; count = c })
     (ap (λ (r : ℕ). set (map anchor l ++ replicate r 0) (length l) (anchor x)) s ∙ set_next l x m
     ∙ ap (λ (r : ℕ). map anchor (l ++ x ∷ []) ++ replicate (31 - r) 0) n)
@@ -58,7 +58,7 @@ unfolding walk_of
 counted l e = ap (λ (v : Walk). v.count) e
 
 pub room : {rest all : List Car} {w : Walk} → Walking rest all w → length all ≤ 30 → w.count < 31
-room {rest} v h = omega (arith, counted v.met v.kept, length_append v.met rest, ap length v.parts)
+room {rest} v h = omega (arith, counted v.met v.kept, length-append v.met rest, ap length v.parts)
 
 -- one more begins here, or none
 pub walking_on : {rest all : List Car} {w v : Walk} {begins : Bool} (b : Bool) (x : Car) → Walking (cond b (x ∷ rest) rest) all w → w.count < 31
@@ -111,7 +111,7 @@ few_in_row f = omega (arith, few_pairs 20 0 false f)
 
 pub few_in_rows : (f : Bits) → length (in_rows f) ≤ 30
 few_in_rows f =
-    omega (arith, few_in_row f, few_singles (from 20 20) f, length_append (in_row1 f) (singles_of (from 20 20) f))
+    omega (arith, few_in_row f, few_singles (from 20 20) f, length-append (in_row1 f) (singles_of (from 20 20) f))
 
 -- ---- the loops
 

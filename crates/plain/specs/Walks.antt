@@ -1,5 +1,5 @@
 -- The cars of a record, listed by walking its rows: row 1, row 2, row 3, then the raised lift. Assumes nothing.
-use Rattle.std.specs.Prelude.{Bool, true, false, not, cond, ◌&&◌, List, [], ◌∷◌, ◌++◌, map, ℕ, zero, suc, ◌-◌, length, replicate}
+use Rattle.std.specs.Prelude.{Bool, false, not, cond, ◌&&◌, List, [], ◌∷◌, ◌++◌, map, ℕ, zero, suc, ◌-◌, length, replicate}
 use Rattle.bits.specs.Bits.{Bits}
 use Rattle.floor.specs.Floor.{row_cells, raised_car}
 use Rattle.floor.specs.Cars.{Car, pair, single, raised}

@@ -1,5 +1,7 @@
 // The floor as the paper has it: forty cells, twelve slots and the lift, each yes or no, and a height. Whether an instruction is allowed and
 // why not, condition by condition in the paper's order, and its cars by walking the rows. What each stands for is in specs/.
+#![tactic(auto)]
+
 ghost use Rattle.std.specs.Prelude.{◌≡◌};
 ghost use Rattle.bits.specs.Bits.{bit, image};
 ghost use Rattle.plain.specs.Plain.{plain_bits, floor_of};
@@ -25,7 +27,7 @@ use shuttles::shuttles_condition;
 use tilts::tilt_condition;
 
 // Where the lift is.
-#[derive(Drop)]
+#[derive(Clone, Copy)]
 pub enum Height {
     Street,
     Rotation,
@@ -34,7 +36,7 @@ pub enum Height {
 
 // The floor: which cells are occupied, which slots have a shuttle (lowered in left rows 1 to 3, right rows 1 to 3, then tilted in the same
 // order), whether a car is on the raised lift, where the lift is, and whether a driver is coming or going.
-#[derive(Drop)]
+#[derive(Clone, Copy)]
 pub struct Floor {
     pub cells: [bool; 40],
     pub slots: [bool; 12],
@@ -45,7 +47,7 @@ pub struct Floor {
 }
 
 // A condition of an instruction: whether it has one of this number, whether that holds, and what is told where it is the first to fail.
-#[derive(Drop)]
+#[derive(Clone, Copy)]
 pub struct Condition {
     pub there: bool,
     pub holds: bool,
@@ -53,7 +55,7 @@ pub struct Condition {
 }
 
 // The cars of a floor in the order of a walk, each by the place where it begins, zero past them; and how many they are.
-#[derive(Drop)]
+#[derive(Clone, Copy)]
 pub struct Walk {
     pub starts: [u8; 31],
     pub count: u8,

@@ -6,9 +6,8 @@ use Rattle.bits.specs.Bits.{Bits, bit, image}
 use Rattle.bits.proofs.Cases.{both, true→T}
 use Rattle.bits.proofs.Digits.{image_bit}
 use Rattle.floor.specs.declared.Total.TheVariants.{Cars}
-use Rattle.floor.specs.Cars.{cars}
 use Rattle.floor.specs.Tests.{all_hold}
-use Rattle.floor.specs.Sound.{sound, total}
+use Rattle.floor.specs.Sound.{total}
 use Rattle.floor.proofs.Promises.{sound_exactly}
 use Rattle.rules.specs.declared.Instruction.{Instruction}
 use Rattle.rules.specs.declared.Verdict.{Verdict}

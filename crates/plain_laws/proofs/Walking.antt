@@ -2,7 +2,7 @@
 -- behind some cells, further along the walk, goes with each step. Assumes nothing.
 use mathlib.Core.Path.{◌≡◌, refl, sym, ap, ◌∙◌}
 use mathlib.Core.Logic.{⊎_elim}
-use mathlib.Core.Bool.{Bool, true, false, cond, not, ◌&&◌, and-true, and_false}
+use mathlib.Core.Bool.{Bool, true, false, cond, not, ◌&&◌, and-true, and-false}
 use mathlib.Core.List.{List, [], ◌∷◌, ◌++◌}
 use Prim.Native.Nat.{ℕ, zero, suc, ◌+◌, ◌≤◌, ◌<◌}
 use native.Mathlib.Nat.{eq-or-lt_of_le}
@@ -36,7 +36,7 @@ module _ (f : Bits) where
     stand = p.stand;
     on = λ j a h. ⊎_elim
         (λ (i : k ≡ j). omega (arith, p.before j (omega arith), ap digit (and-true half), ap (λ (b : Bool). digit (half && b)) (eq-eqb k j i), ap digit (e ∙ ap f i)))
-        (λ (l : k < j). omega (arith, p.on j l h, ap digit (and_false half), ap (λ (b : Bool). digit (half && b)) (ne_eqb k j (omega arith)))) (eq-or-lt_of_le a);
+        (λ (l : k < j). omega (arith, p.on j l h, ap digit (and-false half), ap (λ (b : Bool). digit (half && b)) (ne_eqb k j (omega arith)))) (eq-or-lt_of_le a);
     before = λ j h. p.before j (omega arith);
   }
 
@@ -99,7 +99,7 @@ module _ (f : Bits) where
     pairs_laid zero k false e s p = let i : k ≡ 20 = omega arith in rw i p
     pairs_laid (suc n) k true e s p =
         let (t, rest) = both (f k) (paired n (suc k) false f) s in
-        rw (and_false (f k)) (passes k true _ (sym t) (pairs_laid n (suc k) false (omega arith) rest p))
+        rw (and-false (f k)) (passes k true _ (sym t) (pairs_laid n (suc k) false (omega arith) rest p))
     pairs_laid (suc n) k false e s p = rw (and-true (f k)) (go (f k) refl s (λ b t. pairs_laid n (suc k) b (omega arith) t p))
       where
         room : (n : ℕ) → suc n + k ≡ 20 → paired n (suc k) true f ≡ true → k < 19

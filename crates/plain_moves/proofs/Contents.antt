@@ -88,12 +88,12 @@ told_set {n} {f} {a} {x} {v} p k u h e =
     one j false = refl
 
 -- several
-pub told_stored : {n : ℕ} {f : Bits} {a : List Bool} {x : ℕ → Content} {v : Bool} → Told n f a x → (ks : List ℕ) (u : Content)
+pub told_stored : {n : ℕ} {f : Bits} {v : Bool} {a : List Bool} {x : ℕ → Content} → Told n f a x → (ks : List ℕ) (u : Content)
     → ((k : ℕ) → T (elem k ks) → k < n) → v ≡ has u f → Told n f (stored ks v a) (λ j. cond (elem j ks) u (x j))
 unfolding stored
 told_stored p [] u h e = p
-told_stored {n} {f} {a} {x} {v} p (k ∷ ks) u h e =
-    let r = told_stored (told_set p k u (h k (elem_here k ks)) e) ks u (λ j m. h j (elem_there k j ks m)) e in
+told_stored {n} {f} {v} {a} {x} p (k ∷ ks) u h e =
+    let r = told_stored {a = set a k v} {x = λ j. cond (eqb k j) u (x j)} (told_set p k u (h k (elem_here k ks)) e) ks u (λ j m. h j (elem_there k j ks m)) e in
     record { is = r.is ∙ listed_same n _ _ (λ j l. one j (elem j ks) (eqb k j)) }
   where
     one : (j : ℕ) (b c : Bool) → has (cond b u (cond c u (x j))) f ≡ has (cond (c || b) u (x j)) f

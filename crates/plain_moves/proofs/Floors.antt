@@ -1,9 +1,7 @@
 -- A floor put together from what a record's bits say, and back: its arrays, its height, and what no instruction of a kind touches.
 -- Assumes nothing.
-use mathlib.Core.Path.{◌≡◌, refl, ap, ◌∙◌}
-use mathlib.Core.Bool.{Bool}
-use mathlib.Core.List.{List, [], ◌∷◌, map}
-use Prim.Native.Nat.{ℕ, suc, ◌+◌, ◌-◌, ◌≤◌, ◌<◌}
+use mathlib.Core.Path.{◌≡◌, refl, ◌∙◌}
+use Prim.Native.Nat.{ℕ, ◌+◌, ◌-◌, ◌≤◌, ◌<◌}
 use native.Mathlib.Omega.{arith}
 use lib.ListN.{length}
 use Rattle.bits.specs.Bits.{Bits, bit}
@@ -39,13 +37,9 @@ pub record Sized (f : Floor) : Type 0 where
   pub cells : length f.cells ≡ 40
   pub slots : length f.slots ≡ 12
 
--- the same as the rules of a struct's fields say it
-pub sized : (f : Floor) → length (map (λ v. v) f.cells) ≡ 40 → length (map (λ v. v) f.slots) ≡ 12 → Sized f
-sized f a b = record { cells = same f.cells ∙ a; slots = same f.slots ∙ b }
-  where
-    same : (l : List Bool) → length l ≡ length (map (λ v. v) l)
-    same [] = refl
-    same (x ∷ l) = ap suc (same l)
+-- the same from the lengths alone
+pub sized : (f : Floor) → length f.cells ≡ 40 → length f.slots ≡ 12 → Sized f
+sized f a b = record { cells = a; slots = b }
 
 module _ (f : Floor) where
   -- an array that is kept, by the bits that it stands for

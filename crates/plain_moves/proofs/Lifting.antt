@@ -9,7 +9,7 @@ use lib.ListN.{get_or, set}
 use borrow.Author.Tests.{eq-eqb, ne_eqb, eqb-true}
 use Rattle.bits.specs.Bits.{Bits, bit, all_set}
 use Rattle.bits.proofs.Cases.{split}
-use Rattle.floor.specs.Floor.{raised_car, height_low, height_high, street, basement, lift_cells}
+use Rattle.floor.specs.Floor.{raised_car, height_low, height_high, basement, lift_cells}
 use Rattle.floor.specs.Tests.{Test, fact, choose, holds, at_basement, changed}
 use Rattle.floor.specs.Tests.{set as set_at}
 use Rattle.rules.specs.declared.Instruction.TheVariants.{Lift}

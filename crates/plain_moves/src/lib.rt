@@ -1,5 +1,7 @@
 // What an instruction or a car event makes of a plain floor, and which parts of the garage an instruction takes. What each stands for is in
 // specs/.
+#![tactic(auto)]
+
 ghost use Rattle.std.specs.Prelude.{◌≡◌, true};
 ghost use Rattle.bits.specs.Bits.{bit};
 ghost use Rattle.floor.specs.Tests.{holds, under_way};
@@ -18,7 +20,7 @@ mod marks;
 mod shuttles;
 
 // Parts of the garage: some cells, some slots, and the lift or not. An area is such, and what is set apart.
-#[derive(Drop)]
+#[derive(Clone, Copy)]
 pub struct Parts {
     pub cells: [bool; 40],
     pub slots: [bool; 12],

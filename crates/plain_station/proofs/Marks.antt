@@ -1,7 +1,7 @@
 -- Eight marks, each yes or no, and the byte that carries them; with one more, and all of the first n. Assumes nothing.
 use Rattle.std.proofs.Common.{◌≡◌, ℕ, ◌+◌, ◌-◌, ◌*◌, ◌^◌, ◌<◌, ◌≤◌, Bool, true, false, not, ◌||◌, eqb, ltb, List, length, get_or, set, sym, refl, ap, ◌∙◌, arith, length-set, get_or-set_other, get_or-set_same, ltb-false, ltb-true, ne_eqb, eqb-true}
 use mathlib.Core.Path.{fun_ext}
-use mathlib.Core.Bool.{or_true}
+use mathlib.Core.Bool.{or-true}
 use mir.Val.{bool_byte}
 use borrow.Author.Tests.{eqb-false}
 use lib.Bits.{bit_or}
@@ -52,7 +52,7 @@ gather_ends {l} {k} g h = let z : k ≡ 0 = omega arith in g.held ∙ ap (λ (j 
 marked_all : (l : List Bool) (i : ℕ) → length l ≡ 8 → i < 8 → (j : ℕ) → bit (bit_or (packed 8 0 (at l)) (2 ^ i)) j ≡ at (set l i true) j
 marked_all l i e h j = bit_or_lem (packed 8 0 (at l)) (2 ^ i) j ∙ split (ltb j 8)
     (λ t. rw (mark_at l j (ltb-true j 8 t), bit_pow i j) (split (eqb i j)
-    (λ u. rw (u, or_true (at l j), ← eqb-true i j u) (sym (get_or-set_same l i true false (omega arith))))
+    (λ u. rw (u, or-true (at l j), ← eqb-true i j u) (sym (get_or-set_same l i true false (omega arith))))
     (λ u. let ne = eqb-false i j u in rw u (one (at l j) ∙ sym (get_or-set_other l i j true false (λ z. ne (sym z)))))))
     (λ t. let k = ltb-false j 8 t in
     rw (bit_past (packed 8 0 (at l)) 8 j (packed_lt 8 0 (at l)) k, bit_pow i j, ne_eqb i j (λ z. omega arith))

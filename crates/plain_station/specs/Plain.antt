@@ -1,5 +1,5 @@
 -- The plain station, how it stands for a station, and what its calls hand back. Assumes nothing.
-use Rattle.std.specs.Prelude.{ℕ, Bool, false, cond, List, length, ◌==◌, slice_index_or}
+use Rattle.std.specs.Prelude.{ℕ, false, cond, List, length, ◌==◌, slice_index_or}
 use Rattle.bits.specs.Bits.{Bits, bit, packed, image}
 use Rattle.answers.specs.declared.Answer.{Answer}
 use Rattle.answers.specs.declared.Answer.TheVariants.{Taken, BadField, SetOutstanding, EventImpossible, OutOfTurn, SetApart, KeptOpen}

@@ -1,5 +1,7 @@
 // The station as the paper has it: a plain floor, what is set apart, the outstanding set and which of its instructions are answered. It
 // takes requests, results and car events as the packed station does, past its test of fitness. What each call hands back stands in specs/.
+#![tactic(auto)]
+
 ghost use Rattle.std.specs.Prelude.{◌≡◌, false, slice_index_or};
 ghost use Rattle.bits.specs.Bits.{bit, packed};
 ghost use Rattle.station.specs.Calls as packed_calls;
@@ -17,7 +19,7 @@ mod results;
 mod sets;
 
 // The station: the instructions are the request's own five bytes each, unused places zero.
-#[derive(Drop)]
+#[derive(Clone, Copy)]
 pub struct Plain {
     pub floor: Floor,
     pub apart: Parts,
@@ -28,7 +30,7 @@ pub struct Plain {
 }
 
 // What a call hands back.
-#[derive(Drop)]
+#[derive(Clone, Copy)]
 pub struct PlainOutcome {
     pub station: Plain,
     pub answer: Answer,

@@ -1,5 +1,7 @@
 // Plans tried before the day: a starting image and sets of instructions as bytes, judged by the station's own calls. What the bytes say, what
 // the judgement is and on what grounds stands in specs/Plans.antt.
+#![tactic(auto)]
+
 ghost use Rattle.std.specs.Prelude.{◌≡◌, ◌*◌, length, if◌then◌else◌};
 ghost use Rattle.bits.specs.Bits.{bit};
 ghost use Rattle.floor.specs.Tests.{holds};
@@ -15,7 +17,7 @@ use std::num::wrapping_sub_u16;
 mod sets;
 
 // The judgement of a plan: 0 accepted, or why not; and the first set refused, from 0, or 255.
-#[derive(Drop)]
+#[derive(Clone, Copy)]
 pub struct Judged {
     pub number: u8,
     pub set: u8,
@@ -24,7 +26,7 @@ pub struct Judged {
 // The same, and on what grounds: the place of the instruction at fault, and the earlier one that it overlaps, each from 0 or 255; the parts
 // that both take, or the lift where it is out of turn, as what is set apart has them; and the record before that set, or the last one, or 0
 // where no set was tried.
-#[derive(Drop)]
+#[derive(Clone, Copy)]
 pub struct Grounds {
     pub number: u8,
     pub set: u8,

@@ -1,5 +1,7 @@
 // The entries for a host in C or Rust that tries plans: a plan is lent as its bytes, and the judgement is its number plus 256 times the first
 // set refused, from 0, or 255. What is told of it stands in specs/Entries.antt.
+#![tactic(auto)]
+
 ghost use Rattle.std.specs.Prelude.{◌≡◌, ◌+◌, ◌*◌};
 ghost use Rattle.plan.specs.Plans.{judgement};
 ghost use Rattle.rooms.specs.Rooms.{LeavesRoom};

@@ -3,7 +3,7 @@ use mathlib.Core.Path.{◌≡◌, refl, sym, ap, ap₂, ◌∙◌}
 use mathlib.Core.List.{List, [], ◌∷◌, ◌++◌}
 use Prim.Native.Nat.{ℕ, zero, suc, ◌+◌, ◌*◌, ◌≤◌}
 use native.Mathlib.Omega.{arith}
-use lib.ListN.{length, get_or, take, drop, length_append, length-drop, take-append-drop}
+use lib.ListN.{length, get_or, take, drop, length-append, length-drop, take-append-drop}
 use lib.Seq.{take_at, drop_at, drop-drop, drop-cons}
 use Rattle.codec.specs.Bytes.{little_endian, from_little_endian, Bytes}
 use Rattle.codec.proofs.Numbers.{bytes_drop, number_back, number_form}
@@ -17,7 +17,7 @@ use Rattle.plan_laws.specs.Promises.{PlanReadsBack, PlanOneForm}
 sets_size : (xs : List PlanSet) → Fives xs → length (sets_bytes xs) ≡ sizes xs
 sets_size [] f = refl
 sets_size (x ∷ xs) f =
-    let l = length_append x.bytes (sets_bytes xs) in
+    let l = length-append x.bytes (sets_bytes xs) in
     omega (arith, l, f.0, sets_size xs f.1)
 
 sets_back : (xs : List PlanSet) → Fives xs → sets_in (length xs) (sets_bytes xs) ≡ xs

@@ -1,7 +1,7 @@
 -- Which numbers a set of a plan is told: no set is outstanding there and nothing is set apart. Assumes nothing.
 use mathlib.Core.Path.{◌≡◌, refl, sym, ap, subst, ◌∙◌}
 use mathlib.Core.Logic.{◌⊎◌, inl, inr}
-use mathlib.Core.Bool.{Bool, true, false, ◌&&◌, and_false}
+use mathlib.Core.Bool.{Bool, true, false, ◌&&◌, and-false}
 use mathlib.Core.List.{List, []}
 use Prim.Native.Nat.{ℕ, ◌^◌, ◌≤◌, ◌<◌}
 use native.Mathlib.Omega.{arith}
@@ -39,7 +39,7 @@ pub record Told (o : Outcome) : Type 0 where
 -- nothing touches what is set apart, where nothing is
 untouching : (set : List ℕ) (i : ℕ) → touches set 0 i ≡ false
 unfolding touches
-untouching set i = none_is 64 _ (λ k h. ap (λ (b : Bool). bit (held_parts (code_at set i)) k && b) (bit_none k) ∙ and_false (bit (held_parts (code_at set i)) k))
+untouching set i = none_is 64 _ (λ k h. ap (λ (b : Bool). bit (held_parts (code_at set i)) k && b) (bit_none k) ∙ and-false (bit (held_parts (code_at set i)) k))
 
 module _ (s : Station) (f : fit s ≡ true) (idle : s.count ≡ 0) (whole : s.apart ≡ 0) (n : ℕ) (set : List ℕ) where
   none_apart : ltb (least n (touches set s.apart)) n ≡ false

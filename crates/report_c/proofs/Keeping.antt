@@ -7,7 +7,7 @@ use Prim.Native.Nat.{ℕ, ◌+◌, ◌/◌, ◌≤◌, ◌<◌}
 use native.Mathlib.Omega.{arith}
 use borrow.Author.Tests.{le-ltb, leb-false, ltb-false, eqb-true, eqb-false}
 use lib.Dec.{eqb, leb, ltb}
-use lib.ListN.{get_or, length, drop, length_append}
+use lib.ListN.{get_or, length, drop, length-append}
 use Rattle.bits.specs.Bits.{digit}
 use Rattle.bits.proofs.Cases.{split}
 use Rattle.bits.proofs.Search.{lt_or_ge}
@@ -93,7 +93,7 @@ counted_room room station message w h l =
     (λ e. let f = eqb-true c.full none_full e in
     let z = totals_size c.totals in
     record {
-      long = rw (le-ltb _ _ h, le-ltb _ _ l, e, length_append (totals_bytes c.totals) past) (omega arith);
+      long = rw (le-ltb _ _ h, le-ltb _ _ l, e, length-append (totals_bytes c.totals) past) (omega arith);
       typed = typed;
       totals = rw (le-ltb _ _ h, le-ltb _ _ l, e) (totals_read_back c.totals past typed);
       full = rw (le-ltb _ _ h, le-ltb _ _ l, e) (omega arith);

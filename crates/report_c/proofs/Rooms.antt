@@ -5,7 +5,7 @@ use mathlib.Core.List.{List, ◌++◌}
 use Prim.Native.Nat.{ℕ, ◌+◌, ◌*◌, ◌-◌, ◌≤◌, ◌<◌}
 use native.Mathlib.Omega.{arith}
 use borrow.Author.Tests.{lt-ltb, le-ltb, eq-eqb, ne_eqb}
-use lib.ListN.{length, take, drop, replicate, length_append}
+use lib.ListN.{length, take, drop, replicate, length-append}
 use lib.Seq.{take_at, take-length, length-take-le}
 use Rattle.bits.proofs.Cases.{passed, failed}
 use Rattle.answers.specs.declared.Answer.TheVariants.{Taken, BadField, NoRoom}
@@ -89,7 +89,7 @@ pub text_fits : (s : List ℕ) (x : Text) → x ≡ text_of s → x.size ≤ len
 text_fits s x e =
     let size : x.size ≡ length s = ap (λ (t : Text). t.size) e in
     let bytes : length x.bytes ≡ length s + length {A = ℕ} (replicate (1092 - length s) 0) =
-    ap (λ (t : Text). length t.bytes) e ∙ length_append s (replicate (1092 - length s) 0) in
+    ap (λ (t : Text). length t.bytes) e ∙ length-append s (replicate (1092 - length s) 0) in
     omega arith
 
 -- its own bytes

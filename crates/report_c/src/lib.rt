@@ -1,5 +1,7 @@
 // The entries for a host in C that keeps the report's totals beside its station: the totals are lent as 208 bytes, an answer is its number
 // plus 256 times a place, and a refused call writes nothing. What each answers and leaves stands in specs/Entries.antt.
+#![tactic(auto)]
+
 ghost use Rattle.std.specs.Prelude.{◌≡◌, ◌++◌, ◌≤◌, length, take, drop};
 ghost use Rattle.totals.specs.Totals.{totals_of};
 ghost use Rattle.rooms.specs.Rooms.{LeavesRoom};
@@ -45,7 +47,7 @@ fn keep(counts: &[u32; SIZE], room: &mut [u8])
     let mut place: usize = 0;
     while place < SIZE {
         let four = codec::four_bytes(counts[place]);
-        bytes::copy(&four, &mut room[4 * place..4 * place + 4]);
+        codec::copy(&four, &mut room[4 * place..4 * place + 4]);
         place += 1;
     }
 }
@@ -53,8 +55,7 @@ fn keep(counts: &[u32; SIZE], room: &mut [u8])
 // ---- the entries
 
 // Writes the totals of a new report.
-#[unsafe(no_mangle)]
-pub extern "C" fn report_start(totals: &mut [u8]) -> u32
+pub fn report_start(totals: &mut [u8]) -> u32
     ensures { LeavesRoom (starting totals.old) result totals.new }
 {
     if totals.len() < TOTALS {
@@ -66,8 +67,7 @@ pub extern "C" fn report_start(totals: &mut [u8]) -> u32
 }
 
 // Counts the first message of a run, as it is before the lent station is given it; where a total is full, its place is told.
-#[unsafe(no_mangle)]
-pub extern "C" fn report_message(totals: &mut [u8], station: &[u8], message: &[u8]) -> u32
+pub fn report_message(totals: &mut [u8], station: &[u8], message: &[u8]) -> u32
     ensures { LeavesRoom (counting totals.old station.now message.now) result totals.new }
 {
     if totals.len() < TOTALS {
@@ -102,13 +102,12 @@ fn put(line: [u8; 1092], size: usize, out: &mut [u8]) -> u32
     if out.len() < size {
         return say(Answer::NoRoom);
     }
-    bytes::copy(&line[..size], out);
+    codec::copy(&line[..size], out);
     say(Answer::Taken) + 65536 * (size as u32)
 }
 
 // The report's text: one line for each total in force, or the name of the one that is full.
-#[unsafe(no_mangle)]
-pub extern "C" fn report_lines(totals: &[u8], full: u8, out: &mut [u8]) -> u32
+pub fn report_lines(totals: &[u8], full: u8, out: &mut [u8]) -> u32
     ensures { LeavesRoom (lining totals.now full out.old) result out.new }
 {
     if !known(full) {

@@ -7,7 +7,7 @@ use Prim.Native.Nat.{ℕ, ◌/◌, ◌%◌, ◌≤◌, ◌<◌}
 use native.Mathlib.Omega.{arith}
 use borrow.Author.Tests.{le-ltb, ltb-true, eqb-true, eq-eqb}
 use lib.Dec.{eqb, ltb}
-use lib.ListN.{get_or, length, drop, replicate, length_append, get_or-replicate, get_or-eq_default}
+use lib.ListN.{get_or, length, drop, replicate, length-append, get_or-replicate, get_or-eq_default}
 use Rattle.bits.proofs.Cases.{split}
 use Rattle.bits.proofs.Search.{lt_or_ge}
 use Rattle.totals.specs.declared.Totals.{Totals}
@@ -47,7 +47,7 @@ unfolding starting writes
 new_open room h = record {
   long =
       let z = totals_size blank in
-      rw (le-ltb _ _ h, length_append (totals_bytes blank) (drop (length (totals_bytes blank)) room)) (omega arith);
+      rw (le-ltb _ _ h, length-append (totals_bytes blank) (drop (length (totals_bytes blank)) room)) (omega arith);
   typed = subst TotalsTyped (sym (new_blank room h)) blank_typed;
   none = refl;
 }

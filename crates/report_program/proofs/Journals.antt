@@ -1,11 +1,11 @@
 -- The week of a journal, append by append. Assumes nothing.
 use mathlib.Core.Path.{◌≡◌, refl, sym, ap, ap₂, subst, ◌∙◌}
-use mathlib.Core.Bool.{Bool, true, false, cond}
+use mathlib.Core.Bool.{Bool, true, cond}
 use mathlib.Core.List.{List, [], ◌∷◌, ◌++◌, append_assoc, append-nil}
-use Prim.Native.Nat.{ℕ, zero, suc, ◌+◌, ◌≤◌, ◌<◌}
+use Prim.Native.Nat.{ℕ, ◌<◌}
 use native.Mathlib.Omega.{arith}
 use lib.Dec.{eqb}
-use lib.ListN.{length, drop, get_or}
+use lib.ListN.{length, get_or}
 use lib.Seq.{drop-length}
 use Rattle.bits.specs.Places.{join}
 use Rattle.bits.proofs.Cases.{split}
@@ -13,7 +13,6 @@ use Rattle.station.specs.declared.Station.{Station}
 use Rattle.service.specs.Service.{respond}
 use Rattle.totals.specs.declared.Happened.{Happened}
 use Rattle.totals.specs.declared.Totals.{Totals}
-use Rattle.totals.specs.declared.Tally.{Tally}
 use Rattle.totals.specs.Totals.{none_full, counted_in, counted_all}
 use Rattle.week.specs.Weeks.{happened, happenings_for, happenings}
 use Rattle.week.proofs.Pieces.{happenings_more}

@@ -3,11 +3,10 @@
 use mathlib.Core.Path.{◌≡◌, refl, sym, ap, ap₂, subst, ◌∙◌}
 use mathlib.Core.Bool.{Bool, true, false, cond}
 use mathlib.Core.List.{List, [], ◌∷◌, ◌++◌, append_assoc}
-use Prim.Native.Nat.{ℕ, ◌≤◌, ◌<◌}
+use Prim.Native.Nat.{ℕ, ◌≤◌}
 use native.Mathlib.Omega.{arith}
 use lib.ListN.{length, take, drop, take-append-drop}
 use lib.Seq.{take-take, take_at}
-use Rattle.bits.specs.Places.{join}
 use Rattle.bits.proofs.Cases.{clash}
 use Rattle.station.specs.declared.Station.{Station}
 use Rattle.station.specs.Station.{start_of}
@@ -15,13 +14,11 @@ use Rattle.streams.specs.declared.Input.{Input}
 use Rattle.streams.specs.declared.Input.TheVariants.{Bytes, Ended, Failed, Full}
 use Rattle.streams.specs.Input.{Fills}
 use Rattle.totals.specs.declared.Totals.{Totals}
-use Rattle.totals.specs.declared.Tally.{Tally}
-use Rattle.totals.specs.Totals.{totals_of, none_full, blank, LeavesCounts}
+use Rattle.totals.specs.Totals.{totals_of, blank, LeavesCounts}
 use Rattle.service.specs.Turns as turns
 use Rattle.service.specs.Turns.{Holding, holding_front}
 use Rattle.service.proofs.TurnStatements.{cut_below}
 use Rattle.week.specs.declared.Counted.{Counted}
-use Rattle.week.specs.Weeks.{week_of}
 use Rattle.week.specs.Counts.{Counting, Counts, tally_in, count_on, count_end, count_fed}
 use Rattle.week.proofs.Pieces.{left_cut, week_cut_anywhere}
 use Rattle.report_program.specs.declared.Between.{Between}

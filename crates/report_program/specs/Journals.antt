@@ -2,7 +2,6 @@
 use Rattle.std.specs.Prelude.{◌≡◌, true, List, [], ◌∷◌, ◌++◌, ℕ, length, get_or}
 use Rattle.station.specs.declared.Station.{Station}
 use Rattle.totals.specs.declared.Happened.{Happened}
-use Rattle.totals.specs.declared.Tally.{Tally}
 use Rattle.totals.specs.Totals.{totals_of, blank, counted_all}
 use Rattle.week.specs.Weeks.{happenings}
 use Rattle.checksum.specs.Checksum.{crc_over}

@@ -1,21 +1,25 @@
 // Reads recorded messages from standard input, counts them as the station answers them, and prints the week on standard output. What
 // counts stands in weeks, what is printed in lines, what is tried again and what is told of a failure in streams; no contract can say
 // what is read and written.
+#![tactic(auto)]
+
 ghost use Rattle.std.specs.Prelude.{◌≡◌, ◌≤◌, ◌<◌, length};
 ghost use Rattle.report_program.specs.Turning.{count_turn, close_turn, failed_turn, TurnIs, TurnByRead, Short, Week, HasWeek};
 ghost use Rattle.streams.specs.Input.{Fills};
 ghost use Rattle.totals.specs.Totals.{totals_of, blank};
 
 use station::Station;
+use std::fs::{File, OpenOptions};
+use std::io::{IsTerminal, Write};
 use streams::Input;
 use totals::{NOTHING, Totals};
 
-// Where it says how far it is, if that is a terminal: bin/report opens it on its own standard error. The program's is for failures.
-const PROGRESS: i32 = 3;
+// Where it says how far it is, if that is a terminal: bin/report opens descriptor 3 on its own standard error. The program's is for failures.
+const PROGRESS: &str = "/proc/self/fd/3";
 
 // Between two turns: the station, how many bytes are held at the front of the buffer, the place of the total that is full, whether nothing
 // more is to be read, and whether a read failed, so that nothing is to be printed.
-#[derive(Drop)]
+#[derive(Clone, Copy)]
 struct Between {
     station: Station,
     have: usize,
@@ -25,10 +29,10 @@ struct Between {
 }
 
 // Reads once past the bytes that are held.
-fn read_on(buf: &mut [u8], have: usize) -> Input
+fn read_on(rt: &HostRuntime, buf: &mut [u8], have: usize) -> Input
     ensures { Fills buf.old have result buf.new }
 {
-    streams::fill(libc::STDIN_FILENO, buf, have, b"report: standard input")
+    streams::fill(rt, &mut rt.stdin(), buf, have, b"report: standard input")
 }
 
 // Counts what came whole, and holds the rest: less than a message, so that a read that brings nothing is always the input's end.
@@ -77,13 +81,13 @@ fn failed(s: Station) -> Between
 }
 
 // Reads once, counts what came whole, and holds the rest.
-fn one_turn(t: Between, counts: &mut [u32; 52], buf: &mut [u8]) -> Between
+fn one_turn(rt: &HostRuntime, t: Between, counts: &mut [u32; 52], buf: &mut [u8]) -> Between
     requires { (t.have < 45) × (45 ≤ length buf.old) }
     ensures { Short result × TurnByRead (totals_of counts.old) t buf.old result counts.new buf.new }
 {
     let station = t.station;
     let have = t.have;
-    let input = read_on(buf, have);
+    let input = read_on(rt, buf, have);
     match input {
         Input::Bytes(end) => count(station, counts, buf, end),
         Input::Ended => close(station, counts, buf, have),
@@ -92,22 +96,41 @@ fn one_turn(t: Between, counts: &mut [u32; 52], buf: &mut [u8]) -> Between
     }
 }
 
-// Says how far it is: a dot for every 1,024 reads, and the end of that line.
-fn say_dot(shown: bool, reads: u64) {
-    if shown & (reads % 1024 == 0) {
-        io::write_all(PROGRESS, b".");
+// The terminal where it says how far it is, if there is one.
+fn progress(rt: &HostRuntime) -> Option<File> {
+    let file = OpenOptions::new().write(true).open(rt, PROGRESS).ok()?;
+    if file.is_terminal() { Some(file) } else { None }
+}
+
+// Writes a byte to the terminal, if there is one.
+fn show(shown: &Option<File>, byte: u8) {
+    if let Some(file) = shown {
+        let mut terminal: &File = file;
+        let _ = terminal.write_all(&[byte]);
     }
 }
 
-fn end_dots(shown: bool, reads: u64) {
-    if shown & (1024 <= reads) {
-        io::write_all(PROGRESS, b"\n");
+// Says how far it is: a dot for every 1,024 reads, and the end of that line.
+fn say_dot(shown: &Option<File>, reads: u64) {
+    if reads % 1024 == 0 {
+        show(shown, b'.');
+    }
+}
+
+fn end_dots(shown: &Option<File>, reads: u64) {
+    if 1024 <= reads {
+        show(shown, b'\n');
     }
 }
 
 // Turn after turn, in totals that nothing is counted in yet; no input is so long that it takes more. At its end they are the week of what
 // was read.
-fn session(counts: &mut [u32; 52], buf: &mut [u8]) -> Between
+fn session(
+    rt: &HostRuntime,
+    shown: &Option<File>,
+    counts: &mut [u32; 52],
+    buf: &mut [u8],
+) -> Between
     requires { (45 ≤ length buf.old) × (counts.old ≡ blank.counts) }
     ensures { HasWeek result counts.new }
 {
@@ -119,10 +142,9 @@ fn session(counts: &mut [u32; 52], buf: &mut [u8]) -> Between
         stop: false,
         failed: false,
     };
-    let shown = libc::isatty(PROGRESS) == 1;
     let mut reads: u64 = 0;
     while reads < u64::MAX {
-        t = one_turn(t, counts, buf);
+        t = one_turn(rt, t, counts, buf);
         if t.stop {
             end_dots(shown, reads);
             return t;
@@ -134,14 +156,15 @@ fn session(counts: &mut [u32; 52], buf: &mut [u8]) -> Between
 }
 
 // Prints the week.
-fn print(counts: [u32; 52], full: u8)
+fn print(rt: &HostRuntime, counts: [u32; 52], full: u8)
     requires { Week counts full }
 {
     let t = Totals { counts };
     let text = report_text::report(t, full);
     let bytes = text.bytes;
     streams::send(
-        libc::STDOUT_FILENO,
+        rt,
+        &mut rt.stdout(),
         &bytes,
         text.size,
         b"report: standard output",
@@ -149,17 +172,18 @@ fn print(counts: [u32; 52], full: u8)
 }
 
 // 64 KiB of input at a time.
-fn main() {
-    if commands::told_version(b"report", b"report: standard output") {
+fn main(rt: HostRuntime) {
+    if commands::told_version(&rt, b"report", b"report: standard output") {
         return;
     }
-    if commands::has_words(b"report: usage: report < MESSAGES\n") {
+    if commands::has_words(&rt, b"report: usage: report < MESSAGES\n") {
         return;
     }
     let mut counts = [0u32; 52];
     let mut buf = [0u8; 65536];
-    let t = session(&mut counts, &mut buf);
+    let shown = progress(&rt);
+    let t = session(&rt, &shown, &mut counts, &mut buf);
     if t.stop & !t.failed {
-        print(counts, t.full);
+        print(&rt, counts, t.full);
     }
 }

@@ -5,7 +5,7 @@ use Prim.Native.Nat.{ℕ, zero, suc, ◌+◌, ◌-◌, ◌*◌, ◌/◌, ◌%◌
 use native.Mathlib.Nat.{pow-suc, pow-le-pow_right}
 use native.Mathlib.Omega.{arith}
 use lib.Dec.{ltb}
-use lib.ListN.{length, length_append}
+use lib.ListN.{length, length-append}
 use borrow.Author.Tests.{ltb-true, ltb-false, lt-ltb, le-ltb}
 use Rattle.io.specs.Digits.{hex_digit_ascii, last_digits, IsDigitCount}
 use Rattle.bits.proofs.Cases.{split}
@@ -64,7 +64,7 @@ pub decimal_short : (k n : ℕ) → n < 10 ^ suc k → length (decimal n) ≤ su
 decimal_short zero n b = rw (decimal_small n b) (omega arith)
 decimal_short (suc k) n b = split (ltb n 10)
     (λ t. rw (decimal_small n (ltb-true n 10 t)) (omega arith))
-    (λ t. rw (decimal_more n (ltb-false n 10 t), length_append) (omega (arith, decimal_short k (n / 10) (omega arith))))
+    (λ t. rw (decimal_more n (ltb-false n 10 t), length-append) (omega (arith, decimal_short k (n / 10) (omega arith))))
 
 -- ---- it is no other number's
 

@@ -6,7 +6,7 @@ use mathlib.Core.Logic.{◌⊎◌, inl, inr}
 use Prim.Native.Nat.{ℕ, ◌+◌, ◌-◌, ◌≤◌, ◌<◌}
 use native.Mathlib.Omega.{arith}
 use lib.Dec.{T}
-use lib.ListN.{length, length_append}
+use lib.ListN.{length, length-append}
 use Rattle.bits.specs.Search.{every}
 use Rattle.bits.proofs.Cases.{T→true}
 use Rattle.bits.proofs.Search.{each, lt_or_ge}
@@ -54,7 +54,7 @@ pub line_length : (p v : ℕ) → length (line_of (name_at p) v) ≡ length (tot
 unfolding line_of ascii
 line_length p v =
     let name = total_name (name_at p) in
-    length_append name (ascii " " ++ (decimal v ++ ascii "\n")) ∙ omega (arith, length_append (decimal v) (ascii "\n"))
+    length-append name (ascii " " ++ (decimal v ++ ascii "\n")) ∙ omega (arith, length-append (decimal v) (ascii "\n"))
 
 -- ---- which are printed
 

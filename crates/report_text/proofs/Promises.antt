@@ -5,7 +5,7 @@ use mathlib.Core.List.{List, [], ◌∷◌}
 use Prim.Native.Nat.{ℕ, zero, suc, ◌+◌, ◌*◌, ◌≤◌, ◌<◌}
 use native.Mathlib.Omega.{arith}
 use lib.Dec.{T, eqb, ltb}
-use lib.ListN.{length, get_or, length_append, length-map}
+use lib.ListN.{length, get_or, length-append, length-map}
 use borrow.Author.Tests.{eqb-true, eq-eqb, ltb-true}
 use Rattle.bits.specs.Bits.{count}
 use Rattle.bits.specs.Places.{from, join}
@@ -83,7 +83,7 @@ as_many_lines t = length-map in_force _ ∙ in_force_lem
 text_short : (c : List ℕ) (n : ℕ) → ((p : ℕ) → get_or c p 0 ≤ most_counted) → length (text_to c n) ≤ n * 21
 text_short c zero h = omega (arith, ap length (text_none c))
 text_short c (suc n) h =
-    let more = ap length (text_more c n) ∙ length_append (text_to c n) (line_if n (get_or c n 0)) in
+    let more = ap length (text_more c n) ∙ length-append (text_to c n) (line_if n (get_or c n 0)) in
     omega (arith, text_short c n h, line_if_short n (get_or c n 0) (omega (arith, h n)))
 
 pub report_fits : ReportFits
@@ -91,7 +91,7 @@ unfolding report_of full_line ascii
 report_fits t full h = go (eqb full none_full)
   where
     alone : (x : Name) → length (total_name x) ≤ 9 → length (full_line x) ≤ 1092
-    alone x l = omega (arith, length_append (total_name x) (ascii "\n"))
+    alone x l = omega (arith, length-append (total_name x) (ascii "\n"))
 
     go : (b : Bool) → length (cond b (join (report_lines t)) (full_line (name_at full))) ≤ 1092
     go true = rw (← text_all t.counts) (omega (arith, text_short t.counts 52 h))

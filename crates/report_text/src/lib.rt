@@ -1,4 +1,6 @@
 // The report as text: one line for each total. What each line says stands in specs/.
+#![tactic(auto)]
+
 ghost use Rattle.std.specs.Prelude.{◌≡◌, ◌++◌, ◌+◌, ◌<◌, ◌≤◌, length};
 ghost use Rattle.totals.specs.Totals.{name_at, totals_of};
 ghost use Rattle.bits.specs.Places.{join};
@@ -9,7 +11,7 @@ ghost use Rattle.report_text.specs.Private.{Laid, line_if};
 use totals::{NOTHING, Totals};
 
 // A text: its bytes, zero past them, and how many they are. There is room for a line of 21 bytes for each total, the longest that there is.
-#[derive(Drop)]
+#[derive(Clone, Copy)]
 pub struct Text {
     pub bytes: [u8; 1092],
     pub size: usize,

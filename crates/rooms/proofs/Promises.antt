@@ -5,7 +5,7 @@ use Prim.Native.Nat.{ℕ, ◌%◌, ◌^◌, ◌≤◌, ◌<◌}
 use native.Mathlib.Omega.{arith}
 use borrow.Author.Tests.{ne_eqb}
 use lib.Dec.{ltb}
-use lib.ListN.{length, get_or, take, drop, length_append, length-drop}
+use lib.ListN.{length, get_or, take, drop, length-append, length-drop}
 use lib.Seq.{take_at, take-add, length-take-le, drop_at, drop-cons, drop-drop, get_or-drop}
 use Rattle.bits.proofs.Cases.{split}
 use Rattle.codec.specs.Bytes.{little_endian, from_little_endian, Bytes}
@@ -22,7 +22,7 @@ use Rattle.rooms.proofs.Bytes.{within}
 
 pub station_fits : StationFits
 unfolding station_bytes
-station_fits s t = omega (arith, t.places, length_append s.set (little_endian 2 s.next ++ little_endian 8 s.apart))
+station_fits s t = omega (arith, t.places, length-append s.set (little_endian 2 s.next ++ little_endian 8 s.apart))
 
 -- what stands behind the set, the issue of the next one and what is set apart, reads back
 module _ (s : Station) (past : List ℕ) (t : StationTyped s) where
@@ -33,7 +33,7 @@ module _ (s : Station) (past : List ℕ) (t : StationTyped s) where
   behind_set = drop_at s.set behind 40 t.places
 
   long : 42 ≤ length (s.set ++ behind)
-  long = omega (arith, t.places, length_append s.set behind)
+  long = omega (arith, t.places, length-append s.set behind)
 
   next_back : from_little_endian 2 40 (s.set ++ behind) ≡ s.next
   next_back =

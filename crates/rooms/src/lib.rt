@@ -1,5 +1,7 @@
 // What the entries for C share: a station and an image in bytes, an answer as one number, and what an entry leaves in a room that it is
 // lent. Every function takes every input. What each answers and leaves stands in specs/Rooms.antt.
+#![tactic(auto)]
+
 ghost use Rattle.std.specs.Prelude.{◌≡◌, ◌≤◌, length};
 ghost use Rattle.rooms.specs.Rooms.{station_size, station_bytes, station_of, lent_station, image_bytes, returned, LeavesRoom, telling, outcome_kept, bytes_asked};
 
@@ -56,12 +58,12 @@ fn stored(bits: u64, count: u8, answered: u8, set: [u8; 40], next: u16, apart: u
 {
     let mut b = [0u8; STATION];
     let parts = wire::image_bytes(apart);
-    bytes::copy(&parts, &mut b[APART..STATION]);
+    codec::copy(&parts, &mut b[APART..STATION]);
     b[NEXT] = (next % 256) as u8;
     b[NEXT + 1] = (next / 256) as u8;
-    bytes::copy(&set, &mut b[10..NEXT]);
+    codec::copy(&set, &mut b[10..NEXT]);
     let image = wire::image_bytes(bits);
-    bytes::copy(&image, &mut b[..8]);
+    codec::copy(&image, &mut b[..8]);
     b[8] = count;
     b[9] = answered;
     b
@@ -104,7 +106,7 @@ pub fn tell(said: u32, src: &[u8], room: &mut [u8]) -> u32
     if said % 256 != 0 {
         return said;
     }
-    bytes::copy(src, room);
+    codec::copy(src, room);
     said
 }
 

@@ -17,7 +17,7 @@ pub code_reads_back : CodeReadsBack
 code_reads_back = laws.reads_back
 
 pub code_one_form : CodeOneForm
-code_one_form = laws.one_form
+code_one_form = laws.one_form_lem
 
 pub bytes_read_back : BytesReadBack
 unfolding read_bytes
@@ -36,7 +36,7 @@ pub bytes_one_form : BytesOneForm
 unfolding read_bytes
 bytes_one_form s i e = split (ltb (length s) 5)
     (λ t. let z : Bad ≡ Good i = rw t at e in absurd (let z : ◌≡◌ {A = ℕ} 0 1 = cc in omega arith))
-    (λ t. let (form, well) = laws.one_form (code_from s) i (rw t at e) in
+    (λ t. let (form, well) = laws.one_form_lem (code_from s) i (rw t at e) in
     (five s (ltb-false (length s) 5 t) ∙ ap (λ (x : Code). x.op ∷ x.a ∷ x.b ∷ x.c ∷ x.d ∷ []) form, well))
 
 pub event_reads_back : EventReadsBack

@@ -1,4 +1,6 @@
 // An instruction, the five bytes that carry it, and the car events. What they mean stands in specs/.
+#![tactic(auto)]
+
 ghost use Rattle.std.specs.Prelude.{◌≡◌, cond};
 ghost use Rattle.rules.specs.Rules.{well_formed};
 ghost use Rattle.rules.specs.Codes.{code_of, well_formed_only, read_code, read_bytes, read_event};
@@ -7,7 +9,7 @@ ghost use Rattle.rules.specs.Verdicts.{answer_for};
 use answers::{Answer, Reason};
 
 // An instruction, by value. The fields hold the numbers that a message carries.
-#[derive(Drop)]
+#[derive(Clone, Copy)]
 pub enum Instruction {
     Belts {
         row: u8,
@@ -33,7 +35,7 @@ pub enum Instruction {
 }
 
 // An instruction's five bytes.
-#[derive(Drop)]
+#[derive(Clone, Copy)]
 pub struct Code {
     pub op: u8,
     pub a: u8,
@@ -43,14 +45,14 @@ pub struct Code {
 }
 
 // What five bytes say: a well-formed instruction, or none.
-#[derive(Drop)]
+#[derive(Clone, Copy)]
 pub enum Reading {
     Good(Instruction),
     Bad,
 }
 
 // A driver begins to bring a car into the lift, or to take one out; the drive that is under way ends, and is done or not.
-#[derive(Drop)]
+#[derive(Clone, Copy)]
 pub enum Event {
     BeginIn,
     BeginOut,
@@ -59,14 +61,14 @@ pub enum Event {
 }
 
 // What an event's byte says.
-#[derive(Drop)]
+#[derive(Clone, Copy)]
 pub enum EventReading {
     Good(Event),
     Bad,
 }
 
 // What is said of an instruction on a record.
-#[derive(Drop)]
+#[derive(Clone, Copy)]
 pub enum Verdict {
     Allowed,
     NotAllowed(Reason),
@@ -74,7 +76,7 @@ pub enum Verdict {
 }
 
 // The record after an instruction, where it is allowed.
-#[derive(Drop)]
+#[derive(Clone, Copy)]
 pub enum Moved {
     Record(u64),
     NotAllowed(Reason),
@@ -82,7 +84,7 @@ pub enum Moved {
 }
 
 // The record after a car event, where it comes in turn, is possible and fills none of the places that are kept open.
-#[derive(Drop)]
+#[derive(Clone, Copy)]
 pub enum Driven {
     Record(u64),
     OutOfTurn,
@@ -91,14 +93,14 @@ pub enum Driven {
 }
 
 // An instruction's area, as a mask of the record's bits.
-#[derive(Drop)]
+#[derive(Clone, Copy)]
 pub enum Area {
     Mask(u64),
     IllFormed,
 }
 
 // Whether two instructions may stand in one set.
-#[derive(Drop)]
+#[derive(Clone, Copy)]
 pub enum Sharing {
     Overlap,
     Apart,

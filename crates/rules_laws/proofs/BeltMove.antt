@@ -6,7 +6,7 @@ use Prim.Native.Nat.{ℕ, zero, suc, ◌+◌, ◌-◌, ◌%◌, ◌≤◌, ◌<�
 use native.Mathlib.Nat.{add-zero, add-suc}
 use native.Mathlib.Omega.{arith}
 use lib.Dec.{T, eqb, ltb, leb, eqb→eq, ltb→lt, leb→le}
-use lib.ListN.{length, get_or, take, drop, replicate, length-map, length_append}
+use lib.ListN.{length, get_or, take, drop, replicate, length-map, length-append}
 use Rattle.bits.specs.Bits.{Bits, digit, count}
 use Rattle.bits.specs.Places.{from, is_empty, adjacent}
 use Rattle.bits.specs.Search.{every}
@@ -72,7 +72,7 @@ module _ (a q : ℕ) (f : Bits) where
       (subst (λ (ts : List Test). Down a (a + suc q) g (now a (suc q) f ts))
       (append_assoc (bits (suc (suc a)) q) (fact false ∷ []) (fact false ∷ []))
       (given_down a (suc q) f (set (one (suc a))) (bits (suc (suc a)) q ++ fact false ∷ [])
-      (length_append (bits (suc (suc a)) q) (fact false ∷ []) ∙ omega (arith, length_bits (suc (suc a)) q))))
+      (length-append (bits (suc (suc a)) q) (fact false ∷ []) ∙ omega (arith, length_bits (suc (suc a)) q))))
       ((down_one a (suc q) f).moved a (omega arith) (omega arith) ∙ second))
 
 -- the last m cells of a span are free: as many occupied below them as below the end

@@ -8,7 +8,7 @@ use native.Mathlib.Nat.{add-zero, add-suc, suc-add, not-suc-le-zero}
 use native.Mathlib.Omega.{arith}
 use lib.Dec.{eqb}
 use borrow.Author.Tests.{eq-eqb, ne_eqb, eqb-true}
-use lib.ListN.{length, get_or, length_append, get_or-append}
+use lib.ListN.{length, get_or, length-append, get_or-append}
 use lib.Seq.{get_or-append-add}
 use Rattle.bits.specs.Bits.{Bits}
 use Rattle.bits.specs.Places.{from}
@@ -103,4 +103,4 @@ module _ (a p : ℕ) (f : Bits) where
   }
     where
       long : suc p ≤ length (ts ++ fact false ∷ [])
-      long = omega (arith, length_append ts (fact false ∷ []))
+      long = omega (arith, length-append ts (fact false ∷ []))

@@ -1,7 +1,7 @@
 -- A message whose bytes are exactly m as a call: where it is a request and where it is none; the set that it leaves; and that the reply to
 -- the first message of some bytes is the reply to its call. Assumes nothing.
 use mathlib.Core.Path.{◌≡◌, refl, sym, ap, ap₂, subst, ◌∙◌}
-use mathlib.Core.Bool.{Bool, true, false, cond, not, ◌&&◌, and_false}
+use mathlib.Core.Bool.{Bool, true, false, cond, not, ◌&&◌, and-false}
 use mathlib.Core.List.{List, [], ◌∷◌, ◌++◌}
 use Prim.Native.Nat.{ℕ, zero, suc, ◌+◌, ◌*◌, ◌-◌, ◌<◌, ◌≤◌}
 use native.Mathlib.Omega.{arith}
@@ -300,7 +300,7 @@ module _ (k : ℕ) where
       split (eqb (number_of r.answer) 0)
       (λ t. rw t (reply_told r.message.what _ (f.rightly (eqb-true (number_of r.answer) 0 t))))
       (λ t. rw t (ap (λ (w : What). record { station = s; answer = w })
-      (sym (told_answer k (turn_of (refused s r.answer)) refl (ap (λ (b : Bool). eqb k 5 && b) t ∙ and_false (eqb k 5))))))
+      (sym (told_answer k (turn_of (refused s r.answer)) refl (ap (λ (b : Bool). eqb k 5 && b) t ∙ and-false (eqb k 5))))))
 
   sized_right : (m : List ℕ) (n : ℕ) (w : What) → eqb k 5 ≡ is_ask w → Right (sized m n w)
   sized_right m n w e =

@@ -7,7 +7,7 @@ use Prim.Native.Nat.{ℕ, zero, suc, ◌+◌, ◌≤◌}
 use native.Mathlib.Omega.{arith}
 use borrow.Author.Tests.{ltb-false, le-ltb}
 use lib.Dec.{ltb}
-use lib.ListN.{length, drop, length_append, get_or-append}
+use lib.ListN.{length, drop, length-append, get_or-append}
 use lib.Seq.{take-append-le, drop-append-le, drop-drop}
 use Rattle.bits.specs.Places.{join}
 use Rattle.answers.specs.declared.Answer.TheVariants.{TooFewBytes, BadLength}
@@ -35,7 +35,7 @@ length_more s t h = rw (get_or-append s t 0 0 (omega arith), get_or-append s t 0
 pub whole_more : (s t : List ℕ) (n : ℕ) → frame_of s ≡ Whole n → frame_of (s ++ t) ≡ Whole n
 whole_more s t n e =
     let f = whole_frame s n e in
-    let l = length_append s t in
+    let l = length-append s t in
     rw (length_more s t (omega arith))
     (simp (le-ltb (length (s ++ t)) 2 (omega arith), le-ltb (length_at s) 2 (omega arith), le-ltb 43 (length_at s) (omega arith), le-ltb (length (s ++ t)) (length_at s + 2) (omega arith))
     (ap Whole (sym f.long)))
@@ -45,7 +45,7 @@ wrong_more s t e =
     when (ltb (length s) 2) Cut _ _ e (λ _ e. no e)
     (λ a e.
     let h = ltb-false (length s) 2 a in
-    let l = length_append s t in
+    let l = length-append s t in
     let two : ltb (length (s ++ t)) 2 ≡ false = le-ltb (length (s ++ t)) 2 (omega arith) in
     let k = length_more s t h in
     when (ltb (length_at s) 2) Wrong _ _ e (λ b _. rw (two, k, b))

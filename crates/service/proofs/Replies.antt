@@ -8,7 +8,7 @@ use native.Mathlib.Omega.{arith}
 use borrow.Author.Tests.{leb-true, le-leb, le-ltb}
 use denote.Enum.Declared.{tag_of}
 use lib.Dec.{ltb, leb}
-use lib.ListN.{get_or, length, drop, length_append}
+use lib.ListN.{get_or, length, drop, length-append}
 use types.Run.{OneOf, miss}
 use Rattle.bits.specs.Search.{least}
 use Rattle.bits.proofs.Cases.{alike}
@@ -122,4 +122,4 @@ put_within bytes room (e, l) = rw (e, l) (within (ltb (length room) (length byte
         (record { says = record { answer = Taken; size = length bytes }; leaves = bytes ++ drop (length bytes) room }) in
         w.says.size ≤ length w.leaves
     within true = omega arith
-    within false = rw length_append (omega arith)
+    within false = rw length-append (omega arith)

@@ -8,7 +8,7 @@ use native.Mathlib.Nat.{add_assoc, zero-add}
 use native.Mathlib.Omega.{arith}
 use borrow.Author.Tests.{leb-true, ltb-false}
 use lib.Dec.{leb, ltb}
-use lib.ListN.{length, drop, length_append, length-drop}
+use lib.ListN.{length, drop, length-append, length-drop}
 use Rattle.bits.proofs.Cases.{split}
 use Rattle.answers.specs.declared.Answer.TheVariants.{BadLength}
 use Rattle.station.specs.declared.Station.{Station}
@@ -95,7 +95,7 @@ after_within (Whole n) go s input e h =
     let l = length-drop n input in
     let r = h x.station (drop n input) (shorter input n e) in
     let b = answer_bytes_length x.answer in
-    record { used = omega arith; made = rw length_append (omega arith) }
+    record { used = omega arith; made = rw length-append (omega arith) }
 
 run_within : (k : ℕ) (s : Station) (input : List ℕ) → length input ≤ k → Within (run_of k s input) (length input)
 unfolding run_of

@@ -6,7 +6,7 @@ use Prim.Native.Nat.{ℕ, ◌+◌, ◌≤◌, ◌<◌}
 use native.Mathlib.Omega.{arith}
 use borrow.Author.Tests.{le-leb, ltb-true, ltb-false}
 use lib.Dec.{ltb}
-use lib.ListN.{length, take, drop, length_append}
+use lib.ListN.{length, take, drop, length-append}
 use lib.Seq.{slice, take_at}
 use Rattle.station.specs.declared.Station.{Station}
 use Rattle.wire.specs.declared.Frame.TheVariants.{Cut, Wrong, Whole}
@@ -52,7 +52,7 @@ turn_feeds s held piece past room pieces h =
     let input = held ++ piece in
     let r = run s input in
     let t : take (length held + length piece) (held ++ (piece ++ past)) ≡ input =
-    rw (← append_assoc held piece past) (take_at input past (length held + length piece) (length_append held piece)) in
+    rw (← append_assoc held piece past) (take_at input past (length held + length piece) (length-append held piece)) in
     let rest = drop r.used input in
     rw (t, all_served s input room h, take_at r.bytes (drop (length r.bytes) room) (length r.bytes) refl)
     (rw (take_at rest (drop (length rest) (held ++ (piece ++ past))) (length rest) refl) refl)

@@ -5,7 +5,7 @@ use mathlib.Core.List.{List, [], ◌++◌, append_assoc, append-nil}
 use Prim.Native.Nat.{ℕ, ◌+◌, ◌-◌, ◌≤◌}
 use native.Mathlib.Nat.{add-zero}
 use native.Mathlib.Omega.{arith}
-use lib.ListN.{length, take, drop, length_append, length-take, length-drop, drop_of_length-le}
+use lib.ListN.{length, take, drop, length-append, length-take, length-drop, drop_of_length-le}
 use lib.Seq.{length-take-le, take_all, take_at, drop_at, drop-drop}
 use Rattle.answers.specs.declared.Answer.TheVariants.{Taken, BadLength}
 use Rattle.station.specs.declared.Station.{Station}
@@ -72,7 +72,7 @@ module _ {input before : List ℕ} {s₀ : Station} {out : List ℕ} {s : Statio
   ended : (b last : List ℕ) (stop : Bool) → run s (drop at input) ≡ run_ends s b stop → last ≡ (take made out ++ b) ++ drop (made + length b) before
       → Serves (served (run s₀ input) before) (record { answer = Taken; station = s; used = at; made = made + length b; stop = stop }) last
   ended b last stop e h =
-      rw (m.rest ∙ ap (run_further at (take made out)) e, add-zero, length_append (take made out) b, done_length) (refl, h)
+      rw (m.rest ∙ ap (run_further at (take made out)) e, add-zero, length-append (take made out) b, done_length) (refl, h)
 
   -- a message that is cut short
   pub cut_short_lem : frame_of (drop at input) ≡ Cut
@@ -95,7 +95,7 @@ module _ {input before : List ℕ} {s₀ : Station} {out : List ℕ} {s : Statio
     all_said : take (made + k) (put_at out last made) ≡ take made out ++ answer_bytes w
     all_said =
         rw more
-        (take_at (take made out ++ answer_bytes w) _ (made + k) (length_append (take made out) (answer_bytes w) ∙ rw (done_length, size)))
+        (take_at (take made out ++ answer_bytes w) _ (made + k) (length-append (take made out) (answer_bytes w) ∙ rw (done_length, size)))
 
     -- a whole message
     pub answered : (n : ℕ) (r : Reply) → frame_of (drop at input) ≡ Whole n → r ≡ respond s (drop at input) → w ≡ r.answer
@@ -108,7 +108,7 @@ module _ {input before : List ℕ} {s₀ : Station} {out : List ℕ} {s : Statio
         record {
           within = omega arith;
           small = omega arith;
-          long = rw more (simp (length_append, length-drop, done_length) (omega arith));
+          long = rw more (simp (length-append, length-drop, done_length) (omega arith));
           room = more ∙ rw (all_said, size);
           rest =
               m.rest

@@ -9,7 +9,7 @@ use station::Station;
 
 // What a turn leaves: Taken, or NoRoom and nothing done; the next station, how many bytes are held at the front of the buffer now, how many
 // bytes of answers were written, and whether nothing more is to be read.
-#[derive(Drop)]
+#[derive(Clone, Copy)]
 pub struct Turned {
     pub answer: Answer,
     pub station: Station,

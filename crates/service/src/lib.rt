@@ -1,4 +1,6 @@
 // Messages answered on a station: one, and a run of them. What they are answered with stands in specs/.
+#![tactic(auto)]
+
 ghost use Rattle.std.specs.Prelude.{◌≡◌, true, false, ◌++◌, ◌≤◌, leb, length, drop, replicate};
 ghost use Rattle.answers.specs.declared.Answer.TheVariants.{Taken};
 ghost use Rattle.station.specs.Station.{fit};
@@ -19,7 +21,7 @@ use wire::{Frame, What, Written};
 pub mod buffer;
 
 // What a message leaves: the next station, and what it is answered with.
-#[derive(Drop)]
+#[derive(Clone, Copy)]
 pub struct Reply {
     pub station: Station,
     pub answer: What,
@@ -27,7 +29,7 @@ pub struct Reply {
 
 // What a run of messages leaves: Taken, or NoRoom and nothing done; the next station, how many bytes of the input were taken and of the
 // room written, and whether nothing more is to be read.
-#[derive(Drop)]
+#[derive(Clone, Copy)]
 pub struct Served {
     pub answer: Answer,
     pub station: Station,
@@ -300,7 +302,7 @@ fn show(bits: u64, apart: u64, out: &mut [u8]) -> usize
 {
     let b = wire::image_bytes(bits);
     let a = wire::image_bytes(apart);
-    bytes::copy(
+    codec::copy(
         &[
             18, 0, 129, 0, b[0], b[1], b[2], b[3], b[4], b[5], b[6], b[7], a[0], a[1], a[2], a[3],
             a[4], a[5], a[6], a[7],
@@ -320,7 +322,7 @@ fn put(answer: Answer, out: &mut [u8]) -> usize
     let issue = answer.issue();
     let low = (issue % 256) as u8;
     let high = (issue / 256 % 256) as u8;
-    bytes::copy(&[6, 0, 128, 0, number, place, low, high], out);
+    codec::copy(&[6, 0, 128, 0, number, place, low, high], out);
     8
 }
 
@@ -329,7 +331,7 @@ fn done(out: &mut [u8]) -> usize
     requires { length (answer_bytes (answer_message Taken)) ≤ length out.old }
     ensures { (result ≡ length (answer_bytes (answer_message Taken))) × (out.new ≡ answer_bytes (answer_message Taken) ++ drop (length (answer_bytes (answer_message Taken))) out.old) }
 {
-    bytes::copy(&[6, 0, 128, 0, 0, 255, 0, 0], out);
+    codec::copy(&[6, 0, 128, 0, 0, 255, 0, 0], out);
     8
 }
 

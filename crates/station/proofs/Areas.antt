@@ -1,6 +1,6 @@
 -- The code gathers areas as one mask: an area meets one of several exactly if it meets all of them taken together. Assumes nothing.
 use Rattle.std.proofs.Common.{◌≡◌, ℕ, zero, suc, ◌+◌, ◌^◌, ◌<◌, Bool, true, false, cond, not, ◌&&◌, ◌||◌, T, eqb, ltb, List, [], sym, refl, ap, ◌∙◌, ap₂, add-one, arith, ltb-false, ltb-true, le-ltb, lt-ltb, eq-eqb, eqb-true}
-use mathlib.Core.Bool.{and-true, and_false, or_comm, and-or_distrib_left}
+use mathlib.Core.Bool.{and-true, and-false, or_comm, and-or_distrib_left}
 use lib.Bits.{bit_and, bit_or, and_zero_r, and_comm, and_le_l, and_le_r}
 use borrow.Author.Tests.{eqb-false, not-true}
 use Rattle.bits.specs.Bits.{bit, packed}
@@ -157,7 +157,7 @@ held_upper x j h = read (read_code x) refl
   where
     read : (g : Reading) → read_code x ≡ g → elem (52 + j) (on_code area_of [] g) ≡ ltb j 3 && share (on_code area_of [] g) lift
     read (Good i) e = same_as _ _ (every_at 12 _ (T→true _ (each whole_or_none every_whole i (true→T (one_form_lem x i e).1))) j h)
-    read Bad e = sym (and_false (ltb j 3))
+    read Bad e = sym (and-false (ltb j 3))
 
 -- the bits 0 to 52
 abbrev pub parts_mask : ℕ
@@ -177,7 +177,7 @@ part_at x k = split (ltb k 52)
     (λ u. rw (u, eqb-true k 52 u) (and-true (elem 52 (held_area x)) ∙ held_upper x 0 (omega arith)))
     (λ u. let l = ltb-false k 52 t in
     let ne : k ≡ 52 → ⊥ = eqb-false k 52 u in
-    rw (u, le-ltb k 53 (omega arith)) (and_false (elem k (held_area x))))))
+    rw (u, le-ltb k 53 (omega arith)) (and-false (elem k (held_area x))))))
 
 -- the code's number
 pub parts_is : (x : Code) {m : ℕ} → m ≡ held_mask x → bit_and m parts_mask ≡ held_parts x

@@ -1,7 +1,7 @@
 -- The loops over a set's forty bytes. Assumes nothing.
 use Rattle.std.proofs.Common.{◌≡◌, ℕ, suc, ◌+◌, ◌-◌, ◌*◌, ◌<◌, ◌≤◌, Bool, true, false, cond, not, ◌&&◌, ◌||◌, eqb, ltb, List, [], ◌∷◌, ◌++◌, length, get_or, take, set, replicate, sym, refl, ap, ◌∙◌, ap₂, append-nil, add-one, arith, length-take-le, take_all, take-suc, ltb-false, ltb-true, le-ltb, lt-ltb, eq-eqb, eqb-true}
 use mathlib.Core.Path.{fun_ext}
-use mathlib.Core.Bool.{and_false}
+use mathlib.Core.Bool.{and-false}
 use lib.Bits.{bit_and, bit_or, or_self, or_add_and, and_le_l, and_le_r}
 use lib.ListN.{get_or-eq_default}
 use lib.Seq.{set_at, append_snoc}
@@ -72,7 +72,7 @@ pub passes : {set : List ℕ} {n marks r apart seen worst touched overlap closed
 passes {marks = marks} {r} {apart} {seen} {worst} {touched} {overlap} {closed} {i} {x = x} v h e g a o y z =
     let (t, w) = clear_of x seen (bit_and apart parts_mask) a z in
     searches v h e g a o refl (still worst _ i (ap not (g ∙ allowed_good x (bit r) (sym o ∙ y)))) (still touched _ i t) (still overlap _ i w)
-    (still closed _ i (ap (λ (b : Bool). not (bit marks i) && not b) y ∙ and_false (not (bit marks i))))
+    (still closed _ i (ap (λ (b : Bool). not (bit marks i) && not b) y ∙ and-false (not (bit marks i))))
 
 pub search_ends : {set : List ℕ} {n marks r apart seen worst touched overlap closed i : ℕ}
     → Searched set n marks r apart seen worst touched overlap closed i → n ≤ i

@@ -2,7 +2,7 @@
 use Rattle.std.proofs.Common.{◌≡◌, ℕ, zero, suc, ◌-◌, ◌*◌, ◌%◌, ◌^◌, ◌<◌, ◌≤◌, Bool, true, false, not, ◌&&◌, ◌||◌, eqb, ltb, leb, get_or, sym, refl, ap, ◌∙◌, lt_of_le_of_lt, mod-lt, arith, pow_pos, pow_mono, ltb-false, ltb-true, eq-eqb, ne_eqb, eqb-true, le-leb, leb-true}
 use native.Mathlib.Nat.{mod-le}
 use mathlib.Core.Path.{fun_ext}
-use mathlib.Core.Bool.{and_assoc, and_false, or_true, not_not}
+use mathlib.Core.Bool.{and_assoc, and-false, or-true, not-not}
 use lib.Pow.{pow-lt}
 use lib.Bits.{bit_and, bit_or, and_le_r}
 use borrow.Author.Tests.{lt-leb}
@@ -48,7 +48,7 @@ only_marked : (n a : ℕ) → a < 2 ^ 8 → every 8 (inside n a) ≡ leb a (2 ^ 
 only_marked n a l = alike (every 8 (inside n a)) (leb a (2 ^ n - 1))
     (λ t. le-leb a (2 ^ n - 1) (low t))
     (λ t. every_is 8 (inside n a) (λ i m. split (ltb i n)
-    (λ e. rw e (or_true (not (bit a i))))
+    (λ e. rw e (or-true (not (bit a i))))
     (λ e. rw (bit_past a n i (let z = leb-true a (2 ^ n - 1) t in omega (arith, pow_pos n)) (ltb-false i n e)))))
   where
     same : every 8 (inside n a) ≡ true → (k : ℕ) → k < 8 → bit a k ≡ ltb k n && bit a k
@@ -104,7 +104,7 @@ and_assoc_9 true true true true true true g h i = and_assoc g h i
 
 -- none below n is bad
 all_good : (n : ℕ) (p : ℕ → Bool) → eqb (least n p) n ≡ every n (λ i. not (p i))
-all_good n p = rw (← ap (λ (q : ℕ → Bool). least n q) (fun_ext (λ i. not_not (p i)))) (every_least n (λ i. not (p i)))
+all_good n p = rw (← ap (λ (q : ℕ → Bool). least n q) (fun_ext (λ i. not-not (p i)))) (every_least n (λ i. not (p i)))
 
 -- what the code tests
 pub fit_is : (s : Station) {fine rest driving lifts : Bool} {worst touched over shut all : ℕ} → s.count ≤ 8 → s.answered < 2 ^ 8
@@ -139,7 +139,7 @@ fit_is s {fine} {rest} {driving} {lifts} {worst} {touched} {over} {shut} {all} h
 -- more than eight instructions
 pub unfit_is : (s : Station) → 8 < s.count → false ≡ fit s
 unfolding fit
-unfit_is s h = rw (lt-leb _ _ h) (sym (and_false (sound s.bits)))
+unfit_is s h = rw (lt-leb _ _ h) (sym (and-false (sound s.bits)))
 
 -- on a fit station an instruction of its set without a mark is allowed
 pub waiting_allowed : (s : Station) (i : ℕ) → fit s ≡ true → i < s.count → marked s i ≡ false → held_allowed (code_at s.set i) (bit s.bits) ≡ true

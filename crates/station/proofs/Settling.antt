@@ -1,7 +1,7 @@
 -- Results where nothing is judged: refusals are as they were, a success leaves the next record, and on a fit station that is what is
 -- promised. Assumes nothing.
 use Rattle.std.proofs.Common.{◌≡◌, ℕ, ◌^◌, Bool, true, false, cond, not, ◌&&◌, eqb, ltb, sym, refl, ap, ◌∙◌, eqb-true}
-use mathlib.Core.Bool.{and_false}
+use mathlib.Core.Bool.{and-false}
 use lib.Bits.{bit_or}
 use borrow.Author.Tests.{not-false}
 use Rattle.bits.specs.Bits.{bit}
@@ -25,7 +25,7 @@ use Rattle.station.proofs.Moves.{held_done}
 pub refused_as : (s : Station) (i ending : ℕ) (a : Answer) {o : Outcome} → eqb (number_of a) 0 ≡ false → refused s a ≡ o → turn_of (refused s a) ≡ unjudged s i ending o
 refused_as s i ending a q e =
     ap (λ (b : Bool). cond b (with_record (code_next (code_at s.set i) s.bits) (turn_of (refused s a))) (turn_of (refused s a)))
-    (sym (ap (λ (b : Bool). eqb ending 1 && b) q ∙ and_false (eqb ending 1)))
+    (sym (ap (λ (b : Bool). eqb ending 1 && b) q ∙ and-false (eqb ending 1)))
     ∙ ap (unjudged s i ending) e
 
 -- an instruction that is answered: the record is the one that was handed over

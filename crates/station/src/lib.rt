@@ -1,5 +1,7 @@
 // The station and its five calls; requests, car events and results stand in modules of their own. A station goes in by value and comes
 // back with an answer; a refused call hands it back as it was.
+#![tactic(auto)]
+
 ghost use Rattle.std.specs.Prelude.{◌≡◌, ◌-◌, ◌^◌, ◌≤◌};
 ghost use Rattle.station.specs.Held.{crosses};
 ghost use Rattle.station.specs.Station.{closed, start_of, fit, noting};
@@ -20,7 +22,7 @@ mod sets;
 // The station: its record, how many instructions the outstanding set has, a mark for each that is answered, the instructions as the
 // request's own five bytes each, unused places zero, the issue that the next set will have, and what is set apart: bits 0 to 51 as in the
 // record, bit 52 for the lift.
-#[derive(Drop)]
+#[derive(Clone, Copy)]
 pub struct Station {
     pub bits: u64,
     pub count: u8,
@@ -31,7 +33,7 @@ pub struct Station {
 }
 
 // What a result says: the issue of its set, the instruction's number from 0, and 0 failed, 1 done or 2 stuck.
-#[derive(Drop)]
+#[derive(Clone, Copy)]
 pub struct Report {
     pub issue: u16,
     pub number: u8,
@@ -39,21 +41,21 @@ pub struct Report {
 }
 
 // What an image says: the record, and what is set apart.
-#[derive(Drop)]
+#[derive(Clone, Copy)]
 pub struct Picture {
     pub bits: u64,
     pub apart: u64,
 }
 
 // What a call hands back.
-#[derive(Drop)]
+#[derive(Clone, Copy)]
 pub struct Outcome {
     pub station: Station,
     pub answer: Answer,
 }
 
 // What a call answers, and what it leaves of the station but its set: some numbers, so that nothing is copied on the way.
-#[derive(Drop)]
+#[derive(Clone, Copy)]
 pub struct Turn {
     pub answer: Answer,
     pub bits: u64,

@@ -1,7 +1,7 @@
 // Results of the outstanding set's instructions.
 ghost use Rattle.std.specs.Prelude.{◌≡◌, ◌<◌, ◌≤◌};
 ghost use Rattle.station.specs.Station.{in_set, behind, answering};
-ghost use Rattle.station.specs.Calls.{taken, ended, numbered, timely, resulted, result};
+ghost use Rattle.station.specs.Calls.{taken, ended, numbered, timely, resulted, result as result_call};
 ghost use Rattle.station.specs.Turns.{turn_of, unjudged, settled};
 
 use super::{Outcome, Report, Station, Turn, all_marks, held, refused, sets};
@@ -12,7 +12,7 @@ impl Station {
     // Instruction i answered, the record now r, and this set apart.
     fn answering(self, i: u8, r: u64, apart: u64) -> Turn
         requires { (self.count ≤ 8) × (i < self.count) }
-        ensures* { λ t. ⌜ t ≡ turn_of (taken (answering self i r apart)) ⌝ }
+        ensures { result ≡ turn_of (taken (answering self i r apart)) }
     {
         let marks = self.answered | (1u8 << i);
         let all = all_marks(self.count);
@@ -39,7 +39,7 @@ impl Station {
     // The end of a result: 0 failed, 1 done, 2 stuck. A success is not judged.
     fn ended(self, i: u8, ending: u8) -> Turn
         requires { (self.count ≤ 8) × (i < self.count) }
-        ensures* { λ t. ⌜ t ≡ unjudged self i ending (ended self i ending) ⌝ }
+        ensures { result ≡ unjudged self i ending (ended self i ending) }
     {
         let set = self.set;
         let x = sets::code_at(&set, i);
@@ -54,14 +54,14 @@ impl Station {
 
     // Whether the set has an instruction of this number.
     fn in_set(self, i: u8) -> bool
-        ensures* { λ b. ⌜ b ≡ in_set self i ⌝ }
+        ensures { result ≡ in_set self i }
     {
         (self.count <= Station::MOST) & (i < self.count)
     }
 
     // A result by its instruction's number.
     fn numbered(self, i: u8, ending: u8) -> Turn
-        ensures* { λ t. ⌜ t ≡ unjudged self i ending (numbered self i ending) ⌝ }
+        ensures { result ≡ unjudged self i ending (numbered self i ending) }
     {
         if !self.in_set(i) {
             return self.unmoved(Answer::NotInSet);
@@ -74,14 +74,14 @@ impl Station {
 
     // How far an issue is behind the present set's, counted round the end.
     fn behind(self, issue: u16) -> u16
-        ensures* { λ n. ⌜ n ≡ behind self issue ⌝ }
+        ensures { result ≡ behind self issue }
     {
         wrapping_sub_u16(wrapping_sub_u16(self.next, 1), issue)
     }
 
     // A result by the issue of its set.
     fn timely(self, report: Report) -> Turn
-        ensures* { λ t. ⌜ t ≡ unjudged self report.number report.ending (timely self report) ⌝ }
+        ensures { result ≡ unjudged self report.number report.ending (timely self report) }
     {
         match self.behind(report.issue) {
             0 => self.numbered(report.number, report.ending),
@@ -92,7 +92,7 @@ impl Station {
 
     // A result on a station that is known to be fit: what waits is allowed, and a success is not judged.
     pub fn settled(self, report: Report) -> Turn
-        ensures* { λ t. ⌜ t ≡ settled self report ⌝ }
+        ensures { result ≡ settled self report }
     {
         if 2 < report.ending {
             return self.unmoved(Answer::BadField(NOWHERE));
@@ -105,7 +105,7 @@ impl Station {
 
     // A result past the test of fitness, where nothing is known of the station: a success is judged.
     pub fn resulted(self, report: Report) -> Turn
-        ensures* { λ t. ⌜ t ≡ turn_of (resulted self report) ⌝ }
+        ensures { result ≡ turn_of (resulted self report) }
     {
         let told = self.settled(report);
         let answer = told.answer;
@@ -126,7 +126,7 @@ impl Station {
 
     // A result.
     pub fn result(self, report: Report) -> Outcome
-        ensures* { λ o. ⌜ o ≡ result self report ⌝ }
+        ensures { result ≡ result_call self report }
     {
         if !self.fit() {
             return refused(self, Answer::Unfit);

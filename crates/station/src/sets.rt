@@ -47,7 +47,7 @@ fn first(found: u8, n: u8, here: bool, i: u8) -> u8
 // Of the first n instructions the least that is bad, the least that touches a part set apart, the least that overlaps an earlier one and, of
 // those without a mark, the least that is not allowed on the record r, or n; and whether one has the lift in its area. Each is read once, and
 // one without a fault is passed at once.
-#[derive(Drop)]
+#[derive(Clone, Copy)]
 pub struct Faults {
     pub bad: u8,
     pub touching: u8,

@@ -1,13 +1,15 @@
 // The entries for a planner in C or Rust: numbers and runs of bytes alone. A station is lent as 60 bytes, an answer is its number plus
 // 256 times its place plus 65536 times its issue, and a refused call writes nothing. What each answers and leaves stands in specs/Entries.antt,
 // and of what other entries answer too in that of rooms.
+#![tactic(auto)]
+
 ghost use Rattle.std.specs.Prelude.{◌≡◌, ◌≤◌, length};
 ghost use Rattle.floor.specs.Sound.{sound, total};
 ghost use Rattle.rules.specs.Codes.{code_from};
 ghost use Rattle.rules.specs.Verdicts.{moved_of};
 ghost use Rattle.station.specs.Held.{crosses};
 ghost use Rattle.station.specs.Station.{start_of};
-ghost use Rattle.station.specs.Calls.{taken, event, result, take_image};
+ghost use Rattle.station.specs.Calls.{taken, event, result as result_call, take_image};
 ghost use Rattle.version.specs.Version.{version};
 ghost use Rattle.rooms.specs.Rooms.{returned, LeavesRoom, writes, entry, request_of};
 ghost use Rattle.rooms.specs.Questions.{moved, answer_to, request_answer, record_in, nexting};
@@ -34,9 +36,8 @@ const CODE: usize = 5;
 // ---- the calls on a lent station
 
 // Writes the start station.
-#[unsafe(no_mangle)]
-pub extern "C" fn station_start(room: &mut [u8]) -> u32
-    ensures* { λ r. ⌜ LeavesRoom (entry (λ s. taken start_of) room.old) r room.new ⌝ }
+pub fn station_start(room: &mut [u8]) -> u32
+    ensures { LeavesRoom (entry (λ s. taken start_of) room.old) result room.new }
 {
     if room.len() < STATION {
         return say(Answer::NoRoom);
@@ -51,7 +52,7 @@ pub extern "C" fn station_start(room: &mut [u8]) -> u32
 
 // A request on a station, its set as a run of bytes.
 fn requested(s: Station, count: u8, set: &[u8]) -> Outcome
-    ensures* { λ o. ⌜ o ≡ request_of count set.now s ⌝ }
+    ensures { result ≡ request_of count set.now s }
 {
     let size = bytes_asked(count);
     if set.len() < size {
@@ -65,9 +66,8 @@ fn requested(s: Station, count: u8, set: &[u8]) -> Outcome
 }
 
 // A request of `count` instructions, five bytes each.
-#[unsafe(no_mangle)]
-pub extern "C" fn station_request(room: &mut [u8], count: u8, set: &[u8]) -> u32
-    ensures* { λ r. ⌜ LeavesRoom (entry (request_of count set.now) room.old) r room.new ⌝ }
+pub fn station_request(room: &mut [u8], count: u8, set: &[u8]) -> u32
+    ensures { LeavesRoom (entry (request_of count set.now) room.old) result room.new }
 {
     if room.len() < STATION {
         return say(Answer::NoRoom);
@@ -78,9 +78,8 @@ pub extern "C" fn station_request(room: &mut [u8], count: u8, set: &[u8]) -> u32
 }
 
 // A car event: a drive begins, 1 in, 2 out; the one under way ends, 3 done, 4 not done.
-#[unsafe(no_mangle)]
-pub extern "C" fn station_event(room: &mut [u8], way: u8) -> u32
-    ensures* { λ r. ⌜ LeavesRoom (entry (λ s. event s way) room.old) r room.new ⌝ }
+pub fn station_event(room: &mut [u8], way: u8) -> u32
+    ensures { LeavesRoom (entry (λ s. event s way) room.old) result room.new }
 {
     if room.len() < STATION {
         return say(Answer::NoRoom);
@@ -91,9 +90,8 @@ pub extern "C" fn station_event(room: &mut [u8], way: u8) -> u32
 }
 
 // The result of an instruction, by the issue of its set and its number from 0: 0 failed, 1 done, 2 stuck.
-#[unsafe(no_mangle)]
-pub extern "C" fn station_result(room: &mut [u8], issue: u16, number: u8, ending: u8) -> u32
-    ensures* { λ r. ⌜ LeavesRoom (entry (λ s. result s (record { issue = issue; number = number; ending = ending })) room.old) r room.new ⌝ }
+pub fn station_result(room: &mut [u8], issue: u16, number: u8, ending: u8) -> u32
+    ensures { LeavesRoom (entry (λ s. result_call s (record { issue = issue; number = number; ending = ending })) room.old) result room.new }
 {
     if room.len() < STATION {
         return say(Answer::NoRoom);
@@ -108,9 +106,8 @@ pub extern "C" fn station_result(room: &mut [u8], issue: u16, number: u8, ending
 }
 
 // An image, which becomes the record with nothing set apart.
-#[unsafe(no_mangle)]
-pub extern "C" fn station_image(room: &mut [u8], image: u64, apart: u64) -> u32
-    ensures* { λ r. ⌜ LeavesRoom (entry (λ s. take_image s (record { bits = image; apart = apart })) room.old) r room.new ⌝ }
+pub fn station_image(room: &mut [u8], image: u64, apart: u64) -> u32
+    ensures { LeavesRoom (entry (λ s. take_image s (record { bits = image; apart = apart })) room.old) result room.new }
 {
     if room.len() < STATION {
         return say(Answer::NoRoom);
@@ -121,9 +118,8 @@ pub extern "C" fn station_image(room: &mut [u8], image: u64, apart: u64) -> u32
 }
 
 // The record's eight bytes and then those of what is set apart, to a room of their own.
-#[unsafe(no_mangle)]
-pub extern "C" fn station_ask(room: &[u8], image: &mut [u8]) -> u32
-    ensures* { λ r. ⌜ LeavesRoom (asking room.now image.old) r image.new ⌝ }
+pub fn station_ask(room: &[u8], image: &mut [u8]) -> u32
+    ensures { LeavesRoom (asking room.now image.old) result image.new }
 {
     if room.len() < STATION {
         return say(Answer::NoRoom);
@@ -142,7 +138,7 @@ pub extern "C" fn station_ask(room: &[u8], image: &mut [u8]) -> u32
 
 // What is returned besides a message that answers.
 fn returned_of(what: What) -> u32
-    ensures* { λ r. ⌜ r ≡ returned_of what ⌝ }
+    ensures { result ≡ returned_of what }
 {
     match what {
         What::Answer {
@@ -155,9 +151,8 @@ fn returned_of(what: What) -> u32
 }
 
 // Answers the first message of a run: the message that answers to reply and, if the message was taken, the next station to room.
-#[unsafe(no_mangle)]
-pub extern "C" fn station_message(room: &mut [u8], message: &[u8], reply: &mut [u8]) -> u32
-    ensures* { λ r. ⌜ Exchanges (exchange room.old message.now reply.old) r room.new reply.new ⌝ }
+pub fn station_message(room: &mut [u8], message: &[u8], reply: &mut [u8]) -> u32
+    ensures { Exchanges (exchange room.old message.now reply.old) result room.new reply.new }
 {
     if room.len() < STATION {
         return say(Answer::NoRoom);
@@ -176,16 +171,15 @@ pub extern "C" fn station_message(room: &mut [u8], message: &[u8], reply: &mut [
     }
     let s = o.station;
     let b = station_bytes(s);
-    bytes::copy(&b, room);
+    codec::copy(&b, room);
     r
 }
 
 // ---- the version
 
 // The version of what is built here: 65536 times its first number, 256 times its second, and its third.
-#[unsafe(no_mangle)]
-pub extern "C" fn station_version() -> u32
-    ensures* { λ n. ⌜ n ≡ version ⌝ }
+pub fn station_version() -> u32
+    ensures { result ≡ version }
 {
     version::number()
 }
@@ -193,17 +187,15 @@ pub extern "C" fn station_version() -> u32
 // ---- questions on a record
 
 // Whether an image is sound.
-#[unsafe(no_mangle)]
-pub extern "C" fn garage_sound(image: u64) -> bool
-    ensures* { λ b. ⌜ b ≡ sound image ⌝ }
+pub fn garage_sound(image: u64) -> bool
+    ensures { result ≡ sound image }
 {
     floor::sound(image)
 }
 
 // The number of cars, 255 if the record isn't sound.
-#[unsafe(no_mangle)]
-pub extern "C" fn garage_cars(image: u64) -> u32
-    ensures* { λ n. ⌜ n ≡ cars_or255 (total image) ⌝ }
+pub fn garage_cars(image: u64) -> u32
+    ensures { result ≡ cars_or255 (total image) }
 {
     let t = floor::cars(image);
     match t {
@@ -214,7 +206,7 @@ pub extern "C" fn garage_cars(image: u64) -> u32
 
 // The record after an instruction, given by its five bytes, where it is allowed.
 fn moved(image: u64, five: &[u8]) -> Moved
-    ensures* { λ m. ⌜ m ≡ moved image five.now ⌝ }
+    ensures { result ≡ moved image five.now }
 {
     let one = rules::read_bytes(five);
     match one {
@@ -225,7 +217,7 @@ fn moved(image: u64, five: &[u8]) -> Moved
 
 // What is answered with a next record, or none.
 fn answer_to(m: Moved) -> Answer
-    ensures* { λ a. ⌜ a ≡ answer_to m ⌝ }
+    ensures { result ≡ answer_to m }
 {
     match m {
         Moved::Record(_) => Answer::Taken,
@@ -235,7 +227,7 @@ fn answer_to(m: Moved) -> Answer
 }
 
 fn record_in(m: Moved) -> u64
-    ensures* { λ r. ⌜ r ≡ record_in m ⌝ }
+    ensures { result ≡ record_in m }
 {
     match m {
         Moved::Record(r) => r,
@@ -246,7 +238,7 @@ fn record_in(m: Moved) -> u64
 
 // What is answered of an instruction, by its verdict: the next record isn't asked for.
 fn judged(i: Instruction, image: u64) -> Answer
-    ensures* { λ a. ⌜ a ≡ answer_to (moved_of i image) ⌝ }
+    ensures { result ≡ answer_to (moved_of i image) }
 {
     let verdict = engine::verdict(i, image);
     verdict.answer(NOWHERE)
@@ -255,7 +247,7 @@ fn judged(i: Instruction, image: u64) -> Answer
 // A drive is under way on the record, and the instruction that five bytes say has the lift in its area.
 fn crossing(image: u64, five: &[u8]) -> bool
     requires { 5 ≤ length five.now }
-    ensures* { λ b. ⌜ b ≡ crosses (code_from five.now) image ⌝ }
+    ensures { result ≡ crosses (code_from five.now) image }
 {
     let x = Code {
         op: five[0],
@@ -268,9 +260,8 @@ fn crossing(image: u64, five: &[u8]) -> bool
 }
 
 // What a request of the instruction that five bytes say is told on a record.
-#[unsafe(no_mangle)]
-pub extern "C" fn garage_allowed(image: u64, five: &[u8]) -> u32
-    ensures* { λ r. ⌜ r ≡ returned (request_answer image five.now) ⌝ }
+pub fn garage_allowed(image: u64, five: &[u8]) -> u32
+    ensures { result ≡ returned (request_answer image five.now) }
 {
     if five.len() < CODE {
         return say(Answer::TooFewBytes);
@@ -289,9 +280,8 @@ pub extern "C" fn garage_allowed(image: u64, five: &[u8]) -> u32
 }
 
 // The eight bytes of the record after an instruction, to a room of their own.
-#[unsafe(no_mangle)]
-pub extern "C" fn garage_next(image: u64, five: &[u8], next: &mut [u8]) -> u32
-    ensures* { λ r. ⌜ LeavesRoom (nexting image five.now next.old) r next.new ⌝ }
+pub fn garage_next(image: u64, five: &[u8], next: &mut [u8]) -> u32
+    ensures { LeavesRoom (nexting image five.now next.old) result next.new }
 {
     if next.len() < RECORD {
         return say(Answer::NoRoom);

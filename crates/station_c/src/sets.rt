@@ -42,8 +42,7 @@ fn area_bits(a: Area) -> u64
 }
 
 // The eight bytes of an instruction's area, to a room of their own.
-#[unsafe(no_mangle)]
-pub extern "C" fn garage_area(five: &[u8], area: &mut [u8]) -> u32
+pub fn garage_area(five: &[u8], area: &mut [u8]) -> u32
     ensures { LeavesRoom (area_into five.now area.old) result area.new }
 {
     if area.len() < RECORD {
@@ -73,8 +72,7 @@ fn sharing_said(s: Sharing) -> Answer
 }
 
 // What a request of these two, in this order, is told so far as they alone decide.
-#[unsafe(no_mangle)]
-pub extern "C" fn garage_overlap(one: &[u8], other: &[u8]) -> u32
+pub fn garage_overlap(one: &[u8], other: &[u8]) -> u32
     ensures { result ≡ returned (pair_answer one.now other.now) }
 {
     if one.len() < CODE {

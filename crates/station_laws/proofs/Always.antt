@@ -1,7 +1,7 @@
 -- What holds after any calls: the station is fit; images apart, the record is a number of 64 bits and the cars are counted. Assumes nothing.
 use mathlib.Core.Path.{◌∙◌, ◌≡◌, refl, sym, ap}
 use mathlib.Core.Logic.{inr}
-use mathlib.Core.Bool.{Bool, ◌&&◌, true, false, and_false}
+use mathlib.Core.Bool.{Bool, ◌&&◌, true, false, and-false}
 use mathlib.Core.List.{List, [], ◌∷◌}
 use Prim.Native.Nat.{ℕ, ◌+◌, ◌^◌, ◌<◌}
 use native.Mathlib.Omega.{arith}
@@ -135,7 +135,7 @@ drove_none : (way : ℕ) (s : Station) (c : Call) → (answer_number s c ≡ 0 �
 drove_none way s (run.request n set) r = refl
 drove_none way s (run.reports x) r = refl
 drove_none way s (run.event e) r =
-    ap (λ (b : Bool). digit (eqb e 3 && (b && bit s.bits (drive_at way)))) (ne_eqb (answer_number s (run.event e)) 0 r) ∙ ap digit (and_false (eqb e 3))
+    ap (λ (b : Bool). digit (eqb e 3 && (b && bit s.bits (drive_at way)))) (ne_eqb (answer_number s (run.event e)) 0 r) ∙ ap digit (and-false (eqb e 3))
 drove_none way s (run.pictures p) r = refl
 drove_none way s run.ask r = refl
 

@@ -42,7 +42,10 @@ no_such_event s e = omega (arith, (event_taken s 0 e).0)
 
 pub amid_exists : AmidExists
 amid_exists s [] = ends
-amid_exists s (c ∷ l) = asked (refused (run.event 0) (no_such_event _) (kept c (amid_exists _ l)))
+amid_exists s (c ∷ l) =
+    let t = station_after s run.ask in
+    let u = station_after t (run.event 0) in
+    asked (refused (run.event 0) (no_such_event t) (kept c (amid_exists (station_after u c) l)))
 
 put_in : (s : Station) (c : Call) → takes s c ≡ false → {l m : List Call} → Amid (station_after s c) l m → Amid s l (c ∷ m)
 put_in s (run.request n set) t a = refused _ (eqb-false _ 0 t) a

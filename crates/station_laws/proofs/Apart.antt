@@ -2,7 +2,7 @@
 -- places and the drives. A stuck instruction adds its reach, and an instruction or an event meets it exactly where the station says so.
 -- Assumes nothing.
 use mathlib.Core.Path.{◌≡◌, refl, sym, ap, ap₂, fun_ext, ◌∙◌}
-use mathlib.Core.Bool.{Bool, true, false, not, cond, ◌&&◌, ◌||◌, and_false, or_false, or_comm}
+use mathlib.Core.Bool.{Bool, true, false, not, cond, ◌&&◌, ◌||◌, and-false, or-false, or_comm}
 use mathlib.Core.List.{[], ◌++◌}
 use Prim.Native.Nat.{ℕ, ◌+◌, ◌-◌, ◌^◌, ◌≤◌, ◌<◌}
 use native.Mathlib.Omega.{arith}
@@ -69,11 +69,11 @@ module _ (x : Code) where
 
   pub reach_at : (k : ℕ) → k < 64 → elem k (reach x) ≡ cond (ltb k 52) (elem k (held_area x)) (ltb k 57 && lifts)
   reach_at k h = elem_append k (held_area x) (cond lifts drives []) ∙ split (ltb k 52)
-      (λ t. rw t (split lifts (λ u. rw (u, drive_places k h) (low k (ltb-true k 52 t))) (λ u. rw u (or_false (elem k (held_area x))))))
+      (λ t. rw t (split lifts (λ u. rw (u, drive_places k h) (low k (ltb-true k 52 t))) (λ u. rw u (or-false (elem k (held_area x))))))
       (λ t. rw (t, upper k h t) (split lifts (λ u. rw (u, drive_places k h) (high k)) (λ u. rw u (none k))))
     where
       low : (k : ℕ) → k < 52 → elem k (held_area x) || (not (ltb k 55) && ltb k 57) ≡ elem k (held_area x)
-      low k l = rw (lt-ltb k 55 (omega arith)) (or_false (elem k (held_area x)))
+      low k l = rw (lt-ltb k 55 (omega arith)) (or-false (elem k (held_area x)))
 
       high : (k : ℕ) → (ltb k 55 && true) || (not (ltb k 55) && ltb k 57) ≡ ltb k 57 && true
       high k = split (ltb k 55)
@@ -81,7 +81,7 @@ module _ (x : Code) where
           (λ u. rw u (split (ltb k 57) (λ v. rw v) (λ v. rw v)))
 
       none : (k : ℕ) → (ltb k 55 && false) || false ≡ ltb k 57 && false
-      none k = or_false (ltb k 55 && false) ∙ and_false (ltb k 55) ∙ sym (and_false (ltb k 57))
+      none k = or-false (ltb k 55 && false) ∙ and-false (ltb k 55) ∙ sym (and-false (ltb k 57))
 
   -- ---- a stuck instruction
 
@@ -168,7 +168,7 @@ lost_lift a = alike (lost rules (away_of a)) (bit a 52)
 
 -- nothing is
 pub none_away : away_of 0 ≡ (λ k. false)
-none_away = fun_ext (λ k. split (ltb k 52) (λ t. rw (t, bit_none k)) (λ t. rw (t, bit_none 52) (and_false (ltb k 57))))
+none_away = fun_ext (λ k. split (ltb k 52) (λ t. rw (t, bit_none k)) (λ t. rw (t, bit_none 52) (and-false (ltb k 57))))
 
 -- two numbers that set the same places apart are the same
 pub away_same : (a b : ℕ) → a < 2 ^ 53 → b < 2 ^ 53 → ((k : ℕ) → away_of a k ≡ away_of b k) → a ≡ b

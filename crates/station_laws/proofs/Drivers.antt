@@ -2,7 +2,7 @@
 -- Assumes nothing.
 use mathlib.Core.Path.{◌≡◌, refl, sym, ap, subst, ◌∙◌}
 use mathlib.Core.Logic.{◌⊎◌, inl, inr, ⊎_elim}
-use mathlib.Core.Bool.{Bool, true, false, cond, or_false}
+use mathlib.Core.Bool.{Bool, true, false, cond, or-false}
 use mathlib.Core.List.{List, [], ◌∷◌}
 use Prim.Native.Nat.{ℕ, ◌≤◌, ◌<◌}
 use native.Mathlib.Omega.{arith}
@@ -226,7 +226,7 @@ beside_drive : (s : Station) (i : ℕ) → fit s ≡ true → i < s.count → ho
 unfolding crosses
 beside_drive s i f h u =
     let o : share (held_area (code_at s.set i)) lift ≡ false = rw u at (crosses_none s.bits s.set s.count (fit_has s f).clear i h) in
-    bit_or_lem s.apart (held_parts (code_at s.set i)) 52 ∙ rw (part_lift (code_at s.set i), o) (or_false (bit s.apart 52))
+    bit_or_lem s.apart (held_parts (code_at s.set i)) 52 ∙ rw (part_lift (code_at s.set i), o) (or-false (bit s.apart 52))
 
 free_step : (s t : Station) (c : Call) → Step s c t → fit s ≡ true → Free s → Free t
 free_step s t c (refuses n) f F = F

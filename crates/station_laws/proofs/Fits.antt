@@ -1,7 +1,7 @@
 -- What a fit station has, and that every call that is taken leaves one: the start, another record, a set opened, a result noted.
 -- Assumes nothing.
 use mathlib.Core.Path.{◌≡◌, refl, ap, subst, ◌∙◌}
-use mathlib.Core.Bool.{Bool, true, false, not, ◌&&◌, ◌||◌, and_false, or_true}
+use mathlib.Core.Bool.{Bool, true, false, not, ◌&&◌, ◌||◌, and-false, or-true}
 use mathlib.Core.List.{List}
 use Prim.Native.Nat.{ℕ, zero, suc, ◌*◌, ◌-◌, ◌^◌, ◌≤◌, ◌<◌}
 use native.Mathlib.Omega.{arith}
@@ -68,7 +68,7 @@ has_fit s F = rw (F.sound, le-leb s.count most_in_set F.few, F.good, F.marks, F.
 
 pub fit_closed : (r next apart : ℕ) → sound r ≡ true → apart < 2 ^ 53 → fit (closed r next apart) ≡ true
 unfolding fit every some lift_in crosses_drive
-fit_closed r next apart e h = rw (e, and_false (holds under_way (bit r)), lt-ltb apart (2 ^ 53) h)
+fit_closed r next apart e h = rw (e, and-false (holds under_way (bit r)), lt-ltb apart (2 ^ 53) h)
 
 pub fit_start : fit start_of ≡ true
 unfolding sound paired
@@ -116,7 +116,7 @@ fit_opened s n set A = has_fit (opened s n set) (record {
   good = every_is n _ (λ i h. rw (kept_code n (40 - 5 * n) set i h, A.orderly.readable.good i h));
   marks = every_is 8 _ (λ i h. rw (bit_none i));
   blank = every_is 40 _ (λ k h. split (ltb k (5 * n)) (λ t. rw t) (λ t. rw (t, zero_past (5 * n) (40 - 5 * n) set k (ltb-false k (5 * n) t))));
-  owed = rw (some_at n (λ i. not (bit 0 i)) 0 A.orderly.readable.some refl) (or_true (eqb n 0));
+  owed = rw (some_at n (λ i. not (bit 0 i)) 0 A.orderly.readable.some refl) (or-true (eqb n 0));
   clear = kept_clear s n set (clear_is s.bits set n A.orderly.clear);
   apart = every_is n _ (λ i h. rw (kept_apart s n set A i h));
   ready = every_is n _ (λ i h. rw (bit_none i, kept_code n (40 - 5 * n) set i h, A.allowed i h));
@@ -165,7 +165,7 @@ fit_answering s i r apart f h e c small = after_result (λ t. Ready t → fit t 
       good = F.good;
       marks = every_is 8 _ within;
       blank = F.blank;
-      owed = rw (some_every s.count (bit (marks_with s i)), t) (or_true (eqb s.count 0));
+      owed = rw (some_every s.count (bit (marks_with s i)), t) (or-true (eqb s.count 0));
       clear = c;
       apart = F.apart;
       ready = q;

@@ -4,7 +4,7 @@
 -- even, an event the number of cars. No instruction with another reach changes either, so the rules are framed. Assumes nothing.
 use mathlib.Core.Path.{◌≡◌, refl, ap, ap₂, ◌∙◌, sym}
 use mathlib.Core.Logic.{inl, inr}
-use mathlib.Core.Bool.{Bool, true, false, cond, not, ◌&&◌, and_false}
+use mathlib.Core.Bool.{Bool, true, false, cond, not, ◌&&◌, and-false}
 use mathlib.Core.List.{List, [], ◌++◌}
 use Prim.Native.Nat.{ℕ, ◌+◌, ◌<◌}
 use native.Mathlib.Omega.{arith}
@@ -112,7 +112,7 @@ module _ (x : Code) (f g : ℕ) (e : Agree 64 bit (λ k. elem k (reach x)) f g) 
   crosses_same = split (share (held_area x) lift)
       (λ u. rw u (ap (λ (b : Bool). b && true)
       (holds_agree drives (bit f) (bit g) (λ k m. let n = T→true (elem k drives) m in e k (are_small drives tt k n) (in_drives x k u n)) under_way tt)))
-      (λ u. rw u (and_false (holds under_way (bit f)) ∙ sym (and_false (holds under_way (bit g)))))
+      (λ u. rw u (and-false (holds under_way (bit f)) ∙ sym (and-false (holds under_way (bit g)))))
 
   -- it is allowed on both or on neither, where what it sees is the same
   allowed_same : seen_of x f ≡ seen_of x g → held_allowed x (bit f) ≡ held_allowed x (bit g)

@@ -1,6 +1,6 @@
 -- For every choice of which stuck instructions did in fact finish: the record with those applied is sound, has the same cars, allows what
 -- waits, and does not depend on their order. Assumes nothing.
-use mathlib.Core.Path.{◌≡◌, refl, sym, ap, subst, ◌∙◌}
+use mathlib.Core.Path.{◌≡◌, refl, sym, ap, ◌∙◌}
 use mathlib.Core.Bool.{Bool, true, false, ◌||◌}
 use mathlib.Core.List.{List, [], ◌∷◌}
 use Prim.Native.Nat.{ℕ, ◌^◌, ◌<◌}
@@ -30,7 +30,7 @@ use Rattle.station_laws.proofs.Calls.{image_has, image_is}
 use Rattle.station_laws.proofs.EachCall.{unfit_is, untouched}
 use Rattle.station_laws.proofs.Steps.{steps}
 use Rattle.station_laws.proofs.Link.{view, jams_of, Sane, fit_sane, good_step, image_good}
-use Rattle.station_laws.proofs.Always.{fit_kept, begins_has, cars_of, counted}
+use Rattle.station_laws.proofs.Always.{begins_has, cars_of, counted}
 
 -- ---- in good order, with what is stuck
 

@@ -10,7 +10,7 @@ use lib.Dec.{eqb}
 use borrow.Author.Tests.{lt-ltb, eqb-true, ne_eqb, not-true}
 use Rattle.bits.specs.Bits.{bit}
 use Rattle.bits.specs.Search.{some}
-use Rattle.bits.proofs.Cases.{split, clash}
+use Rattle.bits.proofs.Cases.{split}
 use Rattle.bits.proofs.Search.{every_at, every_is, none_at, some_same}
 use Rattle.floor.specs.Floor.{lift, drives as drivePlaces}
 use Rattle.floor.specs.Sound.{sound}

@@ -2,7 +2,7 @@
 -- record with those applied is sound, has the same cars, allows what has not finished, and does not depend on the order. Assumes nothing.
 use mathlib.Core.Path.{◌≡◌, refl, sym, ap, ◌∙◌}
 use mathlib.Core.Logic.{◌⊎◌, inl, inr, ⊎_elim}
-use mathlib.Core.Bool.{Bool, true, false, ◌||◌, or_true}
+use mathlib.Core.Bool.{Bool, true, false, ◌||◌, or-true}
 use mathlib.Core.List.{List, [], ◌∷◌}
 use Prim.Native.Nat.{ℕ, ◌^◌, ◌<◌}
 use lib.Dec.{eqb}
@@ -56,7 +56,7 @@ among_first (of_set i) p = rw (eq-eqb i i refl)
 among_first (of_stuck j) p = rw (eq-eqb j j refl)
 
 among_later : (m : Moving) (p : List Moving) (n : Moving) → is_among p n ≡ true → is_among (m ∷ p) n ≡ true
-among_later m p n e = among_cons m p n ∙ rw e (or_true (same m n))
+among_later m p n e = among_cons m p n ∙ rw e (or-true (same m n))
 
 -- none twice
 abbrev pub Once : List Moving → Type 0

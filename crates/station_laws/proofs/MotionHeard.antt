@@ -1,15 +1,14 @@
 -- The results of the instructions that wait, as it happened: each is accepted, and at the end the record is the one with those applied that
 -- have finished, in the order of their results. Assumes nothing.
 use mathlib.Core.Path.{◌≡◌, refl, sym, ap, subst, ◌∙◌}
-use mathlib.Core.Bool.{Bool, true, false, not, cond, ◌&&◌, ◌||◌, or_true, and-true, and_false}
+use mathlib.Core.Bool.{Bool, true, false, cond, ◌&&◌, ◌||◌, or-true, and-true, and-false}
 use mathlib.Core.List.{List, [], ◌∷◌, map}
-use Prim.Native.Nat.{ℕ, zero, suc, ◌≤◌, ◌<◌}
-use native.Mathlib.Omega.{arith}
-use lib.Dec.{eqb, ltb}
-use borrow.Author.Tests.{lt-ltb, le-ltb, ltb-true, eqb-true, eqb-false, eq-eqb}
+use Prim.Native.Nat.{ℕ}
+use lib.Dec.{eqb}
+use borrow.Author.Tests.{eqb-true, eq-eqb}
 use Rattle.bits.specs.Bits.{bit, image}
 use Rattle.bits.specs.Search.{every}
-use Rattle.bits.proofs.Cases.{split, clash, off, alike}
+use Rattle.bits.proofs.Cases.{split, clash, off}
 use Rattle.bits.proofs.Search.{every_at}
 use Rattle.rules.specs.declared.Code.{Code}
 use Rattle.any_order.proofs.Marks.{marks}
@@ -80,7 +79,7 @@ module _ (t : Station) (f : fit t ≡ true) (k : ℕ) (e : k ≡ present_issue t
   still_open : (j : ℕ) → has q j ≡ true → bit (marks_with t i) j ≡ false
   still_open j h =
       let other : eqb i j ≡ false = off _ (λ u. clash h (rw (← eqb-true i j u) w.once.1)) in
-      let old : marked t j ≡ false = w.waiting j (rw h (or_true (eqb i j))) in
+      let old : marked t j ≡ false = w.waiting j (rw h (or-true (eqb i j))) in
       ap (λ (g : ℕ → Bool). g j) (marks t.answered i) ∙ rw (other, old)
 
   -- where each has its result, no other waits
@@ -151,7 +150,7 @@ more_stuck false i rest = refl
 more_set : (b : Bool) (i : ℕ) (rest : List Moving) (j : ℕ)
     → is_among (cond b (of_set i ∷ rest) rest) (of_set j) ≡ (eqb i j && b) || is_among rest (of_set j)
 more_set true i rest j = ap (λ (c : Bool). c || is_among rest (of_set j)) (sym (and-true (eqb i j)))
-more_set false i rest j = ap (λ (c : Bool). c || is_among rest (of_set j)) (sym (and_false (eqb i j)))
+more_set false i rest j = ap (λ (c : Bool). c || is_among rest (of_set j)) (sym (and-false (eqb i j)))
 
 done_stuck : (p : List Moving) (x q : List ℕ) → stuck_numbers (done p x q) ≡ x
 done_stuck p x [] = stuck_numbers_lem x
@@ -166,7 +165,7 @@ done_set p x (i ∷ q) j =
   where
     absorbed : (b c : Bool) → b || (c && b) ≡ b
     absorbed true c = refl
-    absorbed false c = and_false c
+    absorbed false c = and-false c
 
 -- none of them twice
 more_once : (b : Bool) (i : ℕ) (rest : List Moving) → is_among rest (of_set i) ≡ false → Once rest → Once (cond b (of_set i ∷ rest) rest)
@@ -186,5 +185,5 @@ pub done_same : (p : List Moving) (q : List ℕ) → ((i : ℕ) → is_among p (
     → (m : Moving) → is_among (done p (stuck_numbers p) q) m ≡ is_among p m
 done_same p q all (of_set i) =
     done_set p (stuck_numbers p) q i
-    ∙ split (is_among p (of_set i)) (λ u. rw (u, all i u)) (λ u. rw u (and_false (has q i)))
+    ∙ split (is_among p (of_set i)) (λ u. rw (u, all i u)) (λ u. rw u (and-false (has q i)))
 done_same p q all (of_stuck j) = ap (λ (y : List ℕ). has y j) (done_stuck p (stuck_numbers p) q)

@@ -1,16 +1,16 @@
 -- What an instruction rests on while drives count: its area and, with the lift in it, the bits of the drives. Two such reaches share a
 -- place exactly if the areas do, and no instruction changes a drive. Assumes nothing.
-use mathlib.Core.Path.{◌≡◌, refl, sym, ap, ◌∙◌}
+use mathlib.Core.Path.{◌≡◌, refl, sym, ◌∙◌}
 use mathlib.Core.Logic.{◌⊎◌, inl, inr, ⊎_elim}
-use mathlib.Core.Bool.{Bool, true, false, not, cond, ◌&&◌, and_false}
+use mathlib.Core.Bool.{Bool, true, false, not, cond, ◌&&◌, and-false}
 use mathlib.Core.List.{List, [], ◌++◌}
 use Prim.Native.Nat.{ℕ, ◌<◌}
 use lib.Dec.{T}
 use borrow.Author.Tests.{not-true}
 use Rattle.bits.specs.Bits.{bit, image}
 use Rattle.bits.specs.Places.{elem, share}
-use Rattle.bits.specs.Search.{some, every}
-use Rattle.bits.proofs.Cases.{split, clash, off, both, one_of, alike, and_l, and_r, under, T→true, true→T}
+use Rattle.bits.specs.Search.{every}
+use Rattle.bits.proofs.Cases.{split, clash, off, one_of, alike, and_l, and_r, under, T→true, true→T}
 use Rattle.bits.proofs.Digits.{bit_image}
 use Rattle.bits.proofs.Lists.{elem_append, in_left, in_right}
 use Rattle.bits.proofs.Search.{none_at}
@@ -153,4 +153,4 @@ clear_has r set n o = split (holds under_way (bit r)) (λ u. inr (rw u at o)) in
 pub clear_is : (r : ℕ) (set : List ℕ) (n : ℕ) → (holds under_way (bit r) ≡ false) ⊎ (lift_in set n ≡ false) → crosses_drive r set n ≡ false
 unfolding crosses_drive
 clear_is r set n (inl u) = rw u
-clear_is r set n (inr l) = rw l (and_false (holds under_way (bit r)))
+clear_is r set n (inr l) = rw l (and-false (holds under_way (bit r)))

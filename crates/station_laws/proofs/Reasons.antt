@@ -12,7 +12,7 @@ use Rattle.bits.proofs.Cases.{clash}
 use Rattle.bits.proofs.Least.{found_least}
 use Rattle.answers.specs.declared.Reason.{Reason}
 use Rattle.answers.specs.declared.Answer.TheVariants.{BadField, NotAllowed}
-use Rattle.answers.specs.Answers.{number_of, place_of}
+use Rattle.answers.specs.Answers.{number_of}
 use Rattle.answers.proofs.Promises.{reason_from, reason_to}
 use Rattle.rules.specs.declared.Instruction.{Instruction}
 use Rattle.rules.specs.declared.Verdict.{Verdict}

@@ -1,6 +1,8 @@
 // Reads messages from standard input and writes the answer to each to standard output: one read and one write a turn, and between them one
 // append to the journal, where one is kept. What a turn leaves stands in turns, what is tried again and what is told of a failure in
 // streams; no contract can say what is read and written.
+#![tactic(auto)]
+
 ghost use Rattle.std.specs.Prelude.{◌≡◌, true, false, ◌≤◌, ◌<◌, length, take};
 ghost use Rattle.checksum.specs.Slices.{slices};
 ghost use Rattle.journal.specs.Journal.{Follows};
@@ -15,11 +17,12 @@ mod asking;
 
 use journal_keeper::Journal;
 use station::Station;
+use std::fs::File;
 use streams::Input;
 
 // Between two turns: the station with its journal, how many bytes are held at the front of the buffer, and whether nothing more is to be
 // read.
-#[derive(Drop)]
+#[derive(Clone, Copy)]
 struct Between {
     journal: Journal,
     have: usize,
@@ -27,18 +30,18 @@ struct Between {
 }
 
 // Reads once past the bytes that are held.
-fn read_on(buf: &mut [u8], have: usize) -> Input
+fn read_on(rt: &HostRuntime, buf: &mut [u8], have: usize) -> Input
     ensures { Fills buf.old have result buf.new }
 {
-    streams::fill(libc::STDIN_FILENO, buf, have, b"station: standard input")
+    streams::fill(rt, &mut rt.stdin(), buf, have, b"station: standard input")
 }
 
 // Writes the first n bytes of the answers, and says whether that went well. The messages that they answer are in the journal by then: it is
 // safe; and so is the mark of a session that these answers end.
-fn say(j: Journal, ended: bool, out: &[u8], n: usize) -> bool
+fn say(rt: &HostRuntime, j: Journal, ended: bool, out: &[u8], n: usize) -> bool
     requires { StationKept j × Noted ended j }
 {
-    streams::send(libc::STDOUT_FILENO, out, n, b"station: standard output")
+    streams::send(rt, &mut rt.stdout(), out, n, b"station: standard output")
 }
 
 // Nothing more is read or written.
@@ -54,7 +57,9 @@ fn stopped(j: Journal) -> Between
 
 // Appends the messages that were taken; where a length out of range stopped the turn, that is noted too.
 fn record(
+    rt: &HostRuntime,
     t: &[u32],
+    file: &Option<File>,
     j: Journal,
     buf: &[u8],
     used: usize,
@@ -65,27 +70,35 @@ fn record(
     requires { (used ≤ end) × (end ≤ length buf.now) × (length buf.now ≤ most_carried) × (t.now ≡ slices) × StationKept j × Follows j.station (take used buf.now) next }
     ensures { result.safe ≡ true → (result.station ≡ next) × Noted stop result × StationMakes result }
 {
-    let kept = journal_keeper::append(t, j, next, &buf[..used]);
+    let kept = journal_keeper::append(rt, t, file, j, next, &buf[..used]);
     if stop {
-        return journal_keeper::note(t, kept, 3, &buf[used..end]);
+        return journal_keeper::note(rt, t, file, kept, 3, &buf[used..end]);
     }
     kept
 }
 
 // Works out the answers to what came whole, appends it to the journal, and only then writes them. The rest is held: less than a message, so
 // that a read that brings nothing is always the input's end.
-fn answer(t: &[u32], j: Journal, buf: &mut [u8], end: usize, out: &mut [u8]) -> Between
+fn answer(
+    rt: &HostRuntime,
+    t: &[u32],
+    file: &Option<File>,
+    j: Journal,
+    buf: &mut [u8],
+    end: usize,
+    out: &mut [u8],
+) -> Between
     requires { (end ≤ length buf.old) × (enough (length buf.old) ≤ length out.old) × (length buf.old ≤ most_carried) × (t.now ≡ slices) × StationKept j }
     ensures { Goes result × AsTurn (turning j.station buf.old end out.old) result buf.new out.new }
 {
     let w = service::serve(j.station, &buf[..end], out);
     let used = w.used;
     let next = w.station;
-    let kept = record(t, j, buf, used, end, next, w.stop);
+    let kept = record(rt, t, file, j, buf, used, end, next, w.stop);
     if !kept.safe {
         return stopped(kept);
     }
-    let sent = say(kept, w.stop, out, w.made);
+    let sent = say(rt, kept, w.stop, out, w.made);
     let have = service::buffer::hold(buf, used, end);
     Between {
         journal: kept,
@@ -95,33 +108,48 @@ fn answer(t: &[u32], j: Journal, buf: &mut [u8], end: usize, out: &mut [u8]) -> 
 }
 
 // The end of the input, where the first `have` bytes are left over: that is noted before it is answered.
-fn close(t: &[u32], j: Journal, buf: &[u8], have: usize, out: &mut [u8])
+fn close(
+    rt: &HostRuntime,
+    t: &[u32],
+    file: &Option<File>,
+    j: Journal,
+    buf: &[u8],
+    have: usize,
+    out: &mut [u8],
+)
     requires { (have ≤ length buf.now) × (t.now ≡ slices) × StationKept j }
 {
     if have == 0 {
         return;
     }
-    let noted = journal_keeper::note(t, j, 2, &buf[..have]);
+    let noted = journal_keeper::note(rt, t, file, j, 2, &buf[..have]);
     if !noted.safe {
         return;
     }
     let w = service::finish(&buf[..have], out);
-    say(noted, true, out, w.size);
+    say(rt, noted, true, out, w.size);
 }
 
 // Reads once, answers what came whole, and holds the rest. It goes on only after a turn over what was read that goes on; after a read that
 // failed nothing more is written.
-fn one_turn(t: &[u32], b: Between, buf: &mut [u8], out: &mut [u8]) -> Between
+fn one_turn(
+    rt: &HostRuntime,
+    t: &[u32],
+    file: &Option<File>,
+    b: Between,
+    buf: &mut [u8],
+    out: &mut [u8],
+) -> Between
     requires { (b.have < 45) × RoomForAnswers buf.old out.old × (t.now ≡ slices) × StationKept b.journal }
     ensures { Goes result × (result.stop ≡ false → TurnedOver b.journal.station b.have buf.old out.old result buf.new out.new) }
 {
     let j = b.journal;
     let have = b.have;
-    let input = read_on(buf, have);
+    let input = read_on(rt, buf, have);
     match input {
-        Input::Bytes(end) => answer(t, j, buf, end, out),
+        Input::Bytes(end) => answer(rt, t, file, j, buf, end, out),
         Input::Ended => {
-            close(t, j, buf, have, out);
+            close(rt, t, file, j, buf, have, out);
             stopped(j)
         }
         _ => stopped(j),
@@ -129,7 +157,14 @@ fn one_turn(t: &[u32], b: Between, buf: &mut [u8], out: &mut [u8]) -> Between
 }
 
 // Turn after turn; no input is so long that it takes more.
-fn session(t: &[u32], j: Journal, buf: &mut [u8], out: &mut [u8])
+fn session(
+    rt: &HostRuntime,
+    t: &[u32],
+    file: &Option<File>,
+    j: Journal,
+    buf: &mut [u8],
+    out: &mut [u8],
+)
     requires { RoomForAnswers buf.old out.old × (t.now ≡ slices) × StationKept j }
 {
     let mut b = Between {
@@ -139,7 +174,7 @@ fn session(t: &[u32], j: Journal, buf: &mut [u8], out: &mut [u8])
     };
     let mut turns = u64::MAX;
     while 0 < turns {
-        b = one_turn(t, b, buf, out);
+        b = one_turn(rt, t, file, b, buf, out);
         if b.stop {
             return;
         }
@@ -148,22 +183,30 @@ fn session(t: &[u32], j: Journal, buf: &mut [u8], out: &mut [u8])
 }
 
 // The session, in the first 64 KiB of the buffer.
-fn begin(t: &[u32], j: Journal, buf: &mut [u8], out: &mut [u8])
+fn begin(
+    rt: &HostRuntime,
+    t: &[u32],
+    file: &Option<File>,
+    j: Journal,
+    buf: &mut [u8],
+    out: &mut [u8],
+)
     requires { (65536 ≤ length buf.old) × (enough 65536 ≤ length out.old) × (t.now ≡ slices) × StationKept j }
 {
-    session(t, j, &mut buf[..65536], out);
+    session(rt, t, file, j, &mut buf[..65536], out);
 }
 
 // 64 KiB of input, and room for all answers to it; more room to read a journal.
-fn main() {
-    if commands::told_version(b"station", b"station: standard output") {
+fn main(rt: HostRuntime) {
+    if commands::told_version(&rt, b"station", b"station: standard output") {
         return;
     }
     let t = checksum::tables();
     let mut buf = [0u8; 135168];
     let mut out = [0u8; 327680];
-    let j = asking::asked(&t, &mut buf, &mut out);
+    let mut file: Option<File> = None;
+    let j = asking::asked(&rt, &t, &mut file, &mut buf, &mut out);
     if j.safe {
-        begin(&t, j, &mut buf, &mut out);
+        begin(&rt, &t, &file, j, &mut buf, &mut out);
     }
 }

@@ -1,7 +1,7 @@
 -- The totals raised at a message's marks are the totals after it, and the first mark that fills is the first total that is full.
 -- Assumes nothing.
 use mathlib.Core.Path.{◌≡◌, refl, sym, ap, ap₂, ◌∙◌}
-use mathlib.Core.Bool.{Bool, true, false, cond, ◌&&◌, ◌||◌, and_false, and-true}
+use mathlib.Core.Bool.{Bool, true, false, cond, ◌&&◌, ◌||◌, and-false, and-true}
 use mathlib.Core.List.{List}
 use mathlib.Core.Logic.{◌⊎◌, inl, inr}
 use Prim.Native.Nat.{ℕ, ◌+◌, ◌≤◌, ◌<◌, max}
@@ -207,16 +207,16 @@ first_of p k a r d true y z w ka ar rd d52 e =
     (e k (omega arith) ∙ simp (eq-eqb k k refl))
 first_of p k a r d false true z w ka ar rd d52 e =
     least_is 52 a p (omega arith)
-    (λ j l. e j (omega arith) ∙ simp (and_false, ne_eqb a j (λ q. omega arith), ne_eqb r j (λ q. omega arith), ne_eqb d j (λ q. omega arith)))
-    (e a (omega arith) ∙ simp (and_false, eq-eqb a a refl))
+    (λ j l. e j (omega arith) ∙ simp (and-false, ne_eqb a j (λ q. omega arith), ne_eqb r j (λ q. omega arith), ne_eqb d j (λ q. omega arith)))
+    (e a (omega arith) ∙ simp (and-false, eq-eqb a a refl))
 first_of p k a r d false false true w ka ar rd d52 e =
     least_is 52 r p (omega arith)
-    (λ j l. e j (omega arith) ∙ simp (and_false, ne_eqb r j (λ q. omega arith), ne_eqb d j (λ q. omega arith)))
-    (e r (omega arith) ∙ simp (and_false, eq-eqb r r refl))
+    (λ j l. e j (omega arith) ∙ simp (and-false, ne_eqb r j (λ q. omega arith), ne_eqb d j (λ q. omega arith)))
+    (e r (omega arith) ∙ simp (and-false, eq-eqb r r refl))
 first_of p k a r d false false false true ka ar rd d52 e =
-    least_is 52 d p (omega arith) (λ j l. e j (omega arith) ∙ simp (and_false, ne_eqb d j (λ q. omega arith)))
-    (e d (omega arith) ∙ simp (and_false, eq-eqb d d refl))
-first_of p k a r d false false false false ka ar rd d52 e = least_none 52 p (λ j l. e j l ∙ simp and_false)
+    least_is 52 d p (omega arith) (λ j l. e j (omega arith) ∙ simp (and-false, ne_eqb d j (λ q. omega arith)))
+    (e d (omega arith) ∙ simp (and-false, eq-eqb d d refl))
+first_of p k a r d false false false false ka ar rd d52 e = least_none 52 p (λ j l. e j l ∙ simp and-false)
 
 -- the place that is told of them, and what goes with it
 told_of : {A : Type 0} (k a r d : ℕ) (x y z w : Bool) (stay : ℕ → A) (go : A) → k < 52 → a < 52 → r < 52 → d < 52
@@ -230,7 +230,7 @@ told_of k a r d false false false false stay go lk la lr ld = refl
 
 spread : (x y z w b : Bool) → (x || (y || (z || w))) && b ≡ (x && b || (y && b || (z && b || w && b)))
 spread x y z w true = simp and-true
-spread x y z w false = simp and_false
+spread x y z w false = simp and-false
 
 module _ (c : List ℕ) (h : Happened) where
   -- a mark that adds one at a full total fills it

@@ -1,7 +1,7 @@
 -- A message's marks: in which part of the totals each lies, and that together they name the totals under which the message counts.
 -- Assumes nothing.
 use mathlib.Core.Path.{◌≡◌, refl, sym, ap, ◌∙◌}
-use mathlib.Core.Bool.{Bool, true, false, not, ◌&&◌, ◌||◌, and_false, or_false}
+use mathlib.Core.Bool.{Bool, true, false, not, ◌&&◌, ◌||◌, and-false, or-false}
 use mathlib.Core.Logic.{◌⊎◌, inl, inr}
 use Prim.Native.Nat.{ℕ, ◌+◌, ◌-◌, ◌≤◌, ◌<◌}
 use native.Mathlib.Omega.{arith}
@@ -53,7 +53,7 @@ module _ (p n a x : ℕ) (some : 0 < n) where
       outside t =
           split (eqb x (a + i))
           (λ e. let e' = eqb-true x (a + i) e in clash (and_intro (le-leb a x (omega arith)) (lt-ltb x (a + n) (omega arith))) t)
-          (λ e. e ∙ sym (and_false (eqb p (p + i))))
+          (λ e. e ∙ sym (and-false (eqb p (p + i))))
 
 -- a mark adds nothing where it is not
 pub misses : {p n : ℕ} {m : Mark} (q : ℕ) → Among p n m → (m.at ≡ q → ⊥) → hits m q ≡ false
@@ -139,7 +139,7 @@ module _ (h : Happened) where
         answer_misses i (λ e. omega (arith, in_answers.low)),
         result_misses i (λ e. omega (arith, results_low)),
         drive_misses i (omega arith),
-        or_false,
+        or-false,
       )
       (hits_at 0 5 1 h.kind (omega arith) i i l (omega arith))
 
@@ -152,7 +152,7 @@ module _ (h : Happened) where
         kind_misses (5 + i) (omega arith),
         result_misses (5 + i) (λ e. omega (arith, results_low)),
         drive_misses (5 + i) (omega arith),
-        or_false,
+        or-false,
       )
       (hits_at 5 34 0 h.answer (omega arith) i (5 + i) l refl)
 
@@ -165,7 +165,7 @@ module _ (h : Happened) where
         kind_misses (39 + i) (omega arith),
         answer_misses (39 + i) (λ e. omega (arith, in_answers.high)),
         drive_misses (39 + i) (omega arith),
-        or_false,
+        or-false,
       )
       (done_hits h.done h.op i (39 + i) l refl)
 
@@ -178,7 +178,7 @@ module _ (h : Happened) where
         kind_misses (44 + i) (omega arith),
         answer_misses (44 + i) (λ e. omega (arith, in_answers.high)),
         drive_misses (44 + i) (omega arith),
-        or_false,
+        or-false,
       )
       (failed_hits h.done h.op i (44 + i) l refl)
 

@@ -1,4 +1,6 @@
 // The week in numbers: running totals of what happened, message by message. What counts under which name stands in specs/.
+#![tactic(auto)]
+
 ghost use Rattle.std.specs.Prelude.{◌≡◌, false, ◌+◌, ◌<◌, ◌≤◌, max, replicate};
 ghost use Rattle.totals.specs.Totals.{counted_in, none_full, totals_of, blank, LeavesTotals, LeavesCounts};
 ghost use Rattle.totals.specs.Private.{count_mark, results_from, count_marks, MarksWithin, about_full, fills, full_among, raised, with_cars, raised_all};
@@ -10,13 +12,13 @@ pub const MOST: u32 = 4294967295;
 pub const NOTHING: u8 = 255;
 
 // The totals in the report's order: kinds 1 to 5, the answers 0 to 33 by number, done 1 to 5, failed 1 to 5, cars in, cars out, most cars.
-#[derive(Drop)]
+#[derive(Clone, Copy)]
 pub struct Totals {
     pub counts: [u32; 52],
 }
 
 // What is counted of one message.
-#[derive(Drop)]
+#[derive(Clone, Copy)]
 pub struct Happened {
     // its kind, 1 to 5; 0 where none was read that is known
     pub kind: u8,
@@ -33,7 +35,7 @@ pub struct Happened {
 }
 
 // The totals after a message and NOTHING; or as they were, and the place of the first that is full.
-#[derive(Drop)]
+#[derive(Clone, Copy)]
 pub struct Tally {
     pub totals: Totals,
     pub full: u8,
@@ -57,14 +59,14 @@ impl Totals {
 }
 
 // A place of the totals, and what is added there: 1 or 0.
-#[derive(Drop)]
+#[derive(Clone, Copy)]
 struct Mark {
     at: usize,
     more: u32,
 }
 
 // The places at which a message counts.
-#[derive(Drop)]
+#[derive(Clone, Copy)]
 struct Marks {
     kind: Mark,
     answer: Mark,

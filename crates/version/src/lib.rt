@@ -1,5 +1,7 @@
 // The version of what is built here, which the programs and an entry for C tell. The first number moves where a caller must change
 // something, the second where something was added, the third else.
+#![tactic(auto)]
+
 ghost use Rattle.std.specs.Prelude.{◌≡◌};
 ghost use Rattle.version.specs.Version.{version};
 

@@ -1,5 +1,7 @@
 // The week in numbers: what is counted of each message that a station answers, and all messages of a buffer counted. What counts stands
 // in specs/.
+#![tactic(auto)]
+
 ghost use Rattle.std.specs.Prelude.{◌≡◌, true};
 ghost use Rattle.floor.specs.Sound.{sound, total, cars_in};
 ghost use Rattle.station.specs.Held.{code_at};
@@ -17,7 +19,7 @@ use wire::{Frame, What};
 
 // What a count of a buffer's messages leaves: the next station, how many bytes were taken, whether nothing more is to be read, and the
 // place of the first total that is full, or NOTHING.
-#[derive(Drop)]
+#[derive(Clone, Copy)]
 pub struct Counted {
     pub station: Station,
     pub used: usize,
@@ -26,7 +28,7 @@ pub struct Counted {
 }
 
 // What a message that is taken tells of an instruction and of a drive.
-#[derive(Drop)]
+#[derive(Clone, Copy)]
 struct Tells {
     op: u8,
     done: bool,
@@ -34,7 +36,7 @@ struct Tells {
 }
 
 // What happens, and the next station.
-#[derive(Drop)]
+#[derive(Clone, Copy)]
 struct Step {
     happened: Happened,
     station: Station,

@@ -1,5 +1,7 @@
 // Messages: what they say, how they are read from bytes, in `kinds` each by its kind, and, in `writing`, how they are written. What they
 // mean stands in specs/.
+#![tactic(auto)]
+
 ghost use Rattle.std.specs.Prelude.{◌≡◌, [], ◌∷◌, ◌++◌, ◌≤◌, ◌<◌, ◌-◌, ◌*◌, get_or, length, replicate};
 ghost use Rattle.codec.specs.Bytes.{little_endian, from_little_endian};
 ghost use Rattle.wire.specs.Kinds.{kinds_asked, plain, set_of};
@@ -11,7 +13,7 @@ mod kinds;
 pub mod writing;
 
 // What a message asks or tells; a request's instructions stand beside it, in Message. An image is the record and what is set apart.
-#[derive(Drop)]
+#[derive(Clone, Copy)]
 pub enum What {
     Request,
     Event { way: u8 },
@@ -23,7 +25,7 @@ pub enum What {
 }
 
 // A message: a request's instructions are held as their own five bytes each, the unused places zero.
-#[derive(Drop)]
+#[derive(Clone, Copy)]
 pub struct Message {
     pub what: What,
     pub count: u8,
@@ -31,7 +33,7 @@ pub struct Message {
 }
 
 // What a reader answers: how many bytes the message took, none where they can't be told, and what it says, a blank one if refused.
-#[derive(Drop)]
+#[derive(Clone, Copy)]
 pub struct Received {
     pub answer: Answer,
     pub used: usize,
@@ -39,21 +41,21 @@ pub struct Received {
 }
 
 // What a message that is no request says: Taken and what it asks or tells, or why it is refused.
-#[derive(Drop)]
+#[derive(Clone, Copy)]
 pub struct Said {
     pub answer: Answer,
     pub what: What,
 }
 
 // What a call that writes answers, and how many bytes it wrote.
-#[derive(Drop)]
+#[derive(Clone, Copy)]
 pub struct Written {
     pub answer: Answer,
     pub size: usize,
 }
 
 // How far the first message of some bytes goes, by its length alone: cut short, of a wrong length, or so many bytes.
-#[derive(Drop)]
+#[derive(Clone, Copy)]
 pub enum Frame {
     Cut,
     Wrong,
@@ -145,7 +147,7 @@ fn held(s: &[u8]) -> [u8; 40]
     ensures { result ≡ s.now ++ replicate (40 - length s.now) 0 }
 {
     let mut set = [0u8; 40];
-    bytes::copy(s, &mut set);
+    codec::copy(s, &mut set);
     set
 }
 

@@ -19,7 +19,7 @@ fn put(src: &[u8], room: &mut [u8]) -> Written
             size: 0,
         };
     }
-    let size = bytes::copy(src, room);
+    let size = codec::copy(src, room);
     Written {
         answer: Answer::Taken,
         size,
@@ -93,8 +93,8 @@ fn request_bytes(count: u8, set: [u8; 40]) -> [u8; 45]
     ensures { result ≡ (3 + 5 * count) ∷ 0 ∷ 1 ∷ 0 ∷ count ∷ set }
 {
     let mut m = [0u8; 45];
-    bytes::copy(&[3 + 5 * count, 0, 1, 0, count], &mut m);
-    bytes::copy(&set, &mut m[5..]);
+    codec::copy(&[3 + 5 * count, 0, 1, 0, count], &mut m);
+    codec::copy(&set, &mut m[5..]);
     m
 }
 

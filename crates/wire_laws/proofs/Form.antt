@@ -6,7 +6,7 @@ use Prim.Native.Nat.{ℕ, ◌+◌, ◌*◌, ◌-◌, ◌≤◌}
 use native.Mathlib.Omega.{arith}
 use borrow.Author.Tests.{le-ltb, eqb-true}
 use lib.Dec.{ltb, eqb}
-use lib.ListN.{get_or, length, take, drop, replicate, length_append, length-drop, drop_of_length-le, take-append-drop}
+use lib.ListN.{get_or, length, take, drop, replicate, length-append, length-drop, drop_of_length-le, take-append-drop}
 use lib.Seq.{length-take-le, take_all, take_at, drop-cons, get_or-drop}
 use Rattle.bits.specs.Search.{least}
 use Rattle.codec.specs.Bytes.{little_endian, from_little_endian, Bytes}
@@ -14,7 +14,7 @@ use Rattle.answers.specs.declared.Answer.TheVariants.{Taken, BadLength, BadField
 use Rattle.answers.specs.Answers.{nowhere}
 use Rattle.wire.specs.declared.What.TheVariants.{Request}
 use Rattle.wire.specs.declared.Message.{Message}
-use Rattle.wire.specs.Kinds.{SizedKind, answer_kind, kinds_known, kind_of, body_of, request_kind, in_range, plain, requesting}
+use Rattle.wire.specs.Kinds.{SizedKind, kinds_known, kind_of, body_of, request_kind, in_range, plain, requesting}
 use Rattle.wire.specs.Reads.{kind_at, bad_in, message_taken, sized, read_request, read_among, read_whole}
 use Rattle.wire.specs.Writes.{message_bytes, put, is_request, writing_message, one_form}
 use Rattle.wire.proofs.Frames.{when}
@@ -131,7 +131,7 @@ module _ (n : ℕ) (s : List ℕ) (l : length s ≡ 5 * n) where
   kept_bytes = take_at (take (5 * n) s) (replicate (40 - 5 * n) 0) (5 * n) (length-take-le (5 * n) s (omega arith)) ∙ take_all (5 * n) s (omega arith)
 
   kept_long : 5 * n ≤ length kept
-  kept_long = rw (length_append (take (5 * n) s) (replicate (40 - 5 * n) 0), length-take-le (5 * n) s (omega arith)) (omega arith)
+  kept_long = rw (length-append (take (5 * n) s) (replicate (40 - 5 * n) 0), length-take-le (5 * n) s (omega arith)) (omega arith)
 
   kept_bad : least n (bad_in kept) ≡ least n (bad_in s)
   kept_bad = bad_same kept s n kept_long (omega arith) (kept_bytes ∙ sym (take_all (5 * n) s (omega arith)))

@@ -4,7 +4,7 @@ use mathlib.Core.List.{List, [], ◌∷◌, ◌++◌}
 use Prim.Native.Nat.{ℕ, suc, ◌+◌, ◌*◌, ◌≤◌, ◌<◌}
 use native.Mathlib.Omega.{arith}
 use borrow.Author.Tests.{le-ltb}
-use lib.ListN.{length, take, drop, length_append, get_or-append}
+use lib.ListN.{length, take, drop, length-append, get_or-append}
 use lib.Seq.{get_or-take, length-take-le, take-append_seam}
 use Rattle.codec.specs.Bytes.{little_endian, Bytes}
 use Rattle.answers.specs.declared.Answer.{Answer}
@@ -72,7 +72,7 @@ read_back m t e l h =
     let a = get_or-append m t 0 0 (omega arith) in
     let b = get_or-append m t 0 1 (omega arith) in
     let f : frame_of (m ++ t) ≡ Whole (length m) = framed_is (m ++ t) (length m)
-    (record { long = rw (a, b) (sym e); low = l; high = h; within = rw (length_append m t) (omega arith) }) in
+    (record { long = rw (a, b) (sym e); low = l; high = h; within = rw (length-append m t) (omega arith) }) in
     ap (λ (g : Frame). read_framed kinds_known g (m ++ t)) f ∙ ap (read_whole kinds_known) (take-append_seam m t)
 
 -- a message's bytes by its length, its kind and its body

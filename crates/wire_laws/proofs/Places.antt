@@ -7,7 +7,7 @@ use Prim.Native.Nat.{ℕ, ◌+◌, ◌*◌}
 use native.Mathlib.Omega.{arith}
 use borrow.Author.Tests.{eqb-true, eqb-false, ltb-true}
 use lib.Dec.{ltb, eqb}
-use lib.ListN.{get_or, length, take, drop, length_append, length-drop, take-append-drop}
+use lib.ListN.{get_or, length, take, drop, length-append, length-drop, take-append-drop}
 use lib.Seq.{get_or-take, take_all, take_at, drop-append-le}
 use Rattle.bits.specs.Search.{least, IsLeast}
 use Rattle.bits.proofs.Least.{found_least}
@@ -38,7 +38,7 @@ instructions_same s k c l =
     let body = drop 5 (take k s) in
     let long : length body ≡ 5 * c = length-drop 5 (take k s) ∙ omega arith in
     let after : drop 5 s ≡ body ++ drop k s = ap (drop 5) (sym (take-append-drop k s)) ∙ drop-append-le 5 (take k s) (drop k s) (omega arith) in
-    bad_same body (drop 5 s) c (omega (arith, long)) (omega (arith, long, ap length after, length_append body (drop k s)))
+    bad_same body (drop 5 s) c (omega (arith, long)) (omega (arith, long, ap length after, length-append body (drop k s)))
     (take_all (5 * c) body (omega (arith, long)) ∙ sym (ap (take (5 * c)) after ∙ take_at body (drop k s) (5 * c) long))
 
 module _ (p n : ℕ) where

@@ -1,1 +1,2 @@
 // The laws of messages; no code.
+#![tactic(auto)]

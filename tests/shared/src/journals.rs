@@ -1,6 +1,7 @@
 //! A station that is started on a journal, in a process of its own; and what can be made to fail there, by the system's own means.
 
 use std::io;
+use std::os::fd::AsRawFd;
 use std::os::unix::process::CommandExt;
 use std::process::{Child, Command, Stdio};
 
@@ -57,6 +58,7 @@ extern "C" {
     fn signal(number: i32, handler: usize) -> usize;
     fn setrlimit(resource: i32, limits: &[u64; 2]) -> i32;
     fn ptrace(request: i64, process: i32, address: usize, data: usize) -> i64;
+    fn fcntl(file: i32, command: i32, ...) -> i32;
 }
 
 /// From here on the call fails: its number is looked at, and then its first argument, which is a descriptor.
@@ -113,6 +115,13 @@ pub fn started(program: &str, words: &[&str], trouble: Trouble) -> Child {
     // nothing but calls to the system is made there
     unsafe { command.pre_exec(move || trouble.begin()) };
     command.spawn().expect("the station starts")
+}
+
+/// A pipe is made to hold as few bytes as the system allows: so many.
+pub fn narrowed(pipe: &impl AsRawFd) -> usize {
+    let set_size = 1031;
+    let size = unsafe { fcntl(pipe.as_raw_fd(), set_size, 1) };
+    usize::try_from(size).ok().filter(|&size| size > 0).expect("a pipe of another size")
 }
 
 /// The program will stop at its start, for whoever starts it to follow its calls.

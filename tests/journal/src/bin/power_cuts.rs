@@ -2,10 +2,11 @@
 //! station is killed at a random moment, and started again on its journal, so many times. The program is started as it is, not by a script,
 //! so that what is killed is the station itself. After each cut the journal must be what it was before and then appends with the messages that
 //! were sent, in order, up to some byte; every message that was answered must be in it; and every answer must be the reference's, on one
-//! station that has gone on through all cuts. What must have come besides, or the run fails, stands in `Came`.
+//! station that has gone on through all cuts. What must have come besides, or the run fails, stands in `Came`. Of ten sessions one has a client
+//! that reads nothing, so that however fast the disk is some messages are kept and not answered.
 
 use shared::journal_form::{read, Read as Journal, Written, MESSAGES};
-use shared::journals::{new, started, Trouble, ASK};
+use shared::journals::{narrowed, new, started, Trouble, ASK};
 use shared::pipes::messages_in;
 use shared::reference::{drive_under_way, read_call, serve_on, Call, Station, START};
 use shared::traffic::{framed_message, image, result, Numbers};
@@ -14,7 +15,7 @@ use std::io::{Read, Write};
 use std::path::Path;
 use std::sync::{Arc, Condvar, Mutex};
 use std::thread;
-use std::time::Duration;
+use std::time::{Duration, Instant};
 
 /// More time than a station ever takes for an answer.
 const LONG: Duration = Duration::from_secs(60);
@@ -160,6 +161,36 @@ fn cut_session(program: &str, journal: &str, numbers: &mut Numbers, from: &Stati
     (bytes, reader.join().expect("the reader ends"))
 }
 
+/// A session whose client reads nothing. It is cut when the journal has more messages than the pipe holds answers of.
+fn unread_session(program: &str, journal: &str, numbers: &mut Numbers, from: &Station, had: &Journal) -> (Vec<u8>, Vec<u8>) {
+    let mut child = started(program, &[journal], Trouble::Nothing);
+    let (to, room) = (child.stdin.take().expect("a pipe"), narrowed(child.stdout.as_ref().expect("a pipe")));
+    // no answer has fewer than eight bytes
+    let messages = session(numbers, from, room as u64 / 8);
+    let last = messages.iter().position(|(_, answers)| *answers > room).expect("more answers than there is room for");
+    let enough = sent(&messages[..=last]).len();
+    let (seed, bytes) = (numbers.next(), sent(&messages));
+    let writer = thread::spawn(move || ahead(to, &messages, seed));
+    let kept = || {
+        // the file's length is a quick look, since most of it is messages
+        let long = fs::metadata(journal).is_ok_and(|file| file.len() as usize >= had.whole + enough);
+        let says = if long { fs::read(journal).ok().and_then(|bytes| read(&bytes).ok()) } else { None };
+        says.map_or(0, |says| says.recorded().len())
+    };
+    let begun = Instant::now();
+    while kept() < had.recorded().len() + enough {
+        assert!(begun.elapsed() < LONG, "the station keeps nothing more when nobody reads its answers");
+        thread::sleep(Duration::from_millis(1));
+    }
+    child.kill().expect("the station is killed");
+    // first it must be gone: as soon as the pipe is read it could write more
+    child.wait().expect("the station is gone");
+    let ended = child.wait_with_output().expect("the station has ended");
+    noted(&ended.stderr);
+    writer.join().expect("the writer ends");
+    (bytes, ended.stdout)
+}
+
 /// Nothing is told but that a tail was cut off.
 fn noted(told: &[u8]) {
     let told = String::from_utf8_lossy(told);
@@ -230,7 +261,9 @@ fn main() {
     let cuts: usize = cuts.parse().expect("a number");
     drop(fs::remove_file(format!("{journal}.torn")));
     let mut cut_off = 0;
-    for cut in 0..cuts {
+    // what a cut meets is a matter of moments: where something has not come yet, there are some more
+    let mut cut = 0;
+    while cut < cuts || (!came.all() && cut < 4 * cuts) {
         let (bytes, before) = journal_in(&journal);
         // one tail at a time: a station that is killed before it has looked at its journal leaves the last one there
         if cut % 3 == 1 && before.whole == bytes.len() {
@@ -238,7 +271,11 @@ fn main() {
         }
         let held = fs::read(&journal).expect("the journal");
         came.torn += usize::from(before.whole < held.len());
-        let (sent, back) = cut_session(program, &journal, &mut numbers, &station);
+        let (sent, back) = if cut % 10 == 9 {
+            unread_session(program, &journal, &mut numbers, &station, &before)
+        } else {
+            cut_session(program, &journal, &mut numbers, &station)
+        };
         let (now, says) = journal_in(&journal);
         // a tail is in the journal, or beside it, or both
         let torn = fs::read(format!("{journal}.torn")).unwrap_or_default();
@@ -246,12 +283,13 @@ fn main() {
         assert!(before.whole == held.len() || now == held || kept, "a tail that was cut off is lost");
         cut_off = torn.len();
         messages += looked_at(&before, &says, (&sent, &back), &mut station, &mut came);
+        cut += 1;
     }
     assert!(asked(program, &[&journal]) == serve_on(&mut station, &ASK, true).0, "the last image");
     if !came.all() {
         eprintln!("power_cuts: not everything came: {came:?}");
         std::process::exit(1);
     }
-    println!("power_cuts: {cuts} cuts, {messages} messages in the journal, none lost that was answered, each answer the reference's on one station");
+    println!("power_cuts: {cut} cuts, {messages} messages in the journal, none lost that was answered, each answer the reference's on one station");
     println!("power_cuts: {came:?}");
 }

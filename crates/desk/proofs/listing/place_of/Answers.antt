@@ -1,0 +1,11 @@
+use borrow.Author.Tests.{lt-ltb, le-ltb, eq-eqb, ne_eqb}
+use Rattle.desk.proofs.listing.place_of.Goals as goal
+
+pub returns-then-j-lt40 : goal.returns-then-j-lt40
+returns-then-j-lt40 c = rw (lt-ltb _ _ c.if-j-lt40.true)
+
+pub returns-then-j-eq40 : goal.returns-then-j-eq40
+returns-then-j-eq40 c = rw (le-ltb _ _ c.if-j-lt40.false, eq-eqb _ _ c.if-j-eq40.true)
+
+pub returns : goal.returns
+returns c = rw (le-ltb _ _ c.if-j-lt40.false, ne_eqb _ _ c.if-j-eq40.false)

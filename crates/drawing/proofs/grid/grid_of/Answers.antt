@@ -1,0 +1,30 @@
+use mathlib.Core.Path.{ap, ◌∙◌}
+use native.Mathlib.Omega.{arith}
+use Rattle.bits.specs.Bits.{bit}
+use Rattle.drawing.specs.Private.{cell_mark}
+use Rattle.drawing.proofs.Tables.{rows_start, row_starts, row_turns, row_ends, rows_end}
+use Rattle.drawing.proofs.grid.grid_of.Goals as goal
+
+pub loop-i-init : goal.loop-i-init
+loop-i-init c = rows_start
+
+pub loop-j-init : goal.loop-j-init
+loop-j-init c = row_starts c.loop-i.invariant c.loop-i-test.true
+
+pub cell-requires : goal.cell-requires
+cell-requires c = (omega arith, omega arith)
+
+pub mark-requires : goal.mark-requires
+mark-requires c = tt
+
+pub loop-j-preserved : goal.loop-j-preserved
+loop-j-preserved c =
+    row_turns c.loop-j.invariant c.loop-j-test.true
+    (c.mark.ensures ∙ ap (cell_mark c.args.apart (bit c.args.image))
+    c.cell.ensures)
+
+pub loop-i-preserved : goal.loop-i-preserved
+loop-i-preserved c = row_ends c.loop-j.invariant c.loop-j-test.false
+
+pub returns : goal.returns
+returns c = rows_end c.loop-i.invariant c.loop-i-test.false

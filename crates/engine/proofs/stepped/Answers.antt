@@ -1,0 +1,44 @@
+-- `engine::stepped` meets its contract, by what the conditions say; tilts and runs of the lift at once. Assumes nothing.
+use Rattle.engine.proofs.Answers.{decided, taken, refused, unread, no_gap}
+use Rattle.engine.proofs.Ruling.{tilt_judge, tilt_move_lem}
+use Rattle.rows.specs.Private.{whole}
+use Rattle.rules.specs.Verdicts.{judged}
+use Rattle.rules.specs.Rules.{well_formed, clauses, next_record}
+use Rattle.bits.proofs.Cases.{true→T}
+use Rattle.bits.specs.Bits.{bit, image}
+use mathlib.Core.Path.{sym, ap, ◌∙◌}
+use borrow.Author.Rules.{rules}
+use Rattle.engine.proofs.stepped.Goals as goal
+
+pub lift_next-requires : goal.lift_next-requires
+lift_next-requires c = true→T (ap well_formed (sym c.in-Lift.is) ∙ c.requires.0)
+
+pub returns-in-Tilt : goal.returns-in-Tilt
+returns-in-Tilt c =
+    let a = c.args in
+    let p = c.requires in
+    c.decided.ensures ∙ decided a.i a.r p.0 c.tilt_judged.result
+    (c.tilt_judged.ensures ∙ tilt_judge a.i a.r a.a p.0 p.1 c.in-Tilt.is)
+    c.tilt_next.result
+    (tilt_move_lem a.i a.r a.a p.0 p.1 (ap whole c.in-Tilt.is) c.tilt_next.result (search rules) c.in-Tilt.is c.tilt_next.ensures)
+
+pub returns-in-Lift : goal.returns-in-Lift
+returns-in-Lift c =
+    let a = c.args in
+    let p = c.requires in
+    c.decided-in-Lift.ensures ∙ decided a.i a.r p.0 c.lift_judged.result
+    (c.lift_judged.ensures ∙ ap (λ i. judged (clauses i) (bit a.r)) (sym c.in-Lift.is))
+    c.lift_next.result
+    (c.lift_next.ensures ∙ ap (λ i. image (next_record i (bit a.r))) (sym c.in-Lift.is))
+
+pub next-requires : goal.next-requires
+next-requires c = (c.requires.0, no_gap c.args.i c.args.r c.requires.0 c.told.result c.told.ensures c.in-Allowed.is, c.requires.1)
+
+pub returns-in-Allowed : goal.returns-in-Allowed
+returns-in-Allowed c = taken c.args.i c.args.r c.requires.0 c.told.result c.told.ensures c.next.result c.in-Allowed.is c.next.ensures
+
+pub returns-in-NotAllowed : goal.returns-in-NotAllowed
+returns-in-NotAllowed c = refused c.args.i c.args.r c.requires.0 c.told.result c.told.ensures _ c.in-NotAllowed.is
+
+pub returns-in-IllFormed : goal.returns-in-IllFormed
+returns-in-IllFormed c = unread c.args.i c.args.r c.requires.0 c.told.result c.told.ensures c.in-IllFormed.is

@@ -1,0 +1,13 @@
+-- `engine::verdict` meets its contract: an area is a well-formed instruction's. Assumes nothing.
+use Rattle.rules.proofs.Answering.{is_verdict, ill_formed}
+use Rattle.engine.proofs.Answers.{masked, unmasked}
+use Rattle.engine.proofs.verdict.Goals as goal
+
+pub told-requires : goal.told-requires
+told-requires c = masked c.args.i c.area.result c.area.ensures _ c.in-Mask.is
+
+pub returns-in-Mask : goal.returns-in-Mask
+returns-in-Mask c = is_verdict c.args.i c.args.r (masked c.args.i c.area.result c.area.ensures _ c.in-Mask.is).0 c.told.ensures
+
+pub returns-in-IllFormed : goal.returns-in-IllFormed
+returns-in-IllFormed c = (ill_formed c.args.i c.args.r (unmasked c.args.i c.area.result c.area.ensures c.in-IllFormed.is)).0

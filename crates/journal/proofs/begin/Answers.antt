@@ -1,0 +1,5 @@
+-- `journal::begin` meets its contract. Assumes nothing.
+use Rattle.journal.proofs.begin.Goals as goal
+
+pub returns : goal.returns
+returns c = rw c.start-station.ensures

@@ -1,0 +1,9 @@
+-- `rooms::stored` meets its contract: each part is put in its place. Assumes nothing.
+use native.Mathlib.Omega.{arith}
+use Rattle.wire.proofs.Parts.{set_filled}
+use Rattle.rooms.proofs.Bytes.{laid_out}
+use borrow.Author.Rules.{rules}
+use Rattle.rooms.proofs.stored.Goals as goal
+
+pub returns : goal.returns
+returns c = let a = c.args in laid_out (record { bits = a.bits; count = a.count; answered = a.answered; set = a.set; next = a.next; apart = a.apart }) _ _ c.copy-2.new.room _ _ (search rules) c.image_bytes-image.ensures (c.copy-3.ensures.all (search rules)).1 (set_filled a.set _ (omega arith) (c.copy-2.ensures.all (search rules)).1) c.image_bytes-parts.ensures (c.copy.ensures.all (search rules)).1

@@ -1,0 +1,24 @@
+-- `rules::event_of` meets its contract, byte by byte. Assumes nothing.
+use borrow.Author.Tests.{ne_eqb}
+use Rattle.rules.specs.Codes.{read_event}
+use Rattle.rules.proofs.event_of.Goals as goal
+
+pub returns-in-1 : goal.returns-in-1
+unfolding read_event
+returns-in-1 c = rw c.in-1.is
+
+pub returns-in-2 : goal.returns-in-2
+unfolding read_event
+returns-in-2 c = rw c.in-2.is
+
+pub returns-in-3 : goal.returns-in-3
+unfolding read_event
+returns-in-3 c = rw c.in-3.is
+
+pub returns-in-4 : goal.returns-in-4
+unfolding read_event
+returns-in-4 c = rw c.in-4.is
+
+pub returns-in_default : goal.returns-in_default
+unfolding read_event
+returns-in_default c = simp (ne_eqb _ _ c.in_default.in_default-own.rest.0.0.0.1, ne_eqb _ _ c.in_default.in_default-own.rest.0.0.1, ne_eqb _ _ c.in_default.in_default-own.rest.0.1, ne_eqb _ _ c.in_default.in_default-own.rest.1)

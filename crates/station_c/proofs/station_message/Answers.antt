@@ -1,0 +1,41 @@
+-- `station_c::station_message` meets its contract: either room too short, or the reply, and the station if the message was taken. Assumes nothing.
+use borrow.Author.Rules.{rules}
+use native.Mathlib.Omega.{arith}
+use Rattle.rooms.proofs.Rooms.{lent_there}
+use Rattle.station_c.proofs.Exchanging.{short_room, short_reply, told_why, replied}
+use Rattle.station_c.proofs.station_message.Goals as goal
+
+pub returns-then-room-lt-STATION : goal.returns-then-room-lt-STATION
+returns-then-room-lt-STATION c = short_room _ _ _ c.if-room-lt-STATION.true c.say.ensures
+
+pub returns-then-refused-ne0 : goal.returns-then-refused-ne0
+returns-then-refused-ne0 c =
+    short_reply _ _ _ (omega (arith, c.if-room-lt-STATION.false))
+    (lent_there _ (omega (arith, c.if-room-lt-STATION.false))
+    c.station_of.ensures)
+    c.respond-o.ensures
+    c.write_plain-w.ensures c.number-refused.ensures c.if-refused-ne0.true
+    c.say-then-refused-ne0.ensures
+
+pub returns-then-r-ne0 : goal.returns-then-r-ne0
+returns-then-r-ne0 c =
+    told_why _ _ _ (omega (arith, c.if-room-lt-STATION.false))
+    (lent_there _ (omega (arith, c.if-room-lt-STATION.false))
+    c.station_of.ensures)
+    c.respond-o.ensures
+    c.write_plain-w.ensures c.number-refused.ensures
+    c.if-refused-ne0.false c.returned_of-r.ensures c.if-r-ne0.true
+
+pub returns : goal.returns
+returns c =
+    replied _ _ _
+    (omega (arith, c.if-room-lt-STATION.false))
+    (lent_there _ (omega (arith, c.if-room-lt-STATION.false))
+    c.station_of.ensures)
+    c.respond-o.ensures
+    c.write_plain-w.ensures
+    c.number-refused.ensures
+    c.if-refused-ne0.false
+    c.returned_of-r.ensures
+    c.if-r-ne0.false
+    c.station_bytes-b.ensures (omega arith) (c.copy.ensures.all (search rules)).1

@@ -1,0 +1,6 @@
+use Rattle.totals.specs.Private.{raised}
+use Rattle.totals.proofs.raise.Goals as goal
+
+pub returns : goal.returns
+unfolding raised
+returns c = rw c.plus.ensures

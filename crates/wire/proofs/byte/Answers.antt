@@ -1,0 +1,6 @@
+use lib.ListN.{get_or-eq_default}
+use mathlib.Core.Path.{sym}
+use Rattle.wire.proofs.byte.Goals as goal
+
+pub returns : goal.returns
+returns c = sym (get_or-eq_default c.args.s.now 0 c.if-i-s.false)

@@ -1,0 +1,14 @@
+use Rattle.wire.proofs.Room.{put_short, put_all}
+use borrow.Author.Tests.{le-ltb}
+use Rattle.wire.proofs.writing.put.Goals as goal
+
+pub returns-then-room-src : goal.returns-then-room-src
+returns-then-room-src c = let a = c.args in
+    let e = put_short a.src.now a.room.now c.if-room-src.true in
+    (rw e, rw e)
+
+pub returns : goal.returns
+returns c = let a = c.args in
+    let h = c.if-room-src.false in
+    let e = c.copy-size.ensures.all h in
+    (rw e.0 (simp (le-ltb _ _ h)), put_all a.src.now a.room.now _ h e.1)
