@@ -283,10 +283,9 @@ impl Place<'_> {
         }
     }
 
-    /// Two stations that are sent messages at once: at most one of them answers, and what it answered stands at the front of the journal. Both
-    /// do only where one had ended when the other came to read the journal: then it goes on from there.
+    /// Two stations that are sent messages at once: at most one of them answers, and what it answered stands at the front of the journal.
     fn raced(&self, times: u64) {
-        let (mut answered, mut in_turn) = (0, 0);
+        let mut answered = 0;
         for time in 0..times {
             let path = self.with("raced", &journal(&[]));
             let mut both = [(); 2].map(|()| started(self.program, &[&path], Trouble::Nothing));
@@ -298,22 +297,13 @@ impl Place<'_> {
             let ended = both.map(|station| station.wait_with_output().expect("it ends"));
             let messages = read(&fs::read(&path).expect("the journal")).expect("a journal").recorded();
             let answering: Vec<_> = ended.iter().zip(&inputs).filter(|(output, _)| !output.stdout.is_empty()).collect();
-            if let [one, other] = answering[..] {
-                let after = |(first, before): (&Output, &Vec<u8>), (second, behind): (&Output, &Vec<u8>)| {
-                    let all = [&before[..], behind].concat();
-                    messages == all && [&first.stdout[..], &second.stdout].concat() == serve(&all)
-                };
-                assert!(after(one, other) || after(other, one), "both of two stations have answered");
-                in_turn += 1;
-            } else if let [(output, bytes)] = answering[..] {
+            assert!(answering.len() < 2, "both of two stations have answered");
+            for (output, bytes) in &answering {
                 assert!(output.stdout == serve(bytes) && messages.starts_with(bytes), "of two stations one has answered what is not kept");
-                answered += 1;
             }
+            answered += answering.len();
         }
-        assert!(in_turn < times, "no two stations were at work at once");
-        println!(
-            "  two stations at once, {times} times: one of them answered {answered} times, and {in_turn} times both, one after the other"
-        );
+        println!("  two stations at once, {times} times: one of them answered {answered} times, and never both");
     }
 
     /// The same input with a journal and without, in one go and with a restart anywhere: the same answers.

@@ -150,11 +150,13 @@ fn opened(fault: &Fault, path: &str, garage: Option<&str>) -> (Station, Journal)
     if fault.is("makes_what_is_missing") && !Path::new(path).exists() {
         made(fault, path, garage.unwrap_or("none"));
     }
-    let file = fault.done(OpenOptions::new().read(true).append(true).open(path), "the journal can't be opened");
+    let looked_at = fault.done(OpenOptions::new().read(true).write(true).open(path), "the journal can't be opened");
     if Path::new(&format!("{path}.part")).exists() && !fault.is("starts_unfinished") {
         fault.stops(1, "the journal is not finished: give --follow once more");
     }
-    let bytes = bytes_of(fault, &file);
+    // only a journal that has been read is opened to append, as by the program: the runs with two stations wait for that
+    let bytes = bytes_of(fault, &looked_at);
+    let file = fault.done(OpenOptions::new().read(true).append(true).open(path), "the journal can't be opened");
     let read = judged(fault, &bytes);
     // what a wrong station takes for a journal is one from then on
     let taken = mended(fault, &bytes);
