@@ -88,6 +88,7 @@ pub fn in_table(n: u8) -> bool
 }
 
 impl Reason {
+    // Kept: a match, no discriminants: its wrong programs give two reasons one number (must-fail/), which no enum may have.
     // Its number in the table.
     pub fn number(self) -> u8
         ensures { result ≡ reason_number self }
@@ -112,8 +113,7 @@ impl Answer {
         ensures { result ≡ number_of self }
     {
         match self {
-            Answer::Taken => 0,
-            Answer::Opened(_) => 0,
+            Answer::Taken | Answer::Opened(_) => 0,
             Answer::TooFewBytes => 1,
             Answer::BadLength => 2,
             Answer::UnknownKind => 3,
@@ -143,29 +143,11 @@ impl Answer {
         ensures { result ≡ place_of self }
     {
         match self {
-            Answer::Taken => NOWHERE,
-            Answer::Opened(_) => NOWHERE,
-            Answer::TooFewBytes => NOWHERE,
-            Answer::BadLength => NOWHERE,
-            Answer::UnknownKind => NOWHERE,
-            Answer::BadField(p) => p,
-            Answer::TooMany => NOWHERE,
-            Answer::SetOutstanding => NOWHERE,
-            Answer::EmptySet => NOWHERE,
-            Answer::Overlap(p) => p,
-            Answer::NotAllowed(_, p) => p,
-            Answer::EventImpossible => NOWHERE,
-            Answer::NoSet => NOWHERE,
-            Answer::NotInSet => NOWHERE,
-            Answer::AlreadyAnswered => NOWHERE,
-            Answer::Unsound => NOWHERE,
-            Answer::Unfit => NOWHERE,
-            Answer::NoRoom => NOWHERE,
-            Answer::Late => NOWHERE,
-            Answer::NotIssued => NOWHERE,
-            Answer::OutOfTurn => NOWHERE,
-            Answer::SetApart(p) => p,
-            Answer::KeptOpen => NOWHERE,
+            Answer::BadField(p)
+            | Answer::Overlap(p)
+            | Answer::NotAllowed(_, p)
+            | Answer::SetApart(p) => p,
+            _ => NOWHERE,
         }
     }
 

@@ -1,22 +1,24 @@
 -- The masks are the areas of the rules: one test, computed for every well-formed instruction. And `&` of two areas is 0 exactly if
 -- they share no place. Assumes nothing.
-use mathlib.Core.Path.{◌≡◌, sym, ap, ap₂, ◌∙◌}
-use mathlib.Core.Bool.{Bool, true, not, cond}
+use Rattle.std.specs.Prelude.{MatchOption, IsSomeAnd}
+use mathlib.Core.Path.{◌≡◌, refl, sym, ap, ap₂, ◌∙◌}
+use mathlib.Core.Bool.{Bool, true, false, not, ◌&&◌}
 use Prim.Native.Nat.{ℕ}
 use lib.Bits.{bit_and}
 use lib.Dec.{T, eqb, eqb→eq}
 use Rattle.bits.specs.Bits.{packed, image}
 use Rattle.bits.specs.Search.{every}
-use Rattle.bits.proofs.Cases.{true→T}
+use Rattle.bits.proofs.Cases.{both, true→T}
 use Rattle.bits.proofs.Sharing.{share_masks}
 use Rattle.rules.specs.declared.Instruction.{Instruction}
 use Rattle.rules.specs.declared.Code.{Code}
-use Rattle.rules.specs.declared.Area.{Area}
-use Rattle.rules.specs.declared.Reading.{Reading}
-use Rattle.rules.specs.declared.Reading.TheVariants.{Good, Bad}
+use Rattle.rules.specs.declared.Sharing.{Sharing}
+use borrow.Author.Tests.{ne_eqb}
+use Rattle.std.specs.declared.option.Option.{Option}
+use Rattle.std.specs.declared.option.Option.TheVariants.{Some, None}
 use Rattle.rules.specs.Rules.{well_formed, area_of, area, overlap}
 use Rattle.rules.specs.Codes.{read_code}
-use Rattle.rules.specs.Verdicts.{mask_of, on_code, code_mask}
+use Rattle.rules.specs.Verdicts.{mask_of, sharing_of, on_code, code_mask, code_sharing}
 use Rattle.rules.proofs.CodeLaws.{one_form_lem}
 use Rattle.rules.proofs.Every.{everywhere, each}
 use Rattle.rules.proofs.Frame.{area_small}
@@ -42,30 +44,79 @@ module _ (i j : Instruction) (wi : well_formed i ≡ true) (wj : well_formed j �
       share_masks (area_of i) (area_of j) (area_small i wi)
       ∙ ap₂ (λ (x y : ℕ). not (eqb (bit_and x y) 0)) (sym (area_right i wi)) (sym (area_right j wj))
 
+-- what is answered of an instruction, and of two
+module _ (i : Instruction) where
+  pub mask_is : well_formed i ≡ true → Some (area_mask i) ≡ mask_of i
+  unfolding mask_of
+  mask_is w = rw (w, area_right i w)
+
+  pub mask_none : well_formed i ≡ false → None ≡ mask_of i
+  unfolding mask_of
+  mask_none w = rw w
+
+module _ (i j : Instruction) where
+  pub apart : well_formed i && well_formed j ≡ true → bit_and (area_mask i) (area_mask j) ≡ 0 → Sharing.Apart ≡ sharing_of i j
+  unfolding sharing_of
+  apart w z = let (wi, wj) = both _ _ w in rw (wi, wj, overlap_right i j wi wj, z)
+
+  pub overlapping : well_formed i && well_formed j ≡ true → (bit_and (area_mask i) (area_mask j) ≡ 0 → ⊥) → Sharing.Overlap ≡ sharing_of i j
+  unfolding sharing_of
+  overlapping w z = let (wi, wj) = both _ _ w in rw (wi, wj, overlap_right i j wi wj, ne_eqb _ 0 z)
+
+  pub not_shared : well_formed i && well_formed j ≡ false → Sharing.IllFormed ≡ sharing_of i j
+  unfolding sharing_of
+  not_shared w = rw w
+
+-- and of the bytes that say them
+module _ (x y : Code) where
+  pub both_read : (i j : Instruction) → read_code x ≡ Some i → read_code y ≡ Some j → sharing_of i j ≡ code_sharing x y
+  unfolding code_sharing
+  both_read i j p q = rw (p, q)
+
+  pub one_bad : read_code x ≡ None → Sharing.IllFormed ≡ code_sharing x y
+  unfolding code_sharing
+  one_bad p = rw p
+
+  pub other_bad : (i : Instruction) → read_code x ≡ Some i → read_code y ≡ None → Sharing.IllFormed ≡ code_sharing x y
+  unfolding code_sharing
+  other_bad i p q = rw (p, q)
+
 -- what was read is well formed, so its mask is its area
-module _ (x : Code) (y : Reading) (e : y ≡ read_code x) where
-  module _ (i : Instruction) (m : ℕ) (g : y ≡ Good i) (a : m ≡ area_mask i) where
+module _ (x : Code) where
+  abbrev place : Instruction → ℕ → Option Located
+  place i m = Some (record { instruction = i; area = m })
+
+  module _ (i : Instruction) (m : ℕ) (g : read_code x ≡ Some i) (a : m ≡ area_mask i) where
     well : well_formed i ≡ true
-    well = (one_form_lem x i (sym e ∙ g)).1
+    well = (one_form_lem x i g).1
 
     mask : m ≡ image (area i)
     mask = a ∙ area_right i well
 
-    pub located_good : record { reading = Good i; area = m } ≡ locate x
+    located_good : Some (record { instruction = i; area = m }) ≡ locate x
     unfolding locate
-    located_good = ap₂ {A = Reading} {B = ℕ} {C = Located} (λ y m. record { reading = y; area = m }) (sym g ∙ e) (mask ∙ ap (on_code (λ i. image (area i)) 0) (sym g ∙ e))
+    located_good = ap (place i) mask ∙ ap (on_code (λ i. place i (image (area i))) None) (sym g)
 
-    pub area_good : Area.Mask m ≡ code_mask x
+    area_good : Some m ≡ code_mask x
     unfolding code_mask mask_of
-    area_good =
-        ap Area.Mask mask
-        ∙ ap (λ (b : Bool). cond b (Area.Mask (image (area i))) Area.IllFormed) (sym well)
-        ∙ ap (on_code mask_of Area.IllFormed) (sym g ∙ e)
+    area_good = rw (g, well) (ap Some mask)
 
-  pub located_bad : y ≡ Bad → record { reading = y; area = 0 } ≡ locate x
+  located_bad : read_code x ≡ None → None ≡ locate x
   unfolding locate
-  located_bad g = ap₂ {A = Reading} {B = ℕ} {C = Located} (λ y m. record { reading = y; area = m }) e (ap (on_code (λ i. image (area i)) 0) (sym g ∙ e))
+  located_bad g = rw g
 
-  pub area_bad : y ≡ Bad → Area.IllFormed ≡ code_mask x
+  area_bad : read_code x ≡ None → None ≡ code_mask x
   unfolding code_mask
-  area_bad g = ap (on_code mask_of Area.IllFormed) (sym g ∙ e)
+  area_bad g = rw g
+
+  pub area_read : (y : Option Instruction) (m : Option ℕ) → y ≡ read_code x
+      → MatchOption y (m ≡ None) (λ i. IsSomeAnd m (λ n. n ≡ area_mask i)) → m ≡ code_mask x
+  area_read None m e c = c ∙ area_bad (sym e)
+  area_read (Some i) (Some n) e c = area_good i n (sym e) c
+  area_read (Some i) None e c = absurd c
+
+  pub located : (y : Option Instruction) (p : Option Located) → y ≡ read_code x
+      → MatchOption y (p ≡ None) (λ i. IsSomeAnd p (λ q. q ≡ record { instruction = i; area = area_mask i })) → p ≡ locate x
+  located None p e c = c ∙ located_bad (sym e)
+  located (Some i) (Some q) e c = ap Some c ∙ located_good i (area_mask i) (sym e) refl
+  located (Some i) None e c = absurd c

@@ -33,7 +33,7 @@ pub fn free(r: u64, mask: u64) -> bool
 pub fn count(r: u64, mask: u64) -> u32
     ensures { result ≡ count (places mask) (bit r) }
 {
-    u64::count_ones(r & mask)
+    (r & mask).count_ones()
 }
 
 // An even number of them is 1.

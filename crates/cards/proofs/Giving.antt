@@ -19,8 +19,9 @@ use Rattle.bits.proofs.Digits.{digit_lt}
 use Rattle.bits.proofs.Lists.{same, same_eq}
 use Rattle.bits.proofs.Operations.{shl_one}
 use Rattle.bits.proofs.Search.{each}
-use Rattle.floor.specs.declared.Total.{Total}
-use Rattle.floor.specs.declared.Total.TheVariants.{Cars, Unsound}
+use Rattle.std.specs.Option.{unwrap_or}
+use Rattle.std.specs.declared.option.Option.{Option}
+use Rattle.std.specs.declared.option.Option.TheVariants.{Some, None}
 use Rattle.floor.specs.Floor.{drive_in}
 use Rattle.floor.specs.Sound.{total, cars_in}
 use Rattle.floor.proofs.Few.{few_cars}
@@ -133,9 +134,13 @@ giving_ends r v h = fill_ends v.filled h
 pub few_in : (r : ℕ) → cars_in (total r) ≤ 30
 few_in r = go (total r) (few_cars r)
   where
-    go : (t : Total) → ((n : ℕ) → t ≡ Cars n → n ≤ 30) → cars_in t ≤ 30
-    go (Cars n) f = f n refl
-    go Unsound f = omega arith
+    go : (t : Option ℕ) → ((n : ℕ) → t ≡ Some n → n ≤ 30) → cars_in t ≤ 30
+    go (Some n) f = f n refl
+    go None f = omega arith
+
+pub said_cars : (t : Option ℕ) → unwrap_or t 0 ≡ cars_in t
+said_cars (Some n) = refl
+said_cars None = refl
 
 pub few_wanted : (r : ℕ) → wanted r ≤ 31
 few_wanted r = omega (arith, few_in r, digit_lt (bit r drive_in))

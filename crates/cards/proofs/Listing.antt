@@ -19,7 +19,7 @@ use Rattle.rules.specs.Rules.{well_formed}
 use Rattle.cards.specs.Cards.{Numbers}
 use Rattle.cards.specs.Following.{takings, number_at, numbers_taken, numbers_after, numbers_driven}
 use Rattle.cards.specs.Held.{listed_numbers, place_of_element, held_numbers, numbers_in, cards_after, cards_driven}
-use Rattle.cards.specs.Private.{source_of}
+use Rattle.cards.specs.Private.{number_from, source_of}
 use Rattle.cards.proofs.Takings.{taken_source, source_is}
 
 listed_same : (m : ℕ) (f g : Numbers) → ((j : ℕ) → j < m → f j ≡ g j) → listed_numbers m f ≡ listed_numbers m g
@@ -115,7 +115,7 @@ new_at i r a j = numbers_after i (bit r) (numbers_in a) (place_of_element j)
 
 -- an element is the number at the source that the code finds
 pub element : (i : Instruction) (r : ℕ) (a : List ℕ) (j : ℕ) → j < 42 → well_formed i ≡ true
-    → number_at (numbers_in a) (source_of i (holds at_basement (bit r)) (place_of_element j)) ≡ new_at i r a j
+    → number_from (numbers_in a) (source_of i (holds at_basement (bit r)) (place_of_element j)) ≡ new_at i r a j
 unfolding numbers_after
 element i r a j h w =
     let s = place_small j h in

@@ -1,22 +1,31 @@
 -- Searches through numbers: whether some pass, by the least that does; numbers that stand where they should, and none twice; what is said
 -- of an image's numbers, and where a card's car is told. Assumes nothing.
 use mathlib.Core.Path.{◌≡◌, refl, sym, ap, ap₂, ◌∙◌}
-use mathlib.Core.Bool.{Bool, true, false, not, ◌&&◌, ◌||◌, beq}
+use mathlib.Core.Bool.{Bool, true, false, cond, not, ◌&&◌, ◌||◌, beq}
 use mathlib.Core.List.{List}
-use Prim.Native.Nat.{ℕ, zero, suc, ◌≤◌, ◌<◌}
+use Prim.Native.Nat.{ℕ, zero, suc, ◌+◌, ◌≤◌, ◌<◌}
 use native.Mathlib.Omega.{arith}
 use lib.Dec.{eqb, ltb}
-use lib.ListN.{get_or}
-use borrow.Author.Tests.{lt-ltb, le-ltb, ltb-true, ltb-false, eq-eqb, ne_eqb, not-true, not-false}
+use lib.ListN.{get_or, length, take}
+use lib.Seq.{length-take-le}
+use Rattle.std.specs.Option.{is_some}
+use Rattle.std.specs.List.{position, position_or_len}
+use Rattle.std.proofs.lemmas.List.{get_or-take}
+use Rattle.std.proofs.lemmas.List.Recursion.{is_position_or_len}
+use Rattle.std.proofs.lemmas.List.Quantifiers.{position-Some}
+use Rattle.std.specs.declared.option.Option.{Option}
+use Rattle.std.specs.declared.option.Option.TheVariants.{Some, None}
+use borrow.Author.Tests.{lt-ltb, ltb-true, ltb-false, eq-eqb, ne_eqb, not-true, not-false}
 use Rattle.bits.specs.Bits.{bit}
 use Rattle.bits.specs.Search.{some, every, least}
 use Rattle.bits.proofs.Cases.{split}
 use Rattle.bits.proofs.Search.{none_at, some_same, some_at, none_is, every_is}
-use Rattle.bits.proofs.Least.{found_least, least_below, every_not, Passed}
-use Rattle.cards.specs.declared.Offered.TheVariants.{Fine, WrongCount, ZeroNumber, TwiceGiven}
+use Rattle.bits.proofs.Least.{least_is, least_none, found_least, least_below, every_not, Passed}
+use Rattle.std.specs.declared.result.Result.TheVariants.{Ok, Err}
+use Rattle.cards.specs.declared.GivenError.TheVariants.{WrongCount, ZeroNumber, TwiceGiven}
 use Rattle.cards.specs.Following.{no_source}
 use Rattle.cards.specs.Given.{bears, wanted, zero_at, twice_at, given_as}
-use Rattle.cards.specs.Held.{place_of_element, cards_fit, element_of, where_is}
+use Rattle.cards.specs.Held.{place_of_element, cards_fit, where_is}
 use Rattle.cards.specs.Private.{stand_right, repeats}
 
 -- ---- the least that passes says whether some do
@@ -25,6 +34,40 @@ pub least_some : (m : ℕ) (p : ℕ → Bool) → ltb (least m p) m ≡ some m p
 least_some m p = split (ltb (least m p) m)
     (λ t. let f = found_least m p (ltb-true (least m p) m t) in t ∙ sym (some_at m p (least m p) f.within f.passes))
     (λ t. let h = ltb-false (least m p) m t in t ∙ sym (none_is m p (λ j l. least_below m p j (omega arith))))
+
+-- ---- the first element that passes
+
+first_is : (p : ℕ → Bool) (a : List ℕ) → position_or_len p a ≡ least (length a) (λ i. p (get_or a i 0))
+unfolding least
+first_is p a = sym (is_position_or_len (λ l. least (length l) (λ i. p (get_or l i 0))) p refl
+    (λ x l. ap (cond (p x) 0) {x = suc (least (length l) (λ i. p (get_or l i 0)))} {y = 1 + least (length l) (λ i. p (get_or l i 0))} (omega arith)) a)
+
+pub found_in : (p : ℕ → Bool) (a : List ℕ) → is_some (position p a) ≡ some (length a) (λ i. p (get_or a i 0))
+found_in p a = one (ltb (position_or_len p a) (length a)) ∙ ap (λ (k : ℕ). ltb k (length a)) (first_is p a) ∙ least_some (length a) _
+  where
+    one : (b : Bool) → is_some (cond b (Some (position_or_len p a)) None) ≡ b
+    one true = refl
+    one false = refl
+
+-- the same of the first m of them
+module _ (p : ℕ → Bool) (m : ℕ) (a : List ℕ) (h : m ≤ length a) where
+  pub found_front : is_some (position p (take m a)) ≡ some m (λ i. p (get_or a i 0))
+  found_front =
+      found_in p (take m a) ∙ ap (λ (n : ℕ). some n (λ i. p (get_or (take m a) i 0))) (length-take-le m a h)
+      ∙ some_same m _ _ (λ i l. ap p (get_or-take m a i 0 l))
+
+  pub found_there : {j : ℕ} → position p (take m a) ≡ Some j → (j < m) × (least m (λ i. p (get_or a i 0)) ≡ j)
+  found_there {j} e =
+      let (l, t, n) = position-Some p (take m a) j 0 e in
+      let s = length-take-le m a h in
+      let k : j < m = omega arith in (
+        k,
+        least_is m j (λ i. p (get_or a i 0)) k
+            (λ i q. sym (ap p (get_or-take m a i 0 (omega arith))) ∙ n i q) (sym (ap p (get_or-take m a j 0 k)) ∙ t),
+      )
+
+  pub found_nowhere : position p (take m a) ≡ None → least m (λ i. p (get_or a i 0)) ≡ m
+  found_nowhere e = least_none m _ (none_at m _ (sym found_front ∙ ap is_some e))
 
 -- ---- a loop that looks for one that passes
 
@@ -57,11 +100,17 @@ stand_all r a v h = sym (every_is 42 (right_at r a) (λ i l. not-false (right_at
 
 -- ---- numbers given twice
 
-pub repeats_not : (a : List ℕ) (j : ℕ) {c : ℕ} → c ≡ get_or a j 0 → c ≡ 0 → false ≡ repeats a j
-repeats_not a j e z = rw (eq-eqb (get_or a j 0) 0 (sym e ∙ z))
+pub repeats_is : (a : List ℕ) (j : ℕ) {b : Bool} → j < length a → b ≡ is_some (position (λ x. eqb x (get_or a j 0)) (take j a))
+    → not (eqb (get_or a j 0) 0) && b ≡ repeats a j
+repeats_is a j h e =
+    ap (λ (b : Bool). not (eqb (get_or a j 0) 0) && b) (e ∙ found_front (λ x. eqb x (get_or a j 0)) j a (omega arith))
 
-pub repeats_is : (a : List ℕ) (j : ℕ) {c : ℕ} → c ≡ get_or a j 0 → (c ≡ 0 → ⊥) → twice_at a j ≡ repeats a j
-repeats_is a j e z = rw (ne_eqb (get_or a j 0) 0 (λ q. z (e ∙ q)))
+-- the first m of them repeat as in the whole
+repeats_front : (m : ℕ) (a : List ℕ) → m ≤ length a → some (length (take m a)) (repeats (take m a)) ≡ some m (repeats a)
+repeats_front m a h =
+    ap (λ (n : ℕ). some n (repeats (take m a))) (length-take-le m a h)
+    ∙ some_same m _ _ (λ j l. let e = get_or-take m a j 0 l in
+    ap₂ (λ (x : ℕ) (b : Bool). not (eqb x 0) && b) e (some_same j _ _ (λ i k. ap₂ eqb (get_or-take m a i 0 (omega arith)) e)))
 
 -- none stands twice, said of each
 every_not_some : (m : ℕ) (p q : ℕ → Bool) → ((j : ℕ) → q j ≡ not (p j)) → not (some m p) ≡ every m q
@@ -90,39 +139,42 @@ same_twice a m e = some_same m (repeats a) (twice_at a) (λ j h. rw (none_at m (
 -- ---- what is said of an image's numbers
 
 module _ (r n : ℕ) (ns : List ℕ) where
-  pub wrong_count : {w : ℕ} → w ≡ wanted r → (n ≡ w → ⊥) → WrongCount ≡ given_as r n ns
+  pub wrong_count : {w : ℕ} → w ≡ wanted r → (n ≡ w → ⊥) → Err WrongCount ≡ given_as r n ns
   unfolding given_as
   wrong_count e h = rw (ne_eqb n (wanted r) (λ q. h (q ∙ sym e)))
 
-  module _ {w j : ℕ} (e : w ≡ wanted r) (q : n ≡ w) (l : j ≡ least n (zero_at ns)) where
-    none_zero : n ≤ j → some n (zero_at ns) ≡ false
-    none_zero h = sym (least_some n (zero_at ns)) ∙ ap (λ (i : ℕ). ltb i n) (sym l) ∙ le-ltb j n h
+  module _ {w : ℕ} (e : w ≡ wanted r) (q : n ≡ w) (h : n ≤ length ns) {z : Bool} (l : z ≡ is_some (position (λ x. eqb x 0) (take n ns))) where
+    one_zero : z ≡ some n (zero_at ns)
+    one_zero = l ∙ found_front (λ x. eqb x 0) n ns h
 
-    pub zero_given : j < n → ZeroNumber ≡ given_as r n ns
+    pub zero_given : z ≡ true → Err ZeroNumber ≡ given_as r n ns
     unfolding given_as
-    zero_given h = rw (eq-eqb n (wanted r) (q ∙ e), sym (least_some n (zero_at ns)) ∙ ap (λ (i : ℕ). ltb i n) (sym l) ∙ lt-ltb j n h)
+    zero_given y = rw (eq-eqb n (wanted r) (q ∙ e), sym one_zero ∙ y)
 
-    module _ (h : n ≤ j) {b : Bool} (t : b ≡ some n (repeats ns)) where
-      pub twice_given : b ≡ true → TwiceGiven ≡ given_as r n ns
-      unfolding given_as
-      twice_given y = rw (eq-eqb n (wanted r) (q ∙ e), none_zero h, sym (same_twice ns n (none_zero h)) ∙ sym t ∙ y)
+    module _ (y : z ≡ false) {b : Bool} (t : b ≡ some (length (take n ns)) (repeats (take n ns))) where
+      one_twice : some n (twice_at ns) ≡ b
+      one_twice = sym (same_twice ns n (sym one_zero ∙ y)) ∙ sym (repeats_front n ns h) ∙ sym t
 
-      pub all_fine : b ≡ false → Fine ≡ given_as r n ns
+      pub twice_given : b ≡ true → Err TwiceGiven ≡ given_as r n ns
       unfolding given_as
-      all_fine y = rw (eq-eqb n (wanted r) (q ∙ e), none_zero h, sym (same_twice ns n (none_zero h)) ∙ sym t ∙ y)
+      twice_given v = rw (eq-eqb n (wanted r) (q ∙ e), sym one_zero ∙ y, one_twice ∙ v)
+
+      pub all_fine : b ≡ false → Ok tt ≡ given_as r n ns
+      unfolding given_as
+      all_fine v = rw (eq-eqb n (wanted r) (q ∙ e), sym one_zero ∙ y, one_twice ∙ v)
 
 -- ---- where a card's car is
 
-module _ (a : List ℕ) (c : ℕ) where
-  pub no_card : c ≡ 0 → no_source ≡ where_is a c
+module _ (a : List ℕ) (c : ℕ) (s : length a ≡ 42) (z : c ≡ 0 → ⊥) {r : Option ℕ} (e : r ≡ position (λ x. eqb x c) (take 41 a)) where
+  pub stands_below : {j : ℕ} → r ≡ Some j → j < 41
+  stands_below q = (found_there (λ x. eqb x c) 41 a (omega arith) (sym e ∙ q)).0
+
+  pub stands_there : {j k : ℕ} → r ≡ Some j → k ≡ place_of_element j → k ≡ where_is a c
   unfolding where_is
-  no_card z = rw (eq-eqb c 0 z)
+  stands_there q p =
+      let (l, f) = found_there (λ x. eqb x c) 41 a (omega arith) (sym e ∙ q) in
+      rw (ne_eqb c 0 z, f, lt-ltb _ 41 l) p
 
-  module _ (z : c ≡ 0 → ⊥) {j : ℕ} (e : j ≡ element_of a c) where
-    pub stands_there : {k : ℕ} → j < 41 → k ≡ place_of_element j → k ≡ where_is a c
-    unfolding where_is
-    stands_there h p = rw (ne_eqb c 0 z, ← e, lt-ltb j 41 h) p
-
-    pub stands_nowhere : 41 ≤ j → no_source ≡ where_is a c
-    unfolding where_is
-    stands_nowhere h = rw (ne_eqb c 0 z, ← e, le-ltb j 41 h)
+  pub stands_nowhere : r ≡ None → no_source ≡ where_is a c
+  unfolding where_is
+  stands_nowhere q = rw (ne_eqb c 0 z, found_nowhere (λ x. eqb x c) 41 a (omega arith) (sym e ∙ q))

@@ -16,7 +16,7 @@ use Rattle.rules.specs.Rules.{well_formed}
 use Rattle.rules.proofs.Every.{everywhere, each}
 use Rattle.cards.specs.Cards.{Numbers}
 use Rattle.cards.specs.Following.{no_source, Taking, ◌⟵◌, takings, number_at, numbers_taken}
-use Rattle.cards.specs.Private.{source, against, belt_source, row_at, place_at, shuttle_source, lift_source, source_of}
+use Rattle.cards.specs.Private.{place_or_none, source, against, belt_source, row_at, place_at, shuttle_source, lift_source, source_of}
 
 pub taken_source : (ts : List Taking) (n : Numbers) (k : ℕ) → (k ≡ no_source → ⊥) → numbers_taken ts n k ≡ number_at n (source ts k)
 unfolding numbers_taken source
@@ -30,7 +30,7 @@ taken_source (j ⟵ s ∷ ts) n k o = go (eqb j k) (taken_source ts n k o)
 -- ---- the code finds what the rules list
 
 abbrev found_at : Instruction → Bool → Bool
-found_at i low = every 64 (λ k. eqb (source_of i low k) (source (takings i low) k))
+found_at i low = every 64 (λ k. eqb (place_or_none (source_of i low k)) (source (takings i low) k))
 
 abbrev found : Instruction → Bool
 found i = found_at i true && found_at i false
@@ -39,10 +39,10 @@ all_found : T (everywhere found)
 unfolding everywhere every source belt_of against belt_source row_at place_at row_named row_behind shuttle_source lift_source source_of
 all_found = tt
 
-pub source_is : (i : Instruction) → T (well_formed i) → (low : Bool) (k : ℕ) → k < 64 → source_of i low k ≡ source (takings i low) k
+pub source_is : (i : Instruction) → T (well_formed i) → (low : Bool) (k : ℕ) → k < 64 → place_or_none (source_of i low k) ≡ source (takings i low) k
 source_is i w low k h =
-    eqb→eq (source_of i low k) (source (takings i low) k)
-    (each_below 64 (λ k. eqb (source_of i low k) (source (takings i low) k)) (go low) k h)
+    eqb→eq (place_or_none (source_of i low k)) (source (takings i low) k)
+    (each_below 64 (λ k. eqb (place_or_none (source_of i low k)) (source (takings i low) k)) (go low) k h)
   where
     go : (low : Bool) → T (found_at i low)
     go true = and_l (found_at i true) (found_at i false) (each found all_found i w)

@@ -6,8 +6,10 @@ use Rattle.bits.specs.Places.{from}
 use Rattle.bits.specs.Search.{some}
 use Rattle.floor.specs.Floor.{raised_car, drive_in}
 use Rattle.floor.specs.Sound.{total, cars_in}
-use Rattle.cards.specs.declared.Offered.{Offered}
-use Rattle.cards.specs.declared.Offered.TheVariants.{Fine, WrongCount, ZeroNumber, TwiceGiven}
+use Rattle.std.specs.declared.result.Result.{Result}
+use Rattle.std.specs.declared.result.Result.TheVariants.{Ok, Err}
+use Rattle.cards.specs.declared.GivenError.{GivenError}
+use Rattle.cards.specs.declared.GivenError.TheVariants.{WrongCount, ZeroNumber, TwiceGiven}
 use Rattle.cards.specs.Cards.{Numbers}
 
 -- a number stands at place k: in row 1 at an occupied cell with an even number of occupied cells below it, in rows 2 and 3 at each occupied
@@ -33,12 +35,12 @@ abbrev pub twice_at : List ℕ → ℕ → Bool
 twice_at ns j = some j (λ i. eqb (get_or ns i 0) (get_or ns j 0))
 
 -- of n numbers with an image: not that many, else one of them zero, else one given twice, else fine
-unfoldable pub given_as : ℕ → ℕ → List ℕ → Offered
+unfoldable pub given_as : ℕ → ℕ → List ℕ → Result (Unit {0}) GivenError
 given_as r n ns =
-    cond (not (eqb n (wanted r))) WrongCount
-    (cond (some n (zero_at ns)) ZeroNumber
-    (cond (some n (twice_at ns)) TwiceGiven
-    Fine))
+    cond (not (eqb n (wanted r))) (Err WrongCount)
+    (cond (some n (zero_at ns)) (Err ZeroNumber)
+    (cond (some n (twice_at ns)) (Err TwiceGiven)
+    (Ok tt)))
 
 -- ---- what is said of them
 

@@ -2,26 +2,23 @@
 // drive-in is under way.
 #![tactic(auto)]
 
-ghost use Rattle.std.specs.Prelude.{◌≡◌, ◌≤◌, ◌<◌, eqb, length, get_or};
+ghost use Rattle.std.specs.Prelude.{◌≡◌, ◌<◌, eqb, length};
+ghost use Rattle.std.specs.List.{position};
 ghost use Rattle.bits.specs.Bits.{bit};
-ghost use Rattle.bits.specs.Search.{some, least};
-ghost use Rattle.floor.specs.Sound.{cars_in};
+ghost use Rattle.bits.specs.Search.{some};
 ghost use Rattle.rules.specs.declared.Event.{Event};
-ghost use Rattle.cards.specs.Following.{number_at};
 ghost use Rattle.cards.specs.Given.{bears, wanted, given_as};
 ghost use Rattle.cards.specs.Held.{place_of_element, numbers_in, cards_after, cards_driven, cards_given, cards_fit, is_known, where_is};
-ghost use Rattle.cards.specs.Private.{given_at, stand_right, repeats};
+ghost use Rattle.cards.specs.Private.{number_from, given_at, stand_right, repeats};
 
-use floor::Total;
 use floor::masks::RAISED;
 use rules::{Event, Instruction};
 
 mod sources;
 
-// What is said of the numbers that come with an image.
+// Why the numbers that come with an image cannot be taken.
 #[derive(Clone, Copy)]
-pub enum Offered {
-    Fine,
+pub enum GivenError {
     WrongCount,
     ZeroNumber,
     TwiceGiven,
@@ -32,10 +29,14 @@ pub enum Offered {
 // The bit of a drive-in, where its number waits.
 const COMING: u64 = 55;
 
-// The number at a place.
-fn number_at(n: &[u32; 42], k: u64) -> u32
-    ensures { result ≡ number_at (numbers_in n.now) k }
+// The number at a place; none comes from nowhere.
+#[tactic(auto, unfolding(crate::specs::Held::numbers_in))]
+fn number_at(n: &[u32; 42], from: Option<u64>) -> u32
+    ensures { result ≡ number_from (numbers_in n.now) from }
 {
+    let Some(k) = from else {
+        return 0;
+    };
     if k < 40 {
         return n[k as usize];
     }
@@ -83,10 +84,8 @@ pub fn numbers_after(i: Instruction, r: u64, n: [u32; 42]) -> [u32; 42]
     }
     let at = sources::low(r);
     let mut new: [u32; 42] = [0; 42];
-    let mut j: u8 = 0;
-    while j < 42 {
+    for j in 0..42 {
         new[j as usize] = number_at(&n, sources::source(i, at, place_of(j)));
-        j += 1;
     }
     new
 }
@@ -143,101 +142,73 @@ pub fn numbers_given(r: u64, ns: [u32; 31]) -> [u32; 42]
 {
     let mut new: [u32; 42] = [0; 42];
     let mut t: u8 = 0;
-    let mut j: u8 = 0;
-    while j < 42 {
+    for j in 0..42 {
         let here = bears(r, j);
         new[j as usize] = given(&ns, t, here);
         t += here as u8;
-        j += 1;
     }
     new
 }
 
-// The first of the first m elements that is the number, or m.
-fn first(ns: &[u32], m: u8, c: u32) -> u8
-    requires { m ≤ length ns.now }
-    ensures { result ≡ least m (λ i. eqb (get_or ns.now i 0) c) }
+// The first element that is the number.
+fn first(ns: &[u32], c: u32) -> Option<usize>
+    ensures { result ≡ position (λ x. eqb x c) ns.now }
 {
-    let mut j: u8 = 0;
-    while j < m {
-        if ns[j as usize] == c {
-            return j;
-        }
-        j += 1;
-    }
-    m
+    ns.iter().position(|x| *x == c)
 }
 
 // Whether an element, unless it is 0, is among those before it.
-fn repeats(ns: &[u32], j: u8) -> bool
+fn repeats(ns: &[u32], j: usize) -> bool
     requires { j < length ns.now }
     ensures { result ≡ repeats ns.now j }
 {
-    let c = ns[j as usize];
-    if c == 0 {
-        return false;
-    }
-    first(ns, j, c) < j
+    (ns[j] != 0) & first(&ns[..j], ns[j]).is_some()
 }
 
-// Whether one of the first m elements does.
-fn one_repeats(ns: &[u32], m: u8) -> bool
-    requires { m ≤ length ns.now }
-    ensures { result ≡ some m (repeats ns.now) }
+// Whether one of them does.
+fn one_repeats(ns: &[u32]) -> bool
+    ensures { result ≡ some (length ns.now) (repeats ns.now) }
 {
-    let mut j: u8 = 0;
-    while j < m {
+    for j in 0..ns.len() {
         if repeats(ns, j) {
             return true;
         }
-        j += 1;
     }
     false
-}
-
-// How many cars a total says.
-fn cars_in(t: Total) -> u64
-    ensures { result ≡ cars_in t }
-{
-    match t {
-        Total::Cars(n) => n,
-        Total::Unsound => 0,
-    }
 }
 
 // How many numbers an image comes with.
 fn wanted(r: u64) -> u64
     ensures { result ≡ wanted r }
 {
-    cars_in(floor::cars(r)) + bits::bit(r, COMING) as u64
+    floor::cars(r).unwrap_or(0) + bits::bit(r, COMING) as u64
 }
 
 // Whether the first numbers of ns, so many of them, can be taken with an image.
-pub fn given_as(r: u64, count: u8, ns: [u32; 31]) -> Offered
+pub fn given_as(r: u64, count: u8, ns: [u32; 31]) -> Result<(), GivenError>
     ensures { result ≡ given_as r count ns }
 {
     if count as u64 != wanted(r) {
-        return Offered::WrongCount;
+        return Err(GivenError::WrongCount);
     }
-    if first(&ns, count, 0) < count {
-        return Offered::ZeroNumber;
+    let come = &ns[..count as usize];
+    if first(come, 0).is_some() {
+        return Err(GivenError::ZeroNumber);
     }
-    if one_repeats(&ns, count) {
-        return Offered::TwiceGiven;
+    if one_repeats(come) {
+        return Err(GivenError::TwiceGiven);
     }
-    Offered::Fine
+    Ok(())
 }
 
 // A number stands exactly where the record has a car, or a drive-in under way.
 fn stand_right(r: u64, n: [u32; 42]) -> bool
     ensures { result ≡ stand_right r n }
 {
-    let mut j: u8 = 0;
-    while j < 42 {
+    for j in 0..42 {
         if (n[j as usize] != 0) != bears(r, j) {
             return false;
         }
-        j += 1;
     }
     true
 }
@@ -246,28 +217,30 @@ fn stand_right(r: u64, n: [u32; 42]) -> bool
 pub fn fits(r: u64, n: [u32; 42]) -> bool
     ensures { result ≡ cards_fit r n }
 {
-    stand_right(r, n) & !one_repeats(&n, 42)
+    stand_right(r, n) & !one_repeats(&n)
 }
 
 // ---- where a card's car is
 
 // Whether a number is in the garage, or waits.
+#[tactic(auto, unfolding(crate::specs::Held::is_known))]
 pub fn known(n: [u32; 42], c: u32) -> bool
     ensures { result ≡ is_known n c }
 {
-    first(&n, 42, c) < 42
+    first(&n, c).is_some()
 }
 
 // The place of a number, 64 if no car in the garage has it.
+// Kept: a number and no Option, as the theorem WhereRight says it (cards_laws).
+#[tactic(auto, unfolding(crate::specs::Held::where_is))]
 pub fn where_is(n: [u32; 42], c: u32) -> u8
     ensures { result ≡ where_is n c }
 {
     if c == 0 {
         return 64;
     }
-    let j = first(&n, 41, c);
-    if j < 41 {
-        return place_of(j);
+    match first(&n[..41], c) {
+        Some(j) => place_of(j as u8),
+        None => 64,
     }
-    64
 }

@@ -4,15 +4,13 @@ ghost use Rattle.bits.specs.Bits.{bit};
 ghost use Rattle.floor.specs.Tests.{holds, at_basement};
 ghost use Rattle.rules.specs.Cells.{cell_named, row_named, row_behind};
 ghost use Rattle.rules.specs.Named.{step};
-ghost use Rattle.cards.specs.Private.{against, belt_source, row_at, place_at, shuttle_source, lift_source, source_of};
+ghost use Rattle.std.specs.declared.option.Option.TheVariants.{Some, None};
+ghost use Rattle.cards.specs.Private.{against, belt_source, row_at, place_at, shuttle_source, taken_along, lift_source, source_of};
 
-use floor::Belt;
 use floor::masks::{HEIGHT_HIGH, HEIGHT_LOW, RAISED};
 use rules::Instruction;
 
-// No place, and where the number of a car on the lift's cells stands.
-const NO_SOURCE: u64 = 64;
-
+// Where the number of a car on the lift's cells stands.
 const ON_LIFT: u64 = 11;
 
 // The lift is in the basement.
@@ -26,10 +24,9 @@ pub fn low(r: u64) -> bool
 fn named(row: u8, mask: u8, cell: u64) -> bool
     ensures { result ≡ cell_named row mask cell }
 {
-    let belt = floor::belt_of(cell);
-    match belt {
-        Belt::On(on, number) => (on == row) & bits::bit(mask as u64, number as u64),
-        Belt::NoCell => false,
+    match floor::belt_of(cell) {
+        Some(belt) => (belt.row == row) & bits::bit(mask as u64, belt.number as u64),
+        None => false,
     }
 }
 
@@ -40,50 +37,37 @@ fn step(row: u8, size: u8) -> u8
     if (row == 1) & (size == 1) { 2 } else { 1 }
 }
 
-// The cell n further down, nowhere if that goes below 0, or up.
-fn against(cell: u8, up: bool, n: u8) -> u64
+// The cell n further down, unless that goes below 0, or up.
+#[tactic(auto, unfolding(crate::specs::Private::against))]
+fn against(cell: u8, up: bool, n: u8) -> Option<u64>
     ensures { result ≡ against cell up n }
 {
-    if up {
-        if cell < n {
-            return NO_SOURCE;
-        }
-        return (cell - n) as u64;
+    if !up {
+        return Some(cell as u64 + n as u64);
     }
-    cell as u64 + n as u64
+    if cell < n {
+        return None;
+    }
+    Some((cell - n) as u64)
 }
 
 // A cell of the span takes from the cell behind it in the span, from nowhere if there is none.
-fn belt_source(row: u8, mask: u8, toward: u8, size: u8, cell: u8) -> u64
+#[tactic(auto, unfolding(crate::specs::Private::belt_source))]
+fn belt_source(row: u8, mask: u8, toward: u8, size: u8, cell: u8) -> Option<u64>
     ensures { result ≡ belt_source row mask toward size cell }
 {
     if !named(row, mask, cell as u64) {
-        return cell as u64;
+        return Some(cell as u64);
     }
-    let k = against(cell, toward == 1, step(row, size));
+    let k = against(cell, toward == 1, step(row, size))?;
     if named(row, mask, k) {
-        return k;
+        return Some(k);
     }
-    NO_SOURCE
+    None
 }
 
-// The row of a side's position by the place of its number, 0 for any other place.
-fn row_at(side: u8, k: u8) -> u8
-    ensures { result ≡ row_at side k }
-{
-    if k as u64 == side as u64 * 18 {
-        return 1;
-    }
-    if k as u64 == 20 + side as u64 * 9 {
-        return 2;
-    }
-    if k as u64 == 30 + side as u64 * 9 {
-        return 3;
-    }
-    0
-}
-
-// The reverse.
+// The place of the number at a side's position.
+#[tactic(auto, unfolding(crate::specs::Private::place_at))]
 fn place_at(side: u8, row: u8) -> u64
     ensures { result ≡ place_at side row }
 {
@@ -96,7 +80,25 @@ fn place_at(side: u8, row: u8) -> u64
     30 + side as u64 * 9
 }
 
+// The row of a side's position by the place of its number.
+#[tactic(auto, unfolding(crate::specs::Private::row_at))]
+fn row_at(side: u8, k: u8) -> Option<u8>
+    ensures { result ≡ row_at side k }
+{
+    if k as u64 == place_at(side, 1) {
+        return Some(1);
+    }
+    if k as u64 == place_at(side, 2) {
+        return Some(2);
+    }
+    if k as u64 == place_at(side, 3) {
+        return Some(3);
+    }
+    None
+}
+
 // The mask names the row.
+#[tactic(auto, unfolding(rules::specs::Cells::row_named))]
 fn row_named(mask: u8, row: u8) -> bool
     ensures { result ≡ row_named mask row }
 {
@@ -107,6 +109,7 @@ fn row_named(mask: u8, row: u8) -> bool
 }
 
 // The row behind.
+#[tactic(auto, unfolding(rules::specs::Cells::row_behind))]
 fn row_behind(toward: u8, row: u8) -> u8
     requires { (0 < row) × (row < 4) }
     ensures { result ≡ row_behind toward row }
@@ -118,50 +121,53 @@ fn row_behind(toward: u8, row: u8) -> u8
 }
 
 // A row takes from the named row behind it; a named one with none behind from nowhere.
-fn shuttle_source(side: u8, mask: u8, toward: u8, k: u8) -> u64
+#[tactic(auto, unfolding(crate::specs::Private::shuttle_source))]
+fn shuttle_source(side: u8, mask: u8, toward: u8, k: u8) -> Option<u64>
     ensures { result ≡ shuttle_source side mask toward k }
 {
-    let row = row_at(side, k);
-    if row == 0 {
-        return k as u64;
-    }
+    let Some(row) = row_at(side, k) else {
+        return Some(k as u64);
+    };
     let behind = row_behind(toward, row);
     if row_named(mask, behind) {
-        return place_at(side, behind);
+        return Some(place_at(side, behind));
     }
     if row_named(mask, row) {
-        return NO_SOURCE;
+        return None;
     }
-    k as u64
+    Some(k as u64)
+}
+
+// One place takes its number from another, which is left with none.
+fn taken_along(from: u64, to: u64, k: u64) -> Option<u64>
+    ensures { result ≡ taken_along from to k }
+{
+    if k == to {
+        return Some(from);
+    }
+    if k == from {
+        return None;
+    }
+    Some(k)
 }
 
 // The lift's cells and the raised lift.
-fn lift_source(height: u8, low: bool, k: u8) -> u64
+#[tactic(auto, unfolding(crate::specs::Private::lift_source))]
+fn lift_source(height: u8, low: bool, k: u8) -> Option<u64>
     ensures { result ≡ lift_source height low k }
 {
     if height == 2 {
-        if k as u64 == ON_LIFT {
-            return RAISED;
-        }
-        if k as u64 == RAISED {
-            return NO_SOURCE;
-        }
-        return k as u64;
+        return taken_along(RAISED, ON_LIFT, k as u64);
     }
     if low {
-        if k as u64 == RAISED {
-            return ON_LIFT;
-        }
-        if k as u64 == ON_LIFT {
-            return NO_SOURCE;
-        }
-        return k as u64;
+        return taken_along(ON_LIFT, RAISED, k as u64);
     }
-    k as u64
+    Some(k as u64)
 }
 
 // The place from which a place takes its number.
-pub fn source(i: Instruction, low: bool, k: u8) -> u64
+#[tactic(auto, unfolding(crate::specs::Private::source_of))]
+pub fn source(i: Instruction, low: bool, k: u8) -> Option<u64>
     ensures { result ≡ source_of i low k }
 {
     match i {
@@ -174,19 +180,12 @@ pub fn source(i: Instruction, low: bool, k: u8) -> u64
         Instruction::Shuttles {
             side,
             mask,
-            orientation,
+            orientation: 0,
             toward,
-        } => if orientation == 0 {
-            shuttle_source(side, mask, toward, k)
-        } else {
-            k as u64
-        },
-        Instruction::Tilt {
-            side,
-            row,
-            orientation,
-        } => k as u64,
+        } => shuttle_source(side, mask, toward, k),
         Instruction::Lift { height } => lift_source(height, low, k),
-        Instruction::Rotate => k as u64,
+        Instruction::Shuttles { .. } | Instruction::Tilt { .. } | Instruction::Rotate => {
+            Some(k as u64)
+        }
     }
 }

@@ -23,7 +23,7 @@ use Rattle.rules.specs.Rules.{well_formed, area, allowed, next_record}
 use Rattle.rules.specs.Events.{possible, after_event}
 use Rattle.rules_laws.specs.Laws.{Agree, lift_area}
 use Rattle.rules_laws.proofs.Shift.{below_same}
-use Rattle.cards.specs.declared.Offered.TheVariants.{Fine}
+use Rattle.std.specs.declared.result.Result.TheVariants.{Ok}
 use Rattle.cards.specs.Cards.{Numbers, Cards, Has}
 use Rattle.cards.specs.Given.{bears, numbers_given, given_as}
 use Rattle.cards.specs.Following.{numbers_after, numbers_driven}
@@ -157,7 +157,7 @@ module _ (r q : ℕ) (a b : List ℕ) (s : sound r ≡ true) (u : sound q ≡ tr
 
 -- ---- the numbers that come with an image
 
-module _ (r n : ℕ) (ns : List ℕ) (s : sound r ≡ true) (h : n ≤ length ns) (t : given_as r n ns ≡ Fine) where
+module _ (r n : ℕ) (ns : List ℕ) (s : sound r ≡ true) (h : n ≤ length ns) (t : given_as r n ns ≡ Ok tt) where
   given_marked : Marked (bears (bit r)) (numbers_given (bit r) ns)
   given_marked =
       let S = (sound_exactly r).0 s in

@@ -18,8 +18,10 @@ use Rattle.floor.specs.Floor.{drive_in}
 use Rattle.floor.specs.Cars.{cars}
 use Rattle.floor.specs.Sound.{Sound, total}
 use Rattle.floor.proofs.Promises.{sound_exactly}
-use Rattle.cards.specs.declared.Offered.{Offered}
-use Rattle.cards.specs.declared.Offered.TheVariants.{Fine, WrongCount, ZeroNumber, TwiceGiven}
+use Rattle.std.specs.declared.result.Result.{Result}
+use Rattle.cards.specs.declared.GivenError.{GivenError}
+use Rattle.std.specs.declared.result.Result.TheVariants.{Ok, Err}
+use Rattle.cards.specs.declared.GivenError.TheVariants.{WrongCount, ZeroNumber, TwiceGiven}
 use Rattle.cards.specs.Cards.{Has}
 use Rattle.cards.specs.Given.{bears, wanted, zero_at, twice_at, given_as, AllNew}
 use Rattle.cards.specs.Held.{place_of_element, numbers_in, cards_fit, is_known}
@@ -171,19 +173,23 @@ new_same c a b e = split (eqb c 0)
 
 -- ---- the test of an image's numbers
 
-abbrev is_fine : Offered → Bool
-is_fine Fine = true
-is_fine WrongCount = false
-is_fine ZeroNumber = false
-is_fine TwiceGiven = false
+abbrev is_fine : Result (Unit {0}) GivenError → Bool
+is_fine (Ok tt) = true
+is_fine (Err WrongCount) = false
+is_fine (Err ZeroNumber) = false
+is_fine (Err TwiceGiven) = false
 
-fine_test : (a b c : Bool) → is_fine (cond (not a) WrongCount (cond b ZeroNumber (cond c TwiceGiven Fine))) ≡ a && (not b && not c)
+-- by its three tests
+abbrev given : (a b c : Bool) → Result (Unit {0}) GivenError
+given a b c = cond (not a) (Err WrongCount) (cond b (Err ZeroNumber) (cond c (Err TwiceGiven) (Ok tt)))
+
+fine_test : (a b c : Bool) → is_fine (given a b c) ≡ a && (not b && not c)
 fine_test true true c = refl
 fine_test true false true = refl
 fine_test true false false = refl
 fine_test false b c = refl
 
-all_fine : (a b c : Bool) → a ≡ true → b ≡ false → c ≡ false → cond (not a) WrongCount (cond b ZeroNumber (cond c TwiceGiven Fine)) ≡ Fine
+all_fine : (a b c : Bool) → a ≡ true → b ≡ false → c ≡ false → given a b c ≡ Ok tt
 all_fine a b c p q r = rw (p, q, r)
 
 wanted_is : (r : ℕ) → Sound (bit r) → wanted r ≡ cars (bit r) + digit (bit r drive_in)

@@ -14,7 +14,7 @@ use Rattle.rules.specs.Events.{possible, after_event}
 use Rattle.rules_laws.specs.Laws.{Agree, lift_area, Clear}
 use Rattle.rules_laws.specs.Undoing.{record_after}
 use Rattle.cards.specs.Cards.{Numbers, Cards, Has}
-use Rattle.cards.specs.declared.Offered.TheVariants.{Fine}
+use Rattle.std.specs.declared.result.Result.TheVariants.{Ok}
 use Rattle.cards.specs.Given.{bears, numbers_given, given_as, AllNew}
 use Rattle.cards.specs.Held.{numbers_in, cards_fit, is_known, where_is}
 use Rattle.cards.specs.Following.{no_source, numbers_after, numbers_driven, car_moved}
@@ -53,7 +53,7 @@ ThatMany f ns = length ns ≡ cars f + digit (f drive_in)
 abbrev pub FineExactly : Type 0
 FineExactly =
     (r n : ℕ) (ns : List ℕ) → Sound (bit r) → n ≤ length ns
-    → (given_as r n ns ≡ Fine) ↔ (ThatMany (bit r) (take n ns) × AllNew (take n ns))
+    → (given_as r n ns ≡ Ok tt) ↔ (ThatMany (bit r) (take n ns) × AllNew (take n ns))
 
 -- as many numbers as a sound record wants, none zero and none twice, are then those of its cars
 abbrev pub GivenCards : Type 0

@@ -2,7 +2,7 @@
 -- to the state, so equal states behind them mean equal bits. Assumes nothing.
 use mathlib.Core.Path.{◌≡◌, refl, sym, ap, ap₂, ◌∙◌}
 use mathlib.Core.Logic.{◌⊎◌, inl, inr, ⊎_elim}
-use mathlib.Core.List.{List, [], ◌∷◌, ◌++◌, append-nil}
+use mathlib.Core.List.{List, [], ◌∷◌, ◌++◌}
 use Prim.Native.Nat.{ℕ, zero, suc, ◌+◌, ◌-◌, ◌*◌, ◌/◌, ◌%◌, ◌^◌, ◌≤◌, ◌<◌, min}
 use native.Mathlib.Omega.{arith}
 use native.Mathlib.Nat.{mod-lt, zero-lt-suc, pow-suc, lt_of_lt_of_le, div-eq_of_lt}
@@ -11,7 +11,7 @@ use lib.ListN.{length, get_or, take, drop, length-append, length-take, length-dr
 use lib.Pow.{pow_mono, pow_pos, shr-shr}
 use lib.Seq.{get_or-take, get_or-drop, get_or-append-add, ext_get_or, take_at}
 use Rattle.bits.proofs.Search.{lt_or_ge}
-use Rattle.codec.specs.Bytes.{little_endian, from_little_endian, Bytes}
+use Rattle.codec.specs.Bytes.{little_endian, Bytes}
 use Rattle.codec.proofs.Numbers.{number_back}
 use Rattle.checksum.specs.Checksum.{polynomial, bit_step, over_bits, low_bits, bits_of, inverted, crc_over}
 use Rattle.checksum.specs.Slices.{zeros_on}

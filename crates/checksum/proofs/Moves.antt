@@ -4,11 +4,11 @@ use mathlib.Core.Path.{◌≡◌, refl, sym, ap, ap₂, ◌∙◌}
 use mathlib.Core.List.{List, [], ◌∷◌, ◌++◌}
 use Prim.Native.Nat.{ℕ, zero, suc, ◌+◌, ◌*◌, ◌/◌, ◌%◌, ◌^◌, ◌<◌}
 use native.Mathlib.Omega.{arith}
-use native.Mathlib.Nat.{mod-lt, zero-lt-suc, suc-add, zero-add, pow-suc, add-zero}
-use lib.Bits.{bit_xor, xor_zero_r, xor_comm, xor_lt, xor_shifted, shifted_half, shifted_even}
+use native.Mathlib.Nat.{mod-lt, zero-lt-suc, suc-add, zero-add}
+use lib.Bits.{bit_xor, xor_zero_r, xor_lt, xor_shifted, shifted_half, shifted_even}
 use lib.ListN.{length, get_or}
 use lib.Pow.{pow_pos, split}
-use Rattle.checksum.specs.Checksum.{polynomial, bit_step, over_bits, low_bits, bits_of}
+use Rattle.checksum.specs.Checksum.{polynomial, bit_step, over_bits}
 use Rattle.checksum.specs.Slices.{zeros_on}
 use Rattle.checksum.proofs.Xor.{xor_half, xor_low, xor_swap, xor_four}
 

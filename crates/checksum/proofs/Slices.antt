@@ -3,16 +3,14 @@ use mathlib.Core.Path.{◌≡◌, refl, sym, ap, ap₂, ◌∙◌}
 use mathlib.Core.List.{List, [], ◌∷◌, ◌++◌, append-nil}
 use Prim.Native.Nat.{ℕ, zero, suc, ◌+◌, ◌*◌, ◌/◌, ◌%◌, ◌^◌, ◌<◌}
 use native.Mathlib.Omega.{arith}
-use native.Mathlib.Nat.{mod-lt, zero-lt-suc, add_assoc}
+use native.Mathlib.Nat.{mod-lt, zero-lt-suc}
 use lib.Bits.{bit_xor, xor_lt}
-use lib.ListN.{length, get_or, length-append, get_or-append, get_or-eq_default}
-use lib.Seq.{get_or-append-add}
+use lib.ListN.{length, get_or, length-append}
 use Rattle.codec.specs.Bytes.{from_little_endian, Bytes}
 use Rattle.codec.proofs.Fours.{valued_length, valued_at}
-use Rattle.checksum.specs.Checksum.{over_bits, low_bits, bits_of, inverted, crc_over}
-use Rattle.checksum.specs.Slices.{zeros_on, table_entry, slices, over_byte, over_four, over_bytes, over_fours, crc_by}
-use Rattle.checksum.proofs.Xor.{xor_twice}
-use Rattle.checksum.proofs.Moves.{AreBits, value_of, moved_bits, moved_sum, moved_add, moved_split, moved_lt, over_append, over_lt}
+use Rattle.checksum.specs.Checksum.{over_bits, low_bits, bits_of}
+use Rattle.checksum.specs.Slices.{zeros_on, table_entry, slices, over_byte, over_four, over_bytes, over_fours}
+use Rattle.checksum.proofs.Moves.{AreBits, value_of, moved_bits, moved_sum, moved_add, moved_split, over_append, over_lt}
 
 -- ---- the tables
 

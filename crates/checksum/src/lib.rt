@@ -34,28 +34,23 @@ pub fn tables() -> [u32; 1024]
     ensures { result ≡ slices }
 {
     let mut t = [0u32; 1024];
-    let mut p: usize = 0;
-    while p < 256 {
+    for p in 0..256 {
         t[p] = eight(p as u32);
-        p += 1;
     }
-    while p < 1024 {
+    for p in 256..1024 {
         let before = t[p - 256];
         t[p] = eight(before);
-        p += 1;
     }
     t
 }
 
-fn over_byte(t: &[u32], z: u32) -> u32
-    requires { length t.now ≡ 1024 }
+fn over_byte(t: &[u32; 1024], z: u32) -> u32
     ensures { result ≡ over_byte t.now z }
 {
     (z / 256) ^ t[(z % 256) as usize]
 }
 
-fn over_four(t: &[u32], z: u32) -> u32
-    requires { length t.now ≡ 1024 }
+fn over_four(t: &[u32; 1024], z: u32) -> u32
     ensures { result ≡ over_four t.now z }
 {
     let w = z as usize;
@@ -63,31 +58,27 @@ fn over_four(t: &[u32], z: u32) -> u32
 }
 
 // A state after the bytes from a place on, one by one.
-fn over_rest(t: &[u32], s: u32, bytes: &[u8], from: usize) -> u32
-    requires { (length t.now ≡ 1024) × (from ≤ length bytes.now) }
+fn over_rest(t: &[u32; 1024], s: u32, bytes: &[u8], from: usize) -> u32
+    requires { from ≤ length bytes.now }
     ensures { result ≡ over_bytes t.now s (drop from bytes.now) }
 {
     let mut state = s;
-    let mut i = from;
-    while i < bytes.len() {
+    for i in from..bytes.len() {
         state = over_byte(t, state ^ (bytes[i] as u32));
-        i += 1;
     }
     state
 }
 
 // A state after all bytes, four by four as long as there are four.
-fn over_fours(t: &[u32], s: u32, bytes: &[u8]) -> u32
-    requires { length t.now ≡ 1024 }
+fn over_fours(t: &[u32; 1024], s: u32, bytes: &[u8]) -> u32
     ensures { result ≡ over_fours t.now s bytes.now }
 {
     let mut state = s;
-    let mut i: usize = 0;
-    while 4 <= bytes.len() - i {
-        state = over_four(t, state ^ codec::four_at(bytes, i));
-        i += 4;
+    let fours = bytes.len() / 4;
+    for k in 0..fours {
+        state = over_four(t, state ^ codec::four_at(bytes, 4 * k));
     }
-    over_rest(t, state, bytes, i)
+    over_rest(t, state, bytes, 4 * fours)
 }
 
 // A state after all bytes, without tables.
@@ -95,10 +86,8 @@ fn over_short(s: u32, bytes: &[u8]) -> u32
     ensures { result ≡ over_bits s (bits_of bytes.now) }
 {
     let mut state = s;
-    let mut i: usize = 0;
-    while i < bytes.len() {
-        state = eight(state ^ (bytes[i] as u32));
-        i += 1;
+    for byte in bytes {
+        state = eight(state ^ (*byte as u32));
     }
     state
 }
@@ -107,10 +96,10 @@ fn over_short(s: u32, bytes: &[u8]) -> u32
 pub fn continue_by(t: &[u32], c: u32, bytes: &[u8]) -> u32
     ensures { result ≡ crc_by t.now c bytes.now }
 {
-    if t.len() != 1024 {
-        return 0;
+    match <&[u32; 1024]>::try_from(t) {
+        Ok(t) => over_fours(t, c ^ ONES, bytes) ^ ONES,
+        Err(_) => 0,
     }
-    over_fours(t, c ^ ONES, bytes) ^ ONES
 }
 
 // The same without lent tables: few bytes are taken without any, for many it is worth while to make them.

@@ -20,7 +20,7 @@ fn there(size: usize, at: usize) -> bool
 fn joined(a: u8, b: u8, c: u8, d: u8) -> u32
     ensures { result ≡ from_little_endian 4 0 (a ∷ b ∷ c ∷ d ∷ []) }
 {
-    a as u32 + 256 * (b as u32 + 256 * (c as u32 + 256 * (d as u32)))
+    u32::from_le_bytes([a, b, c, d])
 }
 
 fn got(run: &[u8], at: usize) -> u32
@@ -31,6 +31,7 @@ fn got(run: &[u8], at: usize) -> u32
 }
 
 // The number that stands in a run from a place on, 0 where the run has no four bytes there.
+// Kept: 0 and no Option where there are none, as definition `four_at` and what rests on it (`over_fours`) say.
 pub fn four_at(run: &[u8], at: usize) -> u32
     ensures { result ≡ four_at at run.now }
 {
@@ -44,18 +45,11 @@ pub fn four_at(run: &[u8], at: usize) -> u32
 pub fn four_bytes(n: u32) -> [u8; 4]
     ensures { result ≡ little_endian 4 n }
 {
-    let b = n / 256;
-    let c = b / 256;
-    let d = c / 256;
-    [
-        (n % 256) as u8,
-        (b % 256) as u8,
-        (c % 256) as u8,
-        (d % 256) as u8,
-    ]
+    u32::to_le_bytes(n)
 }
 
 // Puts all of src at the front of room, and says how many bytes that are; where room is too short it puts nothing there.
+// Kept: 0 and no Option where it puts nothing: but for `put` of wire and of desk_service every caller's room fits, and none looks.
 pub fn copy(src: &[u8], room: &mut [u8]) -> usize
     ensures { Copied src.now room.old result room.new }
 {
@@ -63,10 +57,8 @@ pub fn copy(src: &[u8], room: &mut [u8]) -> usize
     if room.len() < n {
         return 0;
     }
-    let mut i: usize = 0;
-    while i < n {
+    for i in 0..n {
         room[i] = src[i];
-        i += 1;
     }
     n
 }

@@ -6,23 +6,13 @@ ghost use Rattle.std.specs.Prelude.{◌≡◌, ◌≤◌, length, IfOk};
 ghost use Rattle.commands.specs.Words.{is_text, is_version};
 
 use std::env::{Env, FillError};
-use std::io::{Error, Result};
+use std::io::Error;
 
 // Whether a word is this text.
 pub fn is_text(word: &[u8], text: &[u8]) -> bool
     ensures { result ≡ is_text text.now word.now }
 {
-    if word.len() != text.len() {
-        return false;
-    }
-    let mut i: usize = 0;
-    while i < text.len() {
-        if word[i] != text[i] {
-            return false;
-        }
-        i += 1;
-    }
-    true
+    word == text
 }
 
 // Whether a word is --version.
@@ -47,10 +37,7 @@ pub fn word_count(rt: &HostRuntime) -> usize {
 pub fn word(rt: &HostRuntime, i: usize, room: &mut [u8]) -> usize
     ensures { result ≤ length room.new }
 {
-    match rt.arg(i, room) {
-        Ok(n) => n,
-        Err(_) => 0,
-    }
+    rt.arg(i, room).unwrap_or(0)
 }
 
 // The error numbers of the system's library for a word that is missing, and for one that is too long.
@@ -59,7 +46,7 @@ const MISSING: i32 = 22;
 const TOO_LONG: i32 = 36;
 
 // How long word i is, which is put whole at the front of the room, or why it can't be.
-pub fn whole_word(rt: &HostRuntime, i: usize, room: &mut [u8]) -> Result<usize>
+pub fn whole_word(rt: &HostRuntime, i: usize, room: &mut [u8]) -> std::io::Result<usize>
     ensures { IfOk result (λ n. n ≤ length room.new) }
 {
     match rt.arg(i, room) {
@@ -76,52 +63,35 @@ fn asks_version(rt: &HostRuntime) -> bool {
     is_version(&room[..n])
 }
 
-// Writes some text, and says whether that went well.
-fn say(rt: &HostRuntime, text: &[u8], output: &[u8]) -> bool {
+// Writes some text; where that fails, it is told.
+fn say(rt: &HostRuntime, text: &[u8], output: &[u8]) -> streams::Result<()> {
     streams::send(rt, &mut rt.stdout(), text, text.len(), output)
 }
 
 // Writes a mark and a number.
-fn say_number(rt: &HostRuntime, mark: &[u8], n: u32, output: &[u8]) -> bool {
+fn say_number(rt: &HostRuntime, mark: &[u8], n: u32, output: &[u8]) -> streams::Result<()> {
     let mut digits = [0u8; 20];
     let k = io::decimal(n as u64, &mut digits);
-    if !say(rt, mark, output) {
-        return false;
-    }
+    say(rt, mark, output)?;
     say(rt, &digits[..k], output)
 }
 
-// Writes the three numbers; after a write that failed nothing more is written.
-fn say_numbers(rt: &HostRuntime, output: &[u8]) -> bool {
-    if !say_number(rt, b" ", version::FIRST, output) {
-        return false;
-    }
-    if !say_number(rt, b".", version::SECOND, output) {
-        return false;
-    }
-    say_number(rt, b".", version::THIRD, output)
-}
-
-// Writes the program's name and its version in one line.
-fn say_version(rt: &HostRuntime, name: &[u8], output: &[u8]) {
-    if !say(rt, name, output) {
-        return;
-    }
-    if say_numbers(rt, output) {
-        say(rt, b"\n", output);
-    }
+// Writes the program's name and its version in one line; after a write that failed nothing more is written.
+fn say_version(rt: &HostRuntime, name: &[u8], output: &[u8]) -> streams::Result<()> {
+    say(rt, name, output)?;
+    say_number(rt, b" ", version::FIRST, output)?;
+    say_number(rt, b".", version::SECOND, output)?;
+    say_number(rt, b".", version::THIRD, output)?;
+    say(rt, b"\n", output)
 }
 
 // Whether --version is the one word; it is then answered with the program's name and its version. `output` is what a write that fails is
 // told as.
 pub fn told_version(rt: &HostRuntime, name: &[u8], output: &[u8]) -> bool {
-    if word_count(rt) != 2 {
+    if word_count(rt) != 2 || !asks_version(rt) {
         return false;
     }
-    if !asks_version(rt) {
-        return false;
-    }
-    say_version(rt, name, output);
+    let _ = say_version(rt, name, output);
     true
 }
 

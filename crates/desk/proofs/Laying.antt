@@ -118,9 +118,6 @@ pub laid_turn : (m : Lines) (f : ℕ → Line) (j : ℕ) {all next : Lines} {l :
 unfolding lines_laid
 laid_turn m f j e g h = h ∙ ap₂ line_laid e g ∙ ap (λ n. lines_laid m n f) {x = suc j} {y = j + 1} (omega arith)
 
-pub laid_end : (m : Lines) (f : ℕ → Line) {j : ℕ} {all : Lines} → all ≡ lines_laid m j f → j ≡ 42 → all ≡ lines_laid m 42 f
-laid_end m f e q = e ∙ ap (λ n. lines_laid m n f) q
-
 -- ---- one line, by what was found of it
 
 module _ (ls : Lines) (l : Line) where
@@ -137,9 +134,6 @@ module _ (ls : Lines) (l : Line) where
       → ◌≡◌ {A = Lines} (record { count = ls.count + 1; bytes = b }) (line_laid ls l)
   unfolding line_laid
   laid_more e h q = lines_same {c = ls.count + 1} refl q ∙ rw (ne_eqb l.card 0 e, lt-leb most_lines ls.count h)
-
-pub moving_line : (c k j : ℕ) {n : ℕ} → n ≡ place_told j → ◌≡◌ {A = Line} (record { card = c; place = k; flag = 2; next = n }) (where_line c (Moving k j))
-moving_line c k j e = ap (λ (n : ℕ). record { card = c; place = k; flag = 2; next = n }) e
 
 pub element_found : (d : Desk) (j : ℕ) {l : Line} {w : Whereabouts} {k : ℕ} → l ≡ where_line (get_or d.numbers j 0) w
     → w ≡ place_known d (get_or d.numbers j 0) k → k ≡ place_of_element j → l ≡ element_line d j

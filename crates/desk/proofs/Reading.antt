@@ -6,13 +6,13 @@ use native.Mathlib.Omega.{arith}
 use lib.ListN.{length, take, drop, length-drop}
 use borrow.Author.Tests.{le-ltb}
 use borrow.Author.Rules.{part_to_end}
-use Rattle.rules.specs.declared.Reading.{Reading}
+use Rattle.std.specs.declared.option.Option.{Option}
 use Rattle.rules.specs.Codes.{read_code, read_bytes}
 use Rattle.station.specs.Held.{code_at}
 use Rattle.station.proofs.Loops.{past_eighth}
 
 -- past the eighth there is none
-pub read_past : (set : List ℕ) (i : ℕ) → length set ≡ 40 → 8 ≤ i → Reading.Bad ≡ read_code (code_at set i)
+pub read_past : (set : List ℕ) (i : ℕ) → length set ≡ 40 → 8 ≤ i → Option.None ≡ read_code (code_at set i)
 unfolding read_code
 read_past set i e h = ap read_code (past_eighth set i e h)
 

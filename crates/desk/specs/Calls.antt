@@ -1,8 +1,9 @@
 -- The desk's calls: what the station says comes first, then the desk's own refusals; numbers follow cars where a call is taken, and not
 -- otherwise. Assumes nothing.
 use Rattle.std.specs.Prelude.{cond, List, ℕ, eqb}
-use Rattle.rules.specs.declared.EventReading.{EventReading}
-use Rattle.rules.specs.declared.EventReading.TheVariants.{Good, Bad}
+use Rattle.std.specs.declared.option.Option.{Option}
+use Rattle.std.specs.declared.option.Option.TheVariants.{Some, None}
+use Rattle.rules.specs.declared.Event.{Event}
 use Rattle.rules.specs.declared.Event.TheVariants.{BeginIn}
 use Rattle.rules.specs.Codes.{read_event}
 use Rattle.answers.specs.declared.Answer.TheVariants.{Taken, Unfit}
@@ -11,8 +12,10 @@ use Rattle.station.specs.declared.Report.{Report}
 use Rattle.station.specs.declared.Picture.{Picture}
 use Rattle.station.specs.Held.{code_at}
 use Rattle.station.specs.Calls as station
-use Rattle.cards.specs.declared.Offered.{Offered}
-use Rattle.cards.specs.declared.Offered.TheVariants as offer
+use Rattle.std.specs.declared.result.Result.{Result}
+use Rattle.std.specs.declared.result.Result.TheVariants.{Ok, Err}
+use Rattle.cards.specs.declared.GivenError.{GivenError}
+use Rattle.cards.specs.declared.GivenError.TheVariants as given
 use Rattle.cards.specs.Given.{given_as}
 use Rattle.cards.specs.Held.{code_cards, cards_driven, cards_given, is_known}
 use Rattle.desk.specs.declared.Desk.{Desk}
@@ -60,9 +63,9 @@ desk_begun d o c =
     (desk_holding o (cards_driven BeginIn c d.numbers)))
 
 -- the numbers after any other event: the number that is handed in is not looked at
-abbrev pub passed : EventReading → List ℕ → List ℕ
-passed (Good e) a = cards_driven e 0 a
-passed Bad a = a
+abbrev pub passed : Option Event → List ℕ → List ℕ
+passed (Some e) a = cards_driven e 0 a
+passed None a = a
 
 -- a car event by its number, with a card's number
 unfoldable pub desk_event : Desk → ℕ → ℕ → DeskOutcome
@@ -71,11 +74,11 @@ desk_event d e c =
     on_fit_desk d (where_taken d o (cond (eqb e 1) (desk_begun d o c) (desk_holding o (passed (read_event e) d.numbers))))
 
 -- an image that the station takes, by what its numbers come to
-abbrev pub offered : Desk → Outcome → List ℕ → Offered → DeskOutcome
-offered d o a offer.Fine = desk_holding o a
-offered d o a offer.WrongCount = desk_refused d WrongCount
-offered d o a offer.ZeroNumber = desk_refused d ZeroNumber
-offered d o a offer.TwiceGiven = desk_refused d KnownNumber
+abbrev pub offered : Desk → Outcome → List ℕ → Result (Unit {0}) GivenError → DeskOutcome
+offered d o a (Ok _) = desk_holding o a
+offered d o a (Err given.WrongCount) = desk_refused d WrongCount
+offered d o a (Err given.ZeroNumber) = desk_refused d ZeroNumber
+offered d o a (Err given.TwiceGiven) = desk_refused d KnownNumber
 
 -- an image with n numbers
 unfoldable pub desk_take_image : Desk → Picture → ℕ → List ℕ → DeskOutcome

@@ -34,7 +34,6 @@ where_line c (At k) = record { card = c; place = k; flag = 0; next = 0 }
 where_line c (LastKnown k) = record { card = c; place = k; flag = 1; next = 0 }
 where_line c (Moving k j) = record { card = c; place = k; flag = 2; next = place_told j }
 where_line c NotHere = record { card = c; place = nowhere; flag = 0; next = 0 }
-where_line c Whereabouts.Unfit = record { card = c; place = nowhere; flag = 0; next = 0 }
 
 -- there is room for so many: a garage has at most 31 cars, and an image brings at most 31
 abbrev pub most_lines : ℕ

@@ -1,5 +1,9 @@
 -- What the desk is asked: where a card's car is, and which card is leaving. Assumes nothing.
 use Rattle.std.specs.Prelude.{Bool, cond, not, ◌&&◌, ◌||◌, ℕ, suc, eqb, ltb}
+use Rattle.std.specs.declared.option.Option.{Option}
+use Rattle.std.specs.declared.option.Option.TheVariants.{Some, None}
+use Rattle.std.specs.declared.result.Result.{Result}
+use Rattle.std.specs.declared.result.Result.TheVariants.{Ok, Err}
 use Rattle.bits.specs.Bits.{Bits, bit}
 use Rattle.bits.specs.Places.{elem}
 use Rattle.bits.specs.Search.{least}
@@ -12,8 +16,8 @@ use Rattle.cards.specs.Held.{numbers_in, code_cards, where_is}
 use Rattle.desk.specs.declared.Desk.{Desk}
 use Rattle.desk.specs.declared.Whereabouts.{Whereabouts}
 use Rattle.desk.specs.declared.Whereabouts.TheVariants.{At, LastKnown, Moving, NotHere}
-use Rattle.desk.specs.declared.Leaving.{Leaving}
-use Rattle.desk.specs.declared.Leaving.TheVariants.{Card, Nobody}
+use Rattle.desk.specs.declared.AskError.{AskError}
+use Rattle.desk.specs.declared.AskError.TheVariants.{Unfit}
 use Rattle.desk.specs.Desk.{desk_fit}
 
 -- of the car whose number stands at place k one of these parts is under it: its cell, in row 1 either of its two, or the lift
@@ -38,10 +42,10 @@ place_known d c k =
     (cond (ltb (mover_of s k) s.count) (Moving k (place_after d (mover_of s k) c))
     (At k)))
 
--- where the car with the number c is
-unfoldable pub whereabouts : Desk → ℕ → Whereabouts
-whereabouts d c = cond (desk_fit d) (place_known d c (where_is d.numbers c)) Whereabouts.Unfit
+-- where the car with the number c is; a desk that isn't fit tells nothing
+unfoldable pub whereabouts : Desk → ℕ → Result Whereabouts AskError
+whereabouts d c = cond (desk_fit d) (Ok (place_known d c (where_is d.numbers c))) (Err Unfit)
 
 -- which card is leaving: the number on the raised lift while a drive-out is under way
-unfoldable pub leaving : Desk → Leaving
-leaving d = cond (desk_fit d) (cond (bit d.station.bits drive_out) (Card (numbers_in d.numbers raised_car)) Nobody) Leaving.Unfit
+unfoldable pub leaving : Desk → Result (Option ℕ) AskError
+leaving d = cond (desk_fit d) (Ok (cond (bit d.station.bits drive_out) (Some (numbers_in d.numbers raised_car)) None)) (Err Unfit)

@@ -39,23 +39,19 @@ pub struct DeskOutcome {
     pub reply: Reply,
 }
 
-// Where a card's car is: at a place, at its last known place, in motion from one place to another, or not here; nothing is told of a desk
-// that isn't fit.
+// Why a question is not answered: the desk isn't fit.
+#[derive(Clone, Copy)]
+pub enum AskError {
+    Unfit,
+}
+
+// Where a card's car is: at a place, at its last known place, in motion from one place to another, or not here.
 #[derive(Clone, Copy)]
 pub enum Whereabouts {
     At(u8),
     LastKnown(u8),
     Moving { from: u8, to: u8 },
     NotHere,
-    Unfit,
-}
-
-// Which card is leaving.
-#[derive(Clone, Copy)]
-pub enum Leaving {
-    Card(u32),
-    Nobody,
-    Unfit,
 }
 
 // What is told of a card: its place, a flag, and the place that it would get.
@@ -74,14 +70,7 @@ pub struct Lines {
     pub bytes: [u8; 496],
 }
 
-// Which lines are gathered: of all cars; of those that an image would take away or move; of those that it would bring.
-#[derive(Clone, Copy)]
-enum Gathering {
-    Cars,
-    Moved,
-    New,
-}
-
+// Kept: count beside set, as the station has them, and here in all that is asked with a set (outstanding, desk_request); no heap.
 // What is outstanding: the issue of the present set, how many instructions it has, a mark for each that is answered, and the set.
 #[derive(Clone, Copy)]
 pub struct OpenSet {
@@ -117,9 +106,7 @@ impl Reply {
     {
         match self {
             Reply::Told(answer) => answer.place(),
-            Reply::ZeroNumber => NOWHERE,
-            Reply::KnownNumber => NOWHERE,
-            Reply::WrongCount => NOWHERE,
+            Reply::ZeroNumber | Reply::KnownNumber | Reply::WrongCount => NOWHERE,
         }
     }
 
@@ -129,9 +116,7 @@ impl Reply {
     {
         match self {
             Reply::Told(answer) => answer.issue(),
-            Reply::ZeroNumber => 0,
-            Reply::KnownNumber => 0,
-            Reply::WrongCount => 0,
+            Reply::ZeroNumber | Reply::KnownNumber | Reply::WrongCount => 0,
         }
     }
 }
@@ -159,16 +144,14 @@ impl Desk {
     fn numbers_fit(self) -> bool
         ensures { result ≡ cards_fit self.station.bits self.numbers }
     {
-        let station = self.station;
-        let numbers = self.numbers;
-        cards::fits(station.bits, numbers)
+        cards::fits(self.station.bits, self.numbers)
     }
 
     // Whether the desk can be trusted to go on.
+    #[tactic(auto, unfolding(crate::specs::Desk::desk_fit))]
     pub fn fit(self) -> bool
         ensures { result ≡ desk_fit self }
     {
-        let station = self.station;
-        station.fit() & self.numbers_fit()
+        self.station.fit() & self.numbers_fit()
     }
 }

@@ -1,12 +1,13 @@
 // What the desk tells of all its cars, of what is outstanding, and of what an image would change. Lines are gathered by one loop, and laid
 // one behind the other as eight bytes each.
-ghost use Rattle.std.specs.Prelude.{◌≡◌, cond, [], ◌<◌};
+ghost use Rattle.std.specs.Prelude.{◌≡◌, ℕ, cond, [], ◌<◌};
+ghost use Rattle.desk.specs.declared.Line.{Line};
 ghost use Rattle.cards.specs.Held.{place_of_element};
 ghost use Rattle.desk.specs.Lines.{place_told, where_line, line_bytes, held_lines, element_line, listed_cars, outstanding, card_place, moved_line, new_line, card_changes, compared};
-ghost use Rattle.desk.specs.Private.{line_laid, lines_laid, gathered_line};
+ghost use Rattle.desk.specs.Private.{line_laid, lines_laid};
 
 use super::questions::is_under;
-use super::{Comparison, Desk, Gathering, Line, Lines, OpenSet, Whereabouts};
+use super::{Comparison, Desk, Line, Lines, OpenSet, Whereabouts};
 use answers::NOWHERE;
 use floor::masks::RAISED;
 use station::Picture;
@@ -24,6 +25,7 @@ const NOT_HERE: u8 = 64;
 // ---- lines
 
 // The place of which an element is the number.
+// Kept: beside the private one of cards, for a wrong version of this one is named and has to be refused here (must-fail/).
 fn place_of(j: u8) -> u8
     ensures { result ≡ place_of_element j }
 {
@@ -50,37 +52,26 @@ fn place_told(k: u8) -> u8
 fn where_line(card: u32, w: Whereabouts) -> Line
     ensures { result ≡ where_line card w }
 {
+    let gone = Line {
+        card,
+        place: NOWHERE,
+        flag: 0,
+        next: 0,
+    };
     match w {
-        Whereabouts::At(k) => Line {
-            card,
-            place: k,
-            flag: 0,
-            next: 0,
-        },
-        Whereabouts::LastKnown(k) => Line {
-            card,
-            place: k,
+        Whereabouts::At(place) => Line { place, ..gone },
+        Whereabouts::LastKnown(place) => Line {
+            place,
             flag: 1,
-            next: 0,
+            ..gone
         },
         Whereabouts::Moving { from, to } => Line {
-            card,
             place: from,
             flag: 2,
             next: place_told(to),
+            ..gone
         },
-        Whereabouts::NotHere => Line {
-            card,
-            place: NOWHERE,
-            flag: 0,
-            next: 0,
-        },
-        Whereabouts::Unfit => Line {
-            card,
-            place: NOWHERE,
-            flag: 0,
-            next: 0,
-        },
+        Whereabouts::NotHere => gone,
     }
 }
 
@@ -111,16 +102,14 @@ fn with_line(lines: Lines, l: Line) -> Lines
     if l.card == 0 {
         return lines;
     }
-    let count = lines.count;
-    if MOST <= count {
+    if MOST <= lines.count {
         return lines;
     }
-    let eight = line_bytes(l);
     let mut bytes = lines.bytes;
-    let at = 8 * (count as usize);
-    codec::copy(&eight, &mut bytes[at..at + 8]);
+    let at = 8 * (lines.count as usize);
+    codec::copy(&line_bytes(l), &mut bytes[at..at + 8]);
     Lines {
-        count: count + 1,
+        count: lines.count + 1,
         bytes,
     }
 }
@@ -142,6 +131,7 @@ fn card_place(numbers: [u32; 42], card: u32) -> u8
 }
 
 // A card, unless it is left out.
+// Kept: card 0 is no line, as `with_line`, `moved_line` and `new_line` say it (specs/Lines).
 fn card_unless(out: bool, card: u32) -> u32
     ensures { result ≡ cond out 0 card }
 {
@@ -181,43 +171,26 @@ fn new_line(old: [u32; 42], new: [u32; 42], j: u8) -> Line
     }
 }
 
+// The lines of all elements, behind others.
+fn gathered<F: Fn(u8) -> Line>(lines: Lines, line: F) -> Lines
+    requires { (j : ℕ) → j < 42 → F.pre line j }
+    ensures { (f : ℕ → Line) → ((j : ℕ) → j < 42 → (l : Line) → F.post line j l → l ≡ f j) → result ≡ lines_laid lines 42 f }
+{
+    let mut all = lines;
+    for j in 0..NUMBERS {
+        all = with_line(all, line(j));
+    }
+    all
+}
+
 impl Desk {
     // The car of an element.
     fn element_line(self, j: u8) -> Line
         requires { j < 42 }
         ensures { result ≡ element_line self j }
     {
-        let numbers = self.numbers;
-        let card = numbers[j as usize];
+        let card = self.numbers[j as usize];
         where_line(card, self.placed(card, place_of(j)))
-    }
-
-    // The line of an element, of these lines.
-    fn line_of(self, what: Gathering, new: [u32; 42], j: u8) -> Line
-        requires { j < 42 }
-        ensures { result ≡ gathered_line what self new j }
-    {
-        let station = self.station;
-        let numbers = self.numbers;
-        match what {
-            Gathering::Cars => self.element_line(j),
-            Gathering::Moved => moved_line(station.apart, numbers, new, j),
-            Gathering::New => new_line(numbers, new, j),
-        }
-    }
-
-    // These lines of all elements, behind others.
-    fn gathered(self, what: Gathering, new: [u32; 42], lines: Lines) -> Lines
-        ensures { result ≡ lines_laid lines 42 (gathered_line what self new) }
-    {
-        let mut all = lines;
-        let mut j: u8 = 0;
-        while j < NUMBERS {
-            let more = with_line(all, self.line_of(what, new, j));
-            all = more;
-            j += 1;
-        }
-        all
     }
 
     // ---- the questions
@@ -226,20 +199,20 @@ impl Desk {
     pub fn list(self) -> Lines
         ensures { result ≡ held_lines (listed_cars self) }
     {
-        let numbers = self.numbers;
-        self.gathered(Gathering::Cars, numbers, no_lines())
+        gathered(no_lines(), |j| self.element_line(j))
     }
 
     // What is outstanding.
+    #[tactic(auto, unfolding(crate::specs::Lines::outstanding))]
     pub fn outstanding(self) -> OpenSet
         ensures { result ≡ outstanding self }
     {
-        let s = self.station;
-        let set = s.set;
+        // Kept: an array of a struct goes into another struct through a variable (the prover covers no other way).
+        let set = self.station.set;
         OpenSet {
-            issue: ((s.next as u32 + 65535) % 65536) as u16,
-            count: s.count,
-            answered: s.answered,
+            issue: self.station.next.wrapping_sub(1),
+            count: self.station.count,
+            answered: self.station.answered,
             set,
         }
     }
@@ -248,8 +221,10 @@ impl Desk {
     fn changed(self, new: [u32; 42]) -> Lines
         ensures { result ≡ held_lines (card_changes self.station.apart self.numbers new) }
     {
-        let moved = self.gathered(Gathering::Moved, new, no_lines());
-        self.gathered(Gathering::New, new, moved)
+        let moved = gathered(no_lines(), |j| {
+            moved_line(self.station.apart, self.numbers, new, j)
+        });
+        gathered(moved, |j| new_line(self.numbers, new, j))
     }
 
     // What an image with `count` numbers would be answered, and what it would change.
@@ -257,18 +232,15 @@ impl Desk {
         ensures { result ≡ compared self picture count given }
     {
         let o = self.image(picture, count, given);
-        let reply = o.reply;
-        if reply.number() != 0 {
+        if o.reply.number() != 0 {
             return Comparison {
-                reply,
+                reply: o.reply,
                 lines: no_lines(),
             };
         }
-        let after = o.desk;
-        let new = after.numbers;
         Comparison {
-            reply,
-            lines: self.changed(new),
+            reply: o.reply,
+            lines: self.changed(o.desk.numbers),
         }
     }
 }

@@ -2,15 +2,16 @@
 ghost use Rattle.std.specs.Prelude.{◌≡◌};
 ghost use Rattle.bits.specs.Bits.{bit};
 ghost use Rattle.station.specs.Held.{code_at};
-ghost use Rattle.station.specs.Private.{held_mask, mask_in};
-ghost use Rattle.desk.specs.Questions.{is_under, mover_of, place_known, whereabouts, leaving};
+ghost use Rattle.station.specs.Private.{held_mask};
+ghost use Rattle.desk.specs.Questions.{is_under, place_known, whereabouts, leaving};
+ghost use Rattle.desk.specs.Private.{mover_in};
 
 use super::calls::read_at;
-use super::{Desk, Leaving, Whereabouts};
-use rules::{Area, Reading};
+use super::{AskError, Desk, Whereabouts};
 use station::Station;
 
 // The place of a number that no car in the garage has.
+// Kept: a number and no Option, as `place_known` and the theorems have it (specs/Questions).
 const NOT_HERE: u8 = 64;
 
 // The bit of a drive-out under way.
@@ -26,89 +27,72 @@ pub fn is_under(parts: u64, k: u8) -> bool
     bits::bit(parts, k as u64) | ((k < 20) & bits::bit(parts, k as u64 + 1))
 }
 
-// The mask that an answer gives, or none.
-fn mask_in(a: Area) -> u64
-    ensures { result ≡ mask_in a }
-{
-    match a {
-        Area::Mask(m) => m,
-        Area::IllFormed => 0,
-    }
-}
-
 // The area of instruction i of a set; of bytes that say none it is empty.
 fn area_at(set: [u8; 40], i: u8) -> u64
     ensures { result ≡ held_mask (code_at set i) }
 {
     match read_at(set, i) {
-        Reading::Good(x) => mask_in(areas::area(x)),
-        Reading::Bad => 0,
+        Some(x) => areas::area(x).unwrap_or(0),
+        None => 0,
     }
 }
 
-// The first instruction that waits for its result and has a part under the car at place k in its area, or as many as there are.
-fn mover(s: Station, k: u8) -> u8
-    ensures { result ≡ mover_of s k }
+// The first instruction that waits for its result and has a part under the car at place k in its area.
+fn mover(s: Station, k: u8) -> Option<u8>
+    ensures { result ≡ mover_in s k }
 {
-    let count = s.count;
-    let marks = s.answered as u64;
-    let set = s.set;
-    let mut i: u8 = 0;
-    while i < count {
-        if !bits::bit(marks, i as u64) & is_under(area_at(set, i), k) {
-            return i;
+    for i in 0..s.count {
+        if !bits::bit(s.answered as u64, i as u64) & is_under(area_at(s.set, i), k) {
+            return Some(i);
         }
-        i += 1;
     }
-    count
+    None
 }
 
 impl Desk {
     // What is told of a card whose place is k.
+    #[tactic(auto, unfolding(crate::specs::Questions::place_known))]
     pub fn placed(self, card: u32, k: u8) -> Whereabouts
         ensures { result ≡ place_known self card k }
     {
         if k == NOT_HERE {
             return Whereabouts::NotHere;
         }
-        let station = self.station;
-        if is_under(station.apart, k) {
+        if is_under(self.station.apart, k) {
             return Whereabouts::LastKnown(k);
         }
-        let i = mover(station, k);
-        if i < station.count {
-            let numbers = self.done(i);
-            return Whereabouts::Moving {
+        match mover(self.station, k) {
+            Some(i) => Whereabouts::Moving {
                 from: k,
-                to: cards::where_is(numbers, card),
-            };
+                to: cards::where_is(self.done(i), card),
+            },
+            None => Whereabouts::At(k),
         }
-        Whereabouts::At(k)
     }
 
+    // Kept: each question tests fitness itself: each has a wrong version at its own refusal (must-fail/wrong_programs.edit).
     // Where the car with this number is.
-    pub fn whereabouts(self, card: u32) -> Whereabouts
+    #[tactic(auto, unfolding(crate::specs::Questions::whereabouts))]
+    pub fn whereabouts(self, card: u32) -> Result<Whereabouts, AskError>
         ensures { result ≡ whereabouts self card }
     {
         if !self.fit() {
-            return Whereabouts::Unfit;
+            return Err(AskError::Unfit);
         }
-        let numbers = self.numbers;
-        self.placed(card, cards::where_is(numbers, card))
+        Ok(self.placed(card, cards::where_is(self.numbers, card)))
     }
 
     // Which card is leaving: the number on the raised lift while a drive-out is under way.
-    pub fn leaving(self) -> Leaving
+    #[tactic(auto, unfolding(crate::specs::Questions::leaving, cards::specs::Held::numbers_in))]
+    pub fn leaving(self) -> Result<Option<u32>, AskError>
         ensures { result ≡ leaving self }
     {
         if !self.fit() {
-            return Leaving::Unfit;
+            Err(AskError::Unfit)
+        } else if bits::bit(self.station.bits, LEAVING) {
+            Ok(Some(self.numbers[ON_LIFT]))
+        } else {
+            Ok(None)
         }
-        let station = self.station;
-        if bits::bit(station.bits, LEAVING) {
-            let numbers = self.numbers;
-            return Leaving::Card(numbers[ON_LIFT]);
-        }
-        Leaving::Nobody
     }
 }

@@ -11,13 +11,16 @@ use lib.ListN.{length, take, drop, length-append, length-drop, drop_of_length-le
 use lib.Seq.{length-take-le, take-length, take_all, take_at, drop_at, drop-drop}
 use Rattle.bits.proofs.Cases.{split, clash}
 use Rattle.codec.specs.Bytes.{from_little_endian}
-use Rattle.answers.specs.declared.Answer.TheVariants.{Taken, BadLength}
+use Rattle.answers.specs.declared.Answer.{Answer}
+use Rattle.answers.specs.declared.Answer.TheVariants.{Taken, BadLength, NoRoom}
 use Rattle.answers.specs.Answers.{number_of}
+use Rattle.std.specs.declared.result.Result.TheVariants.{Ok, Err}
+use Rattle.wire.proofs.Results.{size_said, no_both, same_ok}
 use Rattle.wire.specs.declared.What.{What}
 use Rattle.wire.specs.declared.What.TheVariants.{Image}
 use Rattle.wire.specs.declared.Frame.{Frame}
 use Rattle.wire.specs.declared.Frame.TheVariants.{Cut, Wrong, Whole}
-use Rattle.wire.specs.declared.Written.{Written}
+use Rattle.wire.specs.Writes.{Written}
 use Rattle.wire.specs.Kinds.{in_range, plain}
 use Rattle.wire.specs.Reads.{kind_at}
 use Rattle.wire.specs.Writes.{LeavesMessage, Writing, put, message_bytes, writing_message}
@@ -36,24 +39,24 @@ use Rattle.desk_buffer.specs.Private.{LeavesBytes, DeskSteps, DeskPasses}
 -- ---- what a write into lent room says
 
 module _ (b room : List ℕ) {w : Written} {last : List ℕ} (l : LeavesMessage (put b room) w last) where
-  pub no_room_lem : (number_of w.answer ≡ 0 → ⊥) → (ltb (length room) (length b) ≡ true) × (last ≡ room)
+  pub no_room_lem : {a : Answer} → w ≡ Err a → (ltb (length room) (length b) ≡ true) × (last ≡ room)
   no_room_lem z = split (ltb (length room) (length b))
       (λ t. (t, l.1 ∙ rw t))
-      (λ t. absurd (z (ap (λ (x : Written). number_of x.answer) l.0 ∙ rw t)))
+      (λ t. let q : w ≡ Ok (length b) = l.0 ∙ rw t in no_both (sym q ∙ z))
 
-  pub has_room : number_of w.answer ≡ 0 → (ltb (length room) (length b) ≡ false) × (w.size ≡ length b) × (last ≡ b ++ drop (length b) room)
+  pub has_room : {n : ℕ} → w ≡ Ok n → (ltb (length room) (length b) ≡ false) × (n ≡ length b) × (last ≡ b ++ drop (length b) room)
   has_room z = split (ltb (length room) (length b))
-      (λ t. let q : ◌≡◌ {A = ℕ} 17 0 = sym (ap (λ (x : Written). number_of x.answer) l.0 ∙ rw t) ∙ z in absurd (omega arith))
-      (λ t. (t, ap (λ (x : Written). x.size) l.0 ∙ rw t, l.1 ∙ rw t))
+      (λ t. let q : w ≡ Err NoRoom = l.0 ∙ rw t in no_both (sym z ∙ q))
+      (λ t. let q : w ≡ Ok (length b) = l.0 ∙ rw t in (t, same_ok (sym z ∙ q), l.1 ∙ rw t))
 
 -- a message of the station's in room that is long enough
 pub wrote_plain : (w : What) (room : List ℕ) {r : Written} {last : List ℕ} → in_range w ≡ true → length (message_bytes (plain w)) ≤ length room
-    → LeavesMessage (writing_message (plain w) room) r last → LeavesBytes (message_bytes (plain w)) r.size room last
+    → LeavesMessage (writing_message (plain w) room) r last → LeavesBytes (message_bytes (plain w)) (size_said r) room last
 wrote_plain w room f h l =
     let b = message_bytes (plain w) in
-    let p : put b room ≡ record { says = record { answer = Taken; size = length b }; leaves = b ++ drop (length b) room } = simp (le-ltb (length room) (length b) h) in
+    let p : put b room ≡ record { says = Ok (length b); leaves = b ++ drop (length b) room } = simp (le-ltb (length room) (length b) h) in
     let q = plain_written w room f refl ∙ p in
-    (ap (λ (x : Written). x.size) (l.0 ∙ ap (λ (x : Writing). x.says) q), l.1 ∙ ap (λ (x : Writing). x.leaves) q)
+    (ap size_said (l.0 ∙ ap (λ (x : Writing). x.says) q), l.1 ∙ ap (λ (x : Writing). x.leaves) q)
 
 -- what the station is sent, by the kind that a call found
 module _ (m : List ℕ) {k : ℕ} (e : k ≡ kind_at m) where
@@ -93,23 +96,23 @@ image_passed m room {bits} {apart} {n} {last} h b a l =
 -- ---- one message
 
 module _ (d : Desk) (m out sent : List ℕ) {r : DeskAnswered} {last : List ℕ} (l : LeavesReply (respond_desk d m) out r last) where
-  pub replied_none : {s : Step} → (number_of r.written.answer ≡ 0 → ⊥)
+  pub replied_none : {s : Step} {a : Answer} → r.written ≡ Err a
       → s ≡ record { desk = d; used = 0; made = 0; passed = 0; on = false; stop = false; full = true }
       → DeskPasses (answered_ran (length out) d m) s out last sent sent
   replied_none z f = let n = no_room_lem (told_bytes (respond_desk d m).told) out l.1 z in rw n.0 ((f, n.1), refl)
 
-  pub answer_left : number_of r.written.answer ≡ 0 → (r.written.size ≤ length last) × (take r.written.size last ≡ told_bytes (respond_desk d m).told)
-  answer_left z =
+  pub answer_left : {size : ℕ} → r.written ≡ Ok size → (size ≤ length last) × (take size last ≡ told_bytes (respond_desk d m).told)
+  answer_left {size} z =
       let b = told_bytes (respond_desk d m).told in
       let n = has_room b out l.1 z in
       let k = length-append b (drop (length b) out) in
       let e = ap length n.2 in
       let s = n.1 in
-      (omega arith, ap (take r.written.size) n.2 ∙ take_at b (drop (length b) out) r.written.size (sym n.1))
+      (omega arith, ap (take size) n.2 ∙ take_at b (drop (length b) out) size (sym n.1))
 
-  pub replied_some : {p : ℕ} {gone : List ℕ} → number_of r.written.answer ≡ 0 → LeavesBytes (passed_on (take r.written.size last) m) p sent gone
-      → DeskPasses (answered_ran (length out) d m) (record { desk = r.desk; used = length m; made = r.written.size; passed = p; on = true; stop = false; full = false }) out last sent gone
-  replied_some {p} {gone} z h =
+  pub replied_some : {p size : ℕ} {gone : List ℕ} → r.written ≡ Ok size → LeavesBytes (passed_on (take size last) m) p sent gone
+      → DeskPasses (answered_ran (length out) d m) (record { desk = r.desk; used = length m; made = size; passed = p; on = true; stop = false; full = false }) out last sent gone
+  replied_some {p} {size} {gone} z h =
       let n = has_room (told_bytes (respond_desk d m).told) out l.1 z in
       let g = subst (λ (x : List ℕ). LeavesBytes (passed_on x m) p sent gone) (answer_left z).1 h in
       rw n.0 ((rw (n.1, g.0, l.0), n.2), g.1)
@@ -118,12 +121,12 @@ module _ (d : Desk) (m out : List ℕ) {r : DeskAnswered} {last : List ℕ} (w :
   refused : LeavesReply (brief (desk_unread d BadLength)) out r last
   refused = as_reply out l (sym (respond_wrong d m w))
 
-  pub wrong_none : {s : Step} → (number_of r.written.answer ≡ 0 → ⊥)
+  pub wrong_none : {s : Step} {a : Answer} → r.written ≡ Err a
       → s ≡ record { desk = d; used = 0; made = 0; passed = 0; on = false; stop = false; full = true } → DeskSteps (wrong_ran (length out) d) s out last
   wrong_none z f = let n = no_room_lem (brief_bytes (answer_told BadLength)) out refused.1 z in rw n.0 (f, n.1)
 
-  pub wrong_some : {s : Step} → number_of r.written.answer ≡ 0
-      → s ≡ record { desk = d; used = 0; made = r.written.size; passed = 0; on = false; stop = true; full = false } → DeskSteps (wrong_ran (length out) d) s out last
+  pub wrong_some : {s : Step} {size : ℕ} → r.written ≡ Ok size
+      → s ≡ record { desk = d; used = 0; made = size; passed = 0; on = false; stop = true; full = false } → DeskSteps (wrong_ran (length out) d) s out last
   wrong_some z f = let n = has_room (brief_bytes (answer_told BadLength)) out refused.1 z in rw n.0 (f ∙ rw n.1, n.2)
 
 -- a wrong length sends nothing

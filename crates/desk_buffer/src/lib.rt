@@ -13,6 +13,7 @@ use answers::Answer;
 use desk::Desk;
 use wire::{Frame, What};
 
+// Kept: stop and full beside the desk, as theorem DeskRestIsShort names both; callers go on from the desk (desk_turning).
 // What a run of messages leaves: Taken, or NoRoom and nothing done; the next desk, how many bytes of the input were taken, how many of
 // answers and of the station's messages were written, whether nothing more is to be read, and whether it ended where an answer had no room.
 #[derive(Clone, Copy)]
@@ -45,16 +46,17 @@ fn number_in(b: &[u8]) -> u8
     ensures { result ≡ number_in b.now }
 {
     if wire::kind_at(b) == 128 {
-        return wire::byte(b, 4);
+        wire::byte(b, 4)
+    } else {
+        0
     }
-    0
 }
 
 // Whether a message whose answer has this number is kept from the station.
 fn held_back(n: u8) -> bool
     ensures { result ≡ held_back n }
 {
-    ((1 <= n) & (n <= 5)) | ((37 <= n) & (n <= 39))
+    matches!(n, 1..=5 | 37..=39)
 }
 
 // Writes one of the station's messages that has no instruction.
@@ -62,8 +64,7 @@ fn pass_plain(what: What, room: &mut [u8]) -> usize
     requires { (in_range what ≡ true) × (length (message_bytes (plain what)) ≤ length room.old) }
     ensures { LeavesBytes (message_bytes (plain what)) result room.old room.new }
 {
-    let w = wire::writing::write_plain(what, room);
-    w.size
+    wire::writing::write_plain(what, room).unwrap_or(0)
 }
 
 // Writes a begin without its card.
@@ -95,17 +96,12 @@ fn pass(m: &[u8], room: &mut [u8]) -> usize
     requires { length m.now ≤ length room.old }
     ensures { LeavesBytes (station_form m.now) result room.old room.new }
 {
-    let kind = wire::kind_at(m);
-    if kind <= 5 {
-        return codec::copy(m, room);
+    match wire::kind_at(m) {
+        0..=5 => codec::copy(m, room),
+        6 => pass_begin(m, room),
+        7 => pass_image(m, room),
+        _ => 0,
     }
-    if kind == 6 {
-        return pass_begin(m, room);
-    }
-    if kind == 7 {
-        return pass_image(m, room);
-    }
-    0
 }
 
 // Writes what the station is sent by a message with this answer.
@@ -141,13 +137,10 @@ fn refuse(d: Desk, m: &[u8], out: &mut [u8]) -> Step
     requires { frame_up_to most_length m.now ≡ Wrong }
     ensures { DeskSteps (wrong_ran (length out.old) d) result out.old out.new }
 {
-    let r = desk_service::respond(d, m, out);
-    let w = r.written;
-    let answer = w.answer;
-    if answer.number() != 0 {
-        return ended(d, 0, false, true);
+    match desk_service::respond(d, m, out).written {
+        Ok(size) => ended(d, size, true, false),
+        Err(_) => ended(d, 0, false, true),
     }
-    ended(d, w.size, true, false)
 }
 
 // Answers a message whose bytes are exactly m.
@@ -156,22 +149,20 @@ fn reply(d: Desk, m: &[u8], out: &mut [u8], sent: &mut [u8]) -> Step
     ensures { DeskPasses (answered_ran (length out.old) d m.now) result out.old out.new sent.old sent.new }
 {
     let r = desk_service::respond(d, m, out);
-    let desk = r.desk;
-    let w = r.written;
-    let answer = w.answer;
-    if answer.number() != 0 {
-        return ended(d, 0, false, true);
-    }
-    let size = w.size;
-    let passed = pass_on(&out[..size], m, sent);
-    Step {
-        desk,
-        used: m.len(),
-        made: size,
-        passed,
-        on: true,
-        stop: false,
-        full: false,
+    match r.written {
+        Ok(size) => {
+            let passed = pass_on(&out[..size], m, sent);
+            Step {
+                desk: r.desk,
+                used: m.len(),
+                made: size,
+                passed,
+                on: true,
+                stop: false,
+                full: false,
+            }
+        }
+        Err(_) => ended(d, 0, false, true),
     }
 }
 
@@ -180,8 +171,7 @@ fn first(d: Desk, rest: &[u8], out: &mut [u8], sent: &mut [u8]) -> Step
     requires { length rest.now ≤ length sent.old }
     ensures { DeskPasses (desk_step (length out.old) d rest.now) result out.old out.new sent.old sent.new }
 {
-    let frame = desk_service::framed(rest, 143);
-    match frame {
+    match desk_service::framed(rest, 143) {
         Frame::Cut => ended(d, 0, false, false),
         Frame::Wrong => refuse(d, rest, out),
         Frame::Whole(n) => reply(d, &rest[..n], out, sent),

@@ -23,8 +23,11 @@ use Rattle.desk.specs.declared.Reply.{Reply}
 use Rattle.desk.specs.declared.Reply.TheVariants.{Told, ZeroNumber, KnownNumber, WrongCount}
 use Rattle.desk.specs.declared.Whereabouts.{Whereabouts}
 use Rattle.desk.specs.declared.Whereabouts.TheVariants.{At, LastKnown, Moving, NotHere}
-use Rattle.desk.specs.declared.Leaving.{Leaving}
-use Rattle.desk.specs.declared.Leaving.TheVariants.{Card, Nobody}
+use Rattle.std.specs.declared.option.Option.{Option}
+use Rattle.std.specs.declared.option.Option.TheVariants.{Some, None}
+use Rattle.std.specs.declared.result.Result.{Result}
+use Rattle.std.specs.declared.result.Result.TheVariants.{Ok, Err}
+use Rattle.desk.specs.declared.AskError.{AskError}
 use Rattle.desk.specs.Calls.{desk_ask}
 use Rattle.desk.specs.Questions.{whereabouts, leaving}
 use Rattle.desk.specs.Lines.{held_lines, listed_cars, outstanding}
@@ -62,34 +65,34 @@ pub replied_reads_back : RepliedReadsBack
 replied_reads_back a = let h = reply_byte a in (omega arith, λ l. (omega arith, omega arith))
 
 pub where_reads_back : WhereReadsBack
-where_reads_back (At k) (At j) l m e = let z : k ≡ j = omega arith in ap At z
-where_reads_back (At k) (LastKnown j) l m e = absurd (omega arith)
-where_reads_back (At k) (Moving j n) l m e = absurd (omega arith)
-where_reads_back (At k) NotHere l m e = absurd (omega arith)
-where_reads_back (At k) Whereabouts.Unfit l m e = absurd (omega arith)
-where_reads_back (LastKnown k) (At j) l m e = absurd (omega arith)
-where_reads_back (LastKnown k) (LastKnown j) l m e = let z : k ≡ j = omega arith in ap LastKnown z
-where_reads_back (LastKnown k) (Moving j n) l m e = absurd (omega arith)
-where_reads_back (LastKnown k) NotHere l m e = absurd (omega arith)
-where_reads_back (LastKnown k) Whereabouts.Unfit l m e = absurd (omega arith)
-where_reads_back (Moving k i) (At j) l m e = absurd (omega arith)
-where_reads_back (Moving k i) (LastKnown j) l m e = absurd (omega arith)
-where_reads_back (Moving k i) (Moving j n) l m e =
+where_reads_back (Ok (At k)) (Ok (At j)) l m e = let z : k ≡ j = omega arith in ap (λ (n : ℕ). Ok (At n)) z
+where_reads_back (Ok (At k)) (Ok (LastKnown j)) l m e = absurd (omega arith)
+where_reads_back (Ok (At k)) (Ok (Moving j n)) l m e = absurd (omega arith)
+where_reads_back (Ok (At k)) (Ok NotHere) l m e = absurd (omega arith)
+where_reads_back (Ok (At k)) (Err AskError.Unfit) l m e = absurd (omega arith)
+where_reads_back (Ok (LastKnown k)) (Ok (At j)) l m e = absurd (omega arith)
+where_reads_back (Ok (LastKnown k)) (Ok (LastKnown j)) l m e = let z : k ≡ j = omega arith in ap (λ (n : ℕ). Ok (LastKnown n)) z
+where_reads_back (Ok (LastKnown k)) (Ok (Moving j n)) l m e = absurd (omega arith)
+where_reads_back (Ok (LastKnown k)) (Ok NotHere) l m e = absurd (omega arith)
+where_reads_back (Ok (LastKnown k)) (Err AskError.Unfit) l m e = absurd (omega arith)
+where_reads_back (Ok (Moving k i)) (Ok (At j)) l m e = absurd (omega arith)
+where_reads_back (Ok (Moving k i)) (Ok (LastKnown j)) l m e = absurd (omega arith)
+where_reads_back (Ok (Moving k i)) (Ok (Moving j n)) l m e =
     let y : i ≡ n = omega (arith, e, l.0, m.0) in
     let z : k ≡ j = omega (arith, e, y) in
-    ap₂ Moving z y
-where_reads_back (Moving k i) NotHere l m e = absurd (omega arith)
-where_reads_back (Moving k i) Whereabouts.Unfit l m e = absurd (omega arith)
-where_reads_back NotHere (At j) l m e = absurd (omega arith)
-where_reads_back NotHere (LastKnown j) l m e = absurd (omega arith)
-where_reads_back NotHere (Moving j n) l m e = absurd (omega arith)
-where_reads_back NotHere NotHere l m e = refl
-where_reads_back NotHere Whereabouts.Unfit l m e = absurd (omega arith)
-where_reads_back Whereabouts.Unfit (At j) l m e = absurd (omega arith)
-where_reads_back Whereabouts.Unfit (LastKnown j) l m e = absurd (omega arith)
-where_reads_back Whereabouts.Unfit (Moving j n) l m e = absurd (omega arith)
-where_reads_back Whereabouts.Unfit NotHere l m e = absurd (omega arith)
-where_reads_back Whereabouts.Unfit Whereabouts.Unfit l m e = refl
+    ap₂ (λ (m n : ℕ). Ok (Moving m n)) z y
+where_reads_back (Ok (Moving k i)) (Ok NotHere) l m e = absurd (omega arith)
+where_reads_back (Ok (Moving k i)) (Err AskError.Unfit) l m e = absurd (omega arith)
+where_reads_back (Ok NotHere) (Ok (At j)) l m e = absurd (omega arith)
+where_reads_back (Ok NotHere) (Ok (LastKnown j)) l m e = absurd (omega arith)
+where_reads_back (Ok NotHere) (Ok (Moving j n)) l m e = absurd (omega arith)
+where_reads_back (Ok NotHere) (Ok NotHere) l m e = refl
+where_reads_back (Ok NotHere) (Err AskError.Unfit) l m e = absurd (omega arith)
+where_reads_back (Err AskError.Unfit) (Ok (At j)) l m e = absurd (omega arith)
+where_reads_back (Err AskError.Unfit) (Ok (LastKnown j)) l m e = absurd (omega arith)
+where_reads_back (Err AskError.Unfit) (Ok (Moving j n)) l m e = absurd (omega arith)
+where_reads_back (Err AskError.Unfit) (Ok NotHere) l m e = absurd (omega arith)
+where_reads_back (Err AskError.Unfit) (Err AskError.Unfit) l m e = refl
 
 -- ---- refused, nothing is written
 
@@ -97,11 +100,11 @@ refused_shows : (a : Reply) (bytes room : List ℕ) → (replied a % 256 ≡ 0 �
 unfolding shows
 refused_shows a bytes room h = rw (ne_eqb (reply_number a) 0 (λ z. h (reply_number_lem a ∙ z)))
 
-refused_leaving : (x : Leaving) (out : List ℕ) → ((leaving_entry x out).says % 256 ≡ 0 → ⊥) → (leaving_entry x out).leaves ≡ out
+refused_leaving : (x : Result (Option ℕ) AskError) (out : List ℕ) → ((leaving_entry x out).says % 256 ≡ 0 → ⊥) → (leaving_entry x out).leaves ≡ out
 unfolding writes
-refused_leaving (Card c) out h = absurd (h refl)
-refused_leaving Nobody out h = absurd (h refl)
-refused_leaving Leaving.Unfit out h = refl
+refused_leaving (Ok (Some c)) out h = absurd (h refl)
+refused_leaving (Ok None) out h = absurd (h refl)
+refused_leaving (Err AskError.Unfit) out h = refl
 
 refused_telling : (n : ℕ) (bytes out : List ℕ) → ((telling n bytes out).says % 256 ≡ 0 → ⊥) → (telling n bytes out).leaves ≡ out
 unfolding telling
@@ -135,18 +138,18 @@ of_desk ZeroNumber = inr (omega arith, omega arith)
 of_desk KnownNumber = inr (omega arith, omega arith)
 of_desk WrongCount = inr (omega arith, omega arith)
 
-where_number : (w : Whereabouts) → let n = where_said w % 256 in (n ≡ 0) ⊎ (n ≡ 16) ⊎ (n ≡ 17)
-where_number (At k) = inl (omega arith)
-where_number (LastKnown k) = inl (omega arith)
-where_number (Moving k j) = inl (omega arith)
-where_number NotHere = inl refl
-where_number Whereabouts.Unfit = inr (inl refl)
+where_number : (w : Result Whereabouts AskError) → let n = where_said w % 256 in (n ≡ 0) ⊎ (n ≡ 16) ⊎ (n ≡ 17)
+where_number (Ok (At k)) = inl (omega arith)
+where_number (Ok (LastKnown k)) = inl (omega arith)
+where_number (Ok (Moving k j)) = inl (omega arith)
+where_number (Ok NotHere) = inl refl
+where_number (Err AskError.Unfit) = inr (inl refl)
 
-leaving_number : (x : Leaving) (out : List ℕ) → let n = (leaving_entry x out).says % 256 in (n ≡ 0) ⊎ (n ≡ 16) ⊎ (n ≡ 17)
+leaving_number : (x : Result (Option ℕ) AskError) (out : List ℕ) → let n = (leaving_entry x out).says % 256 in (n ≡ 0) ⊎ (n ≡ 16) ⊎ (n ≡ 17)
 unfolding writes
-leaving_number (Card c) out = inl refl
-leaving_number Nobody out = inl refl
-leaving_number Leaving.Unfit out = inr (inl refl)
+leaving_number (Ok (Some c)) out = inl refl
+leaving_number (Ok None) out = inl refl
+leaving_number (Err AskError.Unfit) out = inr (inl refl)
 
 -- of lines: a count is told as taken
 count_number : (a : Reply) (n : ℕ) → OfDesk (count_told a n % 256)

@@ -1,6 +1,6 @@
 -- What is lent, a desk laid out in bytes, and what an entry leaves, case by case: one pair of laws serves every call. Assumes nothing.
 use mathlib.Core.Bool.{false}
-use mathlib.Core.Path.{◌≡◌, refl, sym, ap, ap₂, ◌∙◌}
+use mathlib.Core.Path.{subst, ◌≡◌, refl, sym, ap, ap₂, ◌∙◌}
 use mathlib.Core.List.{List, [], ◌∷◌, ◌++◌, map, append-nil}
 use Prim.Native.Nat.{ℕ, ◌+◌, ◌*◌, ◌-◌, ◌/◌, ◌%◌, ◌^◌, ◌≤◌, ◌<◌}
 use native.Mathlib.Nat.{mul-le-mul_right}
@@ -11,7 +11,7 @@ use lib.ListN.{length, take, drop, replicate, length-append, length-replicate}
 use lib.Seq.{take-length}
 use Rattle.bits.specs.Places.{join}
 use Rattle.bits.proofs.Cases.{split}
-use Rattle.answers.specs.declared.Answer.TheVariants.{TooFewBytes, NoRoom, Unfit}
+use Rattle.answers.specs.declared.Answer.TheVariants.{Taken, TooFewBytes, NoRoom, Unfit}
 use Rattle.answers.proofs.Promises.{number_byte}
 use Rattle.station.specs.declared.Station.{Station}
 use Rattle.wire.specs.Kinds.{set_of}
@@ -20,10 +20,16 @@ use Rattle.codec.specs.Fours.{fours_in, fours_bytes}
 use Rattle.rooms.specs.Rooms.{station_bytes, lent_station, image_bytes, returned, LeavesRoom, writes, telling}
 use Rattle.desk.specs.declared.Desk.{Desk}
 use Rattle.desk.specs.declared.DeskOutcome.{DeskOutcome}
+use Rattle.codec.specs.Bytes.{little_endian}
 use Rattle.desk.specs.declared.Reply.{Reply}
 use Rattle.desk.specs.declared.Reply.TheVariants.{Told, ZeroNumber, KnownNumber, WrongCount}
 use Rattle.desk.specs.declared.Whereabouts.{Whereabouts}
-use Rattle.desk.specs.declared.Leaving.{Leaving}
+use Rattle.std.specs.declared.option.Option.{Option}
+use Rattle.std.specs.declared.result.Result.{Result}
+use Rattle.std.specs.declared.option.Option.TheVariants.{Some, None}
+use Rattle.std.specs.declared.result.Result.TheVariants.{Ok, Err}
+use Rattle.std.specs.Option.{unwrap_or}
+use Rattle.desk.specs.declared.AskError.{AskError}
 use Rattle.desk.specs.declared.Lines.{Lines}
 use Rattle.desk.specs.declared.OpenSet.{OpenSet}
 use Rattle.desk.specs.declared.Comparison.{Comparison}
@@ -155,7 +161,7 @@ module _ (room : List ℕ) (c : ℕ) {r : ℕ} where
   unfolding finding
   where_short h e = e ∙ rw (lt-ltb _ _ h)
 
-  pub where_said_lem : {d : Desk} {w : Whereabouts} → 228 ≤ length room → d ≡ desk_of room → w ≡ whereabouts d c → r ≡ where_said w → r ≡ finding room c
+  pub where_said_lem : {d : Desk} {w : Result Whereabouts AskError} → 228 ≤ length room → d ≡ desk_of room → w ≡ whereabouts d c → r ≡ where_said w → r ≡ finding room c
   unfolding finding
   where_said_lem h e f g = g ∙ rw (le-ltb _ _ h, ← e, ← f)
 
@@ -169,14 +175,20 @@ module _ (room out : List ℕ) {r : ℕ} where
   unfolding parting
   out_short h l e = rw (le-ltb _ _ h, lt-ltb _ _ l) (e, refl)
 
-  module _ (h : 228 ≤ length room) (l : 4 ≤ length out) {d : Desk} (e : d ≡ desk_of room) {x : Leaving} (f : x ≡ leaving d) where
-    pub parted : (y : Leaving) {last : List ℕ} → x ≡ y → LeavesRoom (leaving_entry y out) r last → LeavesRoom (parting room out) r last
+  module _ (h : 228 ≤ length room) (l : 4 ≤ length out) {d : Desk} (e : d ≡ desk_of room) {x : Result (Option ℕ) AskError} (f : x ≡ leaving d) where
+    pub parted : (y : Result (Option ℕ) AskError) {last : List ℕ} → x ≡ y → LeavesRoom (leaving_entry y out) r last → LeavesRoom (parting room out) r last
     unfolding parting
     parted y g w = rw (le-ltb _ _ h, le-ltb _ _ l, ← e, sym f ∙ g) w
 
-    pub unfit_parted : x ≡ Leaving.Unfit → r ≡ returned Unfit → LeavesRoom (parting room out) r out
+    -- the number that leaves, or 0
+    pub card_parted : {o : Option ℕ} {last : List ℕ} {n : ℕ} → x ≡ Ok o → n ≡ unwrap_or o 0
+        → LeavesRoom (writes Taken (little_endian 4 n) out) r last → LeavesRoom (parting room out) r last
+    card_parted {o = Some c} {last = last} g q w = parted (Ok (Some c)) g (subst (λ (m : ℕ). LeavesRoom (writes Taken (little_endian 4 m) out) r last) q w)
+    card_parted {o = None} {last = last} g q w = parted (Ok None) g (subst (λ (m : ℕ). LeavesRoom (writes Taken (little_endian 4 m) out) r last) q w)
+
+    pub unfit_parted : (a : AskError) → x ≡ Err a → r ≡ returned Unfit → LeavesRoom (parting room out) r out
     unfolding writes
-    unfit_parted g k = parted Leaving.Unfit g (k, refl)
+    unfit_parted AskError.Unfit g k = parted (Err AskError.Unfit) g (k, refl)
 
 -- ---- lines
 

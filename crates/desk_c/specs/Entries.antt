@@ -12,7 +12,11 @@ use Rattle.desk.specs.declared.DeskOutcome.{DeskOutcome}
 use Rattle.desk.specs.declared.Reply.{Reply}
 use Rattle.desk.specs.declared.Reply.TheVariants.{Told}
 use Rattle.desk.specs.declared.Whereabouts.{Whereabouts}
-use Rattle.desk.specs.declared.Leaving.{Leaving}
+use Rattle.std.specs.declared.option.Option.{Option}
+use Rattle.std.specs.declared.option.Option.TheVariants.{Some, None}
+use Rattle.std.specs.declared.result.Result.{Result}
+use Rattle.std.specs.declared.result.Result.TheVariants.{Ok, Err}
+use Rattle.desk.specs.declared.AskError.{AskError}
 use Rattle.desk.specs.declared.OpenSet.{OpenSet}
 use Rattle.desk.specs.declared.Comparison.{Comparison}
 use Rattle.desk.specs.Desk.{reply_number, reply_place, reply_issue}
@@ -88,21 +92,21 @@ desk_asking room image =
 
 -- where a card's car is, as one number: its place, and 65536 where it is the last known one, or twice that and the place that it would get
 -- where it is in motion; 255 where it is not here
-abbrev pub where_said : Whereabouts → ℕ
-where_said (Whereabouts.At k) = 256 * k
-where_said (Whereabouts.LastKnown k) = 256 * k + 65536
-where_said (Whereabouts.Moving k j) = 256 * k + 131072 + 16777216 * j
-where_said Whereabouts.NotHere = 256 * nowhere
-where_said Whereabouts.Unfit = returned Unfit
+abbrev pub where_said : Result Whereabouts AskError → ℕ
+where_said (Ok (Whereabouts.At k)) = 256 * k
+where_said (Ok (Whereabouts.LastKnown k)) = 256 * k + 65536
+where_said (Ok (Whereabouts.Moving k j)) = 256 * k + 131072 + 16777216 * j
+where_said (Ok Whereabouts.NotHere) = 256 * nowhere
+where_said (Err AskError.Unfit) = returned Unfit
 
 unfoldable pub finding : List ℕ → ℕ → ℕ
 finding room c = cond (ltb (length room) desk_size) (returned NoRoom) (where_said (whereabouts (desk_of room) c))
 
 -- which card is leaving: its number's four bytes are written to a room of their own, those of 0 where none is
-abbrev pub leaving_entry : Leaving → List ℕ → Entry
-leaving_entry (Leaving.Card c) out = writes Taken (little_endian 4 c) out
-leaving_entry Leaving.Nobody out = writes Taken (little_endian 4 0) out
-leaving_entry Leaving.Unfit out = writes Unfit (little_endian 4 0) out
+abbrev pub leaving_entry : Result (Option ℕ) AskError → List ℕ → Entry
+leaving_entry (Ok (Some c)) out = writes Taken (little_endian 4 c) out
+leaving_entry (Ok None) out = writes Taken (little_endian 4 0) out
+leaving_entry (Err AskError.Unfit) out = writes Unfit (little_endian 4 0) out
 
 unfoldable pub parting : List ℕ → List ℕ → Entry
 parting room out = cond (ltb (length room) desk_size || ltb (length out) 4) (no_room out) (leaving_entry (leaving (desk_of room)) out)

@@ -7,6 +7,9 @@ use Rattle.desk.specs.declared.Desk.{Desk}
 use Rattle.desk.specs.declared.DeskOutcome.{DeskOutcome}
 use Rattle.desk.specs.declared.Reply.{Reply}
 use Rattle.desk.specs.declared.Comparison.{Comparison}
+use Rattle.std.specs.declared.result.Result.{Result}
+use Rattle.std.specs.declared.result.Result.TheVariants.{Ok, Err}
+use Rattle.desk.specs.declared.AskError.{AskError}
 use Rattle.desk.specs.declared.Whereabouts.{Whereabouts}
 use Rattle.desk.specs.declared.Whereabouts.TheVariants.{At, LastKnown, Moving, NotHere}
 use Rattle.desk.specs.Desk.{reply_number, reply_place, reply_issue}
@@ -38,16 +41,16 @@ RepliedReadsBack =
     × (reply_place a < 256 → (replied a / 256 % 256 ≡ reply_place a) × (replied a / 65536 ≡ reply_issue a))
 
 -- places that can be told: below 255
-abbrev pub Within255 : Whereabouts → Type 0
-Within255 (At k) = k < 255
-Within255 (LastKnown k) = k < 255
-Within255 (Moving k j) = (k < 255) × (j < 255)
-Within255 NotHere = Unit {0}
-Within255 Whereabouts.Unfit = Unit {0}
+abbrev pub Within255 : Result Whereabouts AskError → Type 0
+Within255 (Ok (At k)) = k < 255
+Within255 (Ok (LastKnown k)) = k < 255
+Within255 (Ok (Moving k j)) = (k < 255) × (j < 255)
+Within255 (Ok NotHere) = Unit {0}
+Within255 (Err AskError.Unfit) = Unit {0}
 
 -- where a card's car is reads back: a place below 255 is told apart from none, and for sure from the last known and from one in motion
 abbrev pub WhereReadsBack : Type 0
-WhereReadsBack = (w x : Whereabouts) → Within255 w → Within255 x → where_said w ≡ where_said x → w ≡ x
+WhereReadsBack = (w x : Result Whereabouts AskError) → Within255 w → Within255 x → where_said w ≡ where_said x → w ≡ x
 
 -- an entry that refuses leaves the room as it was
 abbrev pub DeskEntryUntouched : Type 0

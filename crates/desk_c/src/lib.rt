@@ -14,7 +14,7 @@ ghost use Rattle.desk.specs.Calls as calls;
 ghost use Rattle.desk_c.specs.Entries.{desk_numbers, desk_size, desk_bytes, desk_of, replied, shows, desk_entry, lent_bytes, desk_request_of, most_numbers, desk_image_of, desk_asking, where_said, finding, parting};
 
 use answers::{Answer, NOWHERE};
-use desk::{Desk, DeskOutcome, Leaving, Reply, Whereabouts};
+use desk::{AskError, Desk, DeskOutcome, Reply, Whereabouts};
 use rooms::{say, tell};
 use station::{Picture, Report, Station};
 
@@ -45,10 +45,8 @@ fn numbers_in(run: &[u8]) -> [u32; NUMBERS]
     ensures { result ≡ fours_in desk_numbers run.now }
 {
     let mut numbers = [0u32; NUMBERS];
-    let mut place: usize = 0;
-    while place < NUMBERS {
+    for place in 0..NUMBERS {
         numbers[place] = codec::four_at(run, 4 * place);
-        place += 1;
     }
     numbers
 }
@@ -68,11 +66,9 @@ fn put_numbers(numbers: &[u32; NUMBERS], run: &mut [u8])
     requires { 4 * desk_numbers ≤ length run.old }
     ensures { run.new ≡ fours_bytes desk_numbers numbers.now ++ drop (4 * desk_numbers) run.old }
 {
-    let mut place: usize = 0;
-    while place < NUMBERS {
+    for place in 0..NUMBERS {
         let four = codec::four_bytes(numbers[place]);
         codec::copy(&four, &mut run[4 * place..4 * place + 4]);
-        place += 1;
     }
 }
 
@@ -81,14 +77,12 @@ fn stored(d: Desk) -> [u8; DESK]
     ensures { result ≡ desk_bytes d }
 {
     let mut b = [0u8; DESK];
-    let numbers = d.numbers;
-    put_numbers(&numbers, &mut b[STATION..DESK]);
-    let station = d.station;
-    let s = rooms::station_bytes(station);
-    codec::copy(&s, &mut b[..STATION]);
+    put_numbers(&d.numbers, &mut b[STATION..DESK]);
+    codec::copy(&rooms::station_bytes(d.station), &mut b[..STATION]);
     b
 }
 
+// Kept: sums, here and in place_told: C is told one number, which replied and where_said say so.
 // A reply as one number.
 fn told(a: Reply) -> u32
     ensures { result ≡ replied a }
@@ -101,13 +95,13 @@ fn keep(o: DeskOutcome, room: &mut [u8]) -> u32
     requires { desk_size ≤ length room.old }
     ensures { LeavesRoom (shows o.reply (desk_bytes o.desk) room.old) result room.new }
 {
-    let d = o.desk;
-    let b = stored(d);
-    let a = o.reply;
-    tell(told(a), &b, room)
+    tell(told(o.reply), &stored(o.desk), room)
 }
 
 // ---- the calls on a lent desk
+
+// Kept: each entry tests the room that it is lent, for of each a wrong version is named that refuses the shortest room that does
+// (must-fail/wrong_programs.edit), and it has to be refused in the entry's own proof.
 
 // Writes the start desk.
 #[unsafe(no_mangle)]
@@ -117,9 +111,8 @@ pub extern "C" fn desk_start(room: &mut [u8]) -> u32
     if room.len() < DESK {
         return say(Answer::NoRoom);
     }
-    let start = Desk::start();
     let o = DeskOutcome {
-        desk: start,
+        desk: Desk::start(),
         reply: Reply::Told(Answer::Taken),
     };
     keep(o, room)
@@ -154,8 +147,7 @@ fn requested(d: Desk, count: u8, set: &[u8]) -> DeskOutcome
     if set.len() < size {
         return too_few(d);
     }
-    let five_each = wire::set_of(&set[..size]);
-    d.request(count, five_each)
+    d.request(count, wire::set_of(&set[..size]))
 }
 
 // A request of `count` instructions, five bytes each.
@@ -166,8 +158,7 @@ pub extern "C" fn desk_request(room: &mut [u8], count: u8, set: &[u8]) -> u32
     if room.len() < DESK {
         return say(Answer::NoRoom);
     }
-    let d = load(room);
-    let o = requested(d, count, set);
+    let o = requested(load(room), count, set);
     keep(o, room)
 }
 
@@ -179,8 +170,7 @@ pub extern "C" fn desk_event(room: &mut [u8], way: u8, card: u32) -> u32
     if room.len() < DESK {
         return say(Answer::NoRoom);
     }
-    let d = load(room);
-    let o = d.event(way, card);
+    let o = load(room).event(way, card);
     keep(o, room)
 }
 
@@ -192,8 +182,7 @@ pub extern "C" fn desk_result(room: &mut [u8], issue: u16, number: u8, ending: u
     if room.len() < DESK {
         return say(Answer::NoRoom);
     }
-    let d = load(room);
-    let o = d.result(Report {
+    let o = load(room).result(Report {
         issue,
         number,
         ending,
@@ -212,14 +201,13 @@ fn padded(run: &[u8]) -> [u8; 124]
 }
 
 // The 31 numbers that 124 bytes say.
+// Kept: beside `numbers_in`, since a wrong version of each is named and has to be refused in its own proof.
 fn given(b: [u8; 124]) -> [u32; GIVEN]
     ensures { result ≡ fours_in most_numbers b }
 {
     let mut numbers = [0u32; GIVEN];
-    let mut place: usize = 0;
-    while place < GIVEN {
+    for place in 0..GIVEN {
         numbers[place] = codec::four_at(&b, 4 * place);
-        place += 1;
     }
     numbers
 }
@@ -232,9 +220,7 @@ fn pictured(d: Desk, picture: Picture, count: u8, run: &[u8]) -> DeskOutcome
     if run.len() < size {
         return too_few(d);
     }
-    let b = padded(&run[..size]);
-    let numbers = given(b);
-    d.image(picture, count, numbers)
+    d.image(picture, count, given(padded(&run[..size])))
 }
 
 // An image with `count` numbers, four bytes each, which becomes the record with nothing set apart.
@@ -251,8 +237,7 @@ pub extern "C" fn desk_image(
     if room.len() < DESK {
         return say(Answer::NoRoom);
     }
-    let d = load(room);
-    let o = pictured(d, Picture { bits: image, apart }, count, cards);
+    let o = pictured(load(room), Picture { bits: image, apart }, count, cards);
     keep(o, room)
 }
 
@@ -270,23 +255,22 @@ pub extern "C" fn desk_ask(room: &[u8], image: &mut [u8]) -> u32
         return say(Answer::NoRoom);
     }
     let d = load(room);
-    let s = d.station;
-    let b = rooms::image_in(s.bits, s.apart);
-    let o = d.ask();
-    let a = o.reply;
-    tell(told(a), &b, image)
+    let b = rooms::image_in(d.station.bits, d.station.apart);
+    tell(told(d.ask().reply), &b, image)
 }
 
 // Where a card's car is, as one number.
-fn place_told(w: Whereabouts) -> u32
+fn place_told(w: Result<Whereabouts, AskError>) -> u32
     ensures { result ≡ where_said w }
 {
     match w {
-        Whereabouts::At(k) => 256 * (k as u32),
-        Whereabouts::LastKnown(k) => 256 * (k as u32) + 65536,
-        Whereabouts::Moving { from, to } => 256 * (from as u32) + 131072 + 16777216 * (to as u32),
-        Whereabouts::NotHere => 256 * (NOWHERE as u32),
-        Whereabouts::Unfit => say(Answer::Unfit),
+        Ok(Whereabouts::At(k)) => 256 * (k as u32),
+        Ok(Whereabouts::LastKnown(k)) => 256 * (k as u32) + 65536,
+        Ok(Whereabouts::Moving { from, to }) => {
+            256 * (from as u32) + 131072 + 16777216 * (to as u32)
+        }
+        Ok(Whereabouts::NotHere) => 256 * (NOWHERE as u32),
+        Err(AskError::Unfit) => say(Answer::Unfit),
     }
 }
 
@@ -298,8 +282,7 @@ pub extern "C" fn desk_where(room: &[u8], card: u32) -> u32
     if room.len() < DESK {
         return say(Answer::NoRoom);
     }
-    let d = load(room);
-    place_told(d.whereabouts(card))
+    place_told(load(room).whereabouts(card))
 }
 
 // A card's number, written to a room of its own.
@@ -307,8 +290,7 @@ fn put_card(card: u32, out: &mut [u8]) -> u32
     requires { 4 ≤ length out.old }
     ensures { LeavesRoom (writes Answer.Taken (little_endian 4 card) out.old) result out.new }
 {
-    let four = codec::four_bytes(card);
-    tell(say(Answer::Taken), &four, out)
+    tell(say(Answer::Taken), &codec::four_bytes(card), out)
 }
 
 // Which card is leaving: its number's four bytes, those of 0 where none is, to a room of their own.
@@ -322,10 +304,8 @@ pub extern "C" fn desk_leaving(room: &[u8], card: &mut [u8]) -> u32
     if card.len() < CARD {
         return say(Answer::NoRoom);
     }
-    let d = load(room);
-    match d.leaving() {
-        Leaving::Card(c) => put_card(c, card),
-        Leaving::Nobody => put_card(0, card),
-        Leaving::Unfit => say(Answer::Unfit),
-    }
+    let Ok(leaving) = load(room).leaving() else {
+        return say(Answer::Unfit);
+    };
+    put_card(leaving.unwrap_or(0), card)
 }

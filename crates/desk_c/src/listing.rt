@@ -5,7 +5,7 @@ ghost use Rattle.desk_c.specs.Entries.{count_told, list_size, listing, open_byte
 
 use super::{CARD, DESK, given, lent, load, padded, told};
 use answers::Answer;
-use desk::{Comparison, Desk, Lines, Reply};
+use desk::{Comparison, Desk, Lines, OpenSet, Reply};
 use rooms::{say, tell};
 use station::Picture;
 
@@ -14,6 +14,7 @@ const LIST: usize = 248;
 
 const OPEN: usize = 44;
 
+// Kept: a sum: C is told one number, which count_told says so.
 // A reply as one number: taken, the count of lines is at its place.
 fn count_told(a: Reply, count: u8) -> u32
     ensures { result ≡ count_told a count }
@@ -41,23 +42,20 @@ pub extern "C" fn desk_list(room: &[u8], lines: &mut [u8]) -> u32
         return say(Answer::NoRoom);
     }
     let d = load(room);
-    let o = d.ask();
-    let a = o.reply;
     let all = d.list();
-    let b = all.bytes;
-    tell_first(count_told(a, all.count), &b, lines)
+    tell_first(count_told(d.ask().reply, all.count), &all.bytes, lines)
 }
 
-// What is outstanding as 44 bytes, by its parts.
-fn open_bytes(issue: u16, count: u8, answered: u8, set: [u8; 40]) -> [u8; OPEN]
-    ensures { result ≡ open_bytes (record { issue = issue; count = count; answered = answered; set = set }) }
+// What is outstanding as 44 bytes.
+fn open_bytes(o: OpenSet) -> [u8; OPEN]
+    ensures { result ≡ open_bytes o }
 {
     let mut b = [0u8; OPEN];
-    codec::copy(&set, &mut b[4..OPEN]);
-    b[0] = (issue % 256) as u8;
-    b[1] = (issue / 256) as u8;
-    b[2] = count;
-    b[3] = answered;
+    codec::copy(&o.set, &mut b[4..OPEN]);
+    b[0] = (o.issue % 256) as u8;
+    b[1] = (o.issue / 256) as u8;
+    b[2] = o.count;
+    b[3] = o.answered;
     b
 }
 
@@ -73,12 +71,8 @@ pub extern "C" fn desk_outstanding(room: &[u8], set: &mut [u8]) -> u32
         return say(Answer::NoRoom);
     }
     let d = load(room);
-    let s = d.outstanding();
-    let codes = s.set;
-    let b = open_bytes(s.issue, s.count, s.answered, codes);
-    let o = d.ask();
-    let a = o.reply;
-    tell(told(a), &b, set)
+    let b = open_bytes(d.outstanding());
+    tell(told(d.ask().reply), &b, set)
 }
 
 // An image on a desk, its numbers as a run of bytes: what it would change.
@@ -95,9 +89,7 @@ fn compared(d: Desk, picture: Picture, count: u8, run: &[u8]) -> Comparison
             },
         };
     }
-    let b = padded(&run[..size]);
-    let numbers = given(b);
-    d.compare(picture, count, numbers)
+    d.compare(picture, count, given(padded(&run[..size])))
 }
 
 // What an image with `count` numbers, four bytes each, would change; the desk is as it was.
@@ -115,10 +107,6 @@ pub extern "C" fn desk_compare(
     if room.len() < DESK {
         return say(Answer::NoRoom);
     }
-    let d = load(room);
-    let c = compared(d, Picture { bits: image, apart }, count, cards);
-    let a = c.reply;
-    let all = c.lines;
-    let b = all.bytes;
-    tell(count_told(a, all.count), &b, lines)
+    let c = compared(load(room), Picture { bits: image, apart }, count, cards);
+    tell(count_told(c.reply, c.lines.count), &c.lines.bytes, lines)
 }

@@ -15,7 +15,7 @@ use Rattle.station.specs.Held.{held_next}
 use Rattle.station_laws.specs.Jams.{jam_at, has}
 use Rattle.station_laws.proofs.Changes.{event_taken}
 use Rattle.station_laws.proofs.Jammed.{picks_same}
-use Rattle.cards.specs.declared.Offered.TheVariants.{Fine}
+use Rattle.std.specs.declared.result.Result.TheVariants.{Ok}
 use Rattle.cards.specs.Held.{numbers_in, code_cards}
 use Rattle.desk.specs.declared.Desk.{Desk}
 use Rattle.desk.specs.declared.Reply.TheVariants.{Told}
@@ -52,7 +52,7 @@ pub desk_amid_unmoved : DeskAmidUnmoved
 desk_amid_unmoved d l m a = end_same a
 
 no_such_event : (d : Desk) → desk_answer_number d (desk.event 0 0) ≡ 0 → ⊥
-no_such_event d e = omega (arith, (event_taken d.station 0 ((answered d (desk.event 0 0) Fine).0 e).0.1).0)
+no_such_event d e = omega (arith, (event_taken d.station 0 ((answered d (desk.event 0 0) (Ok tt)).0 e).0.1).0)
 
 pub desk_amid_exists : DeskAmidExists
 desk_amid_exists d [] = ends

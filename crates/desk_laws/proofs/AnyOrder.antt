@@ -22,7 +22,7 @@ use Rattle.station_laws.proofs.Calls.{request_has, request_is}
 use Rattle.station_laws.proofs.Link.{kept, request_accepted, request_view}
 use Rattle.station_laws.proofs.Lists.{choice}
 use Rattle.station_laws.proofs.AnyOrder.{Tidy, tidy_step}
-use Rattle.cards.specs.declared.Offered.TheVariants.{Fine}
+use Rattle.std.specs.declared.result.Result.TheVariants.{Ok}
 use Rattle.desk.specs.declared.Desk.{Desk}
 use Rattle.desk.specs.Desk.{desk_fit}
 use Rattle.desk_laws.specs.Runs as desk
@@ -102,7 +102,7 @@ module _ (d : Desk) (f : desk_fit d ≡ true) (whole : Whole d) (tidy : Tidy d.s
 -- of a fit desk that takes a request
 module _ (t : Desk) (f : desk_fit t ≡ true) (whole : Whole t) (n : ℕ) (set : List ℕ) (z : desk_answer_number t (desk.request n set) ≡ 0) where
   A : Acceptable t.station n set
-  A = request_has t.station n set ((answered t (desk.request n set) Fine).0 z).0.1
+  A = request_has t.station n set ((answered t (desk.request n set) (Ok tt)).0 z).0.1
 
   -- the desk that holds the set
   abbrev holds : Desk

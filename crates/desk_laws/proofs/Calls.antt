@@ -21,8 +21,10 @@ use Rattle.station.specs.Station.{fit}
 use Rattle.station.specs.Calls as station
 use Rattle.station_laws.specs.Runs as run
 use Rattle.station_laws.proofs.EachCall as each
-use Rattle.cards.specs.declared.Offered.{Offered}
-use Rattle.cards.specs.declared.Offered.TheVariants.{Fine, WrongCount, ZeroNumber, TwiceGiven}
+use Rattle.std.specs.declared.result.Result.{Result}
+use Rattle.cards.specs.declared.GivenError.{GivenError}
+use Rattle.std.specs.declared.result.Result.TheVariants.{Ok, Err}
+use Rattle.cards.specs.declared.GivenError.TheVariants.{WrongCount, ZeroNumber, TwiceGiven}
 use Rattle.cards.specs.Given.{given_as}
 use Rattle.cards.specs.Held.{code_cards, cards_driven, cards_given, cards_fit, is_known}
 use Rattle.desk.specs.declared.Desk.{Desk}
@@ -49,16 +51,16 @@ abbrev pub beneath : Desk → DeskCall → Outcome
 beneath d c = run.call d.station (under c)
 
 -- what the number of a begin of a drive-in is found to be, by whether it is zero and whether it is known
-abbrev pub begun : Bool → Bool → Offered
-begun z k = cond z ZeroNumber (cond k TwiceGiven Fine)
+abbrev pub begun : Bool → Bool → Result (Unit {0}) GivenError
+begun z k = cond z (Err ZeroNumber) (cond k (Err TwiceGiven) (Ok tt))
 
 -- what the numbers that come with a call are found to be
-abbrev pub ruling : Desk → DeskCall → Offered
-ruling d (desk.request n set) = Fine
-ruling d (desk.reports r) = Fine
-ruling d (desk.event e c) = cond (eqb e 1) (begun (eqb c 0) (is_known d.numbers c)) Fine
+abbrev pub ruling : Desk → DeskCall → Result (Unit {0}) GivenError
+ruling d (desk.request n set) = Ok tt
+ruling d (desk.reports r) = Ok tt
+ruling d (desk.event e c) = cond (eqb e 1) (begun (eqb c 0) (is_known d.numbers c)) (Ok tt)
 ruling d (desk.pictures p n ns) = given_as p.bits n ns
-ruling d desk.ask = Fine
+ruling d desk.ask = Ok tt
 
 -- the numbers that it leaves where it is taken
 abbrev pub moved : Desk → DeskCall → List ℕ
@@ -112,7 +114,7 @@ call_unfit d c f = call_as d c ∙ rw f
 pub each_call : (P : DeskOutcome → Type 0) (d : Desk) (c : DeskCall)
     → (desk_fit d ≡ false → P (desk_refused d (Told Unfit)))
     → (desk_fit d ≡ true → (run.answer_number d.station (under c) ≡ 0 → ⊥) → P (desk_refused d (Told (beneath d c).answer)))
-    → (Passes d c → (v : Offered) → ruling d c ≡ v → P (offered d (beneath d c) (moved d c) v))
+    → (Passes d c → (v : Result (Unit {0}) GivenError) → ruling d c ≡ v → P (offered d (beneath d c) (moved d c) v))
     → P (call_desk d c)
 each_call P d c unfit refuses rules = split (desk_fit d)
     (λ f. rw (call_fit d c f) (split (is_taken (beneath d c).answer)
@@ -121,11 +123,11 @@ each_call P d c unfit refuses rules = split (desk_fit d)
     (λ f. rw (call_unfit d c f) (unfit f))
 
 -- the number that each ruling is answered with
-abbrev pub ruling_number : Offered → ℕ
-ruling_number Fine = 0
-ruling_number WrongCount = 39
-ruling_number ZeroNumber = 37
-ruling_number TwiceGiven = 38
+abbrev pub ruling_number : Result (Unit {0}) GivenError → ℕ
+ruling_number (Ok tt) = 0
+ruling_number (Err WrongCount) = 39
+ruling_number (Err ZeroNumber) = 37
+ruling_number (Err TwiceGiven) = 38
 
 -- 37 to 39 are the desk's own: the station never says them
 station_other : (a : Answer) (k : ℕ) → in_table k ≡ false → number_of a ≡ k → ⊥
@@ -137,17 +139,17 @@ own_number k h l = split (eqb k 37)
     (λ t. split (eqb k 38) (λ u. rw (eqb-true k 38 u)) (λ u. let e : k ≡ 39 = omega (arith, eqb-false k 37 t, eqb-false k 38 u) in rw e))
 
 -- the number of a ruling is no refusal of the station's
-ruling_other : (a : Answer) (v : Offered) → (number_of a ≡ 0 → ⊥) → number_of a ≡ ruling_number v → ⊥
-ruling_other a Fine n e = n e
-ruling_other a WrongCount n e = station_other a 39 refl e
-ruling_other a ZeroNumber n e = station_other a 37 refl e
-ruling_other a TwiceGiven n e = station_other a 38 refl e
+ruling_other : (a : Answer) (v : Result (Unit {0}) GivenError) → (number_of a ≡ 0 → ⊥) → number_of a ≡ ruling_number v → ⊥
+ruling_other a (Ok tt) n e = n e
+ruling_other a (Err WrongCount) n e = station_other a 39 refl e
+ruling_other a (Err ZeroNumber) n e = station_other a 37 refl e
+ruling_other a (Err TwiceGiven) n e = station_other a 38 refl e
 
-offered_number : (d : Desk) (o : Outcome) (a : List ℕ) (v : Offered) → number_of o.answer ≡ 0 → reply_number (offered d o a v).reply ≡ ruling_number v
-offered_number d o a Fine z = z
-offered_number d o a WrongCount z = refl
-offered_number d o a ZeroNumber z = refl
-offered_number d o a TwiceGiven z = refl
+offered_number : (d : Desk) (o : Outcome) (a : List ℕ) (v : Result (Unit {0}) GivenError) → number_of o.answer ≡ 0 → reply_number (offered d o a v).reply ≡ ruling_number v
+offered_number d o a (Ok tt) z = z
+offered_number d o a (Err WrongCount) z = refl
+offered_number d o a (Err ZeroNumber) z = refl
+offered_number d o a (Err TwiceGiven) z = refl
 
 -- past the station a call is answered by its ruling
 pub said_ruled : (d : Desk) (c : DeskCall) → Passes d c → desk_answer_number d c ≡ ruling_number (ruling d c)
@@ -156,31 +158,31 @@ said_ruled d c p =
     ∙ rw (eq-eqb _ 0 p.1) (offered_number d (beneath d c) (moved d c) (ruling d c) p.1)
 
 -- no two rulings have the same number
-abbrev ruling_of : ℕ → Offered
-ruling_of k = cond (eqb k 0) Fine (cond (eqb k 39) WrongCount (cond (eqb k 37) ZeroNumber TwiceGiven))
+abbrev ruling_of : ℕ → Result (Unit {0}) GivenError
+ruling_of k = cond (eqb k 0) (Ok tt) (cond (eqb k 39) (Err WrongCount) (cond (eqb k 37) (Err ZeroNumber) (Err TwiceGiven)))
 
-ruling_of_lem : (v : Offered) → ruling_of (ruling_number v) ≡ v
-ruling_of_lem Fine = refl
-ruling_of_lem WrongCount = refl
-ruling_of_lem ZeroNumber = refl
-ruling_of_lem TwiceGiven = refl
+ruling_of_lem : (v : Result (Unit {0}) GivenError) → ruling_of (ruling_number v) ≡ v
+ruling_of_lem (Ok tt) = refl
+ruling_of_lem (Err WrongCount) = refl
+ruling_of_lem (Err ZeroNumber) = refl
+ruling_of_lem (Err TwiceGiven) = refl
 
-ruling_same : (v w : Offered) → ruling_number v ≡ ruling_number w → v ≡ w
+ruling_same : (v w : Result (Unit {0}) GivenError) → ruling_number v ≡ ruling_number w → v ≡ w
 ruling_same v w e = sym (ruling_of_lem v) ∙ ap ruling_of e ∙ ruling_of_lem w
 
-pub begun_fine : (z k : Bool) → begun z k ≡ Fine → (z ≡ false) × (k ≡ false)
+pub begun_fine : (z k : Bool) → begun z k ≡ Ok tt → (z ≡ false) × (k ≡ false)
 begun_fine true k e = absurd (omega (arith, ap ruling_number e))
 begun_fine false true e = absurd (omega (arith, ap ruling_number e))
 begun_fine false false e = (refl, refl)
 
-not_sixteen : (v : Offered) → 16 ≡ ruling_number v → ⊥
-not_sixteen Fine e = omega arith
-not_sixteen WrongCount e = omega arith
-not_sixteen ZeroNumber e = omega arith
-not_sixteen TwiceGiven e = omega arith
+not_sixteen : (v : Result (Unit {0}) GivenError) → 16 ≡ ruling_number v → ⊥
+not_sixteen (Ok tt) e = omega arith
+not_sixteen (Err WrongCount) e = omega arith
+not_sixteen (Err ZeroNumber) e = omega arith
+not_sixteen (Err TwiceGiven) e = omega arith
 
 -- 0, 37, 38 and 39 are answered exactly by the ruling that has the number, past the station
-pub answered : (d : Desk) (c : DeskCall) (v : Offered) → (desk_answer_number d c ≡ ruling_number v) ↔ (Passes d c × (ruling d c ≡ v))
+pub answered : (d : Desk) (c : DeskCall) (v : Result (Unit {0}) GivenError) → (desk_answer_number d c ≡ ruling_number v) ↔ (Passes d c × (ruling d c ≡ v))
 answered d c v = (
   each_call (λ o. reply_number o.reply ≡ ruling_number v → Passes d c × (ruling d c ≡ v)) d c
       (λ f e. absurd (not_sixteen v e))
@@ -192,7 +194,7 @@ answered d c v = (
 -- what a call that is taken leaves
 pub left_taken : (d : Desk) (c : DeskCall) → desk_answer_number d c ≡ 0 → desk_after d c ≡ record { station = run.station_after d.station (under c); numbers = moved d c }
 left_taken d c e =
-    let (p, r) = (answered d c Fine).0 e in
+    let (p, r) = (answered d c (Ok tt)).0 e in
     ap (λ (o : DeskOutcome). o.desk) (call_fit d c p.0) ∙ rw (eq-eqb _ 0 p.1, r)
 
 -- ---- the promises that go by this form
@@ -200,12 +202,12 @@ left_taken d c e =
 pub untouched : (d : Desk) (c : DeskCall) → (desk_answer_number d c ≡ 0 → ⊥) → desk_after d c ≡ d
 untouched d c = each_call (λ o. (reply_number o.reply ≡ 0 → ⊥) → o.desk ≡ d) d c (λ f n. refl) (λ f m n. refl) (λ p v r. by p v)
   where
-    by : Passes d c → (v : Offered) → (reply_number (offered d (beneath d c) (moved d c) v).reply ≡ 0 → ⊥)
+    by : Passes d c → (v : Result (Unit {0}) GivenError) → (reply_number (offered d (beneath d c) (moved d c) v).reply ≡ 0 → ⊥)
         → (offered d (beneath d c) (moved d c) v).desk ≡ d
-    by p Fine n = absurd (n p.1)
-    by p WrongCount n = refl
-    by p ZeroNumber n = refl
-    by p TwiceGiven n = refl
+    by p (Ok tt) n = absurd (n p.1)
+    by p (Err WrongCount) n = refl
+    by p (Err ZeroNumber) n = refl
+    by p (Err TwiceGiven) n = refl
 
 pub refused_untouched : DeskRefusedUntouched
 refused_untouched = untouched
@@ -222,11 +224,11 @@ as_beneath d c f = each_call (AsBeneath d c) d c
     (λ g n. inl (refl, sym (each.untouched d.station (under c) n)))
     (λ p v r. by p v)
   where
-    by : Passes d c → (v : Offered) → AsBeneath d c (offered d (beneath d c) (moved d c) v)
-    by p Fine = inl (refl, refl)
-    by p WrongCount = inr (p.1, (omega arith), (omega arith))
-    by p ZeroNumber = inr (p.1, (omega arith), (omega arith))
-    by p TwiceGiven = inr (p.1, (omega arith), (omega arith))
+    by : Passes d c → (v : Result (Unit {0}) GivenError) → AsBeneath d c (offered d (beneath d c) (moved d c) v)
+    by p (Ok tt) = inl (refl, refl)
+    by p (Err WrongCount) = inr (p.1, (omega arith), (omega arith))
+    by p (Err ZeroNumber) = inr (p.1, (omega arith), (omega arith))
+    by p (Err TwiceGiven) = inr (p.1, (omega arith), (omega arith))
 
 pub as_station : AsStation
 as_station = as_beneath

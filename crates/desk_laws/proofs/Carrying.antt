@@ -6,17 +6,16 @@ use mathlib.Core.List.{List, []}
 use Prim.Native.Nat.{ℕ}
 use lib.ListN.{length}
 use borrow.Author.Tests.{ne_eqb}
+use Rattle.rules.specs.declared.Event.{Event}
 use Rattle.bits.specs.Bits.{bit}
 use Rattle.bits.specs.Places.{elem}
 use Rattle.bits.proofs.Cases.{clash}
 use Rattle.floor.specs.Sound.{sound}
 use Rattle.rules.specs.declared.Code.{Code}
 use Rattle.rules.specs.declared.Instruction.{Instruction}
-use Rattle.rules.specs.declared.Reading.{Reading}
-use Rattle.rules.specs.declared.Reading.TheVariants.{Good, Bad}
+use Rattle.std.specs.declared.option.Option.{Option}
+use Rattle.std.specs.declared.option.Option.TheVariants.{Some, None}
 use Rattle.rules.specs.declared.Event.TheVariants.{BeginIn}
-use Rattle.rules.specs.declared.EventReading.{EventReading}
-use Rattle.rules.specs.declared.EventReading.TheVariants.{Good as Told, Bad as Untold}
 use Rattle.rules.specs.Rules.{well_formed, area_of, area, allowed}
 use Rattle.rules.specs.Codes.{read_code}
 use Rattle.rules.specs.Verdicts.{on_code}
@@ -43,12 +42,12 @@ known_alike c a b o e = opposite (is_known a c) (is_known b c) (rw (ne_eqb c 0 o
 
 module _ (x : Code) where
   -- what is shown of an instruction that is well formed, and of bytes that say none, is shown of the code
-  by_reading : (P : Reading → Type 0) → ((i : Instruction) → well_formed i ≡ true → P (Good i)) → P Bad → P (read_code x)
+  by_reading : (P : (Option Instruction) → Type 0) → ((i : Instruction) → well_formed i ≡ true → P (Some i)) → P None → P (read_code x)
   by_reading P good bad = go (read_code x) refl
     where
-      go : (v : Reading) → read_code x ≡ v → P v
-      go (Good i) e = good i (one_form_lem x i e).1
-      go Bad e = bad
+      go : (v : (Option Instruction)) → read_code x ≡ v → P v
+      go (Some i) e = good i (one_form_lem x i e).1
+      go None e = bad
 
   pub code_length : (r : ℕ) (a : List ℕ) → length a ≡ 42 → length (code_cards x r a) ≡ 42
   unfolding code_cards
@@ -83,32 +82,32 @@ module _ (x : Code) where
 -- ---- a car event
 
 -- the numbers after what an event's number says, where b is the one that it brings
-abbrev pub driven_as : EventReading → ℕ → List ℕ → List ℕ
+abbrev pub driven_as : (Option Event) → ℕ → List ℕ → List ℕ
 driven_as v b a = on_event (λ e. cards_driven e b a) a v
 
-pub driven_outside : (v : EventReading) (b : ℕ) (a : List ℕ) (k : ℕ) → lift_area k ≡ false → numbers_in (driven_as v b a) k ≡ numbers_in a k
-driven_outside (Told e) b a k o = array.driven_outside e b a k o
-driven_outside Untold b a k o = refl
+pub driven_outside : (v : (Option Event)) (b : ℕ) (a : List ℕ) (k : ℕ) → lift_area k ≡ false → numbers_in (driven_as v b a) k ≡ numbers_in a k
+driven_outside (Some e) b a k o = array.driven_outside e b a k o
+driven_outside None b a k o = refl
 
-pub driven_inside : (v : EventReading) (b : ℕ) (a c : List ℕ) → SameOn lift_area (numbers_in a) (numbers_in c)
+pub driven_inside : (v : (Option Event)) (b : ℕ) (a c : List ℕ) → SameOn lift_area (numbers_in a) (numbers_in c)
     → SameOn lift_area (numbers_in (driven_as v b a)) (numbers_in (driven_as v b c))
-driven_inside (Told e) b a c n = array.driven_inside e b a c n
-driven_inside Untold b a c n = n
+driven_inside (Some e) b a c n = array.driven_inside e b a c n
+driven_inside None b a c n = n
 
 -- what it brings, if it brings one, is new
-abbrev pub BringsNewAs : EventReading → ℕ → List ℕ → Type 0
-BringsNewAs v b a = v ≡ Told BeginIn → is_new b a ≡ true
+abbrev pub BringsNewAs : (Option Event) → ℕ → List ℕ → Type 0
+BringsNewAs v b a = v ≡ Some BeginIn → is_new b a ≡ true
 
-pub driven_fit : (v : EventReading) (b r : ℕ) (a : List ℕ) → sound r ≡ true → cards_fit r a ≡ true → possible_as v r ≡ true → BringsNewAs v b a
+pub driven_fit : (v : (Option Event)) (b r : ℕ) (a : List ℕ) → sound r ≡ true → cards_fit r a ≡ true → possible_as v r ≡ true → BringsNewAs v b a
     → cards_fit (after_as v r) (driven_as v b a) ≡ true
-driven_fit (Told e) b r a s f ok new = array.driven_fit r a s f e b ok (λ q. new (ap Told q))
-driven_fit Untold b r a s f ok new = clash ok refl
+driven_fit (Some e) b r a s f ok new = array.driven_fit r a s f e b ok (λ q. new (ap Some q))
+driven_fit None b r a s f ok new = clash ok refl
 
 -- which numbers are new after it rests on which were, and on the lift and the drives
 module _ (r q : ℕ) (a b : List ℕ) (s : sound r ≡ true) (u : sound q ≡ true) (f : cards_fit r a ≡ true) (g : cards_fit q b ≡ true)
     (bits : Agree lift_area (bit r) (bit q)) (numbers : SameOn lift_area (numbers_in a) (numbers_in b)) where
-  pub driven_new : (v : EventReading) (c : ℕ) → possible_as v r ≡ true → possible_as v q ≡ true → BringsNewAs v c a → BringsNewAs v c b
+  pub driven_new : (v : (Option Event)) (c : ℕ) → possible_as v r ≡ true → possible_as v q ≡ true → BringsNewAs v c a → BringsNewAs v c b
       → (d : ℕ) → is_new d a ≡ is_new d b → is_new d (driven_as v c a) ≡ is_new d (driven_as v c b)
-  driven_new (Told e) c ok can new fresh d same = new_same d (cards_driven e c a) (cards_driven e c b) (λ o.
-      array.driven_known r q a b s u f g e c ok can (λ p. new (ap Told p)) (λ p. fresh (ap Told p)) bits numbers d o (known_alike d a b o same))
-  driven_new Untold c ok can new fresh d same = same
+  driven_new (Some e) c ok can new fresh d same = new_same d (cards_driven e c a) (cards_driven e c b) (λ o.
+      array.driven_known r q a b s u f g e c ok can (λ p. new (ap Some p)) (λ p. fresh (ap Some p)) bits numbers d o (known_alike d a b o same))
+  driven_new None c ok can new fresh d same = same

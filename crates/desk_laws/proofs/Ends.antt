@@ -8,19 +8,20 @@ use native.Mathlib.Omega.{arith}
 use lib.Dec.{eqb, ltb}
 use lib.ListN.{length}
 use borrow.Author.Tests.{eqb-true, eqb-false, ltb-true, ltb-false, le-ltb, ne_eqb}
+use Rattle.rules.specs.declared.Event.{Event}
 use Rattle.bits.specs.Bits.{bit}
 use Rattle.bits.proofs.Cases.{split, clash}
 use Rattle.bits.proofs.Digits.{packed_lt, packed_bit, image_ext}
 use Rattle.floor.specs.Floor.{raised_car, drive_in}
-use Rattle.rules.specs.declared.EventReading.{EventReading}
-use Rattle.rules.specs.declared.EventReading.TheVariants.{Good as Told, Bad as Untold}
+use Rattle.std.specs.declared.option.Option.{Option}
+use Rattle.std.specs.declared.option.Option.TheVariants.{Some, None}
 use Rattle.rules.specs.Codes.{read_event}
 use Rattle.any_order.proofs.Machine.{Outcome, failed, finished, stuck, moves, Act, result, event}
 use Rattle.station_laws.specs.Runs as run
 use Rattle.station_laws.proofs.Instance.{possible_as, after_as}
 use Rattle.station_laws.proofs.Calls.{event_has}
 use Rattle.station_laws.proofs.Lists.{ending}
-use Rattle.cards.specs.declared.Offered.TheVariants.{Fine}
+use Rattle.std.specs.declared.result.Result.TheVariants.{Ok}
 use Rattle.cards.proofs.Listing.{none_in}
 use Rattle.cards.specs.Held.{numbers_in, cards_driven, cards_given}
 use Rattle.cards_laws.proofs.Elements.{held_length, same_array}
@@ -46,9 +47,9 @@ moved_long d (desk.request n set) h = h
 moved_long d (desk.reports r) h = split (eqb r.ending 1) (λ t. rw t (code_length _ d.station.bits d.numbers h)) (λ t. rw t h)
 moved_long d (desk.event e c) h = split (eqb e 1) (λ t. rw t (held_length _)) (λ t. rw t (other (read_event e)))
   where
-    other : (v : EventReading) → length (passed v d.numbers) ≡ 42
-    other (Told x) = held_length _
-    other Untold = h
+    other : (v : (Option Event)) → length (passed v d.numbers) ≡ 42
+    other (Some x) = held_length _
+    other None = h
 moved_long d (desk.pictures p n ns) h = held_length _
 moved_long d desk.ask h = h
 
@@ -95,7 +96,7 @@ result_above : (d : Desk) (k i : ℕ) (o : Outcome) → desk_answer_number d (as
     → above (desk_after d (as_desk k (result i o))).station.bits ≡ cond (moves o) 0 (above d.station.bits)
 result_above d k i o z =
     ap (λ (b : Desk). above b.station.bits) (left_taken d (as_desk k (result i o)) z)
-    ∙ by o ((answered d (as_desk k (result i o)) Fine).0 z).0.1
+    ∙ by o ((answered d (as_desk k (result i o)) (Ok tt)).0 z).0.1
   where
     by : (o : Outcome) → run.answer_number d.station (run.result_call k i (ending o)) ≡ 0
         → above (run.station_after d.station (run.result_call k i (ending o))).bits ≡ cond (moves o) 0 (above d.station.bits)
@@ -110,14 +111,14 @@ event_above : (d : Desk) (e c : ℕ)
 event_above d e c = split (eqb (desk_answer_number d (desk.event e c)) 0)
     (λ t. rw t (
     let z = eqb-true _ 0 t in
-    let y = ((answered d (desk.event e c) Fine).0 z).0.1 in
+    let y = ((answered d (desk.event e c) (Ok tt)).0 z).0.1 in
     ap (λ (b : Desk). above b.station.bits) (left_taken d (desk.event e c) z)
     ∙ ap above (event_bits d.station e y) ∙ none_above _ (small (read_event e) (event_has d.station e y).3)))
     (λ t. rw t (ap (λ (b : Desk). above b.station.bits) (refused_untouched d (desk.event e c) (eqb-false _ 0 t))))
   where
-    small : (v : EventReading) → possible_as v d.station.bits ≡ true → after_as v d.station.bits < 2 ^ 64
-    small (Told x) p = packed_lt 64 0 _
-    small Untold p = clash p refl
+    small : (v : (Option Event)) → possible_as v d.station.bits ≡ true → after_as v d.station.bits < 2 ^ 64
+    small (Some x) p = packed_lt 64 0 _
+    small None p = clash p refl
 
 -- an answer is 0
 abbrev pub any_taken : List ℕ → Bool

@@ -10,7 +10,7 @@ use Rattle.station.specs.Station.{present_issue}
 use Rattle.station_laws.specs.Runs as run
 use Rattle.station_laws.specs.AnswersRight.{Waiting}
 use Rattle.station_laws.proofs.Calls.{success_has, success_is, failure_has, failure_is, stuck_has, stuck_is}
-use Rattle.cards.specs.declared.Offered.TheVariants.{Fine}
+use Rattle.std.specs.declared.result.Result.TheVariants.{Ok}
 use Rattle.desk.specs.Lines.{outstanding}
 use Rattle.desk_laws.specs.Runs as desk
 use Rattle.desk_laws.specs.Facts.{OutstandingTold}
@@ -30,6 +30,6 @@ outstanding_told d f k i ending h =
     let s = d.station in
     let c = desk.reports (record { issue = k; number = i; ending = ending }) in
     let exactly = result_exactly s k i ending h in (
-      λ e. let (q, w) = exactly.0 ((answered d c Fine).0 e).0.1 in (q, w.1, w.2),
-      λ w. (answered d c Fine).1 ((f, exactly.1 (w.0, ((fit_parts d f).0, w.1, w.2))), refl),
+      λ e. let (q, w) = exactly.0 ((answered d c (Ok tt)).0 e).0.1 in (q, w.1, w.2),
+      λ w. (answered d c (Ok tt)).1 ((f, exactly.1 (w.0, ((fit_parts d f).0, w.1, w.2))), refl),
     )

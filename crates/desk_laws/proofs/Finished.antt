@@ -9,6 +9,7 @@ use native.Mathlib.Omega.{arith}
 use lib.Dec.{eqb, ltb}
 use lib.ListN.{get_or}
 use borrow.Author.Tests.{eqb-true, eqb-false, ltb-true, ltb-false, eq-eqb}
+use Rattle.rules.specs.declared.Instruction.{Instruction}
 use Rattle.bits.specs.Bits.{bit, image}
 use Rattle.bits.specs.Places.{elem}
 use Rattle.bits.proofs.Cases.{split, clash, off, one_of}
@@ -19,8 +20,8 @@ use Rattle.floor.specs.Cars.{Car, pair, single, raised, Layout}
 use Rattle.floor.specs.Sound.{Sound}
 use Rattle.cars.specs.Lists.{anchor, Among}
 use Rattle.rules.specs.declared.Code.{Code}
-use Rattle.rules.specs.declared.Reading.{Reading}
-use Rattle.rules.specs.declared.Reading.TheVariants.{Good, Bad}
+use Rattle.std.specs.declared.option.Option.{Option}
+use Rattle.std.specs.declared.option.Option.TheVariants.{Some, None}
 use Rattle.rules.specs.Rules.{area_of, area, allowed}
 use Rattle.rules.specs.Codes.{read_code}
 use Rattle.rules.specs.Verdicts.{on_code}
@@ -50,21 +51,18 @@ kind (At k) = 0
 kind (LastKnown k) = 1
 kind (Moving k j) = 2
 kind NotHere = 3
-kind Whereabouts.Unfit = 4
 
 abbrev place_in : Whereabouts → ℕ
 place_in (At k) = k
 place_in (LastKnown k) = k
 place_in (Moving k j) = k
 place_in NotHere = no_source
-place_in Whereabouts.Unfit = no_source
 
 abbrev to_in : Whereabouts → ℕ
 to_in (At k) = k
 to_in (LastKnown k) = k
 to_in (Moving k j) = j
 to_in NotHere = no_source
-to_in Whereabouts.Unfit = no_source
 
 -- the number is at a place, of which nothing is set apart; and whether an instruction moves its car
 pub record Placed (d : Desk) (q : ℕ) (moved : Bool) : Type 0 where
@@ -206,9 +204,9 @@ pub held_torn : (x : Code) (r : ℕ) → Sound (bit r) → held_allowed x (bit r
 unfolding held_allowed held_area area
 held_torn x r S ok u y c m = go (read_code x) ok
   where
-    go : (v : Reading) → on_code (λ i. allowed i (bit r)) false v ≡ true → elem c (on_code area_of [] v) ≡ elem (suc c) (on_code area_of [] v)
-    go (Good i) t = none_torn i (bit r) S t u (inl y) c m
-    go Bad t = clash t refl
+    go : (v : (Option Instruction)) → on_code (λ i. allowed i (bit r)) false v ≡ true → elem c (on_code area_of [] v) ≡ elem (suc c) (on_code area_of [] v)
+    go (Some i) t = none_torn i (bit r) S t u (inl y) c m
+    go None t = clash t refl
 
 -- so the lower cell of a car in row 1 is in it if the upper is
 pub torn_at : (x : Code) (r : ℕ) → Sound (bit r) → held_allowed x (bit r) ≡ true → (u : List Car) → Layout (bit r) u

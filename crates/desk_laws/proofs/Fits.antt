@@ -9,18 +9,17 @@ use native.Mathlib.Omega.{arith}
 use lib.Dec.{eqb, ltb}
 use lib.ListN.{length, get_or-eq_default}
 use borrow.Author.Tests.{eqb-true, eqb-false, eq-eqb, ltb-true, ltb-false}
+use Rattle.rules.specs.declared.Instruction.{Instruction}
 use Rattle.bits.specs.Bits.{bit, image}
 use Rattle.bits.specs.Search.{some, every}
 use Rattle.bits.proofs.Cases.{split, clash}
 use Rattle.bits.proofs.Search.{some_at}
 use Rattle.floor.specs.Sound.{sound}
 use Rattle.rules.specs.declared.Code.{Code}
-use Rattle.rules.specs.declared.Reading.{Reading}
-use Rattle.rules.specs.declared.Reading.TheVariants.{Good, Bad}
+use Rattle.std.specs.declared.option.Option.{Option}
+use Rattle.std.specs.declared.option.Option.TheVariants.{Some, None}
 use Rattle.rules.specs.declared.Event.{Event}
 use Rattle.rules.specs.declared.Event.TheVariants.{BeginIn, BeginOut, EndDone, EndNotDone}
-use Rattle.rules.specs.declared.EventReading.{EventReading}
-use Rattle.rules.specs.declared.EventReading.TheVariants.{Good as Told, Bad as Untold}
 use Rattle.rules.specs.Rules.{allowed, next_record}
 use Rattle.rules.specs.Codes.{read_code, read_event, event_code}
 use Rattle.rules.specs.Verdicts.{on_code}
@@ -37,7 +36,10 @@ use Rattle.station_laws.proofs.Calls.{following, success_has, success_is, answer
 use Rattle.station_laws.proofs.EachCall.{fit_says}
 use Rattle.station_laws.proofs.Changes.{only_success_changes}
 use Rattle.station_laws.proofs.Always as always
-use Rattle.cards.specs.declared.Offered.TheVariants.{Fine, WrongCount, ZeroNumber}
+use Rattle.std.specs.declared.result.Result.TheVariants.{Ok, Err}
+use Rattle.std.specs.declared.result.Result.{Result}
+use Rattle.cards.specs.declared.GivenError.{GivenError}
+use Rattle.cards.specs.declared.GivenError.TheVariants.{WrongCount, ZeroNumber}
 use Rattle.cards.specs.Given.{wanted, zero_at, given_as}
 use Rattle.cards.specs.Held.{cards_after, code_cards, cards_driven, cards_fit, is_known}
 use Rattle.cards_laws.proofs.Tested.{is_new}
@@ -82,34 +84,34 @@ pub code_fits : (x : Code) (r : ℕ) (a : List ℕ) → sound r ≡ true → hel
 unfolding held_allowed held_next code_cards
 code_fits x r a s = read (read_code x)
   where
-    read : (v : Reading) → on_code (λ i. allowed i (bit r)) false v ≡ true → cards_fit r a ≡ true
+    read : (v : (Option Instruction)) → on_code (λ i. allowed i (bit r)) false v ≡ true → cards_fit r a ≡ true
         → cards_fit (image (on_code (λ i. next_record i (bit r)) (bit r) v)) (on_code (λ i. cards_after i r a) a v) ≡ true
-    read (Good i) t f = after_fit r a s f i t
-    read Bad t f = clash t refl
+    read (Some i) t f = after_fit r a s f i t
+    read None t f = clash t refl
 
 -- a number that is found fine at a begin is new
-pub begun_new : (c : ℕ) (a : List ℕ) → begun (eqb c 0) (is_known a c) ≡ Fine → is_new c a ≡ true
+pub begun_new : (c : ℕ) (a : List ℕ) → begun (eqb c 0) (is_known a c) ≡ Ok tt → is_new c a ≡ true
 begun_new c a e = let (z, k) = begun_fine (eqb c 0) (is_known a c) e in rw (z, k)
 
 -- an event that is no begin of a drive-in brings none
 pub other_event : (e : Event) (c : ℕ) (a : List ℕ) → (event_code e ≡ 1 → ⊥) → e ≡ BeginIn → is_new c a ≡ true
 other_event e c a n q = absurd (n (ap event_code q))
 
-event_fits : (d : Desk) (e c : ℕ) (v : EventReading) → read_event e ≡ v → sound d.station.bits ≡ true → possible_as v d.station.bits ≡ true
-    → cards_fit d.station.bits d.numbers ≡ true → ruling d (desk.event e c) ≡ Fine
+event_fits : (d : Desk) (e c : ℕ) (v : (Option Event)) → read_event e ≡ v → sound d.station.bits ≡ true → possible_as v d.station.bits ≡ true
+    → cards_fit d.station.bits d.numbers ≡ true → ruling d (desk.event e c) ≡ Ok tt
     → cards_fit (after_as v d.station.bits) (cond (eqb e 1) (cards_driven BeginIn c d.numbers) (passed v d.numbers)) ≡ true
-event_fits d e c (Told BeginIn) r s p f =
+event_fits d e c (Some BeginIn) r s p f =
     rw (event_one_form e BeginIn r) (λ g. driven_fit _ d.numbers s f BeginIn c p (λ q. begun_new c d.numbers g))
-event_fits d e c (Told BeginOut) r s p f =
+event_fits d e c (Some BeginOut) r s p f =
     rw (event_one_form e BeginOut r) (λ g. driven_fit _ d.numbers s f BeginOut 0 p (other_event BeginOut 0 d.numbers (λ z. omega arith)))
-event_fits d e c (Told EndDone) r s p f =
+event_fits d e c (Some EndDone) r s p f =
     rw (event_one_form e EndDone r) (λ g. driven_fit _ d.numbers s f EndDone 0 p (other_event EndDone 0 d.numbers (λ z. omega arith)))
-event_fits d e c (Told EndNotDone) r s p f =
+event_fits d e c (Some EndNotDone) r s p f =
     rw (event_one_form e EndNotDone r) (λ g. driven_fit _ d.numbers s f EndNotDone 0 p (other_event EndNotDone 0 d.numbers (λ z. omega arith)))
-event_fits d e c Untold r s p f = clash p refl
+event_fits d e c None r s p f = clash p refl
 
 -- numbers that are fine with an image are all there
-pub fine_length : (r n : ℕ) (ns : List ℕ) → given_as r n ns ≡ Fine → n ≤ length ns
+pub fine_length : (r n : ℕ) (ns : List ℕ) → given_as r n ns ≡ Ok tt → n ≤ length ns
 unfolding given_as
 fine_length r n ns e = split (ltb (length ns) n)
     (λ t. let past = eq-eqb _ 0 (get_or-eq_default ns 0 {n = length ns} (omega arith)) in
@@ -117,11 +119,14 @@ fine_length r n ns e = split (ltb (length ns) n)
     absurd (never (not (eqb n (wanted r))) (rw z at e)))
     (λ t. ltb-false (length ns) n t)
   where
-    never : (b : Bool) → cond b WrongCount ZeroNumber ≡ Fine → ⊥
+    early : Bool → Result (Unit {0}) GivenError
+    early b = cond b (Err WrongCount) (Err ZeroNumber)
+
+    never : (b : Bool) → early b ≡ Ok tt → ⊥
     never true e = omega (arith, ap ruling_number e)
     never false e = omega (arith, ap ruling_number e)
 
-cards_kept : (d : Desk) (c : DeskCall) → Passes d c → ruling d c ≡ Fine → cards_fit (run.station_after d.station (under c)).bits (moved d c) ≡ true
+cards_kept : (d : Desk) (c : DeskCall) → Passes d c → ruling d c ≡ Ok tt → cards_fit (run.station_after d.station (under c)).bits (moved d c) ≡ true
 cards_kept d (desk.request n set) p v = rw (still d.station (run.request n set) (λ x. x)) (fit_parts d p.0).1
 cards_kept d (desk.reports r) p v = split (eqb r.ending 1)
     (λ t. let s = d.station in
@@ -144,7 +149,7 @@ cards_kept d desk.ask p v = rw (still d.station run.ask (λ x. x)) (fit_parts d 
 pub fit_kept : (d : Desk) (c : DeskCall) → desk_fit d ≡ true → desk_fit (desk_after d c) ≡ true
 fit_kept d c f = split (eqb (desk_answer_number d c) 0)
     (λ t. let e = eqb-true (desk_answer_number d c) 0 t in
-    let (p, v) = (answered d c Fine).0 e in
+    let (p, v) = (answered d c (Ok tt)).0 e in
     rw (left_taken d c e) (fit_of _ (always.fit_kept d.station (under c) (fit_parts d f).0) (cards_kept d c p v)))
     (λ t. rw (untouched d c (eqb-false (desk_answer_number d c) 0 t)) f)
 
@@ -164,7 +169,7 @@ start_cards = refl
 
 pub begins_fit : (d : Desk) → DeskBegins d → desk_fit d ≡ true
 begins_fit d at_start = fit_of start_desk fit_start start_cards
-begins_fit d (by_image before p n ns h e) = fit_kept before (desk.pictures p n ns) ((answered before (desk.pictures p n ns) Fine).0 e).0.0
+begins_fit d (by_image before p n ns h e) = fit_kept before (desk.pictures p n ns) ((answered before (desk.pictures p n ns) (Ok tt)).0 e).0.0
 
 fit_says_other : (d : Desk) (c : DeskCall) → desk_fit d ≡ true → desk_answer_number d c ≡ 16 → ⊥
 fit_says_other d c f e = ⊎_elim

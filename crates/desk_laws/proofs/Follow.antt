@@ -9,10 +9,11 @@ use native.Mathlib.Omega.{arith}
 use lib.Dec.{eqb}
 use lib.ListN.{get_or}
 use borrow.Author.Tests.{eqb-true, eqb-false, not-true}
+use Rattle.rules.specs.declared.Event.{Event}
 use Rattle.bits.proofs.Cases.{split, clash, off, both}
 use Rattle.rules.specs.declared.Code.{Code}
-use Rattle.rules.specs.declared.EventReading.{EventReading}
-use Rattle.rules.specs.declared.EventReading.TheVariants.{Good as Told, Bad as Untold}
+use Rattle.std.specs.declared.option.Option.{Option}
+use Rattle.std.specs.declared.option.Option.TheVariants.{Some, None}
 use Rattle.rules.specs.Codes.{read_event}
 use Rattle.any_order.proofs.Machine as machine
 use Rattle.any_order.proofs.Machine.{Outcome, failed, finished, stuck, moves, Act, result, event, outstanding, released, noted}
@@ -28,7 +29,7 @@ use Rattle.station_laws.proofs.Link.{view, drivable}
 use Rattle.station_laws.proofs.Lists.{ending, as_call}
 use Rattle.station_laws.proofs.Follow as station
 use Rattle.station_laws.proofs.Follow.{next_kept}
-use Rattle.cards.specs.declared.Offered.TheVariants.{Fine}
+use Rattle.std.specs.declared.result.Result.TheVariants.{Ok}
 use Rattle.cards.specs.Held.{is_known}
 use Rattle.desk.specs.declared.Desk.{Desk}
 use Rattle.desk.specs.Desk.{desk_fit}
@@ -101,7 +102,7 @@ module _ (d : Desk) (f : desk_fit d ≡ true) (k : ℕ) (p : k ≡ present_issue
   beneath = station.follows k (result i o ∷ []) d.station (fit_parts d f).0 p (t, ok, tt)
 
   result_said : desk_answer_number d (as_desk k (result i o)) ≡ 0
-  result_said = (call.answered d (as_desk k (result i o)) Fine).1 ((f, beneath.fair.0), refl)
+  result_said = (call.answered d (as_desk k (result i o)) (Ok tt)).1 ((f, beneath.fair.0), refl)
 
   noted_top : (o : Outcome) → on_top (noted rules (view d.station) i o) (moved d (as_desk k (result i o))) ≡ noted numbered (desk_view d) i o
   noted_top failed = refl
@@ -129,7 +130,7 @@ ruling_number_lem d e c = split (eqb e 1)
     (λ t. rw t (split (eqb c 0) (λ z. rw z) (λ z. rw z (split (is_known d.numbers c) (λ u. rw u) (λ u. rw u)))))
     (λ t. rw t)
 
-brings_fine : (d : Desk) (e c : ℕ) → (brings e c d.numbers ≡ true) ↔ (ruling d (desk.event e c) ≡ Fine)
+brings_fine : (d : Desk) (e c : ℕ) → (brings e c d.numbers ≡ true) ↔ (ruling d (desk.event e c) ≡ Ok tt)
 brings_fine d e c = split (eqb e 1)
     (λ t. rw t (split (eqb c 0)
     (λ z. rw z (never, λ u. absurd (omega (arith, ap ruling_number u))))
@@ -149,9 +150,9 @@ moved_begin d c = refl
 moved_is : (d : Desk) (e c : ℕ) → moved d (desk.event e c) ≡ driven_as (read_event e) (brought e c) d.numbers
 moved_is d e c = split (eqb e 1) (λ t. rw (eqb-true e 1 t) (moved_begin d c)) (λ t. rw t (other (read_event e)))
   where
-    other : (v : EventReading) → passed v d.numbers ≡ driven_as v 0 d.numbers
-    other (Told x) = refl
-    other Untold = refl
+    other : (v : (Option Event)) → passed v d.numbers ≡ driven_as v 0 d.numbers
+    other (Some x) = refl
+    other None = refl
 
 module _ (d : Desk) (f : desk_fit d ≡ true) (e c : ℕ) where
   abbrev s : Station
@@ -165,9 +166,9 @@ module _ (d : Desk) (f : desk_fit d ≡ true) (e c : ℕ) where
   under_it = station.follows (present_issue s) (event e ∷ []) s fits refl tt
 
   -- a held event is refused by any desk
-  held_other : (v : EventReading) → answered e c d.numbers (held_as v) ≡ held_as v
-  held_other (Told x) = refl
-  held_other Untold = refl
+  held_other : (v : (Option Event)) → answered e c d.numbers (held_as v) ≡ held_as v
+  held_other (Some x) = refl
+  held_other None = refl
 
   says_is : machine.says numbered (desk_view d) (e, c) ≡ answered e c d.numbers (machine.says rules (view s) e)
   says_is = split (machine.blocked rules (view s)) (λ t. rw t (sym (held_other (read_event e)))) (λ t. rw t)
@@ -207,7 +208,7 @@ module _ (d : Desk) (f : desk_fit d ≡ true) (e c : ℕ) where
   event_view = split (eqb (desk_answer_number d (desk.event e c)) 0)
       (λ t.
       let z = eqb-true (desk_answer_number d (desk.event e c)) 0 t in
-      let (p, r) = (call.answered d (desk.event e c) Fine).0 z in
+      let (p, r) = (call.answered d (desk.event e c) (Ok tt)).0 z in
       let u = station_takes.1 p.1 in
       let there : machine.step rules (view s) (event e) ≡ machine.done rules (view s) (event e) = rw u in
       let here : machine.step numbered (desk_view d) (event (e, c)) ≡ machine.done numbered (desk_view d) (event (e, c)) =
@@ -218,7 +219,7 @@ module _ (d : Desk) (f : desk_fit d ≡ true) (e c : ℕ) where
       let n = eqb-false (desk_answer_number d (desk.event e c)) 0 t in
       let here : machine.taken numbered (desk_view d) (event (e, c)) ≡ false = off _ (λ u.
       let (v, w) = both (machine.taken rules (view s) (event e)) (brings e c d.numbers) (sym taken_is ∙ u) in
-      n ((call.answered d (desk.event e c) Fine).1 ((f, station_takes.0 v), (brings_fine d e c).0 w))) in
+      n ((call.answered d (desk.event e c) (Ok tt)).1 ((f, station_takes.0 v), (brings_fine d e c).0 w))) in
       ap desk_view (refused_untouched d (desk.event e c) n) ∙ sym (rw here))
 
 -- ---- what follows

@@ -19,12 +19,10 @@ use Rattle.floor.proofs.Reading.{nth_holds}
 use Rattle.cars.specs.Lists.{anchor, Among}
 use Rattle.rules.specs.declared.Code.{Code}
 use Rattle.rules.specs.declared.Instruction.{Instruction}
-use Rattle.rules.specs.declared.Reading.{Reading}
-use Rattle.rules.specs.declared.Reading.TheVariants.{Good, Bad}
+use Rattle.std.specs.declared.option.Option.{Option}
+use Rattle.std.specs.declared.option.Option.TheVariants.{Some, None}
 use Rattle.rules.specs.declared.Event.{Event}
 use Rattle.rules.specs.declared.Event.TheVariants.{BeginIn, BeginOut, EndDone, EndNotDone}
-use Rattle.rules.specs.declared.EventReading.{EventReading}
-use Rattle.rules.specs.declared.EventReading.TheVariants.{Good as Told, Bad as Untold}
 use Rattle.rules.specs.Rules.{area, allowed, next_record}
 use Rattle.rules.specs.Codes.{read_code, read_event}
 use Rattle.rules.specs.Verdicts.{on_code}
@@ -37,7 +35,7 @@ use Rattle.station_laws.specs.Runs as run
 use Rattle.station_laws.proofs.Instance.{possible_as}
 use Rattle.station_laws.proofs.Fits.{fit_has, waits_allowed}
 use Rattle.station_laws.proofs.Calls.{event_has, image_has}
-use Rattle.cards.specs.declared.Offered.TheVariants.{Fine}
+use Rattle.std.specs.declared.result.Result.TheVariants.{Ok}
 use Rattle.cards.specs.Cards.{Numbers}
 use Rattle.cards.specs.Given.{bears}
 use Rattle.cards.specs.Following.{numbers_taken, numbers_after, numbers_driven}
@@ -97,17 +95,17 @@ module _ (r : ℕ) (a : List ℕ) (s : sound r ≡ true) (t : cards_fit r a ≡ 
   }
 
 code_follow : (x : Code) (r : ℕ) (a : List ℕ) → sound r ≡ true → cards_fit r a ≡ true → held_allowed x (bit r) ≡ true
-    → (i : Instruction) × (read_code x ≡ Good i)
+    → (i : Instruction) × (read_code x ≡ Some i)
     × Follow i (bit r) (bit (image (held_next x (bit r)))) (numbers_in a) (numbers_in (code_cards x r a))
 unfolding held_allowed held_next code_cards
 code_follow x r a s t = read (read_code x) refl
   where
-    read : (v : Reading) → read_code x ≡ v → on_code (λ i. allowed i (bit r)) false v ≡ true
-        → (i : Instruction) × (read_code x ≡ Good i)
+    read : (v : (Option Instruction)) → read_code x ≡ v → on_code (λ i. allowed i (bit r)) false v ≡ true
+        → (i : Instruction) × (read_code x ≡ Some i)
         × Follow i (bit r) (bit (image (on_code (λ i. next_record i (bit r)) (bit r) v))) (numbers_in a)
         (numbers_in (on_code (λ i. cards_after i r a) a v))
-    read (Good i) e ok = (i, e, follow r a s t i ok)
-    read Bad e ok = clash ok refl
+    read (Some i) e ok = (i, e, follow r a s t i ok)
+    read None e ok = clash ok refl
 
 -- ---- a car event
 
@@ -157,23 +155,23 @@ module _ (r : ℕ) (a : List ℕ) (s : sound r ≡ true) (t : cards_fit r a ≡ 
       subst (NumbersAfterEvent e (bit r) c (numbers_in a)) (sym (driven_numbers r a s t e c ok new))
       (driven_is e (bit r) c (numbers_in a) (λ i. (fit_cards r a s t S.layout.0 S.layout.1).coming.1 i) (one_drive (bit r) S))
 
-event_driven : (d : Desk) (b c : ℕ) (v : EventReading) → read_event b ≡ v → sound d.station.bits ≡ true
+event_driven : (d : Desk) (b c : ℕ) (v : (Option Event)) → read_event b ≡ v → sound d.station.bits ≡ true
     → possible_as v d.station.bits ≡ true
-    → cards_fit d.station.bits d.numbers ≡ true → ruling d (desk.event b c) ≡ Fine
+    → cards_fit d.station.bits d.numbers ≡ true → ruling d (desk.event b c) ≡ Ok tt
     → DrivenAs v (bit d.station.bits) c (numbers_in d.numbers)
     (numbers_in (cond (eqb b 1) (cards_driven BeginIn c d.numbers) (passed v d.numbers)))
-event_driven d b c (Told BeginIn) r s p f =
+event_driven d b c (Some BeginIn) r s p f =
     rw (event_one_form b BeginIn r) (λ g. driven_at _ d.numbers s f BeginIn c p (λ q. begun_new c d.numbers g))
-event_driven d b c (Told BeginOut) r s p f =
+event_driven d b c (Some BeginOut) r s p f =
     rw (event_one_form b BeginOut r)
     (λ g. driven_at _ d.numbers s f BeginOut 0 p (other_event BeginOut 0 d.numbers (λ z. omega arith)))
-event_driven d b c (Told EndDone) r s p f =
+event_driven d b c (Some EndDone) r s p f =
     rw (event_one_form b EndDone r)
     (λ g. driven_at _ d.numbers s f EndDone 0 p (other_event EndDone 0 d.numbers (λ z. omega arith)))
-event_driven d b c (Told EndNotDone) r s p f =
+event_driven d b c (Some EndNotDone) r s p f =
     rw (event_one_form b EndNotDone r)
     (λ g. driven_at _ d.numbers s f EndNotDone 0 p (other_event EndNotDone 0 d.numbers (λ z. omega arith)))
-event_driven d b c Untold r s p f = clash p refl
+event_driven d b c None r s p f = clash p refl
 
 -- ---- each call
 
@@ -181,7 +179,7 @@ event_driven d b c Untold r s p f = clash p refl
 undone_stays : (d : Desk) (r : Report) (s : Station) → Undone d r (record { station = s; numbers = moved d (desk.reports r) })
 undone_stays d r s n = rw (ne_eqb r.ending 1 n)
 
-accepted_by : (d : Desk) (c : DeskCall) → Passes d c → ruling d c ≡ Fine
+accepted_by : (d : Desk) (c : DeskCall) → Passes d c → ruling d c ≡ Ok tt
     → Accepted d c (record { station = run.station_after d.station (under c); numbers = moved d c })
 accepted_by d (desk.request n set) p v = refl
 accepted_by d (desk.reports r) p v = (
@@ -203,7 +201,7 @@ accepted_by d desk.ask p v = refl
 
 pub cards_follow : CardsFollow
 cards_follow d c = (
-  λ z. let (p, v) = (answered d c Fine).0 z in subst (Accepted d c) (sym (left_taken d c z)) (accepted_by d c p v),
+  λ z. let (p, v) = (answered d c (Ok tt)).0 z in subst (Accepted d c) (sym (left_taken d c z)) (accepted_by d c p v),
   λ n. ap (λ (b : Desk). b.numbers) (untouched d c n),
 )
 

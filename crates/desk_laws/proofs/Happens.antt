@@ -24,6 +24,7 @@ use Rattle.cards.specs.Held.{listed_numbers, held_numbers, numbers_in, cards_aft
 use Rattle.station.specs.declared.Station.{Station}
 use Rattle.station_laws.specs.Runs.{calls}
 use Rattle.station_laws.specs.Motion.{of_set}
+use Rattle.std.specs.declared.result.Result.TheVariants.{Ok}
 use Rattle.desk.specs.declared.Whereabouts.TheVariants.{At, Moving}
 use Rattle.desk.specs.Desk.{start_desk, desk_fit}
 use Rattle.desk.specs.Calls as calling
@@ -61,7 +62,7 @@ abbrev with_one : ℕ → List ℕ → Station
 with_one r code = record { bits = r; count = 1; answered = 0; set = code ++ replicate 35 0; next = 1; apart = 0 }
 
 down_computed :
-    (whereabouts (calls_desk start_desk down_with_seven) 7 ≡ Moving 52 11)
+    (whereabouts (calls_desk start_desk down_with_seven) 7 ≡ Ok (Moving 52 11))
     × (calls start_desk.station (below start_desk down_with_seven) ≡ with_one 0x00191B0000000000 (4 ∷ 2 ∷ 0 ∷ 0 ∷ 0 ∷ []))
     × (numbers_in (cards_in_fact start_desk down_with_seven (of_set 0 ∷ [])) 11 ≡ 7)
     × (numbers_in (cards_in_fact start_desk down_with_seven []) 52 ≡ 7)
@@ -79,7 +80,7 @@ moving_happens =
     (a, waits_one down_with_seven _ b refl refl, c, none_finished down_with_seven, e)
 
 beside_computed :
-    (whereabouts (calls_desk start_desk beside_seven) 7 ≡ At 52)
+    (whereabouts (calls_desk start_desk beside_seven) 7 ≡ Ok (At 52))
     × (calls start_desk.station (below start_desk beside_seven) ≡ with_one 0x00191B0000000000 (1 ∷ 3 ∷ 2 ∷ 0 ∷ 1 ∷ []))
     × (numbers_in (cards_in_fact start_desk beside_seven (of_set 0 ∷ [])) 52 ≡ 7)
 unfolding cars paired sound total packed some every least code_of read_code read_event allowed next_record verdict_of code_verdict

@@ -34,7 +34,7 @@ use Rattle.station_laws.proofs.Instance.{rules, allowed_has}
 use Rattle.station_laws.proofs.Link.{Sane}
 use Rattle.station_laws.proofs.MotionFloor.{once_each, picked}
 use Rattle.station_laws.proofs.RecoveryApart.{apart_exactly}
-use Rattle.cards.specs.declared.Offered.TheVariants.{Fine}
+use Rattle.std.specs.declared.result.Result.TheVariants.{Ok}
 use Rattle.cards.specs.Given.{bears}
 use Rattle.cards.specs.Following.{no_source}
 use Rattle.cards.specs.Held.{numbers_in, code_cards, cards_fit, is_known, where_is}
@@ -48,7 +48,7 @@ use Rattle.desk_laws.specs.Promises.{on_parts}
 use Rattle.desk_laws.specs.Motion.{cards_in_fact, UnheardAt, WhereSure, WhereMoving, ApartOrMoving}
 use Rattle.desk_laws.proofs.Calls.{fit_parts, answered, left_taken}
 use Rattle.desk_laws.proofs.Fits.{station_below}
-use Rattle.desk_laws.proofs.Told.{whereabouts_fit}
+use Rattle.desk_laws.proofs.Told.{whereabouts_fit, known_in}
 use Rattle.desk_laws.proofs.Carrying.{code_outside, code_known}
 use Rattle.desk_laws.proofs.Jams.{fits_now, sane_now}
 use Rattle.desk_laws.proofs.Finished.{placed_sure, placed_moving, stands_there, place_card, place_found, code, cards_out, cards_in, held_torn, torn_at}
@@ -58,7 +58,7 @@ use Rattle.desk_laws.proofs.Finished.{placed_sure, placed_moving, stands_there, 
 station_begins : (d : Desk) → DeskBegins d → run.Begins d.station
 station_begins d at_start = run.at_start
 station_begins d (by_image before p n ns h e) = subst run.Begins (sym (ap (λ (b : Desk). b.station) (left_taken before (desk.pictures p n ns) e)))
-    (run.by_image before.station p.bits p.apart h ((answered before (desk.pictures p n ns) Fine).0 e).0.1)
+    (run.by_image before.station p.bits p.apart h ((answered before (desk.pictures p n ns) (Ok tt)).0 e).0.1)
 
 module _ (d : Desk) (b : DeskBegins d) (l : List DeskCall) where
   abbrev now : Desk
@@ -262,7 +262,7 @@ pub where_sure : WhereSure
 where_sure d b l c k e p U =
     let s = calls_desk d l in
     let q = where_is s.numbers c in
-    let (j, P) = placed_sure s c q k (sym (whereabouts_fit s c (fits_now d b l)) ∙ e) in
+    let (j, P) = placed_sure s c q k (ap known_in (sym (whereabouts_fit s c (fits_now d b l)) ∙ e)) in
     let (m, there) = stands_there s.numbers c P.here in
     rw (← j) (sure d b l c q there (place_card s.numbers c P.here) m P.clear P.moves p U)
 
@@ -270,7 +270,7 @@ pub where_moving : WhereMoving
 where_moving d b l c k j e =
     let s = calls_desk d l in
     let q = where_is s.numbers c in
-    let (z, n, P) = placed_moving s c q k j (sym (whereabouts_fit s c (fits_now d b l)) ∙ e) in
+    let (z, n, P) = placed_moving s c q k j (ap known_in (sym (whereabouts_fit s c (fits_now d b l)) ∙ e)) in
     let (m, there) = stands_there s.numbers c P.here in
     let o = place_card s.numbers c P.here in
     let (h, u) = waits d b l c q there o m P.clear P.moves in (

@@ -17,8 +17,10 @@ use Rattle.floor.specs.Cars.{cars}
 use Rattle.floor.specs.Sound.{sound, total}
 use Rattle.floor.proofs.Promises.{sound_exactly}
 use Rattle.station_laws.proofs.Calls.{image_has}
-use Rattle.cards.specs.declared.Offered.{Offered}
-use Rattle.cards.specs.declared.Offered.TheVariants.{Fine, WrongCount, ZeroNumber, TwiceGiven}
+use Rattle.std.specs.declared.result.Result.{Result}
+use Rattle.cards.specs.declared.GivenError.{GivenError}
+use Rattle.std.specs.declared.result.Result.TheVariants.{Ok, Err}
+use Rattle.cards.specs.declared.GivenError.TheVariants.{WrongCount, ZeroNumber, TwiceGiven}
 use Rattle.cards.specs.Cards.{Has}
 use Rattle.cards.specs.Given.{wanted, zero_at, twice_at, given_as, AllNew}
 use Rattle.cards.specs.Held.{numbers_in, is_known}
@@ -41,24 +43,24 @@ past_three e f = (λ a. let (p, b) = e.0 a in let (c, d, g) = (f p).0 b in (p, c
 
 -- ---- a begin of a drive-in
 
-begun_zero : (z k : Bool) → begun z k ≡ ZeroNumber → z ≡ true
+begun_zero : (z k : Bool) → begun z k ≡ Err ZeroNumber → z ≡ true
 begun_zero true k e = refl
 begun_zero false true e = absurd (omega (arith, ap ruling_number e))
 begun_zero false false e = absurd (omega (arith, ap ruling_number e))
 
-begun_known : (z k : Bool) → begun z k ≡ TwiceGiven → (z ≡ false) × (k ≡ true)
+begun_known : (z k : Bool) → begun z k ≡ Err TwiceGiven → (z ≡ false) × (k ≡ true)
 begun_known true k e = absurd (omega (arith, ap ruling_number e))
 begun_known false true e = (refl, refl)
 begun_known false false e = absurd (omega (arith, ap ruling_number e))
 
 pub begin_numbers : BeginNumbers
 begin_numbers d c = (
-  past (answered d (desk.event 1 c) ZeroNumber) (λ p. (λ e. eqb-true c 0 (begun_zero (eqb c 0) known e), λ z. rw (eq-eqb c 0 z))),
-  past_two (answered d (desk.event 1 c) TwiceGiven) (λ p. (
+  past (answered d (desk.event 1 c) (Err ZeroNumber)) (λ p. (λ e. eqb-true c 0 (begun_zero (eqb c 0) known e), λ z. rw (eq-eqb c 0 z))),
+  past_two (answered d (desk.event 1 c) (Err TwiceGiven)) (λ p. (
     λ e. let (z, k) = begun_known (eqb c 0) known e in let n = eqb-false c 0 z in (n, (exactly n).0 k),
     λ h. rw (ne_eqb c 0 h.0, (exactly h.0).1 h.1),
   )),
-  past_two (answered d (desk.event 1 c) Fine) (λ p. (
+  past_two (answered d (desk.event 1 c) (Ok tt)) (λ p. (
     λ e. let (z, k) = begun_fine (eqb c 0) known e in let n = eqb-false c 0 z in (n, λ h. clash ((exactly n).1 h) k),
     λ h. rw (ne_eqb c 0 h.0, off known (λ k. h.1 ((exactly h.0).0 k))),
   )),
@@ -73,22 +75,22 @@ begin_numbers d c = (
 -- ---- an image
 
 -- by whether its numbers are that many, one is zero, one is given twice
-abbrev given : Bool → Bool → Bool → Offered
-given w z t = cond (not w) WrongCount (cond z ZeroNumber (cond t TwiceGiven Fine))
+abbrev given : Bool → Bool → Bool → Result (Unit {0}) GivenError
+given w z t = cond (not w) (Err WrongCount) (cond z (Err ZeroNumber) (cond t (Err TwiceGiven) (Ok tt)))
 
-given_wrong : (w z t : Bool) → given w z t ≡ WrongCount → w ≡ false
+given_wrong : (w z t : Bool) → given w z t ≡ Err WrongCount → w ≡ false
 given_wrong true true t e = absurd (omega (arith, ap ruling_number e))
 given_wrong true false true e = absurd (omega (arith, ap ruling_number e))
 given_wrong true false false e = absurd (omega (arith, ap ruling_number e))
 given_wrong false z t e = refl
 
-given_zero : (w z t : Bool) → given w z t ≡ ZeroNumber → (w ≡ true) × (z ≡ true)
+given_zero : (w z t : Bool) → given w z t ≡ Err ZeroNumber → (w ≡ true) × (z ≡ true)
 given_zero true true t e = (refl, refl)
 given_zero true false true e = absurd (omega (arith, ap ruling_number e))
 given_zero true false false e = absurd (omega (arith, ap ruling_number e))
 given_zero false z t e = absurd (omega (arith, ap ruling_number e))
 
-given_twice : (w z t : Bool) → given w z t ≡ TwiceGiven → (w ≡ true) × (z ≡ false) × (t ≡ true)
+given_twice : (w z t : Bool) → given w z t ≡ Err TwiceGiven → (w ≡ true) × (z ≡ false) × (t ≡ true)
 given_twice true true t e = absurd (omega (arith, ap ruling_number e))
 given_twice true false true e = (refl, refl, refl)
 given_twice true false false e = absurd (omega (arith, ap ruling_number e))
@@ -117,22 +119,22 @@ zero_is n ns = (
 
 pub image_numbers : ImageNumbers
 image_numbers d p n ns h = (
-  past (answered d call WrongCount) (λ q. (
+  past (answered d call (Err WrongCount)) (λ q. (
     λ e m. clash ((enough q).1 m) (given_wrong right zero twice (sym by ∙ e)),
     λ m. by ∙ rw (off right (λ e. m ((enough q).0 e))),
   )),
-  past_two (answered d call ZeroNumber) (λ q. (
+  past_two (answered d call (Err ZeroNumber)) (λ q. (
     λ e. let (w, z) = given_zero right zero twice (sym by ∙ e) in ((enough q).0 w, (zero_is n ns).0 z),
     λ m. by ∙ rw ((enough q).1 m.0, (zero_is n ns).1 m.1),
   )),
-  past_three (answered d call TwiceGiven) (λ q. (
+  past_three (answered d call (Err TwiceGiven)) (λ q. (
     λ e. let (w, z, t) = given_twice right zero twice (sym by ∙ e) in
         ((enough q).0 w, (λ a. clash ((zero_is n ns).1 a) z), λ new. absurd (omega (arith, ap ruling_number (sym e ∙ (fine q).1 ((enough q).0 w, new))))),
     λ m. let w = (enough q).1 m.0 in
         let z = off zero (λ e. m.1 ((zero_is n ns).0 e)) in
         by ∙ rw (w, z) (split twice (λ t. rw t) (λ t. absurd (m.2 ((fine q).0 (by ∙ rw (w, z, t))).1))),
   )),
-  past_two (answered d call Fine) fine,
+  past_two (answered d call (Ok tt)) fine,
 )
   where
     call : DeskCall
@@ -156,5 +158,5 @@ image_numbers d p n ns h = (
     enough : Passes d call → (right ≡ true) ↔ ThatMany (bit p.bits) (take n ns)
     enough q = enough_is p.bits n ns (good q) h
 
-    fine : Passes d call → (given_as p.bits n ns ≡ Fine) ↔ (ThatMany (bit p.bits) (take n ns) × AllNew (take n ns))
+    fine : Passes d call → (given_as p.bits n ns ≡ Ok tt) ↔ (ThatMany (bit p.bits) (take n ns) × AllNew (take n ns))
     fine q = fine_exactly p.bits n ns ((sound_exactly p.bits).0 (good q)) h

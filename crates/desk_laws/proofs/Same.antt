@@ -21,12 +21,10 @@ use Rattle.floor.proofs.Reading.{nth_holds}
 use Rattle.floor.proofs.Standing.{or_else}
 use Rattle.rules.specs.declared.Code.{Code}
 use Rattle.rules.specs.declared.Instruction.{Instruction}
-use Rattle.rules.specs.declared.Reading.{Reading}
-use Rattle.rules.specs.declared.Reading.TheVariants.{Good, Bad}
+use Rattle.std.specs.declared.option.Option.{Option}
+use Rattle.std.specs.declared.option.Option.TheVariants.{Some, None}
 use Rattle.rules.specs.declared.Event.{Event}
 use Rattle.rules.specs.declared.Event.TheVariants.{BeginIn, BeginOut, EndDone, EndNotDone}
-use Rattle.rules.specs.declared.EventReading.{EventReading}
-use Rattle.rules.specs.declared.EventReading.TheVariants.{Good as Told, Bad as Untold}
 use Rattle.rules.specs.Rules.{well_formed, allowed, next_record}
 use Rattle.rules.specs.Events.{possible}
 use Rattle.rules.specs.Codes.{read_code, read_event}
@@ -36,7 +34,7 @@ use Rattle.station.specs.Held.{code_at, held_allowed}
 use Rattle.station_laws.proofs.Instance.{possible_as}
 use Rattle.station_laws.proofs.Fits.{fit_has, waits_allowed}
 use Rattle.station_laws.proofs.Calls.{event_has}
-use Rattle.cards.specs.declared.Offered.TheVariants.{Fine}
+use Rattle.std.specs.declared.result.Result.TheVariants.{Ok}
 use Rattle.cards.specs.Cards.{Numbers, Has}
 use Rattle.cards.specs.Given.{bears}
 use Rattle.cards.specs.Following.{numbers_taken, numbers_driven}
@@ -125,10 +123,10 @@ code_same : (y : Code) (r : ℕ) (a : List ℕ) (x : ℕ) → sound r ≡ true �
 unfolding held_allowed code_cards
 code_same y r a x s = read (read_code y) refl
   where
-    read : (v : Reading) → read_code y ≡ v → on_code (λ i. allowed i (bit r)) false v ≡ true → cards_fit r a ≡ true → (x ≡ 0 → ⊥)
+    read : (v : (Option Instruction)) → read_code y ≡ v → on_code (λ i. allowed i (bit r)) false v ≡ true → cards_fit r a ≡ true → (x ≡ 0 → ⊥)
         → carded_by (on_code (λ i. cards_after i r a) a v) x ≡ carded_by a x
-    read (Good i) e t f n = instruction_same i r a x (one_form_lem y i e).1 s t f n
-    read Bad e t f n = refl
+    read (Some i) e t f n = instruction_same i r a x (one_form_lem y i e).1 s t f n
+    read None e t f n = refl
 
 -- ---- a car event
 
@@ -246,16 +244,16 @@ module _ (r : ℕ) (a : List ℕ) (x : ℕ) (s : sound r ≡ true) (f : cards_fi
       (none_before 41 40 (omega arith) (omega arith))
       (none_before 40 40 (omega arith) (omega arith)))
 
-event_same : (e c r : ℕ) (a : List ℕ) (x : ℕ) (v : EventReading) → read_event e ≡ v → sound r ≡ true → cards_fit r a ≡ true → (x ≡ 0 → ⊥)
+event_same : (e c r : ℕ) (a : List ℕ) (x : ℕ) (v : (Option Event)) → read_event e ≡ v → sound r ≡ true → cards_fit r a ≡ true → (x ≡ 0 → ⊥)
     → possible_as v r ≡ true
     → digit (carded_by (cond (eqb e 1) (cards_driven BeginIn c a) (passed v a)) x)
     + digit (eqb e 3 && (bit r drive_out && eqb (numbers_in a raised_car) x))
     ≡ digit (carded_by a x) + digit (eqb e 3 && (bit r drive_in && eqb (numbers_in a drive_in) x))
-event_same e c r a x (Told BeginIn) q s f n p = rw (event_one_form e BeginIn q, begin_in_same c a x)
-event_same e c r a x (Told BeginOut) q s f n p = rw (event_one_form e BeginOut q, begin_out_same 0 a x)
-event_same e c r a x (Told EndDone) q s f n p = rw (event_one_form e EndDone q) (done_same r a x s f n 0 p)
-event_same e c r a x (Told EndNotDone) q s f n p = rw (event_one_form e EndNotDone q, not_done_same 0 a x)
-event_same e c r a x Untold q s f n p = clash p refl
+event_same e c r a x (Some BeginIn) q s f n p = rw (event_one_form e BeginIn q, begin_in_same c a x)
+event_same e c r a x (Some BeginOut) q s f n p = rw (event_one_form e BeginOut q, begin_out_same 0 a x)
+event_same e c r a x (Some EndDone) q s f n p = rw (event_one_form e EndDone q) (done_same r a x s f n 0 p)
+event_same e c r a x (Some EndNotDone) q s f n p = rw (event_one_form e EndNotDone q, not_done_same 0 a x)
+event_same e c r a x None q s f n p = clash p refl
 
 -- ---- any calls
 
@@ -301,7 +299,7 @@ module _ (x : ℕ) (n : x ≡ 0 → ⊥) where
   moved_same : (d : Desk) (c : DeskCall) → NoDeskImages (c ∷ []) → desk_answer_number d c ≡ 0 → digit (carded_by (moved d c) x) + went x d c ≡ carded x d + came x d c
   moved_same d (desk.request m set) i z = refl
   moved_same d (desk.reports r) i z =
-      let (p, v) = (answered d (desk.reports r) Fine).0 z in
+      let (p, v) = (answered d (desk.reports r) (Ok tt)).0 z in
       let (f, g) = fit_parts d p.0 in
       let s = d.station in
       split (eqb r.ending 1)
@@ -310,7 +308,7 @@ module _ (x : ℕ) (n : x ≡ 0 → ⊥) where
       (code_same (code_at s.set r.number) s.bits d.numbers x (fit_has s f).sound (waits_allowed s r.number w) g n)))
       (λ t. rw t)
   moved_same d (desk.event e c) i z =
-      let (p, v) = (answered d (desk.event e c) Fine).0 z in
+      let (p, v) = (answered d (desk.event e c) (Ok tt)).0 z in
       let (f, g) = fit_parts d p.0 in
       rw (came_one x d e c z, went_one x d e c z) (event_same e c d.station.bits d.numbers x (read_event e) refl (fit_has d.station f).sound g n
       (event_has d.station e p.1).3)

@@ -30,8 +30,12 @@ use Rattle.cards_laws.proofs.Where.{where_right}
 use Rattle.cards_laws.proofs.Arrays.{fit_cards}
 use Rattle.desk.specs.declared.Desk.{Desk}
 use Rattle.desk.specs.declared.Whereabouts.TheVariants.{At, LastKnown, Moving, NotHere}
-use Rattle.desk.specs.declared.Leaving.{Leaving}
-use Rattle.desk.specs.declared.Leaving.TheVariants.{Card, Nobody, Unfit}
+use Rattle.std.specs.declared.option.Option.{Option}
+use Rattle.std.specs.declared.option.Option.TheVariants.{Some, None}
+use Rattle.std.specs.declared.result.Result.{Result}
+use Rattle.std.specs.declared.result.Result.TheVariants.{Ok, Err}
+use Rattle.desk.specs.declared.AskError.{AskError}
+use Rattle.desk.specs.declared.Whereabouts.{Whereabouts}
 use Rattle.desk.specs.Desk.{desk_fit}
 use Rattle.desk.specs.Questions.{is_under, mover_of, place_after, place_known, whereabouts, leaving}
 use Rattle.desk_laws.specs.Promises.{on_parts, moves_car, WhereTold, LeavingTold}
@@ -65,9 +69,14 @@ placed_at : (d : Desk) (c : ℕ) (x : Car) → Stands x
 unfolding place_known
 placed_at d c x h = rw (ne_eqb (anchor x) no_source (somewhere x h), under_is (bit d.station.apart) x h, mover_is d.station x h)
 
-pub whereabouts_fit : (d : Desk) (c : ℕ) → desk_fit d ≡ true → whereabouts d c ≡ place_known d c (where_is d.numbers c)
+pub whereabouts_fit : (d : Desk) (c : ℕ) → desk_fit d ≡ true → whereabouts d c ≡ Ok (place_known d c (where_is d.numbers c))
 unfolding whereabouts
 whereabouts_fit d c f = rw f
+
+-- what a question is answered with
+abbrev pub known_in : Result Whereabouts AskError → Whereabouts
+known_in (Ok w) = w
+known_in (Err e) = NotHere
 
 placed_nowhere : (d : Desk) (c : ℕ) → place_known d c no_source ≡ NotHere
 unfolding place_known
@@ -78,8 +87,8 @@ where_told d l f L c n =
     let (s, g) = fit_parts d f in
     let r = d.station.bits in
     let (here, gone) = where_right (bit r) d.numbers l L (fit_cards r d.numbers (fit_has d.station s).sound g) c n in (
-      λ x a e. whereabouts_fit d c f ∙ ap (place_known d c) (here x a e) ∙ placed_at d c x (stands l x L.stand a),
-      λ none. whereabouts_fit d c f ∙ ap (place_known d c) (gone none) ∙ placed_nowhere d c,
+      λ x a e. whereabouts_fit d c f ∙ ap Ok (ap (place_known d c) (here x a e) ∙ placed_at d c x (stands l x L.stand a)),
+      λ none. whereabouts_fit d c f ∙ ap Ok (ap (place_known d c) (gone none) ∙ placed_nowhere d c),
     )
 
 -- ---- which card is leaving
@@ -95,15 +104,15 @@ leaving_numbered : (r : ℕ) (a : List ℕ) → sound r ≡ true → cards_fit r
 leaving_numbered r a s f o = (fit_marked r a f).some raised_car (out_raised r s o)
 
 -- the number that an answer has, 0 for none
-abbrev card_in : Leaving → ℕ
-card_in (Card c) = c
-card_in Nobody = 0
-card_in Unfit = 0
+abbrev card_in : Result (Option ℕ) AskError → ℕ
+card_in (Ok (Some c)) = c
+card_in (Ok None) = 0
+card_in (Err e) = 0
 
-abbrev is_card : Leaving → Bool
-is_card (Card c) = true
-is_card Nobody = false
-is_card Unfit = false
+abbrev is_card : Result (Option ℕ) AskError → Bool
+is_card (Ok (Some c)) = true
+is_card (Ok None) = false
+is_card (Err e) = false
 
 pub leaving_told : LeavingTold
 unfolding leaving
@@ -114,5 +123,5 @@ leaving_told d c f =
           (λ o. let n : numbers_in d.numbers raised_car ≡ c = ap card_in (rw o at e) in
           (o, n, λ z. leaving_numbered d.station.bits d.numbers (fit_has d.station s).sound g o (n ∙ z)))
           (λ o. clash refl (sym (ap is_card (rw o at e)))),
-      λ h. rw h.0 (ap Card h.1),
+      λ h. rw h.0 (ap (λ (n : ℕ). Ok (Some n)) h.1),
     )

@@ -7,11 +7,10 @@ use Rattle.floor.specs.Floor.{raised_car, drive_in, drive_out}
 use Rattle.floor.specs.Cars.{Car, covers, Place, Layout}
 use Rattle.cars.specs.Lists.{anchor, Among}
 use Rattle.rules.specs.declared.Instruction.{Instruction}
-use Rattle.rules.specs.declared.Reading.TheVariants.{Good}
+use Rattle.std.specs.declared.option.Option.TheVariants.{Some, None}
 use Rattle.rules.specs.declared.Event.{Event}
 use Rattle.rules.specs.declared.Event.TheVariants.{BeginIn, BeginOut, EndDone, EndNotDone}
-use Rattle.rules.specs.declared.EventReading.{EventReading}
-use Rattle.rules.specs.declared.EventReading.TheVariants.{Good as Told, Bad as Untold}
+use Rattle.std.specs.declared.option.Option.{Option}
 use Rattle.rules.specs.Rules.{well_formed, area, next_record}
 use Rattle.rules.specs.Codes.{read_code, read_event}
 use Rattle.station.specs.declared.Report.{Report}
@@ -68,14 +67,14 @@ NumbersAfterEvent EndNotDone f c n m =
     (f drive_in ≡ true → (m drive_in ≡ 0) × StayBut (drive_in ∷ []) n m)
     × (f drive_out ≡ true → StayBut [] n m)
 
-abbrev pub DrivenAs : EventReading → Bits → ℕ → Numbers → Numbers → Type 0
-DrivenAs (Told e) f c n m = NumbersAfterEvent e f c n m
-DrivenAs Untold f c n m = ⊥
+abbrev pub DrivenAs : (Option Event) → Bits → ℕ → Numbers → Numbers → Type 0
+DrivenAs (Some e) f c n m = NumbersAfterEvent e f c n m
+DrivenAs None f c n m = ⊥
 
 -- a result that says done: the report names an instruction, and the numbers have followed it
 abbrev pub Done : Desk → Report → Desk → Type 0
 Done d r e =
-    (i : Instruction) × (read_code (code_at d.station.set r.number) ≡ Good i)
+    (i : Instruction) × (read_code (code_at d.station.set r.number) ≡ Some i)
     × Follow i (bit d.station.bits) (bit e.station.bits) (numbers_in d.numbers) (numbers_in e.numbers)
 
 -- one that says anything else: each number stays

@@ -12,6 +12,7 @@ use Rattle.station_laws.specs.Motion as run
 use Rattle.station_laws.specs.Motion.{of_set, moving_code, is_among, Unheard}
 use Rattle.cards.specs.Held.{numbers_in, code_cards}
 use Rattle.desk.specs.declared.Desk.{Desk}
+use Rattle.std.specs.declared.result.Result.TheVariants.{Ok}
 use Rattle.desk.specs.declared.Whereabouts.TheVariants.{At, Moving}
 use Rattle.desk.specs.Desk.{start_desk}
 use Rattle.desk.specs.Questions.{whereabouts}
@@ -39,14 +40,14 @@ UnheardAt d l p = Unheard d.station (below d l) p
 -- a place that is told for sure is right, whichever of the instructions that wait or are stuck have finished
 abbrev pub WhereSure : Type 0
 WhereSure =
-    (d : Desk) → DeskBegins d → (l : List DeskCall) (c k : ℕ) → whereabouts (calls_desk d l) c ≡ At k
+    (d : Desk) → DeskBegins d → (l : List DeskCall) (c k : ℕ) → whereabouts (calls_desk d l) c ≡ Ok (At k)
     → (p : List run.Moving) → UnheardAt d l p → numbers_in (cards_in_fact d l p) k ≡ c
 
 -- a car that is told as moving: there is an instruction that waits for its result, and whichever have finished, the car is at the second
 -- place exactly if that one has, and else at the first
 abbrev pub WhereMoving : Type 0
 WhereMoving =
-    (d : Desk) → DeskBegins d → (l : List DeskCall) (c k j : ℕ) → whereabouts (calls_desk d l) c ≡ Moving k j
+    (d : Desk) → DeskBegins d → (l : List DeskCall) (c k j : ℕ) → whereabouts (calls_desk d l) c ≡ Ok (Moving k j)
     → (i : ℕ) × (i < (calls_desk d l).station.count) × (marked (calls_desk d l).station i ≡ false)
     × ((p : List run.Moving) → UnheardAt d l p
     → (is_among p (of_set i) ≡ true → numbers_in (cards_in_fact d l p) j ≡ c)
@@ -63,7 +64,7 @@ ApartOrMoving =
 -- lift's cells, and there it is if the lift has done so
 abbrev pub MovingHappens : Type 0
 MovingHappens =
-    (whereabouts (calls_desk start_desk down_with_seven) 7 ≡ Moving 52 11)
+    (whereabouts (calls_desk start_desk down_with_seven) 7 ≡ Ok (Moving 52 11))
     × UnheardAt start_desk down_with_seven (of_set 0 ∷ []) × (numbers_in (cards_in_fact start_desk down_with_seven (of_set 0 ∷ [])) 11 ≡ 7)
     × UnheardAt start_desk down_with_seven [] × (numbers_in (cards_in_fact start_desk down_with_seven []) 52 ≡ 7)
 
@@ -74,5 +75,5 @@ beside_seven = desk.event 1 7 ∷ desk.event 3 0 ∷ desk.request 1 ((1 ∷ 3 �
 -- a car is told for sure while belts elsewhere are asked to move, and there it is also if they have
 abbrev pub SureHappens : Type 0
 SureHappens =
-    (whereabouts (calls_desk start_desk beside_seven) 7 ≡ At 52)
+    (whereabouts (calls_desk start_desk beside_seven) 7 ≡ Ok (At 52))
     × UnheardAt start_desk beside_seven (of_set 0 ∷ []) × (numbers_in (cards_in_fact start_desk beside_seven (of_set 0 ∷ [])) 52 ≡ 7)

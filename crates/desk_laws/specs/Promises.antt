@@ -21,7 +21,8 @@ use Rattle.cards.specs.Held.{numbers_in}
 use Rattle.cards_laws.specs.Statements.{ThatMany}
 use Rattle.desk.specs.declared.Desk.{Desk}
 use Rattle.desk.specs.declared.Whereabouts.TheVariants.{At, LastKnown, Moving, NotHere}
-use Rattle.desk.specs.declared.Leaving.TheVariants.{Card}
+use Rattle.std.specs.declared.option.Option.TheVariants.{Some}
+use Rattle.std.specs.declared.result.Result.TheVariants.{Ok}
 use Rattle.desk.specs.Desk.{desk_fit}
 use Rattle.desk.specs.Questions.{place_after, whereabouts, leaving}
 use Rattle.desk_laws.specs.Runs as desk
@@ -155,12 +156,12 @@ WhereTold =
     → ((x : Car) → Among x l → numbers_in d.numbers (anchor x) ≡ c
     → let i = least d.station.count (moves_car d.station x) in
     whereabouts d c
-    ≡ cond (on_parts (bit d.station.apart) x) (LastKnown (anchor x))
-    (cond (ltb i d.station.count) (Moving (anchor x) (place_after d i c)) (At (anchor x))))
-    × (((x : Car) → Among x l → numbers_in d.numbers (anchor x) ≡ c → ⊥) → whereabouts d c ≡ NotHere)
+    ≡ Ok (cond (on_parts (bit d.station.apart) x) (LastKnown (anchor x))
+    (cond (ltb i d.station.count) (Moving (anchor x) (place_after d i c)) (At (anchor x)))))
+    × (((x : Car) → Among x l → numbers_in d.numbers (anchor x) ≡ c → ⊥) → whereabouts d c ≡ Ok NotHere)
 
 -- a card is leaving exactly while a drive-out is under way, and it is that of the car on the raised lift
 abbrev pub LeavingTold : Type 0
 LeavingTold =
     (d : Desk) (c : ℕ) → desk_fit d ≡ true
-    → (leaving d ≡ Card c) ↔ ((bit d.station.bits drive_out ≡ true) × (numbers_in d.numbers raised_car ≡ c) × (c ≡ 0 → ⊥))
+    → (leaving d ≡ Ok (Some c)) ↔ ((bit d.station.bits drive_out ≡ true) × (numbers_in d.numbers raised_car ≡ c) × (c ≡ 0 → ⊥))

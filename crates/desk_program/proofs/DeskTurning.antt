@@ -9,9 +9,9 @@ use borrow.Author.Tests.{le-ltb}
 use lib.ListN.{length, take, drop, length-take, length-drop, length-append}
 use lib.Seq.{slice}
 use Rattle.bits.proofs.Cases.{neither, clash}
-use Rattle.streams.specs.declared.Input.{Input}
-use Rattle.streams.specs.declared.Input.TheVariants.{Bytes}
-use Rattle.streams.specs.Input.{Fills}
+use Rattle.std.specs.declared.option.Option.TheVariants.{Some}
+use Rattle.std.specs.declared.result.Result.TheVariants.{Ok}
+use Rattle.streams.specs.Input.{Input, Fills}
 use Rattle.service.specs.Turns.{Holds, holding_front}
 use Rattle.desk.specs.declared.Desk.{Desk}
 use Rattle.desk_buffer.specs.declared.DeskServed.{DeskServed}
@@ -21,8 +21,8 @@ use Rattle.desk_program.specs.declared.Between.{Between}
 use Rattle.desk_program.specs.DeskTurns.{desk_turning, AsDeskTurn, DeskGoes, DeskTurnedOver}
 
 -- a read fills no more than the buffer
-pub filled : (before after : List ℕ) (have end : ℕ) (r : Input) → Fills before have r after → r ≡ Bytes end → end ≤ length before
-filled before after have end r f e = let g : Fills before have (Bytes end) after = subst (λ (x : Input). Fills before have x after) e f in g.1
+pub filled : (before after : List ℕ) (have end : ℕ) (r : Input) → Fills before have r after → r ≡ Ok (Some end) → end ≤ length before
+filled before after have end r f e = let g : Fills before have (Ok (Some end)) after = subst (λ (x : Input). Fills before have x after) e f in g.1
 
 module _ (d : Desk) (buf : List ℕ) (end : ℕ) (out sent : List ℕ) {w : DeskServed} {made gone after : List ℕ} {have : ℕ} (room : length buf ≤ length sent)
     (s : DeskServes (desk_serving d (take end buf) out sent) w made gone) (h : Holds (holding_front w.used end buf) have after) where
@@ -79,7 +79,7 @@ pub over_held : (b : Between) {t : Between} (before out₀ sent₀ : List ℕ) {
     → DeskTurnedOver b before out₀ sent₀ t buf out sent
 over_held b before out₀ sent₀ f a = record { end = b.have; read = before; held = λ _. (refl, refl); fills = λ z. clash f z; turned = a }
 
-pub over_read : (b : Between) {t : Between} (before read out₀ sent₀ : List ℕ) {buf out sent : List ℕ} (end : ℕ) {r : Input} → b.full ≡ false → Fills before b.have r read → r ≡ Bytes end
+pub over_read : (b : Between) {t : Between} (before read out₀ sent₀ : List ℕ) {buf out sent : List ℕ} (end : ℕ) {r : Input} → b.full ≡ false → Fills before b.have r read → r ≡ Ok (Some end)
     → AsDeskTurn (desk_turning b.desk read end out₀ sent₀) t buf out sent → DeskTurnedOver b before out₀ sent₀ t buf out sent
 over_read b before read out₀ sent₀ end f g e a =
     record { end = end; read = read; held = λ z. clash z f; fills = λ _. subst (λ (x : Input). Fills before b.have x read) e g; turned = a }

@@ -1,7 +1,8 @@
 -- A turn of the desk's program: the bytes held at the front of a buffer are answered as far as there is room, and what is left of them is
 -- held there. Assumes nothing.
 use Rattle.std.specs.Prelude.{◌≡◌, true, false, List, ℕ, ◌≤◌, ◌<◌, length, take}
-use Rattle.streams.specs.declared.Input.TheVariants.{Bytes}
+use Rattle.std.specs.declared.option.Option.TheVariants.{Some}
+use Rattle.std.specs.declared.result.Result.TheVariants.{Ok}
 use Rattle.streams.specs.Input.{Fills}
 use Rattle.service.specs.Turns.{holding_front}
 use Rattle.desk.specs.declared.Desk.{Desk}
@@ -49,5 +50,5 @@ pub record DeskTurnedOver (b : Between) (before out₀ sent₀ : List ℕ) (t : 
   pub end : ℕ
   pub read : List ℕ
   pub held : b.full ≡ true → (end ≡ b.have) × (read ≡ before)
-  pub fills : b.full ≡ false → Fills before b.have (Bytes end) read
+  pub fills : b.full ≡ false → Fills before b.have (Ok (Some end)) read
   pub turned : AsDeskTurn (desk_turning b.desk read end out₀ sent₀) t buf out sent

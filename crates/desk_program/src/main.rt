@@ -7,8 +7,9 @@ ghost use Rattle.streams.specs.Input.{Fills};
 ghost use Rattle.desk_program.specs.DeskTurns.{desk_turning, AsDeskTurn, DeskGoes, DeskTurnedOver, DeskRoom};
 
 use desk::Desk;
-use streams::Input;
+use streams::Unread;
 
+// Kept: have beside the lent buffer (no heap); full and stop are flags, as the edits one_turn and stopped change them (must-fail/).
 // Between two turns: the desk, how many bytes are held at the front of the buffer, whether there are whole messages among them whose
 // answers had no room, and whether nothing more is to be read.
 #[derive(Clone, Copy)]
@@ -20,14 +21,14 @@ struct Between {
 }
 
 // Reads once past the bytes that are held.
-fn read_on(rt: &HostRuntime, buf: &mut [u8], have: usize) -> Input
+fn read_on(rt: &HostRuntime, buf: &mut [u8], have: usize) -> Result<Option<usize>, Unread>
     ensures { Fills buf.old have result buf.new }
 {
     streams::fill(rt, &mut rt.stdin(), buf, have, b"desk: standard input")
 }
 
-// Writes the first n bytes of the answers, and says whether that went well.
-fn say(rt: &HostRuntime, out: &[u8], n: usize) -> bool {
+// Writes the first n bytes of the answers.
+fn say(rt: &HostRuntime, out: &[u8], n: usize) -> streams::Result<()> {
     streams::send(rt, &mut rt.stdout(), out, n, b"desk: standard output")
 }
 
@@ -56,11 +57,10 @@ fn answer(
     ensures { DeskGoes result buf.new × AsDeskTurn (desk_turning d buf.old end out.old sent.old) result buf.new out.new sent.new }
 {
     let w = desk_buffer::serve(d, &buf[..end], out, sent);
-    let said = say(rt, out, w.made);
+    let said = say(rt, out, w.made).is_ok();
     let have = service::buffer::hold(buf, w.used, end);
-    let desk = w.desk;
     Between {
-        desk,
+        desk: w.desk,
         have,
         full: w.full,
         stop: w.stop | !said,
@@ -72,7 +72,7 @@ fn close(rt: &HostRuntime, buf: &[u8], have: usize, out: &mut [u8])
     requires { have ≤ length buf.now }
 {
     let w = service::finish(&buf[..have], out);
-    say(rt, out, w.size);
+    let _ = say(rt, out, w.unwrap_or(0));
 }
 
 // Answers what is held where its answers had no room before; else reads once, and answers what came whole.
@@ -91,14 +91,13 @@ fn one_turn(
     if b.full {
         return answer(rt, d, buf, have, out, sent);
     }
-    let input = read_on(rt, buf, have);
-    match input {
-        Input::Bytes(end) => answer(rt, d, buf, end, out, sent),
-        Input::Ended => {
+    match read_on(rt, buf, have) {
+        Ok(Some(end)) => answer(rt, d, buf, end, out, sent),
+        Ok(None) => {
             close(rt, buf, have, out);
             stopped(d)
         }
-        _ => stopped(d),
+        Err(_) => stopped(d),
     }
 }
 
@@ -112,13 +111,11 @@ fn session(rt: &HostRuntime, desk: Desk, buf: &mut [u8], out: &mut [u8], sent: &
         full: false,
         stop: false,
     };
-    let mut turns = u64::MAX;
-    while 0 < turns {
+    for _ in 0..u64::MAX {
         b = one_turn(rt, b, buf, out, sent);
         if b.stop {
             return;
         }
-        turns -= 1;
     }
 }
 

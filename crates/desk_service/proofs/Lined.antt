@@ -16,7 +16,7 @@ use Rattle.station.specs.declared.Picture.{Picture}
 use Rattle.station.specs.declared.Station.{Station}
 use Rattle.cards.specs.Held.{cards_fit}
 use Rattle.station.specs.Station.{fit}
-use Rattle.wire.specs.declared.Written.{Written}
+use Rattle.wire.specs.Writes.{Written}
 use Rattle.wire.specs.Writes.{LeavesMessage, put}
 use Rattle.wire.proofs.Parts.{set_filled}
 use Rattle.wire.proofs.Room.{as_told}

@@ -4,7 +4,7 @@ use mathlib.Core.Bool.{Bool, true, false, cond, not, ◌&&◌}
 use mathlib.Core.List.{List, [], ◌∷◌}
 use Prim.Native.Nat.{ℕ, suc, ◌+◌, ◌*◌, ◌-◌, ◌≤◌, ◌<◌}
 use native.Mathlib.Omega.{arith}
-use borrow.Author.Tests.{eq-eqb, ne_eqb, le-leb, lt-leb}
+use borrow.Author.Tests.{eq-eqb, ne_eqb, le-leb, lt-leb, eqb-true}
 use lib.Dec.{eqb, ltb, leb}
 use lib.ListN.{length, get_or, take, drop, length-drop, replicate}
 use lib.Seq.{take_all, get_or-drop, drop-drop}
@@ -19,12 +19,15 @@ use Rattle.answers.specs.Answers.{number_of, nowhere}
 use Rattle.wire.specs.declared.What.{What}
 use Rattle.wire.specs.declared.What.TheVariants.{Request}
 use Rattle.wire.specs.declared.Message.{Message}
-use Rattle.wire.specs.declared.Received.{Received}
-use Rattle.wire.specs.declared.Said.{Said}
+use Rattle.wire.specs.Reads.{Received}
+use Rattle.wire.specs.declared.Parsed.{Parsed}
+use Rattle.std.specs.declared.result.Result as kept
+use Rattle.std.specs.declared.result.Result.TheVariants.{Ok, Err}
+use Rattle.wire.proofs.Reading.{parsed_ok, parsed_err, said_ok, said_err}
 use Rattle.wire.specs.declared.Frame.{Frame}
 use Rattle.wire.specs.declared.Frame.TheVariants.{Cut, Wrong, Whole}
 use Rattle.wire.specs.Kinds.{SizedKind, kinds_asked, in_range, plain}
-use Rattle.wire.specs.Reads.{kind_at, message_refused, bad_in, read_request, read_among, read_whole, said_in}
+use Rattle.wire.specs.Reads.{kind_at, message_refused, bad_in, read_request, read_among, read_whole, as_parsed, said_in}
 use Rattle.desk.specs.declared.Desk.{Desk}
 use Rattle.desk.specs.Calls.{desk_request, desk_event, desk_take_image, desk_ask}
 use Rattle.desk.specs.declared.DeskOutcome.{DeskOutcome}
@@ -260,32 +263,35 @@ module _ (d : Desk) (m : List ℕ) where
   unfolding read_whole
   other k = rw (ne_eqb (kind_at m) 1 k)
 
-  pub request_refused : {r : Received} → kind_at m ≡ 1 → r ≡ read_request m → (number_of r.answer ≡ 0 → ⊥)
-      → brief (desk_unread d r.answer) ≡ reply_read d (as_received (read_whole kinds_asked m))
-  request_refused {r} k e z =
-      sym (ap (λ (x : Received). reply_read d (as_received x)) (asked_for k ∙ sym e) ∙ rw (ne_eqb (number_of r.answer) 0 z))
+  pub request_refused : {x : Parsed} {a : Answer} → kind_at m ≡ 1 → x ≡ as_parsed (read_request m) → x.says ≡ Err a
+      → brief (desk_unread d a) ≡ reply_read d (as_received (read_whole kinds_asked m))
+  request_refused k e z =
+      let (n, why) = parsed_err (read_request m) e z in
+      ap (λ (a : Answer). brief (desk_unread d a)) (sym why)
+      ∙ sym (ap (λ (x : Received). reply_read d (as_received x)) (asked_for k) ∙ rw n)
 
-  pub request_taken : {r : Received} → kind_at m ≡ 1 → r ≡ read_request m → number_of r.answer ≡ 0
-      → brief (desk_called (desk_request d r.message.count r.message.set)) ≡ reply_read d (as_received (read_whole kinds_asked m))
-  request_taken {r} k e z =
-      let q : r.message.what ≡ Request = ap (λ (x : Received). x.message.what) e ∙ (request_asks m).requests (ap (λ (x : Received). number_of x.answer) (sym e) ∙ z) in
-      sym
-      (ap (λ (x : Received). reply_read d (as_received x)) (asked_for k ∙ sym e) ∙ rw (eq-eqb (number_of r.answer) 0 z)
+  pub request_taken : {x : Parsed} {y : Message} → kind_at m ≡ 1 → x ≡ as_parsed (read_request m) → x.says ≡ Ok y
+      → brief (desk_called (desk_request d y.count y.set)) ≡ reply_read d (as_received (read_whole kinds_asked m))
+  request_taken k e z =
+      let r = read_request m in
+      let (n, all) = parsed_ok r e z in
+      let q : r.message.what ≡ Request = (request_asks m).requests (eqb-true (number_of r.answer) 0 n) in
+      ap (λ (y : Message). brief (desk_called (desk_request d y.count y.set))) (sym all)
+      ∙ sym
+      (ap (λ (x : Received). reply_read d (as_received x)) (asked_for k) ∙ rw n
       (ap (λ (w : What). brief (station_said w d r.message.count r.message.set)) q))
 
-  pub said_refused : {x : Said} → (kind_at m ≡ 1 → ⊥) → x ≡ said_in (read_among kinds_asked m) → (number_of x.answer ≡ 0 → ⊥)
-      → brief (desk_unread d x.answer) ≡ reply_read d (as_received (read_whole kinds_asked m))
+  pub said_refused : {x : kept.Result What Answer} {a : Answer} → (kind_at m ≡ 1 → ⊥) → x ≡ said_in (read_among kinds_asked m) → x ≡ Err a
+      → brief (desk_unread d a) ≡ reply_read d (as_received (read_whole kinds_asked m))
   said_refused k e z =
-      let r = read_among kinds_asked m in
-      let n = ne_eqb (number_of r.answer) 0 (rw e at z) in
-      ap (λ (y : Said). brief (desk_unread d y.answer)) e ∙ sym (ap (λ (y : Received). reply_read d (as_received y)) (other k) ∙ rw n)
+      let (n, why) = said_err (read_among kinds_asked m) e z in
+      ap (λ (a : Answer). brief (desk_unread d a)) (sym why) ∙ sym (ap (λ (y : Received). reply_read d (as_received y)) (other k) ∙ rw n)
 
-  pub said_taken : {x : Said} → (kind_at m ≡ 1 → ⊥) → x ≡ said_in (read_among kinds_asked m) → number_of x.answer ≡ 0
-      → brief (station_said x.what d 0 (replicate 40 0)) ≡ reply_read d (as_received (read_whole kinds_asked m))
+  pub said_taken : {x : kept.Result What Answer} {w : What} → (kind_at m ≡ 1 → ⊥) → x ≡ said_in (read_among kinds_asked m) → x ≡ Ok w
+      → brief (station_said w d 0 (replicate 40 0)) ≡ reply_read d (as_received (read_whole kinds_asked m))
   said_taken k e z =
-      let r = read_among kinds_asked m in
-      let n = eq-eqb (number_of r.answer) 0 (rw e at z) in
-      ap (λ (y : Said). brief (station_said y.what d 0 (replicate 40 0))) e
+      let (n, what) = said_ok (read_among kinds_asked m) e z in
+      ap (λ (w : What). brief (station_said w d 0 (replicate 40 0))) (sym what)
       ∙ sym (ap (λ (y : Received). reply_read d (as_received y)) (other k)
       ∙ rw n (ap (λ (y : Message). brief (station_said y.what d y.count y.set)) (among_plain kinds_asked m).plainly))
 

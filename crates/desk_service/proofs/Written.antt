@@ -3,7 +3,7 @@ use mathlib.Core.Path.{◌≡◌, refl, sym, ◌∙◌, ap}
 use mathlib.Core.List.{List}
 use Prim.Native.Nat.{ℕ}
 use Rattle.wire.specs.declared.What.TheVariants.{Held}
-use Rattle.wire.specs.declared.Written.{Written}
+use Rattle.wire.specs.Writes.{Written}
 use Rattle.wire.specs.Kinds.{plain}
 use Rattle.wire.specs.Writes.{LeavesMessage, put, writing_message}
 use Rattle.wire.proofs.Room.{as_told}

@@ -17,7 +17,11 @@ use Rattle.desk.specs.declared.Reply.{Reply}
 use Rattle.desk.specs.declared.Line.{Line}
 use Rattle.desk.specs.declared.OpenSet.{OpenSet}
 use Rattle.desk.specs.declared.Whereabouts.{Whereabouts}
-use Rattle.desk.specs.declared.Leaving.{Leaving}
+use Rattle.std.specs.declared.option.Option.{Option}
+use Rattle.std.specs.declared.option.Option.TheVariants.{Some, None}
+use Rattle.std.specs.declared.result.Result.{Result as ResultOf}
+use Rattle.std.specs.declared.result.Result.TheVariants.{Ok, Err}
+use Rattle.desk.specs.declared.AskError.{AskError}
 use Rattle.desk.specs.Desk.{reply_number, reply_place, reply_issue}
 use Rattle.desk.specs.Calls.{desk_request, desk_event, desk_result, desk_take_image, desk_ask}
 use Rattle.desk.specs.Questions.{whereabouts, leaving}
@@ -72,18 +76,15 @@ desk_shown o =
 abbrev pub line_told : Line → DeskTold
 line_told l = told.Place l.place l.flag l.next
 
-abbrev pub where_told : Whereabouts → DeskTold
-where_told (Whereabouts.At k) = line_told (where_line 0 (Whereabouts.At k))
-where_told (Whereabouts.LastKnown k) = line_told (where_line 0 (Whereabouts.LastKnown k))
-where_told (Whereabouts.Moving k j) = line_told (where_line 0 (Whereabouts.Moving k j))
-where_told Whereabouts.NotHere = line_told (where_line 0 Whereabouts.NotHere)
-where_told Whereabouts.Unfit = answer_told Unfit
+abbrev pub where_told : ResultOf Whereabouts AskError → DeskTold
+where_told (Ok w) = line_told (where_line 0 w)
+where_told (Err AskError.Unfit) = answer_told Unfit
 
 -- which card is leaving, 0 if none is
-abbrev pub leaving_told : Leaving → DeskTold
-leaving_told (Leaving.Card c) = told.Card c
-leaving_told Leaving.Nobody = told.Card 0
-leaving_told Leaving.Unfit = answer_told Unfit
+abbrev pub leaving_told : ResultOf (Option ℕ) AskError → DeskTold
+leaving_told (Ok (Some c)) = told.Card c
+leaving_told (Ok None) = told.Card 0
+leaving_told (Err AskError.Unfit) = answer_told Unfit
 
 -- a question that a desk answers if it is fit, and refuses as an ask else
 abbrev pub fit_said : Desk → DeskSaid → DeskReplied

@@ -35,12 +35,7 @@ fn said(d: Desk, what: What) -> DeskReply
         })),
         What::Image { bits, apart } => called(d.image(Picture { bits, apart }, 0, [0; 31])),
         What::Ask => shown(d.ask()),
-        What::Answer {
-            number: _,
-            place: _,
-            issue: _,
-        } => unread(d, Answer::UnknownKind),
-        What::Held { bits: _, apart: _ } => unread(d, Answer::UnknownKind),
+        What::Answer { .. } | What::Held { .. } => unread(d, Answer::UnknownKind),
     }
 }
 
@@ -49,22 +44,15 @@ fn of_station(d: Desk, m: &[u8]) -> DeskReply
     ensures { brief result ≡ reply_read d (as_received (read_whole kinds_asked m.now)) }
 {
     if wire::kind_at(m) == 1 {
-        let r = wire::request_in(m);
-        let answer = r.answer;
-        if answer.number() != 0 {
-            return unread(d, answer);
-        }
-        let message = r.message;
-        let set = message.set;
-        return called(d.request(message.count, set));
+        return match wire::request_in(m).says {
+            Ok(message) => called(d.request(message.count, message.set)),
+            Err(answer) => unread(d, answer),
+        };
     }
-    let r = wire::saying(m);
-    let answer = r.answer;
-    if answer.number() != 0 {
-        return unread(d, answer);
+    match wire::saying(m) {
+        Ok(what) => said(d, what),
+        Err(answer) => unread(d, answer),
     }
-    let what = r.what;
-    said(d, what)
 }
 
 // ---- the desk's own kinds
@@ -98,10 +86,8 @@ fn given(b: [u8; 124]) -> [u32; 31]
     ensures { result ≡ fours_in most_cards b }
 {
     let mut numbers = [0u32; 31];
-    let mut place: usize = 0;
-    while place < 31 {
+    for place in 0..31 {
         numbers[place] = codec::four_at(&b, 4 * place);
-        place += 1;
     }
     numbers
 }
@@ -111,8 +97,7 @@ fn cards_in(run: &[u8]) -> [u32; 31]
     requires { length run.now ≤ 124 }
     ensures { result ≡ cards_read run.now }
 {
-    let b = padded(run);
-    given(b)
+    given(padded(run))
 }
 
 // An image comes with cards.
@@ -233,8 +218,7 @@ fn compares(d: Desk, m: &[u8], room: &mut [u8]) -> DeskAnswered
 pub fn answered(d: Desk, m: &[u8], room: &mut [u8]) -> DeskAnswered
     ensures { LeavesReply (reply_read d (read_shaped kinds_asked shapes_asked m.now)) room.old result room.new }
 {
-    let kind = wire::kind_at(m);
-    match kind {
+    match wire::kind_at(m) {
         6 => briefly(begins(d, m), room),
         7 => briefly(pictured(d, m), room),
         8 => briefly(seeks(d, m), room),

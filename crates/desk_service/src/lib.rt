@@ -8,8 +8,8 @@ ghost use Rattle.desk_wire.specs.DeskReads.{frame_up_to};
 ghost use Rattle.desk_service.specs.DeskService.{answer_told, reply_told, desk_unread, desk_called, desk_shown, where_told, leaving_told, respond_desk, LeavesReply};
 
 use answers::{Answer, NOWHERE};
-use desk::{Desk, DeskOutcome, Leaving, Reply, Whereabouts};
-use wire::{Frame, Written};
+use desk::{AskError, Desk, DeskOutcome, Reply, Whereabouts};
+use wire::Frame;
 
 mod kinds;
 mod telling;
@@ -34,7 +34,7 @@ pub struct DeskReply {
 #[derive(Clone, Copy)]
 pub struct DeskAnswered {
     pub desk: Desk,
-    pub written: Written,
+    pub written: Result<usize, Answer>,
 }
 
 // ---- what a message is told
@@ -63,86 +63,83 @@ fn reply_told(reply: Reply) -> DeskTold
 fn unread(desk: Desk, answer: Answer) -> DeskReply
     ensures { result ≡ desk_unread desk answer }
 {
-    let told = answer_told(answer);
-    DeskReply { desk, told }
+    DeskReply {
+        desk,
+        told: answer_told(answer),
+    }
 }
 
 // A call's desk, and its reply.
 fn called(o: DeskOutcome) -> DeskReply
     ensures { result ≡ desk_called o }
 {
-    let desk = o.desk;
-    let reply = o.reply;
-    let told = reply_told(reply);
-    DeskReply { desk, told }
+    DeskReply {
+        desk: o.desk,
+        told: reply_told(o.reply),
+    }
 }
 
 // The same after an ask: the record and what is set apart if it was taken.
 fn shown(o: DeskOutcome) -> DeskReply
     ensures { result ≡ desk_shown o }
 {
-    let reply = o.reply;
-    if reply.number() != 0 {
+    if o.reply.number() != 0 {
         return called(o);
     }
-    let desk = o.desk;
-    let s = desk.station;
     DeskReply {
-        desk,
+        desk: o.desk,
         told: DeskTold::Held {
-            bits: s.bits,
-            apart: s.apart,
+            bits: o.desk.station.bits,
+            apart: o.desk.station.apart,
         },
     }
 }
 
+// Kept: 64 and no Option, as Whereabouts::Moving has it (NOT_HERE in desk), and place_told.
 // A place that is told: none as 255.
 fn place_of(k: u8) -> u8
     ensures { result ≡ place_told k }
 {
-    if k == 64 {
-        return NOWHERE;
-    }
-    k
+    if k == 64 { NOWHERE } else { k }
 }
 
 // Where a card's car is.
-fn where_told(w: Whereabouts) -> DeskTold
+fn where_told(w: Result<Whereabouts, AskError>) -> DeskTold
     ensures { result ≡ where_told w }
 {
     match w {
-        Whereabouts::At(k) => DeskTold::Place {
+        Ok(Whereabouts::At(k)) => DeskTold::Place {
             place: k,
             flag: 0,
             next: 0,
         },
-        Whereabouts::LastKnown(k) => DeskTold::Place {
+        Ok(Whereabouts::LastKnown(k)) => DeskTold::Place {
             place: k,
             flag: 1,
             next: 0,
         },
-        Whereabouts::Moving { from, to } => DeskTold::Place {
+        Ok(Whereabouts::Moving { from, to }) => DeskTold::Place {
             place: from,
             flag: 2,
             next: place_of(to),
         },
-        Whereabouts::NotHere => DeskTold::Place {
+        Ok(Whereabouts::NotHere) => DeskTold::Place {
             place: NOWHERE,
             flag: 0,
             next: 0,
         },
-        Whereabouts::Unfit => answer_told(Answer::Unfit),
+        Err(AskError::Unfit) => answer_told(Answer::Unfit),
     }
 }
 
 // Which card is leaving.
-fn leaving_told(l: Leaving) -> DeskTold
+fn leaving_told(l: Result<Option<u32>, AskError>) -> DeskTold
     ensures { result ≡ leaving_told l }
 {
     match l {
-        Leaving::Card(card) => DeskTold::Card { card },
-        Leaving::Nobody => DeskTold::Card { card: 0 },
-        Leaving::Unfit => answer_told(Answer::Unfit),
+        Ok(Some(card)) => DeskTold::Card { card },
+        Ok(None) => DeskTold::Card { card: 0 },
+        Err(AskError::Unfit) => answer_told(Answer::Unfit),
     }
 }
 

@@ -8,78 +8,43 @@ ghost use Rattle.desk_service.specs.DeskService.{brief_bytes, brief, body_messag
 use super::{DeskAnswered, DeskReply, DeskTold};
 use answers::Answer;
 use desk::Lines;
-use wire::{What, Written};
+use wire::What;
 
 // Puts all of src at the start of room, or refuses with 17 and writes nothing.
-fn put(src: &[u8], room: &mut [u8]) -> Written
+fn put(src: &[u8], room: &mut [u8]) -> Result<usize, Answer>
     ensures { LeavesMessage (put src.now room.old) result room.new }
 {
     if room.len() < src.len() {
-        return Written {
-            answer: Answer::NoRoom,
-            size: 0,
-        };
+        return Err(Answer::NoRoom);
     }
-    let size = codec::copy(src, room);
-    Written {
-        answer: Answer::Taken,
-        size,
-    }
+    Ok(codec::copy(src, room))
 }
 
 // The bytes of an answer.
 fn answer_bytes(number: u8, place: u8, issue: u16) -> [u8; 8]
     ensures { result ≡ brief_bytes (DeskTold.Answer number place issue) }
 {
-    let high = issue / 256;
-    [
-        6,
-        0,
-        128,
-        0,
-        (number as u16 % 256) as u8,
-        (place as u16 % 256) as u8,
-        (issue % 256) as u8,
-        (high % 256) as u8,
-    ]
+    let issue = issue.to_le_bytes();
+    [6, 0, 128, 0, number, place, issue[0], issue[1]]
 }
 
 // The bytes of where a car is.
 fn place_bytes(place: u8, flag: u8, next: u8) -> [u8; 7]
     ensures { result ≡ brief_bytes (DeskTold.Place place flag next) }
 {
-    [
-        5,
-        0,
-        136,
-        0,
-        (place as u16 % 256) as u8,
-        (flag as u16 % 256) as u8,
-        (next as u16 % 256) as u8,
-    ]
+    [5, 0, 136, 0, place, flag, next]
 }
 
 // The bytes of a card.
 fn card_bytes(card: u32) -> [u8; 8]
     ensures { result ≡ brief_bytes (DeskTold.Card card) }
 {
-    let b = card / 256;
-    let c = b / 256;
-    let d = c / 256;
-    [
-        6,
-        0,
-        137,
-        0,
-        (card % 256) as u8,
-        (b % 256) as u8,
-        (c % 256) as u8,
-        (d % 256) as u8,
-    ]
+    let card = codec::four_bytes(card);
+    [6, 0, 137, 0, card[0], card[1], card[2], card[3]]
 }
 
 // Writes what a message is told at the start of room: 17, or all of it; bytes past it keep their values.
-fn write(told: DeskTold, room: &mut [u8]) -> Written
+fn write(told: DeskTold, room: &mut [u8]) -> Result<usize, Answer>
     ensures { LeavesMessage (put (brief_bytes told) room.old) result room.new }
 {
     match told {
@@ -87,21 +52,12 @@ fn write(told: DeskTold, room: &mut [u8]) -> Written
             number,
             place,
             issue,
-        } => {
-            let b = answer_bytes(number, place, issue);
-            put(&b, room)
-        }
+        } => put(&answer_bytes(number, place, issue), room),
         DeskTold::Held { bits, apart } => {
             wire::writing::write_plain(What::Held { bits, apart }, room)
         }
-        DeskTold::Place { place, flag, next } => {
-            let b = place_bytes(place, flag, next);
-            put(&b, room)
-        }
-        DeskTold::Card { card } => {
-            let b = card_bytes(card);
-            put(&b, room)
-        }
+        DeskTold::Place { place, flag, next } => put(&place_bytes(place, flag, next), room),
+        DeskTold::Card { card } => put(&card_bytes(card), room),
     }
 }
 
@@ -109,16 +65,16 @@ fn write(told: DeskTold, room: &mut [u8]) -> Written
 pub fn briefly(r: DeskReply, room: &mut [u8]) -> DeskAnswered
     ensures { LeavesReply (brief r) room.old result room.new }
 {
-    let desk = r.desk;
-    let told = r.told;
-    let written = write(told, room);
-    DeskAnswered { desk, written }
+    DeskAnswered {
+        desk: r.desk,
+        written: write(r.told, room),
+    }
 }
 
 // ---- lines, and what is outstanding
 
 // The first n bytes of src, put at the start of room.
-fn put_first(src: &[u8], n: usize, room: &mut [u8]) -> Written
+fn put_first(src: &[u8], n: usize, room: &mut [u8]) -> Result<usize, Answer>
     requires { n ≤ length src.now }
     ensures { LeavesMessage (put (take n src.now) room.old) result room.new }
 {
@@ -141,7 +97,7 @@ fn with_lines(kind: u8, count: u8, lines: [u8; 496]) -> [u8; 501]
 }
 
 // Writes lines as a message of this kind.
-pub fn put_lines(kind: u8, lines: Lines, room: &mut [u8]) -> Written
+pub fn put_lines(kind: u8, lines: Lines, room: &mut [u8]) -> Result<usize, Answer>
     requires { lines.count ≤ 62 }
     ensures { LeavesMessage (put (body_message kind (lines.count ∷ take (8 * lines.count) lines.bytes)) room.old) result room.new }
 {
@@ -170,7 +126,13 @@ fn with_set(issue: u16, answered: u8, count: u8, set: [u8; 40]) -> [u8; 48]
 }
 
 // Writes what is outstanding.
-pub fn put_set(issue: u16, answered: u8, count: u8, set: [u8; 40], room: &mut [u8]) -> Written
+pub fn put_set(
+    issue: u16,
+    answered: u8,
+    count: u8,
+    set: [u8; 40],
+    room: &mut [u8],
+) -> Result<usize, Answer>
     requires { count ≤ 8 }
     ensures { LeavesMessage (put (body_message 139 (little_endian 2 issue ++ (answered ∷ count ∷ take (5 * count) set))) room.old) result room.new }
 {

@@ -13,8 +13,9 @@ use Rattle.codec.proofs.Numbers.{bytes_take, bytes_drop}
 use Rattle.answers.specs.declared.Answer.{Answer}
 use Rattle.answers.specs.declared.Answer.TheVariants.{Taken, BadLength, BadField, TooFewBytes}
 use Rattle.answers.specs.Answers.{number_of, nowhere}
+use Rattle.std.specs.declared.result.Result.TheVariants.{Ok}
 use Rattle.wire.specs.declared.Message.{Message}
-use Rattle.wire.specs.declared.Received.{Received}
+use Rattle.wire.specs.Reads.{Received}
 use Rattle.wire.specs.declared.Frame.{Frame}
 use Rattle.wire.specs.declared.Frame.TheVariants.{Cut, Wrong, Whole}
 use Rattle.wire.specs.declared.What.TheVariants.{Ask}
@@ -38,7 +39,7 @@ refused {a = a} e h = let z : number_of a ≡ 0 = ap (λ (r : DeskReceived). num
 
 -- what is to be shown of a message that was read
 abbrev Standing : ℕ → List Shape → List ℕ → DeskMessage → ℕ → Type 0
-Standing most shapes s m n = (desk_one_form m ≡ m) × (writing_with most shapes m s ≡ record { says = record { answer = Taken; size = n }; leaves = s })
+Standing most shapes s m n = (desk_one_form m ≡ m) × (writing_with most shapes m s ≡ record { says = Ok n; leaves = s })
 
 -- the first message of s takes these bytes
 record First (most : ℕ) (s m : List ℕ) (n : ℕ) : Type 0 where
@@ -70,7 +71,7 @@ shapely k m msg n e =
 
 -- written over its bytes it changes nothing
 shape_form : (most : ℕ) (k : Shape) (s m : List ℕ) (msg : DeskMessage) (n : ℕ) → First most s m n → kind_at m ≡ k.number → Shapely k m msg n
-    → writing_shape most k (fields_in k (drop 4 m)) (entries_in k (drop 4 m)) s ≡ record { says = record { answer = Taken; size = n }; leaves = s }
+    → writing_shape most k (fields_in k (drop 4 m)) (entries_in k (drop 4 m)) s ≡ record { says = Ok n; leaves = s }
 unfolding writing_shape
 shape_form most k s m msg n f kind q =
     let body = drop 4 m in
@@ -116,7 +117,7 @@ station_form most s m msg n f e =
 -- read by one of the shapes, or as the station's, with no shape of that kind
 data Way (most : ℕ) (shapes : List Shape) (s m : List ℕ) (msg : DeskMessage) (n : ℕ) : Type 0 where
   by_shape : (ns : List ℕ) (xs : List (List ℕ)) → msg ≡ shaped (kind_at m) ns xs
-      → writing_shaped most shapes (kind_at m) ns xs s ≡ record { says = record { answer = Taken; size = n }; leaves = s } → Way most shapes s m msg n
+      → writing_shaped most shapes (kind_at m) ns xs s ≡ record { says = Ok n; leaves = s } → Way most shapes s m msg n
   by_station : is_shaped shapes (kind_at m) ≡ false → as_received (read_whole kinds_known m) ≡ desk_message_taken msg n → Way most shapes s m msg n
 
 further : (most : ℕ) (k : Shape) (shapes : List Shape) (s m : List ℕ) (msg : DeskMessage) (n : ℕ) → eqb (kind_at m) k.number ≡ false

@@ -12,12 +12,14 @@ use Rattle.codec.proofs.Numbers.{number_back, two_back}
 use Rattle.answers.specs.declared.Answer.{Answer}
 use Rattle.answers.specs.declared.Answer.TheVariants.{Taken, UnknownKind, BadField, TooMany, NoRoom}
 use Rattle.answers.specs.Answers.{number_of, nowhere}
+use Rattle.std.specs.declared.result.Result.TheVariants.{Ok}
 use Rattle.wire.specs.declared.What.{What}
 use Rattle.wire.specs.declared.What.TheVariants.{Request, Event, Result, Image, Ask, Answer as AnswerOf, Held}
 use Rattle.wire.specs.declared.Message.{Message}
 use Rattle.wire.specs.Kinds.{SizedKind, kinds_known, kind_of}
 use Rattle.wire.specs.Reads.{length_at, kind_at, read_whole}
 use Rattle.wire.specs.Writes.{Writing, nothing_written, writing_message, one_form}
+use Rattle.wire.proofs.Results.{number_said, size_said}
 use Rattle.wire_laws.specs.Statements.{MessageTyped}
 use Rattle.wire_laws.proofs.Messages.{read_whole_lem}
 use Rattle.wire_laws.proofs.Back.{wrote, reads_back}
@@ -31,7 +33,7 @@ use Rattle.desk_wire.proofs.Framing.{FramedUpTo, framed_up, cut_up, read_up}
 -- ---- what a call that wrote says
 
 abbrev writing_number : Writing → ℕ
-writing_number w = number_of w.says.answer
+writing_number w = number_said w.says
 
 no : {G : Type 0} (a : Answer) (room : List ℕ) → 0 < number_of a → writing_number (nothing_written a room) ≡ 0 → G
 no a room h e = absurd (omega arith)
@@ -46,7 +48,7 @@ record Wrote-shape (most : ℕ) (k : Shape) (ns : List ℕ) (xs : List (List ℕ
   ranged : k.ranged ns xs ≡ true
   short : 2 + length (shaped_body k ns xs) ≤ most
   all : writing_shape most k ns xs room
-      ≡ record { says = record { answer = Taken; size = length (shaped_bytes k ns xs) }; leaves = shaped_bytes k ns xs ++ drop (length (shaped_bytes k ns xs)) room }
+      ≡ record { says = Ok (length (shaped_bytes k ns xs)); leaves = shaped_bytes k ns xs ++ drop (length (shaped_bytes k ns xs)) room }
 
 wrote_shape : (most : ℕ) (k : Shape) (ns : List ℕ) (xs : List (List ℕ)) (room : List ℕ)
     → writing_number (writing_shape most k ns xs room) ≡ 0 → Wrote-shape most k ns xs room
@@ -138,14 +140,13 @@ not_shaped (k ∷ shapes) ks m e = split (eqb (kind_at m) k.number)
     (λ t. clash refl (rw t at e))
     (λ t. rw t (not_shaped shapes ks m (rw t at e)))
 
-station_back : (most : ℕ) (shapes : List Shape) (m : Message) (room : List ℕ) → 43 ≤ most → MessageTyped m
-    → is_shaped shapes (kind_of m.what) ≡ false → (writing_message m room).says.answer ≡ Taken
-    → read_up_to most kinds_known shapes (writing_message m room).leaves ≡ desk_message_taken (of_station (one_form m)) (writing_message m room).says.size
-station_back most shapes m room long typed other e =
+station_back : (most : ℕ) (shapes : List Shape) (m : Message) (room : List ℕ) (n : ℕ) → 43 ≤ most → MessageTyped m
+    → is_shaped shapes (kind_of m.what) ≡ false → (writing_message m room).says ≡ Ok n
+    → read_up_to most kinds_known shapes (writing_message m room).leaves ≡ desk_message_taken (of_station (one_form m)) n
+station_back most shapes m room n long typed other e =
     let s = (writing_message m room).leaves in
-    let n = (writing_message m room).says.size in
-    let w = wrote m room e in
-    let (k, f, r) = read_whole_lem s (one_form m) n (reads_back m room typed e) in
+    let w = wrote m room n e in
+    let (k, f, r) = read_whole_lem s (one_form m) n (reads_back m room n typed e) in
     let high = f.high in
     let g : FramedUpTo most s k = record { long = f.long; low = f.low; high = omega arith; within = f.within } in
     let kind : kind_at s ≡ kind_of m.what = ap kind_at (ap (λ (x : Writing). x.leaves) w.all) ∙ number_back 2 (kind_of m.what) [] (kind_fits m.what) in
@@ -158,11 +159,12 @@ station_back most shapes m room long typed other e =
 
 pub any_reads_back : (most : ℕ) (shapes : List Shape) → 43 ≤ most → most < 2 ^ 16 → KindsFit shapes
     → ReadsBackBy (TypedBy shapes) (writing_with most shapes) (read_up_to most kinds_known shapes) desk_message_taken desk_one_form
-any_reads_back most shapes long small fits (of_station m) room typed e = split (is_shaped shapes (kind_of m.what))
-    (λ t. no UnknownKind room (omega arith) (ap number_of (rw t at e)))
-    (λ t. rw t (station_back most shapes m room long typed t (rw t at e)))
-any_reads_back most shapes long small fits (shaped kind ns xs) room typed e =
-    let q = shaped_back most small shapes kinds_known kind ns xs room fits typed (ap number_of e) in
+any_reads_back most shapes long small fits (of_station m) room n typed e = split (is_shaped shapes (kind_of m.what))
+    (λ t. no UnknownKind room (omega arith) (ap number_said (rw t at e)))
+    (λ t. rw t (station_back most shapes m room n long typed t (rw t at e)))
+any_reads_back most shapes long small fits (shaped kind ns xs) room n typed e =
+    let q = shaped_back most small shapes kinds_known kind ns xs room fits typed (ap number_said e) in
     let bytes = shaped_bytes q.by ns xs in
     let short = q.wrote.short in
-    rw (q.written, q.wrote.all) (read_up most kinds_known shapes bytes (drop (length bytes) room) q.told.long (omega arith) (omega arith) ∙ q.back)
+    let size : length bytes ≡ n = ap size_said (rw (q.written, q.wrote.all) at e) in
+    rw (q.written, q.wrote.all) (read_up most kinds_known shapes bytes (drop (length bytes) room) q.told.long (omega arith) (omega arith) ∙ q.back ∙ ap (desk_message_taken (shaped kind ns xs)) size)

@@ -5,6 +5,7 @@ use Rattle.std.specs.Prelude.{◌≡◌, List, [], ◌∷◌, ℕ, ◌≤◌, �
 use Rattle.codec.specs.Bytes.{Bytes}
 use Rattle.answers.specs.declared.Answer.TheVariants.{Taken, UnknownKind, BadField}
 use Rattle.answers.specs.Answers.{nowhere}
+use Rattle.std.specs.declared.result.Result.TheVariants.{Ok}
 use Rattle.wire.specs.declared.Frame.TheVariants.{Whole}
 use Rattle.wire.specs.Kinds.{kinds_known}
 use Rattle.wire.specs.Reads.{length_at, kind_at, read_asked, read_message, message_taken}
@@ -20,14 +21,14 @@ use Rattle.desk_wire.specs.DeskWrites.{writing_with, writing_desk, desk_one_form
 -- a message that was written reads back as what was meant, whatever stands after it in the room
 abbrev pub ReadsBackBy : {M R : Type 0} → (M → Type 0) → (M → List ℕ → Writing) → (List ℕ → R) → (M → ℕ → R) → (M → M) → Type 0
 ReadsBackBy {M} Typed write read taken form =
-    (m : M) (room : List ℕ) → Typed m → (write m room).says.answer ≡ Taken
-    → read (write m room).leaves ≡ taken (form m) (write m room).says.size
+    (m : M) (room : List ℕ) (n : ℕ) → Typed m → (write m room).says ≡ Ok n
+    → read (write m room).leaves ≡ taken (form m) n
 
 -- a message that was read is in its one form, and writing it over its bytes changes nothing
 abbrev pub OneFormBy : {M R : Type 0} → (M → List ℕ → Writing) → (List ℕ → R) → (M → ℕ → R) → (M → M) → Type 0
 OneFormBy {M} write read taken form =
     (s : List ℕ) (m : M) (n : ℕ) → Bytes s → read s ≡ taken m n
-    → (form m ≡ m) × (write m s ≡ record { says = record { answer = Taken; size = n }; leaves = s })
+    → (form m ≡ m) × (write m s ≡ record { says = Ok n; leaves = s })
 
 -- both hold of the station's messages
 abbrev pub StationForms : Type 0

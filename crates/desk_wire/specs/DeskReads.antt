@@ -6,7 +6,7 @@ use Rattle.answers.specs.declared.Answer.TheVariants.{Taken, TooFewBytes, BadLen
 use Rattle.answers.specs.Answers.{nowhere}
 use Rattle.wire.specs.declared.What.TheVariants.{Ask}
 use Rattle.wire.specs.declared.Message.{Message}
-use Rattle.wire.specs.declared.Received.{Received}
+use Rattle.wire.specs.Reads.{Received}
 use Rattle.wire.specs.declared.Frame.{Frame}
 use Rattle.wire.specs.declared.Frame.TheVariants.{Cut, Wrong, Whole}
 use Rattle.wire.specs.Kinds.{SizedKind, kinds_asked, kinds_known, plain}

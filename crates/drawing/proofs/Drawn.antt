@@ -6,16 +6,20 @@ use Prim.Native.Nat.{ℕ, zero, suc, ◌+◌, ◌≤◌, ◌<◌}
 use native.Mathlib.Omega.{arith}
 use native.Mathlib.Nat.{add-suc, add-zero}
 use lib.ListN.{length, get_or, drop}
-use borrow.Author.Tests.{lt-ltb, le-ltb}
+use lib.Dec.{ltb}
+use borrow.Author.Tests.{ltb-false, lt-ltb, le-ltb}
 use Rattle.bits.specs.Bits.{Bits, bit, image}
-use Rattle.bits.proofs.Cases.{passed, failed}
+use Rattle.bits.proofs.Cases.{split, passed, failed}
 use Rattle.floor.specs.Floor.{left, right}
+use Rattle.std.specs.declared.result.Result.TheVariants.{Ok, Err}
+use Rattle.drawing.specs.declared.Unwritten.TheVariants.{HasNone, NoRoom}
+use Rattle.drawing.specs.declared.Unread.{Unread}
+use Rattle.drawing.specs.declared.Unread.TheVariants.{Unsound}
 use Rattle.drawing.specs.declared.Lift.{Lift}
-use Rattle.drawing.specs.declared.Written.{Written}
-use Rattle.drawing.specs.declared.Found.{Found}
 use Rattle.drawing.specs.Drawing.{floor_line, shuttle_line, lift_line, last_line, drawn, LeavesDrawing, has_drawing, writing_drawing}
-use Rattle.drawing.specs.Reading.{first_bad, bits_in, unread, reading}
-use Rattle.drawing.specs.Private.{table, cell_at, grid, cell_mark, mark_in, upper_at, lift_of, last_shown, words_of, drawn_at, last_told, bad_at, bits_at}
+use Rattle.drawing.specs.Reading.{first_bad, bits_in, reading}
+use Rattle.drawing.specs.Private.{table, cell_at, grid, cell_mark, mark_in, upper_at, lift_of, last_shown, words_of, drawn_at, last_told, bad_at, lines_told, bits_at}
+use Rattle.drawing.proofs.Told.{ok_err, same_ok, same_err}
 use Rattle.drawing.proofs.Tables.{length_table, table_same, list_table}
 use Rattle.drawing.proofs.Cells.{upper_at_lem, lift_at}
 use Rattle.drawing.proofs.Finding.{sought, image_there}
@@ -66,24 +70,24 @@ drawn_length w f = ap length (sym (drawn_is w f)) ∙ length_table (drawn_at w (
 -- ---- what writing says and leaves
 
 module _ (w : Bool) (r : ℕ) (room : List ℕ) {b : Bool} (p : b ≡ has_drawing w r) where
-  pub not_sound : {v : Written} → not b ≡ true → v ≡ record { number = 15; size = 0 } → LeavesDrawing (writing_drawing w r room) v room
+  pub not_sound : not b ≡ true → LeavesDrawing (writing_drawing w r room) (Err HasNone) room
   unfolding writing_drawing
-  not_sound e q = rw (failed p e) (q, refl)
+  not_sound e = rw (failed p e) (refl, refl)
 
   module _ (e : not b ≡ false) {lift : Lift} (q : lift ≡ last_shown w (bit r)) {n : ℕ} (m : n ≡ length (words_of w lift)) where
     size_is : 51 + n ≡ length (drawn w (bit r))
     size_is = ap (λ (x : ℕ). 51 + x) (m ∙ ap (λ (l : Lift). length (words_of w l)) q) ∙ sym (drawn_length w (bit r))
 
-    pub no_room_lem : {v : Written} → length room < 51 + n → v ≡ record { number = 17; size = 0 } → LeavesDrawing (writing_drawing w r room) v room
+    pub no_room_lem : length room < 51 + n → LeavesDrawing (writing_drawing w r room) (Err NoRoom) room
     unfolding writing_drawing
-    no_room_lem l x = rw (passed p e, lt-ltb (length room) (length (drawn w (bit r))) (omega (arith, size_is))) (x, refl)
+    no_room_lem l = rw (passed p e, lt-ltb (length room) (length (drawn w (bit r))) (omega (arith, size_is))) (refl, refl)
 
     pub written : {t : List ℕ} → 51 + n ≤ length room → t ≡ table (51 + n) (drawn_at w (grid (cell_mark w (bit r))) (bit r) lift) ++ drop (51 + n) room
-        → LeavesDrawing (writing_drawing w r room) (record { number = 0; size = 51 + n }) t
+        → LeavesDrawing (writing_drawing w r room) (Ok (51 + n)) t
     unfolding writing_drawing
     written {t} l x =
         rw (passed p e, le-ltb (length room) (length (drawn w (bit r))) (omega (arith, size_is)))
-        (ap (λ (k : ℕ). record { number = 0; size = k }) size_is, x ∙ ap₂ (λ (y z : List ℕ). y ++ z) bytes (ap (λ (k : ℕ). drop k room) size_is))
+        (ap Ok size_is, x ∙ ap₂ (λ (y z : List ℕ). y ++ z) bytes (ap (λ (k : ℕ). drop k room) size_is))
       where
         bytes : table (51 + n) (drawn_at w (grid (cell_mark w (bit r))) (bit r) lift) ≡ drawn w (bit r)
         bytes =
@@ -92,29 +96,39 @@ module _ (w : Bool) (r : ℕ) (room : List ℕ) {b : Bool} (p : b ≡ has_drawin
 
 -- ---- what reading w says
 
-module _ (w : Bool) (s : List ℕ) {lift : Lift} (q : lift ≡ last_told w (drop 51 s)) {n : ℕ} (m : n ≡ bad_at w s lift) where
-  first_bad_lem : n ≡ first_bad w s
-  first_bad_lem = m ∙ ap (bad_at w s) q ∙ (sought w s).same
+module _ (w : Bool) (s : List ℕ) where
+  abbrev told : Lift
+  told = last_told w (drop 51 s)
 
-  pub no_drawing : {r : Found} → n < 7 → r ≡ unread 41 n → r ≡ reading w s
+  abbrev lines : ℕ
+  lines = bad_at w s told
+
+  pub no_drawing : {u : Unread} → Err u ≡ lines_told told lines → Err u ≡ reading w s
   unfolding reading
-  no_drawing l x = x ∙ ap (unread 41) first_bad_lem ∙ rw (lt-ltb (first_bad w s) 7 (omega (arith, first_bad_lem)))
+  no_drawing {u} e = split (ltb (first_bad w s) 7)
+      (λ t. ap Err (same_err (rw ((sought w s).same, t) at e)) ∙ rw t)
+      (λ t. ok_err (sym (rw ((sought w s).same, t) at e)))
 
-  module _ (l : 7 ≤ n) {g : List (List ℕ)} (d : g ≡ grid (mark_in s)) {r : ℕ} (x : r ≡ image (bits_at w g s lift)) {b : Bool} (p : b ≡ has_drawing w r) where
+  module _ {lift : Lift} (e : Ok lift ≡ lines_told told lines) {g : List (List ℕ)} (d : g ≡ grid (mark_in s)) {r : ℕ} (x : r ≡ image (bits_at w g s lift))
+      {b : Bool} (p : b ≡ has_drawing w r) where
+    none_bad : ltb (first_bad w s) 7 ≡ false
+    none_bad = split (ltb (first_bad w s) 7) (λ t. ok_err (rw ((sought w s).same, t) at e)) (λ t. t)
+
+    lift_is : lift ≡ told
+    lift_is = same_ok (rw ((sought w s).same, none_bad) at e)
+
     image_is : r ≡ image (bits_in w s)
     image_is =
-        x ∙ ap₂ (λ (y : List (List ℕ)) (z : Lift). image (bits_at w y s z)) d q
-        ∙ image_there w s ((sought w s).whole (omega (arith, m ∙ ap (bad_at w s) q)))
+        x ∙ ap₂ (λ (y : List (List ℕ)) (z : Lift). image (bits_at w y s z)) d lift_is
+        ∙ image_there w s ((sought w s).whole (omega (arith, ltb-false (first_bad w s) 7 none_bad, (sought w s).same)))
 
     sound_is : b ≡ has_drawing w (image (bits_in w s))
     sound_is = p ∙ ap (has_drawing w) image_is
 
-    pub is_read : b ≡ true → record { number = 0; place = 255; bits = r } ≡ reading w s
+    pub is_read : b ≡ true → Ok r ≡ reading w s
     unfolding reading
-    is_read e =
-        ap (λ (i : ℕ). record { number = 0; place = 255; bits = i }) image_is
-        ∙ rw (le-ltb (first_bad w s) 7 (omega (arith, first_bad_lem)), sym sound_is ∙ e)
+    is_read y = ap Ok image_is ∙ rw (none_bad, sym sound_is ∙ y)
 
-    pub read_unsound : {o : Found} → b ≡ false → o ≡ unread 15 255 → o ≡ reading w s
+    pub read_unsound : b ≡ false → Err Unsound ≡ reading w s
     unfolding reading
-    read_unsound e y = y ∙ rw (le-ltb (first_bad w s) 7 (omega (arith, first_bad_lem)), sym sound_is ∙ e)
+    read_unsound y = rw (none_bad, sym sound_is ∙ y)

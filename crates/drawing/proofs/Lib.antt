@@ -1,3 +1,4 @@
+pub mod Told
 pub mod Tables
 pub mod Cells
 pub mod Words

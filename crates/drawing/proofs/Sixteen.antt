@@ -3,22 +3,26 @@ use mathlib.Core.Path.{◌≡◌, refl, sym, ap, ap₂, ◌∙◌}
 use mathlib.Core.Logic.{◌⊎◌, inl, inr, ⊎_elim}
 use mathlib.Core.Bool.{Bool, true, false, not, cond}
 use mathlib.Core.List.{List, [], ◌∷◌, ◌++◌, append_assoc, append-nil}
-use Prim.Native.Nat.{ℕ, zero, suc, ◌+◌, ◌*◌, ◌-◌, ◌/◌, ◌^◌, ◌≤◌, ◌<◌}
+use Prim.Native.Nat.{ℕ, zero, suc, ◌+◌, ◌*◌, ◌-◌, ◌^◌, ◌≤◌, ◌<◌}
 use native.Mathlib.Nat.{pow-suc, pow-le-pow_right}
 use native.Mathlib.Omega.{arith}
 use native.Mathlib.Numerals.{add-one}
 use lib.Dec.{eqb, ltb}
 use lib.ListN.{length, get_or, set, take, drop, replicate, length-append, length-set, drop_of_length-le}
 use lib.Seq.{drop-cons, take-suc-set, length-take-le, get_or-take}
-use borrow.Author.Tests.{lt-ltb, le-ltb, eq-eqb, ne_eqb, eqb-true, ltb-true, not-false}
+use borrow.Author.Tests.{lt-ltb, eq-eqb, ne_eqb, eqb-true, ltb-true, not-false}
 use Rattle.bits.proofs.Cases.{split, alike}
 use Rattle.bits.proofs.Search.{every_at, every_is}
 use Rattle.bits.proofs.Least.{Passed, every_not}
+use Rattle.std.specs.declared.option.Option.{Option}
+use Rattle.std.specs.declared.option.Option.TheVariants.{Some, None}
 use Rattle.drawing.specs.declared.Gathered.{Gathered}
 use Rattle.drawing.specs.declared.Hex.{Hex}
-use Rattle.drawing.specs.declared.Hex.TheVariants.{Image, Asked, NotHex}
+use Rattle.drawing.specs.declared.Hex.TheVariants.{Image, Asked}
+use Rattle.std.specs.Option.{is_some, IsSome}
+use Rattle.drawing.proofs.Told.{below_is}
 use Rattle.drawing.specs.Hex.{digit_of, all_digits, is_blank, unblanked, hex_number, is_count, hex_said, hex_in, hex_line}
-use Rattle.drawing.specs.Private.{table, hex_at, Gathers}
+use Rattle.drawing.specs.Private.{table, hex_at, if_under, KeepsDigits}
 
 -- ---- gathered from a text
 
@@ -67,15 +71,15 @@ module _ (s : List ℕ) where
                 (v.held ∙ ap (λ (x : List ℕ). take count bytes ++ x) (taken e) ∙ sym (append_assoc (take count bytes) (b ∷ []) (unblanked (drop (suc i) s))));
           }
 
-      pub gather_past : t ≡ false → count ≡ 32 → Gathers s (record { count = 33; bytes = bytes })
+      pub gather_past : t ≡ false → count ≡ 32 → 32 < length (unblanked s)
       gather_past e c =
           let few = v.few in
           let k = length-take-le count bytes (omega (arith, v.room)) in
           let l = ap length (v.held ∙ ap (λ (x : List ℕ). take count bytes ++ x) (taken e))
           ∙ length-append (take count bytes) (get_or s i 0 ∷ unblanked (drop (suc i) s)) in
-          record { many = omega arith; held = λ (x : 33 ≤ 32). absurd (omega arith) }
+          omega arith
 
-    pub gather_ends : length s ≤ i → Gathers s (record { count = count; bytes = bytes })
+    pub gather_ends : length s ≤ i → KeepsDigits (unblanked s) (record { count = count; bytes = bytes })
     unfolding unblanked
     gather_ends h =
         let few = v.few in
@@ -83,7 +87,8 @@ module _ (s : List ℕ) where
         let all : unblanked s ≡ take count bytes = v.held ∙ ap (λ (x : List ℕ). take count bytes ++ unblanked x) (drop_of_length-le s h) ∙ append-nil (take count bytes) in
         record {
           many = omega (arith, ap length all);
-          held = λ (x : count ≤ 32) j h. sym (ap (λ (l : List ℕ). get_or l j 0) all ∙ get_or-take count bytes j 0 h);
+          few = few;
+          held = λ j h. sym (ap (λ (l : List ℕ). get_or l j 0) all ∙ get_or-take count bytes j 0 h);
         }
 
 -- ---- each of them a digit
@@ -91,12 +96,15 @@ module _ (s : List ℕ) where
 abbrev pub no_digit : List ℕ → ℕ → Bool
 no_digit d j = not (ltb (digit_of (get_or d j 0)) 16)
 
-module _ (n : ℕ) (d : List ℕ) (j : ℕ) {v : ℕ} (p : v ≡ digit_of (get_or d j 0)) where
-  pub not_all : j < n → 16 ≤ v → false ≡ all_digits n d
-  not_all h l = sym (every_not n (λ j. ltb (digit_of (get_or d j 0)) 16) j h (le-ltb (digit_of (get_or d j 0)) 16 (omega arith)))
+module _ (n : ℕ) (d : List ℕ) (j : ℕ) {o : Option ℕ} (p : o ≡ if_under 16 (digit_of (get_or d j 0))) where
+  some_is : is_some o ≡ ltb (digit_of (get_or d j 0)) 16
+  some_is = ap is_some p ∙ split (ltb (digit_of (get_or d j 0)) 16) (λ t. rw t refl) (λ t. rw t refl)
 
-  pub one_more : v < 16 → no_digit d j ≡ false
-  one_more l = ap not (lt-ltb (digit_of (get_or d j 0)) 16 (omega arith))
+  pub not_all : j < n → is_some o ≡ false → false ≡ all_digits n d
+  not_all h e = sym (every_not n (λ j. ltb (digit_of (get_or d j 0)) 16) j h (sym some_is ∙ e))
+
+  pub one_more : is_some o ≡ true → no_digit d j ≡ false
+  one_more e = ap not (sym some_is ∙ e)
 
 pub all_are : (n : ℕ) (d : List ℕ) {j : ℕ} → Passed (no_digit d) n j → n ≤ j → true ≡ all_digits n d
 all_are n d v h = sym (every_is n (λ j. ltb (digit_of (get_or d j 0)) 16) (λ j l. not-false (ltb (digit_of (get_or d j 0)) 16) (v.none j (omega arith))))
@@ -107,6 +115,14 @@ digit_small n d e j h = ltb-true (digit_of (get_or d j 0)) 16 (every_at n (λ j.
 -- so are fewer
 pub fewer : (m n : ℕ) (d : List ℕ) → m ≤ n → all_digits n d ≡ true → all_digits m d ≡ true
 fewer m n d h e = every_is m (λ j. ltb (digit_of (get_or d j 0)) 16) (λ j l. every_at n (λ j. ltb (digit_of (get_or d j 0)) 16) e j (omega arith))
+
+-- a digit that is there is unwrapped
+pub there : (first : ℕ) (d : List ℕ) → first ≤ 8 → all_digits (2 * first + 16) d ≡ true
+    → {j : ℕ} → j < 2 * first + 16 → {o : Option ℕ} → o ≡ if_under 16 (digit_of (get_or d j 0)) → IsSome o
+there first d h e {j} l {o} p = rw (p, lt-ltb (digit_of (get_or d j 0)) 16 (digit_small (2 * first + 16) d e j l)) refl
+
+pub is_digit : {n v : ℕ} {o : Option ℕ} → o ≡ if_under 16 n → o ≡ Some v → v ≡ n
+is_digit {n} {v} p q = below_is 16 n (sym q ∙ p)
 
 -- ---- their number
 
@@ -175,39 +191,26 @@ which_count n e = split (eqb n 16) (λ t. inl (eqb-true n 16 t)) (λ t. inr (eqb
 pub few_digits : (n : ℕ) → is_count n ≡ true → n ≤ 32
 few_digits n c = ⊎_elim (λ (x : n ≡ 16). omega arith) (λ (x : n ≡ 32). omega arith) (which_count n c)
 
-module _ (s : List ℕ) {r : Gathered} (g : Gathers s r) where
+pub too_many : (s : List ℕ) → 32 < length (unblanked s) → None ≡ hex_in s
+unfolding hex_in
+too_many s h = rw (ne_eqb (length (unblanked s)) 16 (λ e. omega arith), ne_eqb (length (unblanked s)) 32 (λ e. omega arith))
+
+module _ (s : List ℕ) {r : Gathered} (g : KeepsDigits (unblanked s) r) where
   abbrev d : List ℕ
   d = unblanked s
 
-  -- the count is that of the digits, where that makes a number
   same_count : is_count r.count ≡ is_count (length d)
-  same_count = alike _ _
-      (λ e. go (which_count r.count e))
-      (λ e. back (which_count (length d) e))
-    where
-      go : (r.count ≡ 16) ⊎ (r.count ≡ 32) → is_count (length d) ≡ true
-      go (inl e) = let z : length d ≡ 16 = omega (arith, g.many) in rw z refl
-      go (inr e) = let z : length d ≡ 32 = omega (arith, g.many) in rw z refl
+  same_count = ap is_count g.many
 
-      back : (length d ≡ 16) ⊎ (length d ≡ 32) → is_count r.count ≡ true
-      back (inl e) = let z : r.count ≡ 16 = omega (arith, g.many) in rw z refl
-      back (inr e) = let z : r.count ≡ 32 = omega (arith, g.many) in rw z refl
-
-  pub not_count : is_count r.count ≡ false → NotHex ≡ hex_in s
+  pub not_count : is_count r.count ≡ false → None ≡ hex_in s
   unfolding hex_in
   not_count e = rw (sym same_count ∙ e)
 
   module _ (e : is_count r.count ≡ true) {t : Bool} (p : t ≡ all_digits r.count r.bytes) where
-    few : r.count ≤ 32
-    few = few_digits r.count e
-
-    many : r.count ≡ length d
-    many = omega (arith, g.many, few)
-
     asked : t ≡ all_digits (length d) d
-    asked = p ∙ digits_same r.bytes d r.count (g.held few) ∙ ap (λ (n : ℕ). all_digits n d) many
+    asked = p ∙ digits_same r.bytes d r.count g.held ∙ ap (λ (n : ℕ). all_digits n d) g.many
 
-    pub not_digits : t ≡ false → NotHex ≡ hex_in s
+    pub not_digits : t ≡ false → None ≡ hex_in s
     unfolding hex_in
     not_digits y = rw (sym same_count ∙ e, sym asked ∙ y)
 
@@ -215,17 +218,17 @@ module _ (s : List ℕ) {r : Gathered} (g : Gathers s r) where
     said_alike = go (which_count r.count e)
       where
         first : 16 ≤ r.count → hex_number 8 0 r.bytes ≡ hex_number 8 0 d
-        first h = number_same r.bytes d r.count (g.held few) 8 0 h
+        first h = number_same r.bytes d r.count g.held 8 0 h
 
         go : (r.count ≡ 16) ⊎ (r.count ≡ 32) → hex_said r.count r.bytes ≡ hex_said (length d) d
-        go (inl x) = let y : length d ≡ 16 = sym many ∙ x in rw (x, y) (ap Image (first (omega arith)))
+        go (inl x) = let y : length d ≡ 16 = sym g.many ∙ x in rw (x, y) (ap Image (first (omega arith)))
         go (inr x) =
-            let y : length d ≡ 32 = sym many ∙ x in
-            rw (x, y) (ap₂ Asked (first (omega arith)) (number_same r.bytes d r.count (g.held few) 8 8 (omega arith)))
+            let y : length d ≡ 32 = sym g.many ∙ x in
+            rw (x, y) (ap₂ Asked (first (omega arith)) (number_same r.bytes d r.count g.held 8 8 (omega arith)))
 
-    pub all_said : {x : Hex} → t ≡ true → x ≡ hex_said r.count r.bytes → x ≡ hex_in s
+    pub all_said : {x : Hex} → t ≡ true → x ≡ hex_said r.count r.bytes → Some x ≡ hex_in s
     unfolding hex_in
-    all_said {x} y q = rw (sym same_count ∙ e, sym asked ∙ y) (q ∙ said_alike)
+    all_said {x} y q = rw (sym same_count ∙ e, sym asked ∙ y) (ap Some (q ∙ said_alike))
 
 -- what so many digits say, case by case
 module _ (n : ℕ) (d : List ℕ) (c : is_count n ≡ true) where
@@ -246,12 +249,4 @@ module _ (n : ℕ) (d : List ℕ) (c : is_count n ≡ true) where
 
 pub line_is : (r : ℕ) → table 24 (hex_at r) ≡ hex_line 8 r
 unfolding table hex_at hex_line
-line_is r =
-    let e₁ : r / 1 ≡ r = omega arith in
-    let e₂ : r / 256 / 256 ≡ r / 65536 = omega arith in
-    let e₃ : r / 65536 / 256 ≡ r / 16777216 = omega arith in
-    let e₄ : r / 16777216 / 256 ≡ r / 4294967296 = omega arith in
-    let e₅ : r / 4294967296 / 256 ≡ r / 1099511627776 = omega arith in
-    let e₆ : r / 1099511627776 / 256 ≡ r / 281474976710656 = omega arith in
-    let e₇ : r / 281474976710656 / 256 ≡ r / 72057594037927936 = omega arith in
-    simp (e₁, e₂, e₃, e₄, e₅, e₆, e₇)
+line_is r = refl

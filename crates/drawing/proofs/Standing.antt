@@ -4,7 +4,7 @@ use mathlib.Core.Bool.{Bool, true, false, not, ◌&&◌}
 use mathlib.Core.List.{List}
 use Prim.Native.Nat.{ℕ, ◌+◌, ◌≤◌, ◌<◌}
 use native.Mathlib.Omega.{arith}
-use lib.Dec.{eqb, ltb}
+use lib.Dec.{eqb}
 use lib.ListN.{length, get_or, drop}
 use lib.Seq.{get_or-drop}
 use borrow.Author.Tests.{not-true, not-false, lt-ltb, le-ltb}
@@ -12,9 +12,15 @@ use Rattle.bits.specs.Search.{every}
 use Rattle.bits.proofs.Cases.{passed, failed}
 use Rattle.bits.proofs.Search.{every_is}
 use Rattle.bits.proofs.Least.{Passed, turn, every_not}
+use Rattle.std.specs.declared.option.Option.TheVariants.{Some, None}
+use Rattle.std.specs.declared.result.Result.{Result}
+use Rattle.std.specs.declared.result.Result.TheVariants.{Ok, Err}
+use Rattle.drawing.specs.declared.Unread.{Unread}
+use Rattle.drawing.specs.declared.Unread.TheVariants.{BadLine}
 use Rattle.drawing.specs.declared.Lift.{Lift}
 use Rattle.drawing.specs.Reading.{is_mark, is_letter}
-use Rattle.drawing.specs.Private.{words_of, stands, bad_at_end, bad_at}
+use Rattle.drawing.specs.Private.{words_of, stands, lift_line_told, bad_at_end, bad_at, lines_told}
+use Rattle.drawing.proofs.Told.{told_is, is_told_lem, not_told}
 
 -- ---- n bytes that pass a test, and a line feed
 
@@ -72,44 +78,50 @@ three_stand good s at {b₀} {b₁} {b₂} {b₃} {t₀} {t₁} {t₂} p q r u v
 -- ---- the first bad line, test by test as the code makes them
 
 module _ (w : Bool) (s : List ℕ) (lift : Lift) where
-  pub bad_lift : ltb lift.height 3 && ltb lift.drive 3 ≡ false → 5 ≡ bad_at_end w s lift
+  pub bad_lift : None ≡ lift_line_told lift → Err (BadLine 5) ≡ lines_told lift (bad_at_end w s lift)
   unfolding bad_at_end
-  bad_lift e = rw e
+  bad_lift e = rw (not_told lift e)
 
-  module _ (e : ltb lift.height 3 && ltb lift.drive 3 ≡ true) {n : ℕ} (p : n ≡ length (words_of w lift)) where
-    pub bad_past : 51 + n < length s → 6 ≡ bad_at_end w s lift
-    unfolding bad_at_end
-    bad_past l = rw (e, lt-ltb (51 + length (words_of w lift)) (length s) (omega arith))
+  module _ {l : Lift} (e : Some l ≡ lift_line_told lift) {n : ℕ} (p : n ≡ length (words_of w l)) where
+    size_is : n ≡ length (words_of w lift)
+    size_is = p ∙ ap (λ (x : Lift). length (words_of w x)) (told_is lift e)
 
-    pub none_bad : length s ≤ 51 + n → 7 ≡ bad_at_end w s lift
+    pub bad_past : 51 + n < length s → Err (BadLine 6) ≡ lines_told lift (bad_at_end w s lift)
     unfolding bad_at_end
-    none_bad l = rw (e, le-ltb (51 + length (words_of w lift)) (length s) (omega arith))
+    bad_past h = rw (is_told_lem lift e, lt-ltb (51 + length (words_of w lift)) (length s) (omega (arith, size_is)))
+
+    pub none_bad : length s ≤ 51 + n → Ok l ≡ lines_told lift (bad_at_end w s lift)
+    unfolding bad_at_end
+    none_bad h = rw (is_told_lem lift e, le-ltb (51 + length (words_of w lift)) (length s) (omega (arith, size_is))) (ap Ok (told_is lift e))
+
+  abbrev told : Result Lift Unread
+  told = lines_told lift (bad_at w s lift)
 
   module _ {a : Bool} (p : a ≡ stands 20 (is_mark w) s) where
-    pub bad_0 : not a ≡ true → 0 ≡ bad_at w s lift
+    pub bad_0 : not a ≡ true → Err (BadLine 0) ≡ told
     unfolding bad_at
     bad_0 e = rw (failed p e)
 
     module _ (x : not a ≡ false) {b : Bool} (q : b ≡ stands 10 (is_mark w) (drop 21 s)) where
-      pub bad_1 : not b ≡ true → 1 ≡ bad_at w s lift
+      pub bad_1 : not b ≡ true → Err (BadLine 1) ≡ told
       unfolding bad_at
       bad_1 e = rw (passed p x, failed q e)
 
       module _ (y : not b ≡ false) {c : Bool} (r : c ≡ stands 10 (is_mark w) (drop 32 s)) where
-        pub bad_2 : not c ≡ true → 2 ≡ bad_at w s lift
+        pub bad_2 : not c ≡ true → Err (BadLine 2) ≡ told
         unfolding bad_at
         bad_2 e = rw (passed p x, passed q y, failed r e)
 
         module _ (z : not c ≡ false) {d : Bool} (t : d ≡ stands 3 is_letter (drop 43 s)) where
-          pub bad_3 : not d ≡ true → 3 ≡ bad_at w s lift
+          pub bad_3 : not d ≡ true → Err (BadLine 3) ≡ told
           unfolding bad_at
           bad_3 e = rw (passed p x, passed q y, passed r z, failed t e)
 
           module _ (u : not d ≡ false) {f : Bool} (v : f ≡ stands 3 is_letter (drop 47 s)) where
-            pub bad_4 : not f ≡ true → 4 ≡ bad_at w s lift
+            pub bad_4 : not f ≡ true → Err (BadLine 4) ≡ told
             unfolding bad_at
             bad_4 e = rw (passed p x, passed q y, passed r z, passed t u, failed v e)
 
-            pub bad_later : not f ≡ false → bad_at_end w s lift ≡ bad_at w s lift
+            pub bad_later : not f ≡ false → lines_told lift (bad_at_end w s lift) ≡ told
             unfolding bad_at
             bad_later e = rw (passed p x, passed q y, passed r z, passed t u, passed v e)

@@ -6,7 +6,10 @@ use Rattle.bits.specs.Places.{from, join}
 use Rattle.floor.specs.Floor.{row_cells, left, right, lowered, tilted, slot, raised_car, height_low, height_high, street, rotation, drive_in, drive_out}
 use Rattle.floor.specs.Sound.{sound}
 use Rattle.codec.specs.Text.{ascii}
-use Rattle.drawing.specs.declared.Written.{Written}
+use Rattle.std.specs.declared.result.Result.{Result}
+use Rattle.std.specs.declared.result.Result.TheVariants.{Ok, Err}
+use Rattle.drawing.specs.declared.Unwritten.{Unwritten}
+use Rattle.drawing.specs.declared.Unwritten.TheVariants.{HasNone, NoRoom}
 
 -- ---- the lines
 
@@ -86,24 +89,24 @@ has_drawing w r = cond w (ltb r (2 ^ 53)) (sound r)
 
 -- ---- a number written as its drawing
 
--- what a call that writes says, and what it leaves in the room
+-- what a call that writes says, how many bytes or why none, and what it leaves in the room
 pub record DrawingWriting : Type 0 where
-  pub says : Written
+  pub says : Result ℕ Unwritten
   pub leaves : List ℕ
 
 -- what it says is said, and what it leaves is left
-abbrev pub LeavesDrawing : DrawingWriting → Written → List ℕ → Type 0
+abbrev pub LeavesDrawing : DrawingWriting → Result ℕ Unwritten → List ℕ → Type 0
 LeavesDrawing w r room = (r ≡ w.says) × (room ≡ w.leaves)
 
 -- refused, and nothing written
-abbrev pub unwritten : ℕ → List ℕ → DrawingWriting
-unwritten number room = record { says = record { number = number; size = 0 }; leaves = room }
+abbrev pub unwritten : Unwritten → List ℕ → DrawingWriting
+unwritten why room = record { says = Err why; leaves = room }
 
--- 15 for a number that has none; then 17 exactly if the room is shorter than the text; bytes past the text keep their values
+-- a number that has none first; then exactly if the room is shorter than the text there is no room; bytes past the text keep their values
 unfoldable pub writing_drawing : Bool → ℕ → List ℕ → DrawingWriting
 writing_drawing w r room =
     let text = drawn w (bit r) in
     cond (has_drawing w r)
-    (cond (ltb (length room) (length text)) (unwritten 17 room)
-    (record { says = record { number = 0; size = length text }; leaves = text ++ drop (length text) room }))
-    (unwritten 15 room)
+    (cond (ltb (length room) (length text)) (unwritten NoRoom room)
+    (record { says = Ok (length text); leaves = text ++ drop (length text) room }))
+    (unwritten HasNone room)

@@ -2,8 +2,10 @@
 -- returns them: the record's, then those of what is set apart. Assumes nothing.
 use Rattle.std.specs.Prelude.{Bool, cond, ◌&&◌, ◌||◌, List, [], ◌∷◌, ◌++◌, ℕ, zero, suc, ◌+◌, ◌*◌, ◌-◌, ◌/◌, ◌%◌, eqb, ltb, leb, length, get_or}
 use Rattle.bits.specs.Search.{every}
+use Rattle.std.specs.declared.option.Option.{Option}
+use Rattle.std.specs.declared.option.Option.TheVariants.{Some, None}
 use Rattle.drawing.specs.declared.Hex.{Hex}
-use Rattle.drawing.specs.declared.Hex.TheVariants.{Image, Asked, NotHex}
+use Rattle.drawing.specs.declared.Hex.TheVariants.{Image, Asked}
 
 -- the value of a digit, small letters or large ones; 16 where it is none
 abbrev pub digit_of : ℕ → ℕ
@@ -39,11 +41,11 @@ abbrev pub hex_said : ℕ → List ℕ → Hex
 hex_said n d = cond (eqb n 16) (Image (hex_number 8 0 d)) (Asked (hex_number 8 0 d) (hex_number 8 8 d))
 
 -- what a text says: so many digits, with blanks anywhere
-unfoldable pub hex_in : List ℕ → Hex
+unfoldable pub hex_in : List ℕ → Option Hex
 hex_in s =
     let d = unblanked s in
     let n = length d in
-    cond (is_count n && all_digits n d) (hex_said n d) NotHex
+    cond (is_count n && all_digits n d) (Some (hex_said n d)) None
 
 -- the digit of a value, in large letters
 abbrev pub hex_digit : ℕ → ℕ

@@ -1,14 +1,25 @@
 -- What the contracts of private functions cite: the grid, a text at its fixed places, and the digits of an image. No public one rests on it.
 -- Assumes nothing.
-use Rattle.std.specs.Prelude.{◌≡◌, Bool, true, false, cond, ◌&&◌, ◌||◌, List, [], ◌∷◌, ◌++◌, ℕ, zero, suc, ◌+◌, ◌*◌, ◌-◌, ◌/◌, ◌%◌, ◌^◌, ◌≤◌, ◌<◌, min, eqb, ltb, length, get_or, drop}
+use Rattle.std.specs.Prelude.{◌≡◌, Bool, true, false, cond, ◌&&◌, ◌||◌, List, [], ◌∷◌, ◌++◌, ℕ, zero, suc, ◌+◌, ◌*◌, ◌-◌, ◌/◌, ◌%◌, ◌≤◌, ◌<◌, eqb, ltb, length, get_or, drop}
 use Rattle.bits.specs.Bits.{Bits, bit}
 use Rattle.bits.specs.Search.{every}
+use Rattle.codec.specs.Bytes.{little_endian}
 use Rattle.floor.specs.Floor.{raised_car, height_low, height_high, drive_in, drive_out}
+use Rattle.std.specs.declared.option.Option.{Option}
+use Rattle.std.specs.declared.option.Option.TheVariants.{Some, None}
+use Rattle.std.specs.declared.result.Result.{Result}
+use Rattle.std.specs.declared.result.Result.TheVariants.{Ok, Err}
+use Rattle.drawing.specs.declared.Unread.{Unread}
+use Rattle.drawing.specs.declared.Unread.TheVariants.{BadLine}
 use Rattle.drawing.specs.declared.Lift.{Lift}
 use Rattle.drawing.specs.declared.Gathered.{Gathered}
 use Rattle.drawing.specs.Drawing.{mark, letter, line_feed, ended_line, height_name, car_word, drive_word, drawn_height, drive_of, lift_words, apart_words}
 use Rattle.drawing.specs.Reading.{begins, text_after, height_told, car_told, is_mark, is_letter}
 use Rattle.drawing.specs.Hex.{unblanked, hex_digit}
+
+-- a number that is below m, else none
+abbrev pub if_under : ℕ → ℕ → Option ℕ
+if_under m n = cond (ltb n m) (Some n) None
 
 -- the list f 0, f 1, .. of n elements
 unfoldable pub table : {A : Type 0} → ℕ → (ℕ → A) → List A
@@ -109,9 +120,16 @@ apart_told s =
 unfoldable pub last_told : Bool → List ℕ → Lift
 last_told w s = cond w (apart_told s) (lift_told s)
 
+-- what a last line tells, where it is of its form
+abbrev pub is_told : Lift → Bool
+is_told lift = ltb lift.height 3 && ltb lift.drive 3
+
+abbrev pub lift_line_told : Lift → Option Lift
+lift_line_told lift = cond (is_told lift) (Some lift) None
+
 -- the first bad line, where the last tells this of the lift: of the last two, and of all
 unfoldable pub bad_at_end : Bool → List ℕ → Lift → ℕ
-bad_at_end w s lift = cond (ltb lift.height 3 && ltb lift.drive 3) (cond (ltb (51 + length (words_of w lift)) (length s)) 6 7) 5
+bad_at_end w s lift = cond (is_told lift) (cond (ltb (51 + length (words_of w lift)) (length s)) 6 7) 5
 
 unfoldable pub bad_at : Bool → List ℕ → Lift → ℕ
 bad_at w s lift =
@@ -122,6 +140,10 @@ bad_at w s lift =
     (cond (stands 3 is_letter (drop 47 s))
     (bad_at_end w s lift)
     4) 3) 2) 1) 0
+
+-- what the lines tell: line n is the first bad one, or, past the last, this of the lift
+abbrev pub lines_told : Lift → ℕ → Result Lift Unread
+lines_told lift n = cond (ltb n 7) (Err (BadLine n)) (Ok lift)
 
 -- slot n of twelve
 unfoldable pub slot_read : List ℕ → Bits
@@ -148,10 +170,15 @@ bits_at w g s lift k = cond (ltb k 40) (occupied w g k) (cond (ltb k 52) (slot_r
 -- byte t of an image's line
 unfoldable pub hex_at : ℕ → ℕ → ℕ
 hex_at r t =
-    let b = r / 2 ^ (8 * (t / 3)) % 256 in
+    let b = get_or (little_endian 8 r) (t / 3) 0 in
     cond (eqb (t % 3) 0) (hex_digit (b / 16)) (cond (eqb (t % 3) 1) (hex_digit (b % 16)) (cond (eqb t 23) line_feed 32))
 
--- what is gathered of a text: how many bytes are no blanks, up to 33, and, where they are no more than 32, these
-pub record Gathers (s : List ℕ) (r : Gathered) : Type 0 where
-  pub many : r.count ≡ min 33 (length (unblanked s))
-  pub held : r.count ≤ 32 → (j : ℕ) → j < r.count → get_or r.bytes j 0 ≡ get_or (unblanked s) j 0
+-- what is gathered of a text: its bytes that are no blanks, where they are no more than 32
+pub record KeepsDigits (d : List ℕ) (r : Gathered) : Type 0 where
+  pub many : r.count ≡ length d
+  pub few : r.count ≤ 32
+  pub held : (j : ℕ) → j < r.count → get_or r.bytes j 0 ≡ get_or d j 0
+
+abbrev pub Gathers : List ℕ → Option Gathered → Type 0
+Gathers s None = 32 < length (unblanked s)
+Gathers s (Some r) = KeepsDigits (unblanked s) r

@@ -5,7 +5,10 @@ use Rattle.bits.specs.Bits.{Bits, bit, image}
 use Rattle.bits.specs.Search.{every, least}
 use Rattle.floor.specs.Floor as floor
 use Rattle.floor.specs.Floor.{raised_car, height_low, height_high}
-use Rattle.drawing.specs.declared.Found.{Found}
+use Rattle.std.specs.declared.result.Result.{Result}
+use Rattle.std.specs.declared.result.Result.TheVariants.{Ok, Err}
+use Rattle.drawing.specs.declared.Unread.{Unread}
+use Rattle.drawing.specs.declared.Unread.TheVariants.{BadLine, Unsound}
 use Rattle.drawing.specs.Drawing.{mark, letter, line_feed, ended_line, height_name, car_word, drive_word, apart_words, has_drawing}
 
 -- ---- lines
@@ -129,13 +132,9 @@ bits_in w s k = cond (ltb k 40) (cell_in w s k) (cond (ltb k 52) (slot_in s (k -
 
 -- ---- a drawing read
 
--- refused
-abbrev pub unread : ℕ → ℕ → Found
-unread number place = record { number = number; place = place; bits = 0 }
-
--- 41 with the first bad line where the text isn't of this form; then 15 where the number that it draws has no drawing
-unfoldable pub reading : Bool → List ℕ → Found
+-- the first bad line where the text isn't of this form; then it is unsound where the number that it draws has no drawing
+unfoldable pub reading : Bool → List ℕ → Result ℕ Unread
 reading w s =
     let r = image (bits_in w s) in
-    cond (ltb (first_bad w s) 7) (unread 41 (first_bad w s))
-    (cond (has_drawing w r) (record { number = 0; place = 255; bits = r }) (unread 15 255))
+    cond (ltb (first_bad w s) 7) (Err (BadLine (first_bad w s)))
+    (cond (has_drawing w r) (Ok r) (Err Unsound))

@@ -58,19 +58,16 @@ fn mark_in(text: &[u8], k: usize) -> u8
     }
 }
 
+// Kept: two like loops. Tried as one array::from_fn in another over the mark: what the inner one asks at each turn was not proved.
 // The grid of a number.
 pub fn grid_of(apart: bool, image: u64) -> [[u8; 20]; 3]
     ensures { result ≡ grid (cell_mark apart (bit image)) }
 {
     let mut g = [[0u8; 20]; 3];
-    let mut i: usize = 0;
-    while i < 3 {
-        let mut j: usize = 0;
-        while j < 20 {
+    for i in 0..3 {
+        for j in 0..20 {
             g[i][j] = mark(apart, image, cell(i, j));
-            j += 1;
         }
-        i += 1;
     }
     g
 }
@@ -80,14 +77,10 @@ pub fn grid_in(text: &[u8]) -> [[u8; 20]; 3]
     ensures { result ≡ grid (mark_in text.now) }
 {
     let mut g = [[0u8; 20]; 3];
-    let mut i: usize = 0;
-    while i < 3 {
-        let mut j: usize = 0;
-        while j < 20 {
+    for i in 0..3 {
+        for j in 0..20 {
             g[i][j] = mark_in(text, cell(i, j));
-            j += 1;
         }
-        i += 1;
     }
     g
 }
@@ -118,8 +111,6 @@ fn place_of(k: usize) -> usize
 pub fn marked(apart: bool, g: [[u8; 20]; 3], k: usize) -> bool
     ensures { result ≡ occupied apart g k }
 {
-    let i = row_of(k);
-    let j = place_of(k);
     let mark = occupied(apart);
-    g[i][j] == mark
+    g[row_of(k)][place_of(k)] == mark
 }

@@ -1,13 +1,14 @@
 // The floor on paper: a record as a drawing of six lines, and a drawing read; what is set apart likewise, in a second one; and an image in
 // hex. What these are stands in specs/. `apart` says that the number is what is set apart.
+// Kept: `apart` is a bool in each function, as in writing_drawing, reading and every theorem over them.
 #![tactic(auto)]
 
 ghost use Rattle.std.specs.Prelude.{◌≡◌, ◌++◌, ◌+◌, ◌≤◌, ◌<◌, length, get_or, drop, true};
 ghost use Rattle.bits.specs.Bits.{bit, image};
 ghost use Rattle.drawing.specs.Drawing.{letter, LeavesDrawing, has_drawing, writing_drawing};
-ghost use Rattle.drawing.specs.Reading.{is_mark, is_letter, unread, reading};
+ghost use Rattle.drawing.specs.Reading.{is_mark, is_letter, reading};
 ghost use Rattle.drawing.specs.Hex.{all_digits, is_count, hex_said, hex_in, hex_line};
-ghost use Rattle.drawing.specs.Private.{table, grid, cell_mark, upper_at, drawn_at, stands, bad_at_end, bad_at, slot_read, bits_at};
+ghost use Rattle.drawing.specs.Private.{table, grid, cell_mark, upper_at, drawn_at, stands, last_told, bad_at_end, bad_at, lines_told, slot_read, bits_at};
 
 use floor::masks::{FIRST_SLOT, RAISED};
 
@@ -18,31 +19,29 @@ mod lift_line;
 use grid::{FREE, occupied};
 use lift_line::LIFT_LINE;
 
-// What writing says: 0 and how many bytes the drawing takes, or the number that refuses it.
+// Why a number is not written: it has no drawing, or that doesn't fit the room.
 #[derive(Clone, Copy)]
-pub struct Written {
-    pub number: u8,
-    pub size: u8,
+pub enum Unwritten {
+    HasNone,
+    NoRoom,
 }
 
-// What reading says: 0 and the number that is drawn, or the number that refuses it; and the first bad line, or 255.
+// Why a text is not read: its first bad line, from 0, or 6 for text past the last; or the number that it draws has no drawing.
 #[derive(Clone, Copy)]
-pub struct Found {
-    pub number: u8,
-    pub place: u8,
-    pub bits: u64,
+pub enum Unread {
+    BadLine(u8),
+    Unsound,
 }
 
-// What a text in hex says: a record; a record and what is set apart, as an ask returns them; or neither.
+// What a text in hex says: a record, or a record and what is set apart, as an ask returns them.
 #[derive(Clone, Copy)]
 pub enum Hex {
     Image(u64),
     Asked(u64, u64),
-    NotHex,
 }
 
-// What is told in the last line of the lift: its height, whether a car is on it, and the drive that is under way, 1 in, 2 out. Read from a text, 3 stands for
-// a height or a drive that is none.
+// Kept: the height and the drive are numbers, as in height_name, drive_word and drive_of, which the last line is written and read by.
+// What is told in the last line of the lift: its height, whether a car is on it, and the drive that is under way, 1 in, 2 out.
 #[derive(Clone, Copy)]
 struct Lift {
     height: u8,
@@ -50,22 +49,22 @@ struct Lift {
     drive: u8,
 }
 
-// The bytes of a text that are no blanks, up to 32, and how many they are; 33 where there are more.
+// A drawing, of a number or in a text: whether it is of what is set apart, its floor as a grid, and what its last line tells.
+#[derive(Clone, Copy)]
+struct Sheet {
+    apart: bool,
+    g: [[u8; 20]; 3],
+    lift: Lift,
+}
+
+// The bytes of a text that are no blanks, where they are no more than 32, and how many.
 #[derive(Clone, Copy)]
 struct Gathered {
     count: usize,
     bytes: [u8; 32],
 }
 
-// The numbers that refuse, the place that stands for none, and the byte that ends a line.
-const UNSOUND: u8 = 15;
-
-const NO_ROOM: u8 = 17;
-
-const BAD_LINE: u8 = 41;
-
-const NOWHERE: u8 = 255;
-
+// The byte that ends a line.
 const LINE_FEED: u8 = b'\n';
 
 // What is set apart is less: a bit for each cell and slot, and one for the lift.
@@ -124,13 +123,13 @@ fn upper_byte(g: [[u8; 20]; 3], image: u64, t: usize) -> u8
 }
 
 // A byte of the drawing.
-fn drawn_byte(apart: bool, g: [[u8; 20]; 3], image: u64, lift: Lift, t: usize) -> u8
-    ensures { result ≡ drawn_at apart g (bit image) lift t }
+fn drawn_byte(sheet: &Sheet, image: u64, t: usize) -> u8
+    ensures { result ≡ drawn_at sheet.now.apart sheet.now.g (bit image) sheet.now.lift t }
 {
     if t < LIFT_LINE {
-        return upper_byte(g, image, t);
+        return upper_byte(sheet.g, image, t);
     }
-    lift_line::last_byte(apart, lift, t - LIFT_LINE)
+    lift_line::last_byte(sheet.apart, sheet.lift, t - LIFT_LINE)
 }
 
 // Writes the first so many bytes of the drawing to the start of the room.
@@ -139,18 +138,10 @@ fn put(apart: bool, image: u64, lift: Lift, size: usize, room: &mut [u8])
     ensures { room.new ≡ table size (drawn_at apart (grid (cell_mark apart (bit image))) (bit image) lift) ++ drop size room.old }
 {
     let g = grid::grid_of(apart, image);
-    let mut t: usize = 0;
-    while t < size {
-        room[t] = drawn_byte(apart, g, image, lift, t);
-        t += 1;
+    let sheet = Sheet { apart, g, lift };
+    for t in 0..size {
+        room[t] = drawn_byte(&sheet, image, t);
     }
-}
-
-// Nothing is written.
-fn unwritten(number: u8) -> Written
-    ensures { result ≡ record { number = number; size = 0 } }
-{
-    Written { number, size: 0 }
 }
 
 // A number has a drawing: a record that is sound, or some of the 53 parts.
@@ -163,23 +154,20 @@ fn has_drawing(apart: bool, image: u64) -> bool
     floor::sound(image)
 }
 
-// Writes the drawing of a number to the start of the room: 15 for one that has none, then 17 where it doesn't fit.
-pub fn write(apart: bool, image: u64, room: &mut [u8]) -> Written
+// Writes the drawing of a number to the start of the room, and returns how many bytes it takes.
+pub fn write(apart: bool, image: u64, room: &mut [u8]) -> Result<u8, Unwritten>
     ensures { LeavesDrawing (writing_drawing apart image room.old) result room.new }
 {
     if !has_drawing(apart, image) {
-        return unwritten(UNSOUND);
+        return Err(Unwritten::HasNone);
     }
     let lift = lift_line::last_of(apart, image);
     let size = LIFT_LINE + lift_line::last_size(apart, lift);
     if room.len() < size {
-        return unwritten(NO_ROOM);
+        return Err(Unwritten::NoRoom);
     }
     put(apart, image, lift, size, room);
-    Written {
-        number: 0,
-        size: size as u8,
-    }
+    Ok(size as u8)
 }
 
 // ---- a drawing read
@@ -194,7 +182,7 @@ fn is_mark(apart: bool, b: u8) -> bool
 fn is_letter(b: u8) -> bool
     ensures { result ≡ is_letter b }
 {
-    (b == b'B') | (b == b'L') | (b == b'T') | (b == b'-')
+    matches!(b, b'B' | b'L' | b'T' | b'-')
 }
 
 // A line of n marks stands in the text from a place on.
@@ -202,12 +190,10 @@ fn marks_stand(apart: bool, text: &[u8], at: usize, n: usize) -> bool
     requires { (at ≤ 64) × (n ≤ 64) }
     ensures { result ≡ stands n (is_mark apart) (drop at text.now) }
 {
-    let mut i: usize = 0;
-    while i < n {
+    for i in 0..n {
         if !is_mark(apart, byte(text, at + i)) {
             return false;
         }
-        i += 1;
     }
     byte(text, at + n) == LINE_FEED
 }
@@ -223,39 +209,39 @@ fn letters_stand(text: &[u8], at: usize) -> bool
     first & second & third & (byte(text, at + 3) == LINE_FEED)
 }
 
-// The first bad line of the last two, or 7: text that follows the last counts as one.
-fn bad_at_end(apart: bool, text: &[u8], lift: Lift) -> u8
-    ensures { result ≡ bad_at_end apart text.now lift }
+// What the last line tells of the lift, or the first bad line of the last two: text that follows the last counts as one.
+fn bad_at_end(apart: bool, text: &[u8]) -> Result<Lift, Unread>
+    ensures { result ≡ lines_told (last_told apart (drop 51 text.now)) (bad_at_end apart text.now (last_told apart (drop 51 text.now))) }
 {
-    if (lift.height < 3) & (lift.drive < 3) {
-        if LIFT_LINE + lift_line::last_size(apart, lift) < text.len() {
-            return 6;
-        }
-        return 7;
+    let Some(lift) = lift_line::last_in(apart, text) else {
+        return Err(Unread::BadLine(5));
+    };
+    if LIFT_LINE + lift_line::last_size(apart, lift) < text.len() {
+        return Err(Unread::BadLine(6));
     }
-    5
+    Ok(lift)
 }
 
-// The first bad line of all: where a line begins is known, since those before it have their lengths.
-fn first_bad(apart: bool, text: &[u8], lift: Lift) -> u8
-    ensures { result ≡ bad_at apart text.now lift }
+// The same, or the first bad line of all: where a line begins is known, since those before it have their lengths.
+fn first_bad(apart: bool, text: &[u8]) -> Result<Lift, Unread>
+    ensures { result ≡ lines_told (last_told apart (drop 51 text.now)) (bad_at apart text.now (last_told apart (drop 51 text.now))) }
 {
     if !marks_stand(apart, text, 0, 20) {
-        return 0;
+        return Err(Unread::BadLine(0));
     }
     if !marks_stand(apart, text, 21, 10) {
-        return 1;
+        return Err(Unread::BadLine(1));
     }
     if !marks_stand(apart, text, 32, 10) {
-        return 2;
+        return Err(Unread::BadLine(2));
     }
     if !letters_stand(text, 43) {
-        return 3;
+        return Err(Unread::BadLine(3));
     }
     if !letters_stand(text, 47) {
-        return 4;
+        return Err(Unread::BadLine(4));
     }
-    bad_at_end(apart, text, lift)
+    bad_at_end(apart, text)
 }
 
 // Slot n of twelve is drawn: the first six are lowered, the others tilted; of each six three are the left side's.
@@ -265,68 +251,47 @@ fn slot_in(text: &[u8], n: usize) -> bool
 {
     let b = byte(text, 43 + 4 * (n / 3 % 2) + n % 3);
     if n < 6 {
-        return (b == b'B') | (b == b'L');
+        return matches!(b, b'B' | b'L');
     }
-    (b == b'B') | (b == b'T')
+    matches!(b, b'B' | b'T')
 }
 
 // A bit of the number that is drawn.
-fn bit_in(apart: bool, g: [[u8; 20]; 3], text: &[u8], lift: Lift, k: u64) -> bool
-    ensures { result ≡ bits_at apart g text.now lift k }
+fn bit_in(sheet: &Sheet, text: &[u8], k: u64) -> bool
+    ensures { result ≡ bits_at sheet.now.apart sheet.now.g text.now sheet.now.lift k }
 {
     if k < FIRST_SLOT as u64 {
-        return grid::marked(apart, g, k as usize);
+        return grid::marked(sheet.apart, sheet.g, k as usize);
     }
     if k < RAISED {
         return slot_in(text, k as usize - FIRST_SLOT as usize);
     }
-    lift_line::lift_bit(lift, k)
+    lift_line::lift_bit(sheet.lift, k)
 }
 
 // All of them.
-fn image_in(apart: bool, g: [[u8; 20]; 3], text: &[u8], lift: Lift) -> u64
-    ensures { result ≡ image (bits_at apart g text.now lift) }
+fn image_in(sheet: &Sheet, text: &[u8]) -> u64
+    ensures { result ≡ image (bits_at sheet.now.apart sheet.now.g text.now sheet.now.lift) }
 {
     let mut acc: u64 = 0;
-    let mut k: u64 = 64;
-    while 0 < k {
-        k -= 1;
-        let b = bit_in(apart, g, text, lift, k) as u64;
+    for k in (0..64).rev() {
+        let b = bit_in(sheet, text, k) as u64;
         acc = acc * 2 + b;
     }
     acc
 }
 
-// Nothing is read.
-fn unread(number: u8, place: u8) -> Found
-    ensures { result ≡ unread number place }
-{
-    Found {
-        number,
-        place,
-        bits: 0,
-    }
-}
-
-// Reads a drawing: 41 with the first bad line where it isn't of this form, then 15 where its number has none.
-pub fn read(apart: bool, text: &[u8]) -> Found
+// Reads a drawing: the number that it shows, which has a drawing.
+pub fn read(apart: bool, text: &[u8]) -> Result<u64, Unread>
     ensures { result ≡ reading apart text.now }
 {
-    let lift = lift_line::last_in(apart, text);
-    let bad = first_bad(apart, text, lift);
-    if bad < 7 {
-        return unread(BAD_LINE, bad);
-    }
+    let lift = first_bad(apart, text)?;
     let g = grid::grid_in(text);
-    let bits = image_in(apart, g, text, lift);
+    let bits = image_in(&Sheet { apart, g, lift }, text);
     if has_drawing(apart, bits) {
-        return Found {
-            number: 0,
-            place: NOWHERE,
-            bits,
-        };
+        return Ok(bits);
     }
-    unread(UNSOUND, NOWHERE)
+    Err(Unread::Unsound)
 }
 
 // ---- an image in hex
@@ -336,10 +301,8 @@ pub fn hex_line(image: u64) -> [u8; 24]
     ensures { result ≡ hex_line 8 image }
 {
     let mut line = [0u8; 24];
-    let mut t: usize = 0;
-    while t < 24 {
+    for t in 0..24 {
         line[t] = digits::line_byte(image, t);
-        t += 1;
     }
     line
 }
@@ -347,34 +310,32 @@ pub fn hex_line(image: u64) -> [u8; 24]
 fn is_count(n: usize) -> bool
     ensures { result ≡ is_count n }
 {
-    (n == 16) | (n == 32)
+    matches!(n, 16 | 32)
 }
 
 // What so many digits say.
-fn said(count: usize, bytes: [u8; 32]) -> Hex
-    requires { (is_count count ≡ true) × (all_digits count bytes ≡ true) }
-    ensures { result ≡ hex_said count bytes }
+fn said(held: &Gathered) -> Hex
+    requires { (is_count held.now.count ≡ true) × (all_digits held.now.count held.now.bytes ≡ true) }
+    ensures { result ≡ hex_said held.now.count held.now.bytes }
 {
-    let record = digits::number_in(0, bytes);
-    if count == 16 {
+    let record = digits::number_in(0, held);
+    if held.count == 16 {
         return Hex::Image(record);
     }
-    let apart = digits::number_in(8, bytes);
+    let apart = digits::number_in(8, held);
     Hex::Asked(record, apart)
 }
 
 // What a text says: sixteen digits or thirty-two, with blanks anywhere.
-pub fn read_hex(text: &[u8]) -> Hex
+pub fn read_hex(text: &[u8]) -> Option<Hex>
     ensures { result ≡ hex_in text.now }
 {
-    let gathered = digits::gather(text);
-    let count = gathered.count;
-    if !is_count(count) {
-        return Hex::NotHex;
+    let held = digits::gather(text)?;
+    if !is_count(held.count) {
+        return None;
     }
-    let bytes = gathered.bytes;
-    if digits::all_digits(count, bytes) {
-        return said(count, bytes);
+    if digits::all_digits(&held) {
+        return Some(said(&held));
     }
-    Hex::NotHex
+    None
 }

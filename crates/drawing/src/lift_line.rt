@@ -4,7 +4,7 @@ ghost use Rattle.std.specs.Prelude.{◌≡◌, ◌≤◌, length, get_or, drop};
 ghost use Rattle.bits.specs.Bits.{bit};
 ghost use Rattle.drawing.specs.Drawing.{ended_line, height_name, car_word, drive_word, drive_of, apart_words};
 ghost use Rattle.drawing.specs.Reading.{begins, height_told};
-ghost use Rattle.drawing.specs.Private.{lift_of, apart_lift, last_shown, lifts_words, words_of, drive_begun, lift_told, apart_told, last_told, lift_bit};
+ghost use Rattle.drawing.specs.Private.{if_under, lift_of, apart_lift, last_shown, lifts_words, words_of, drive_begun, lift_line_told, lift_told, apart_told, last_told, lift_bit};
 
 use super::{Lift, byte};
 use floor::masks::RAISED;
@@ -71,6 +71,7 @@ pub fn last_of(apart: bool, image: u64) -> Lift
     lift_of(image)
 }
 
+// Kept: each length is a number beside its word, since the edits name_size, car_size, end_size and apart_size count a word wrongly.
 // How long the words are.
 fn name_size(height: u8) -> usize
     ensures { result ≡ length (height_name height) }
@@ -181,87 +182,82 @@ pub fn last_byte(apart: bool, lift: Lift, i: usize) -> u8
 
 // ---- read
 
+// Kept: byte by byte, and no slice's method, since the edit begins is a text read past its end.
 // A word stands in the text from a place on.
 fn begins(text: &[u8], at: usize, word: &[u8]) -> bool
     requires { (at ≤ 64) × (length word.now ≤ 8) }
     ensures { result ≡ begins word.now (drop at text.now) }
 {
-    let mut i: usize = 0;
-    while i < word.len() {
+    for i in 0..word.len() {
         if text.len() <= at + i {
             return false;
         }
         if text[at + i] != word[i] {
             return false;
         }
-        i += 1;
     }
     true
 }
 
-// The height that the line begins with, 3 where it is none.
-fn height_in(text: &[u8]) -> u8
-    ensures { result ≡ height_told (drop 51 text.now) }
+// The height that the line begins with.
+fn height_in(text: &[u8]) -> Option<u8>
+    ensures { result ≡ if_under 3 (height_told (drop 51 text.now)) }
 {
     if begins(text, LIFT_LINE, b"street") {
-        return 0;
+        return Some(0);
     }
     if begins(text, LIFT_LINE, b"rotation") {
-        return 1;
+        return Some(1);
     }
     if begins(text, LIFT_LINE, b"basement") {
-        return 2;
+        return Some(2);
     }
-    3
+    None
 }
 
-// The drive with which it goes on and ends, 3 where there is none.
-fn drive_in(text: &[u8], at: usize) -> u8
+// The drive with which it goes on and ends.
+fn drive_in(text: &[u8], at: usize) -> Option<u8>
     requires { at ≤ 64 }
-    ensures { result ≡ drive_begun (drop at text.now) }
+    ensures { result ≡ if_under 3 (drive_begun (drop at text.now)) }
 {
     if begins(text, at, b"\n") {
-        return 0;
+        return Some(0);
     }
     if begins(text, at, b" in\n") {
-        return 1;
+        return Some(1);
     }
     if begins(text, at, b" out\n") {
-        return 2;
+        return Some(2);
     }
-    3
+    None
 }
 
 // What a text tells of the lift.
-fn lift_in(text: &[u8]) -> Lift
-    ensures { result ≡ lift_told (drop 51 text.now) }
+fn lift_in(text: &[u8]) -> Option<Lift>
+    ensures { result ≡ lift_line_told (lift_told (drop 51 text.now)) }
 {
-    let height = height_in(text);
+    let height = height_in(text)?;
     let name = LIFT_LINE + name_size(height);
     let car = begins(text, name, b" car");
-    let drive = drive_in(text, name + car_size(car));
-    Lift { height, car, drive }
+    let drive = drive_in(text, name + car_size(car))?;
+    Some(Lift { height, car, drive })
 }
 
-// Whether it tells that the lift is set apart; the height is 3 where the line tells neither.
-fn apart_in(text: &[u8]) -> Lift
-    ensures { result ≡ apart_told (drop 51 text.now) }
+// Whether it tells that the lift is set apart, where it tells either.
+fn apart_in(text: &[u8]) -> Option<Lift>
+    ensures { result ≡ lift_line_told (apart_told (drop 51 text.now)) }
 {
     let car = begins(text, LIFT_LINE, b"lift\n");
     let none = begins(text, LIFT_LINE, b"-\n");
     if car | none {
-        return apart_lift(car);
+        return Some(apart_lift(car));
     }
-    Lift {
-        height: 3,
-        car,
-        drive: 0,
-    }
+    None
 }
 
 // What it tells in its last line.
-pub fn last_in(apart: bool, text: &[u8]) -> Lift
-    ensures { result ≡ last_told apart (drop 51 text.now) }
+pub fn last_in(apart: bool, text: &[u8]) -> Option<Lift>
+    ensures { result ≡ lift_line_told (last_told apart (drop 51 text.now)) }
 {
     if apart {
         return apart_in(text);

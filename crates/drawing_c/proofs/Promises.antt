@@ -10,17 +10,19 @@ use lib.ListN.{length}
 use borrow.Author.Tests.{ltb-true, le-ltb, ne_eqb}
 use Rattle.bits.specs.Bits.{bit, image}
 use Rattle.bits.proofs.Cases.{split}
-use Rattle.drawing.specs.declared.Found.{Found}
+use Rattle.std.specs.declared.result.Result.{Result}
+use Rattle.std.specs.declared.result.Result.TheVariants.{Ok, Err}
+use Rattle.drawing.specs.declared.Unread.{Unread}
 use Rattle.drawing.specs.Drawing.{drawn, has_drawing, writing_drawing}
 use Rattle.drawing.specs.Reading.{first_bad, bits_in, reading}
-use Rattle.drawing_c.specs.Entries.{drawn_into, found_said, record_kept, read_into}
+use Rattle.drawing_c.specs.Entries.{written_number, drawn_into, found_number, found_place, found_said, record_kept, read_into}
 use Rattle.drawing_c.specs.Promises.{DrawingEntryUntouched, WrittenReadsBack, FoundReadsBack, DrawingNumbersReturned}
 
 -- ---- what writing and reading say, by cases
 
 -- a number that refuses, with nothing written; or 0
 record Wrote (w : Bool) (r : ℕ) (room : List ℕ) (number : ℕ) : Type 0 where
-  is : (writing_drawing w r room).says.number ≡ number
+  is : written_number (writing_drawing w r room).says ≡ number
   untouched : (number ≡ 0 → ⊥) → (writing_drawing w r room).leaves ≡ room
 
 wrote : (w : Bool) (r : ℕ) (room : List ℕ) → Wrote w r room 0 ⊎ Wrote w r room 15 ⊎ Wrote w r room 17
@@ -32,8 +34,8 @@ wrote w r room = split (has_drawing w r)
     (λ s. inr (inl (record { is = rw s; untouched = λ n. rw s })))
 
 -- 41 with a line, or another number with none
-record Says (f : Found) : Type 0 where
-  says : ((f.number ≡ 41) × (f.place < 7)) ⊎ (((f.number ≡ 0) ⊎ (f.number ≡ 15)) × (f.place ≡ 255))
+record Says (f : Result ℕ Unread) : Type 0 where
+  says : ((found_number f ≡ 41) × (found_place f < 7)) ⊎ (((found_number f ≡ 0) ⊎ (found_number f ≡ 15)) × (found_place f ≡ 255))
 
 found : (w : Bool) (text : List ℕ) → Says (reading w text)
 unfolding reading
@@ -44,18 +46,18 @@ found w text = split (ltb (first_bad w text) 7)
     (λ s. rw (t, s) (record { says = inr (inr refl, refl) })))
 
 -- each number is a byte
-wrote_byte : (w : Bool) (r : ℕ) (room : List ℕ) → (writing_drawing w r room).says.number < 256
+wrote_byte : (w : Bool) (r : ℕ) (room : List ℕ) → written_number (writing_drawing w r room).says < 256
 wrote_byte w r room = go (wrote w r room)
   where
-    go : Wrote w r room 0 ⊎ Wrote w r room 15 ⊎ Wrote w r room 17 → (writing_drawing w r room).says.number < 256
+    go : Wrote w r room 0 ⊎ Wrote w r room 15 ⊎ Wrote w r room 17 → written_number (writing_drawing w r room).says < 256
     go (inl x) = omega (arith, x.is)
     go (inr (inl x)) = omega (arith, x.is)
     go (inr (inr x)) = omega (arith, x.is)
 
-found_byte : (f : Found) → Says f → f.number < 256
+found_byte : (f : Result ℕ Unread) → Says f → found_number f < 256
 found_byte f v = go v.says
   where
-    go : ((f.number ≡ 41) × (f.place < 7)) ⊎ (((f.number ≡ 0) ⊎ (f.number ≡ 15)) × (f.place ≡ 255)) → f.number < 256
+    go : ((found_number f ≡ 41) × (found_place f < 7)) ⊎ (((found_number f ≡ 0) ⊎ (found_number f ≡ 15)) × (found_place f ≡ 255)) → found_number f < 256
     go (inl (p, q)) = omega arith
     go (inr (inl p, q)) = omega arith
     go (inr (inr p, q)) = omega arith
@@ -78,7 +80,7 @@ refused_write : (w : Bool) (r : ℕ) (room : List ℕ) → ((drawn_into w r room
 unfolding drawn_into
 refused_write w r room n = go (wrote w r room)
   where
-    zero_said : (writing_drawing w r room).says.number ≡ 0 → ⊥
+    zero_said : written_number (writing_drawing w r room).says ≡ 0 → ⊥
     zero_said z = n (omega (arith, z))
 
     go : Wrote w r room 0 ⊎ Wrote w r room 15 ⊎ Wrote w r room 17 → (writing_drawing w r room).leaves ≡ room
@@ -86,18 +88,16 @@ refused_write w r room n = go (wrote w r room)
     go (inr (inl x)) = x.untouched (λ z. omega arith)
     go (inr (inr x)) = x.untouched (λ z. omega arith)
 
-refused_kept : (f : Found) (room : List ℕ) → (found_said f % 256 ≡ 0 → ⊥) → Says f → (record_kept f room).leaves ≡ room
+refused_kept : (f : Result ℕ Unread) (room : List ℕ) → (found_said f % 256 ≡ 0 → ⊥) → (record_kept f room).leaves ≡ room
 unfolding record_kept
-refused_kept f room n v = rw (ne_eqb f.number 0 (λ z. n (said z v.says)))
-  where
-    said : f.number ≡ 0 → ((f.number ≡ 41) × (f.place < 7)) ⊎ (((f.number ≡ 0) ⊎ (f.number ≡ 15)) × (f.place ≡ 255)) → found_said f % 256 ≡ 0
-    said z w = omega arith
+refused_kept (Ok r) room n = absurd (n refl)
+refused_kept (Err why) room n = refl
 
 refused_read : (w : Bool) (text room : List ℕ) → ((read_into w text room).says % 256 ≡ 0 → ⊥) → (read_into w text room).leaves ≡ room
 unfolding read_into record_kept
 refused_read w text room n = split (ltb (length room) 8)
     (λ t. rw t)
-    (λ t. rw t (refused_kept (reading w text) room (λ z. n (rw t z)) (found w text)))
+    (λ t. rw t (refused_kept (reading w text) room (λ z. n (rw t z))))
 
 pub refused_untouched : DrawingEntryUntouched
 refused_untouched = (refused_write, refused_read)
@@ -117,10 +117,10 @@ write_numbers w r room = go (wrote w r room)
 abbrev Returned : ℕ → Type 0
 Returned n = ((n % 256 ≡ 41) × (n / 256 < 7)) ⊎ (((n % 256 ≡ 0) ⊎ (n % 256 ≡ 15) ⊎ (n % 256 ≡ 17)) × (n / 256 ≡ 255))
 
-found_numbers : (f : Found) → Says f → Returned (found_said f)
+found_numbers : (f : Result ℕ Unread) → Says f → Returned (found_said f)
 found_numbers f v = go v.says
   where
-    go : ((f.number ≡ 41) × (f.place < 7)) ⊎ (((f.number ≡ 0) ⊎ (f.number ≡ 15)) × (f.place ≡ 255)) → Returned (found_said f)
+    go : ((found_number f ≡ 41) × (found_place f < 7)) ⊎ (((found_number f ≡ 0) ⊎ (found_number f ≡ 15)) × (found_place f ≡ 255)) → Returned (found_said f)
     go (inl (p, q)) = inl (omega arith, omega arith)
     go (inr (inl p, q)) = inr (inl (omega arith), omega arith)
     go (inr (inr p, q)) = inr (inr (inl (omega arith)), omega arith)

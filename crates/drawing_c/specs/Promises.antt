@@ -2,7 +2,7 @@
 use Rattle.std.specs.Prelude.{◌≡◌, ◌⊎◌, Bool, List, ℕ, ◌/◌, ◌%◌, ◌≤◌, ◌<◌, length}
 use Rattle.drawing.specs.Drawing.{writing_drawing}
 use Rattle.drawing.specs.Reading.{reading}
-use Rattle.drawing_c.specs.Entries.{drawn_into, read_into}
+use Rattle.drawing_c.specs.Entries.{written_number, written_size, drawn_into, found_number, found_place, read_into}
 
 -- an entry that refuses leaves the room as it was
 abbrev pub DrawingEntryUntouched : Type 0
@@ -16,14 +16,14 @@ WrittenReadsBack =
     (w : Bool) (r : ℕ) (room : List ℕ)
     → let n = (drawn_into w r room).says in
     let d = (writing_drawing w r room).says in
-    (n % 256 ≡ d.number) × (n / 256 % 256 ≡ 255) × (n / 65536 ≡ d.size)
+    (n % 256 ≡ written_number d) × (n / 256 % 256 ≡ 255) × (n / 65536 ≡ written_size d)
 
 -- what reading a drawing says, in room for a number, reads back: its number, and its place
 abbrev pub FoundReadsBack : Type 0
 FoundReadsBack =
     (w : Bool) (text room : List ℕ) → 8 ≤ length room
     → let n = (read_into w text room).says in
-    (n % 256 ≡ (reading w text).number) × (n / 256 ≡ (reading w text).place)
+    (n % 256 ≡ found_number (reading w text)) × (n / 256 ≡ found_place (reading w text))
 
 -- the numbers that each returns, and the places: a line, or 6 past the last, with 41, and none with any other
 abbrev pub DrawingNumbersReturned : Type 0

@@ -8,11 +8,21 @@ ghost use Rattle.rooms.specs.Rooms.{LeavesRoom};
 ghost use Rattle.drawing_c.specs.Entries.{written_said, drawn_into, read_into};
 
 use answers::{Answer, NOWHERE};
-use drawing::Written;
+use drawing::{Unread, Unwritten};
 use rooms::{say, tell};
 
 // The bytes of a record.
 const RECORD: usize = 8;
+
+// Kept: numbers, as C is told them (theorem DrawingNumbersReturned).
+// The numbers that are told.
+const TAKEN: u8 = 0;
+
+const UNSOUND: u8 = 15;
+
+const NO_ROOM: u8 = 17;
+
+const BAD_LINE: u8 = 41;
 
 // A number without a place.
 fn unplaced(number: u8) -> u32
@@ -22,10 +32,14 @@ fn unplaced(number: u8) -> u32
 }
 
 // What writing says, as one number.
-fn said(w: Written) -> u32
+fn said(w: Result<u8, Unwritten>) -> u32
     ensures { result ≡ written_said w }
 {
-    unplaced(w.number) + 65536 * (w.size as u32)
+    match w {
+        Ok(size) => unplaced(TAKEN) + 65536 * (size as u32),
+        Err(Unwritten::HasNone) => unplaced(UNSOUND),
+        Err(Unwritten::NoRoom) => unplaced(NO_ROOM),
+    }
 }
 
 // Writes the drawing of a record: 15 for one that isn't sound, then 17 where it doesn't fit; how many bytes are written is told too.
@@ -44,6 +58,7 @@ pub extern "C" fn drawing_write_apart(apart: u64, text: &mut [u8]) -> u32
     said(drawing::write(true, apart, text))
 }
 
+// Kept: a bool, as drawing::read and its definition reading take it.
 // Reads a drawing into eight bytes.
 fn read_into(apart: bool, text: &[u8], room: &mut [u8]) -> u32
     ensures { LeavesRoom (read_into apart text.now room.old) result room.new }
@@ -51,13 +66,11 @@ fn read_into(apart: bool, text: &[u8], room: &mut [u8]) -> u32
     if room.len() < RECORD {
         return say(Answer::NoRoom);
     }
-    let found = drawing::read(apart, text);
-    let image = wire::image_bytes(found.bits);
-    tell(
-        found.number as u32 + 256 * (found.place as u32),
-        &image,
-        room,
-    )
+    match drawing::read(apart, text) {
+        Ok(image) => tell(unplaced(TAKEN), &wire::image_bytes(image), room),
+        Err(Unread::BadLine(line)) => BAD_LINE as u32 + 256 * (line as u32),
+        Err(Unread::Unsound) => unplaced(UNSOUND),
+    }
 }
 
 // Reads a drawing into a record's eight bytes: 17 where there is no room for them, then 41 with the first bad line, then 15.

@@ -15,6 +15,7 @@ use Rattle.bits.proofs.Cases.{split, and_l, and_r, T→true}
 use Rattle.bits.proofs.Search as tests
 use Rattle.bits.proofs.Search.{every_is}
 use Rattle.drawing.specs.Hex.{digit_of, all_digits, is_blank, unblanked, hex_number, hex_in, hex_digit, hex_byte, hex_line}
+use Rattle.std.specs.declared.option.Option.TheVariants.{Some}
 use Rattle.drawing.specs.declared.Hex.TheVariants.{Image, Asked}
 use Rattle.drawing_laws.specs.Promises.{HexReadsBack, AskedReadsBack}
 
@@ -148,7 +149,7 @@ hex_reads_back r h =
     let n : length d ≡ 16 = digits_length 8 r in
     let f : all_digits 16 d ≡ true = few d 16 (λ j l. digit_small 8 r j (omega arith)) in
     let z : hex_number 8 0 d ≡ r = number_back 8 r ∙ mod-eq_of_lt h in
-    rw (u, n, f) (ap Image z)
+    rw (u, n, f) (ap (λ (x : ℕ). Some (Image x)) z)
 
 pub asked_reads_back : AskedReadsBack
 unfolding hex_in
@@ -162,4 +163,4 @@ asked_reads_back r a h k =
     let f : all_digits 32 (c ++ d) ≡ true = few (c ++ d) 32 (λ j l. append_small c d j (λ i p. digit_small 8 r i (omega arith)) (λ i p. digit_small 8 a i (omega arith)) (omega arith)) in
     let x : hex_number 8 0 (c ++ d) ≡ r = number_first 8 0 c d (omega arith) ∙ number_back 8 r ∙ mod-eq_of_lt h in
     let y : hex_number 8 8 (c ++ d) ≡ a = number_behind 8 0 8 c d m ∙ number_back 8 a ∙ mod-eq_of_lt k in
-    rw (u, v, f) (ap₂ Asked x y)
+    rw (u, v, f) (ap₂ (λ (b c : ℕ). Some (Asked b c)) x y)

@@ -15,13 +15,16 @@ use Rattle.bits.specs.Search.{IsLeast}
 use Rattle.bits.proofs.Cases.{split, clash, off}
 use Rattle.bits.proofs.Digits.{bit_image, image_bit, image_ext, packed_lt, bit_packed, bit_past, by_bits}
 use Rattle.bits.proofs.Least.{least_is, least_below, found_least}
-use Rattle.drawing.specs.declared.Found.{Found}
+use Rattle.std.specs.declared.result.Result.{Result}
+use Rattle.std.specs.declared.result.Result.TheVariants.{Ok, Err}
+use Rattle.drawing.specs.declared.Unread.{Unread}
+use Rattle.drawing.specs.declared.Unread.TheVariants.{BadLine, Unsound}
 use Rattle.drawing.specs.Drawing.{apart_words, drawing_lines, drawn, has_drawing}
-use Rattle.drawing.specs.Reading.{first_line, from_line, line_at, same, height_told, is_last, is_line, bad_line, first_bad, bits_in, unread, reading}
+use Rattle.drawing.specs.Reading.{first_line, from_line, line_at, same, height_told, is_last, is_line, bad_line, first_bad, bits_in, reading}
 use Rattle.codec.specs.Text.{ascii}
 use Rattle.drawing.proofs.Begun.{same_eq}
 use Rattle.drawing.proofs.FirstLines.{line_rest}
-use Rattle.drawing_laws.specs.Promises.{read, DrawnReadsBack, OneDrawing, DrawingsApart, DrawingsDiffer, Shown, UnsoundExactly, ApartNeverUnsound, Formed, FirstBad, FirstBadLine, ReadNumbers}
+use Rattle.drawing_laws.specs.Promises.{DrawnReadsBack, OneDrawing, DrawingsApart, DrawingsDiffer, Shown, UnsoundExactly, ApartNeverUnsound, Formed, FirstBad, FirstBadLine, ReadNumbers}
 use Rattle.drawing_laws.proofs.Forms.{line_of, Ended, line_ended, line_good, upper_line, last_line_lem}
 use Rattle.drawing_laws.proofs.Texts.{line_here, from_join, line_join, firsts, firsts_length, firsts_at, stands, drawn_good, bits_back}
 use Rattle.drawing_laws.proofs.Records.{has_shown, told_shown, line_formed}
@@ -29,32 +32,46 @@ use Rattle.drawing_laws.proofs.Records.{has_shown, told_shown, line_formed}
 -- ---- reading, case by case
 
 module _ (w : Bool) (s : List ℕ) where
-  reading_bad : ltb (first_bad w s) 7 ≡ true → reading w s ≡ unread 41 (first_bad w s)
+  reading_bad : ltb (first_bad w s) 7 ≡ true → reading w s ≡ Err (BadLine (first_bad w s))
   unfolding reading
   reading_bad t = rw t refl
 
-  reading_unsound : ltb (first_bad w s) 7 ≡ false → has_drawing w (image (bits_in w s)) ≡ false → reading w s ≡ unread 15 255
+  reading_unsound : ltb (first_bad w s) 7 ≡ false → has_drawing w (image (bits_in w s)) ≡ false → reading w s ≡ Err Unsound
   unfolding reading
   reading_unsound t u = rw (t, u) refl
 
-  reading_sound : ltb (first_bad w s) 7 ≡ false → has_drawing w (image (bits_in w s)) ≡ true → reading w s ≡ read (image (bits_in w s))
+  reading_sound : ltb (first_bad w s) 7 ≡ false → has_drawing w (image (bits_in w s)) ≡ true → reading w s ≡ Ok (image (bits_in w s))
   unfolding reading
   reading_sound t u = rw (t, u) refl
 
   -- one of the three
-  pub cases : {C : Type 0} → (ltb (first_bad w s) 7 ≡ true → reading w s ≡ unread 41 (first_bad w s) → C)
-      → (ltb (first_bad w s) 7 ≡ false → has_drawing w (image (bits_in w s)) ≡ false → reading w s ≡ unread 15 255 → C)
-      → (ltb (first_bad w s) 7 ≡ false → has_drawing w (image (bits_in w s)) ≡ true → reading w s ≡ read (image (bits_in w s)) → C) → C
+  pub cases : {C : Type 0} → (ltb (first_bad w s) 7 ≡ true → reading w s ≡ Err (BadLine (first_bad w s)) → C)
+      → (ltb (first_bad w s) 7 ≡ false → has_drawing w (image (bits_in w s)) ≡ false → reading w s ≡ Err Unsound → C)
+      → (ltb (first_bad w s) 7 ≡ false → has_drawing w (image (bits_in w s)) ≡ true → reading w s ≡ Ok (image (bits_in w s)) → C) → C
   cases x y z = split (ltb (first_bad w s) 7)
       (λ t. x t (reading_bad t))
       (λ t. split (has_drawing w (image (bits_in w s))) (λ u. z t u (reading_sound t u)) (λ u. y t u (reading_unsound t u)))
 
--- what is told by its number
-abbrev number : Found → ℕ
-number x = x.number
+-- what is told, by a number; the number that is read, and the line
+abbrev Told : Type 0
+Told = Result ℕ Unread
 
-other : {C : Type 0} {x : Found} {a b : Found} → x ≡ a → x ≡ b → (number a ≡ number b → ⊥) → C
-other p q h = absurd (h (ap number (sym p ∙ q)))
+abbrev kind : Told → ℕ
+kind (Ok r) = 0
+kind (Err Unsound) = 1
+kind (Err (BadLine p)) = 2
+
+abbrev bits : Told → ℕ
+bits (Ok r) = r
+bits (Err u) = 0
+
+abbrev place : Told → ℕ
+place (Ok r) = 0
+place (Err Unsound) = 0
+place (Err (BadLine p)) = p
+
+other : {C : Type 0} {x : Told} {a b : Told} → x ≡ a → x ≡ b → (kind a ≡ kind b → ⊥) → C
+other p q h = absurd (h (ap kind (sym p ∙ q)))
 
 -- ---- a text with no bad line
 
@@ -128,7 +145,7 @@ pub drawn_reads_back : DrawnReadsBack
 drawn_reads_back w r h s =
     let d = has_shown w r h s in
     let z : image (bits_in w (drawn w (bit r))) ≡ r = image_back w (bit r) d ∙ image_bit r h in
-    reading_sound w (drawn w (bit r)) (none_bad w (bit r) d) (ap (has_drawing w) z ∙ s) ∙ ap read z
+    reading_sound w (drawn w (bit r)) (none_bad w (bit r) d) (ap (has_drawing w) z ∙ s) ∙ ap Ok z
 
 pub one_drawing : OneDrawing
 one_drawing w s r e = cases w s
@@ -140,9 +157,6 @@ one_drawing w s r e = cases w s
       ap (has_drawing w) (sym z) ∙ u,
       subst (λ (n : ℕ). n < 2 ^ 64) z (packed_lt 64 0 (bits_in w s)),
     ))
-  where
-    bits : Found → ℕ
-    bits x = x.bits
 
 -- the last line tells which drawing it is
 no_lift : (b : Bool) → is_last false (apart_words b) ≡ false
@@ -172,22 +186,19 @@ drawings_apart s r a e d = cases false s
 
 pub drawings_differ : DrawingsDiffer
 drawings_differ w r q h k s t e = ap bits (sym (drawn_reads_back w r h s) ∙ ap (reading w) e ∙ drawn_reads_back w q k t)
-  where
-    bits : Found → ℕ
-    bits x = x.bits
 
 -- ---- what is refused
 
 pub unsound_exactly : UnsoundExactly
 unsound_exactly w s = (to, from)
   where
-    to : reading w s ≡ unread 15 255 → (f : Bits) × Shown w f × (s ≡ drawn w f) × (has_drawing w (image f) ≡ false)
+    to : reading w s ≡ Err Unsound → (f : Bits) × Shown w f × (s ≡ drawn w f) × (has_drawing w (image f) ≡ false)
     to e = cases w s
         (λ t v. other v e (λ z. omega arith))
         (λ t u v. (bits_in w s, told w s t, text_drawn w s t (bits_in w s) (λ k h. refl), u))
         (λ t u v. other v e (λ z. omega arith))
 
-    from : (f : Bits) × Shown w f × (s ≡ drawn w f) × (has_drawing w (image f) ≡ false) → reading w s ≡ unread 15 255
+    from : (f : Bits) × Shown w f × (s ≡ drawn w f) × (has_drawing w (image f) ≡ false) → reading w s ≡ Err Unsound
     from (f, d, e, u) = ap (reading w) e ∙ reading_unsound w (drawn w f) (none_bad w f d) (ap (has_drawing w) (image_back w f d) ∙ u)
 
 -- what is set apart is told by the 53 bits alone
@@ -278,28 +289,19 @@ module _ (w : Bool) (s : List ℕ) (p : ℕ) (v : FirstBad w s p) where
 pub first_bad_line : FirstBadLine
 first_bad_line w s p = (to, from)
   where
-    place : Found → ℕ
-    place x = x.place
-
-    to : reading w s ≡ unread 41 p → FirstBad w s p
+    to : reading w s ≡ Err (BadLine p) → FirstBad w s p
     to e = cases w s
         (λ t v. subst (FirstBad w s) (ap place (sym v ∙ e)) (first_is w s t))
         (λ t u v. other v e (λ z. omega arith))
         (λ t u v. other v e (λ z. omega arith))
 
-    from : FirstBad w s p → reading w s ≡ unread 41 p
+    from : FirstBad w s p → reading w s ≡ Err (BadLine p)
     from v =
         let e = is_first w s p v in
-        reading_bad w s (lt-ltb (first_bad w s) 7 (omega (arith, at_most w s p v, e))) ∙ ap (unread 41) e
+        reading_bad w s (lt-ltb (first_bad w s) 7 (omega (arith, at_most w s p v, e))) ∙ ap (λ (n : ℕ). Err (BadLine n)) e
 
 pub read_numbers : ReadNumbers
 read_numbers w s = cases w s
-    (λ t v. inr (inr (v ∙ ap (unread 41) (sym (ap place v)), subst (λ (n : ℕ). n < 7) (sym (ap place v)) (ltb-true (first_bad w s) 7 t))))
+    (λ t v. inr (inr (first_bad w s, v, ltb-true (first_bad w s) 7 t)))
     (λ t u v. inr (inl v))
-    (λ t u v. inl (v ∙ ap read (sym (ap bits v))))
-  where
-    place : Found → ℕ
-    place x = x.place
-
-    bits : Found → ℕ
-    bits x = x.bits
+    (λ t u v. inl (image (bits_in w s), v))

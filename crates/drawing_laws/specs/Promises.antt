@@ -7,23 +7,21 @@ use Rattle.bits.specs.Places.{join}
 use Rattle.floor.specs.Floor.{raised_car, drives}
 use Rattle.floor.specs.Tests.{set, no, holds, height_is}
 use Rattle.floor.specs.Sound.{sound}
-use Rattle.drawing.specs.declared.Found.{Found}
+use Rattle.std.specs.declared.option.Option.TheVariants.{Some}
+use Rattle.std.specs.declared.result.Result.TheVariants.{Ok, Err}
+use Rattle.drawing.specs.declared.Unread.TheVariants.{BadLine, Unsound}
 use Rattle.drawing.specs.Drawing.{drawing_lines, drawn, has_drawing}
-use Rattle.drawing.specs.Reading.{unread, reading}
+use Rattle.drawing.specs.Reading.{reading}
 use Rattle.drawing.specs.declared.Hex.TheVariants.{Image, Asked}
 use Rattle.drawing.specs.Hex.{hex_in, hex_line}
 
--- what reading says where it takes a text
-abbrev pub read : ℕ → Found
-read r = record { number = 0; place = 255; bits = r }
-
 -- every sound record, and every number of the 53 parts, reads back as itself from its drawing
 abbrev pub DrawnReadsBack : Type 0
-DrawnReadsBack = (w : Bool) (r : ℕ) → r < 2 ^ 64 → has_drawing w r ≡ true → reading w (drawn w (bit r)) ≡ read r
+DrawnReadsBack = (w : Bool) (r : ℕ) → r < 2 ^ 64 → has_drawing w r ≡ true → reading w (drawn w (bit r)) ≡ Ok r
 
 -- text that reads as a number is the only text of it, and the number has a drawing
 abbrev pub OneDrawing : Type 0
-OneDrawing = (w : Bool) (s : List ℕ) (r : ℕ) → reading w s ≡ read r → (s ≡ drawn w (bit r)) × (has_drawing w r ≡ true) × (r < 2 ^ 64)
+OneDrawing = (w : Bool) (s : List ℕ) (r : ℕ) → reading w s ≡ Ok r → (s ≡ drawn w (bit r)) × (has_drawing w r ≡ true) × (r < 2 ^ 64)
 
 -- no two numbers have the same drawing
 abbrev pub DrawingsDiffer : Type 0
@@ -32,7 +30,7 @@ DrawingsDiffer =
 
 -- a text that reads as a record's drawing never reads as one of what is set apart
 abbrev pub DrawingsApart : Type 0
-DrawingsApart = (s : List ℕ) (r a : ℕ) → reading false s ≡ read r → reading true s ≡ read a → ⊥
+DrawingsApart = (s : List ℕ) (r a : ℕ) → reading false s ≡ Ok r → reading true s ≡ Ok a → ⊥
 
 -- ---- what is refused
 
@@ -48,13 +46,13 @@ abbrev pub Shown : Bool → Bits → Type 0
 Shown true f = (k : ℕ) → 53 ≤ k → f k ≡ false
 Shown false f = Drawable f
 
--- 15 is told exactly of the drawings of records that can be shown and are not sound, or of parts that there are not
+-- unsound is told exactly of the drawings of records that can be shown and are not sound, or of parts that there are not
 abbrev pub UnsoundExactly : Type 0
-UnsoundExactly = (w : Bool) (s : List ℕ) → (reading w s ≡ unread 15 255) ↔ ((f : Bits) × Shown w f × (s ≡ drawn w f) × (has_drawing w (image f) ≡ false))
+UnsoundExactly = (w : Bool) (s : List ℕ) → (reading w s ≡ Err Unsound) ↔ ((f : Bits) × Shown w f × (s ≡ drawn w f) × (has_drawing w (image f) ≡ false))
 
--- of what is set apart no drawing is told 15
+-- of what is set apart no drawing is told so
 abbrev pub ApartNeverUnsound : Type 0
-ApartNeverUnsound = (s : List ℕ) → reading true s ≡ unread 15 255 → ⊥
+ApartNeverUnsound = (s : List ℕ) → reading true s ≡ Err Unsound → ⊥
 
 -- a line is of the form of line j: something that can be shown has it there
 abbrev pub Formed : Bool → ℕ → List ℕ → Type 0
@@ -70,15 +68,15 @@ pub record FirstBad (w : Bool) (s : List ℕ) (p : ℕ) : Type 0 where
   pub good : (j : ℕ) → j < p → Formed w j (get_or before j [])
   pub bad : ((p < 6) × ((l t : List ℕ) → rest ≡ l ++ t → Formed w p l → ⊥)) ⊎ ((p ≡ 6) × (0 < length rest))
 
--- 41 is told with a line exactly if it is the first bad one
+-- a line is told exactly if it is the first bad one
 abbrev pub FirstBadLine : Type 0
-FirstBadLine = (w : Bool) (s : List ℕ) (p : ℕ) → (reading w s ≡ unread 41 p) ↔ FirstBad w s p
+FirstBadLine = (w : Bool) (s : List ℕ) (p : ℕ) → (reading w s ≡ Err (BadLine p)) ↔ FirstBad w s p
 
--- reading a text returns 0, or 15 with no place, or 41 with a place from 0 to 6, and nothing else
+-- reading a text returns a number, or unsound, or a line from 0 to 6, and nothing else
 abbrev pub ReadNumbers : Type 0
 ReadNumbers =
     (w : Bool) (s : List ℕ)
-    → (reading w s ≡ read (reading w s).bits) ⊎ (reading w s ≡ unread 15 255) ⊎ ((reading w s ≡ unread 41 (reading w s).place) × ((reading w s).place < 7))
+    → ((r : ℕ) × (reading w s ≡ Ok r)) ⊎ (reading w s ≡ Err Unsound) ⊎ ((p : ℕ) × (reading w s ≡ Err (BadLine p)) × (p < 7))
 
 -- ---- lengths
 
@@ -94,8 +92,8 @@ ApartLength = (a : ℕ) → length (drawn true (bit a)) ≡ cond (bit a raised_c
 
 -- an image that is written in hex reads back
 abbrev pub HexReadsBack : Type 0
-HexReadsBack = (r : ℕ) → r < 2 ^ 64 → hex_in (hex_line 8 r) ≡ Image r
+HexReadsBack = (r : ℕ) → r < 2 ^ 64 → hex_in (hex_line 8 r) ≡ Some (Image r)
 
 -- and so do the two lines of a record and what is set apart
 abbrev pub AskedReadsBack : Type 0
-AskedReadsBack = (r a : ℕ) → r < 2 ^ 64 → a < 2 ^ 64 → hex_in (hex_line 8 r ++ hex_line 8 a) ≡ Asked r a
+AskedReadsBack = (r a : ℕ) → r < 2 ^ 64 → a < 2 ^ 64 → hex_in (hex_line 8 r ++ hex_line 8 a) ≡ Some (Asked r a)

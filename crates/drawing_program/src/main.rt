@@ -1,12 +1,13 @@
 // Reads standard input to its end. An image in hex comes out as its drawing, and a drawing as the image in hex, on standard output; with
-// what is set apart, as an ask returns the two, as two drawings and two lines. What is refused is told in one line on standard error. What is written and read stands in drawing, what is tried again and what is told of a
-// failure in streams; no contract can say what comes in and goes out.
+// what is set apart, as an ask returns the two, as two drawings and two lines. What is refused is told in one line on standard error. What
+// is written and read stands in drawing, what is tried again and what is told of a failure in streams; no contract can say what comes in
+// and goes out.
 #![tactic(auto)]
 
-ghost use Rattle.std.specs.Prelude.{◌≤◌, length};
+ghost use Rattle.std.specs.Prelude.{◌≤◌, length, IfOk};
 
-use drawing::Hex;
-use streams::Came;
+use drawing::{Hex, Unread};
+use streams::Result;
 
 // The longest input that is read as hex: of one byte more no more is read, and a drawing is not so long.
 const LONGEST: usize = 65536;
@@ -19,11 +20,6 @@ const LONGEST_DRAWING: usize = 66;
 // None of what is set apart is.
 const LONGEST_APART: usize = 56;
 
-// The numbers of what is read.
-const TAKEN: u8 = 0;
-
-const BAD_LINE: u8 = 41;
-
 // The lines of a drawing.
 const LINES: u8 = 6;
 
@@ -31,20 +27,20 @@ const LINES: u8 = 6;
 const PAST_LAST: u8 = 6;
 
 // Reads to the end of the input, or until the buffer is full.
-fn read_all(rt: &HostRuntime, buf: &mut [u8]) -> Came
-    ensures { result.have ≤ length buf.new }
+fn read_all(rt: &HostRuntime, buf: &mut [u8]) -> Result<usize>
+    ensures { IfOk result (λ n. n ≤ length buf.new) }
 {
     streams::read_all(rt, &mut rt.stdin(), buf, b"draw: standard input")
 }
 
 // Writes the first n bytes of a text; where that fails, it is told.
-fn say(rt: &HostRuntime, text: &[u8], n: usize) -> bool {
+fn say(rt: &HostRuntime, text: &[u8], n: usize) -> Result<()> {
     streams::send(rt, &mut rt.stdout(), text, n, b"draw: standard output")
 }
 
 // Tells something on standard error.
 fn tell(rt: &HostRuntime, text: &[u8]) {
-    streams::send(
+    let _ = streams::send(
         rt,
         &mut rt.stderr(),
         text,
@@ -77,91 +73,91 @@ fn tell_bad_line(rt: &HostRuntime, place: u8, before: u8) {
 }
 
 // The drawing of an image.
-fn show(rt: &HostRuntime, image: u64) {
+fn show(rt: &HostRuntime, image: u64) -> Result<()> {
     let mut text = [0u8; LONGEST_DRAWING];
-    let w = drawing::write(false, image, &mut text);
-    if w.number == TAKEN {
-        say(rt, &text, w.size as usize);
-        return;
-    }
-    tell_unsound(rt);
+    let Ok(size) = drawing::write(false, image, &mut text) else {
+        tell_unsound(rt);
+        return Ok(());
+    };
+    say(rt, &text, size as usize)
 }
 
 // The drawings of an image and of what is set apart.
-fn show_both(rt: &HostRuntime, image: u64, apart: u64) {
+fn show_both(rt: &HostRuntime, image: u64, apart: u64) -> Result<()> {
     let mut text = [0u8; LONGEST_DRAWING];
-    let w = drawing::write(false, image, &mut text);
-    let mut second = [0u8; LONGEST_APART];
-    let v = drawing::write(true, apart, &mut second);
-    if w.number != TAKEN {
+    let Ok(size) = drawing::write(false, image, &mut text) else {
         tell_unsound(rt);
-        return;
-    }
-    if v.number != TAKEN {
+        return Ok(());
+    };
+    let mut second = [0u8; LONGEST_APART];
+    let Ok(second_size) = drawing::write(true, apart, &mut second) else {
         tell(rt, b"draw: 15: what is set apart has a bit above 52\n");
-        return;
-    }
-    if say(rt, &text, w.size as usize) {
-        say(rt, &second, v.size as usize);
-    }
+        return Ok(());
+    };
+    say(rt, &text, size as usize)?;
+    say(rt, &second, second_size as usize)
 }
 
 // Draws the image that some hex says.
-fn draw_image(rt: &HostRuntime, input: &[u8]) {
+fn draw_image(rt: &HostRuntime, input: &[u8]) -> Result<()> {
     if LONGEST < input.len() {
         tell(rt, b"draw: not an image in hex: more than 65536 bytes\n");
-        return;
+        return Ok(());
     }
-    let hex = drawing::read_hex(input);
-    match hex {
-        Hex::Image(image) => show(rt, image),
-        Hex::Asked(image, apart) => show_both(rt, image, apart),
-        Hex::NotHex => tell(
-            rt,
-            b"draw: not an image in hex: sixteen or thirty-two digits are wanted\n",
-        ),
+    match drawing::read_hex(input) {
+        Some(Hex::Image(image)) => show(rt, image),
+        Some(Hex::Asked(image, apart)) => show_both(rt, image, apart),
+        None => {
+            tell(
+                rt,
+                b"draw: not an image in hex: sixteen or thirty-two digits are wanted\n",
+            );
+            Ok(())
+        }
     }
 }
 
 // Says a number in hex.
-fn say_hex(rt: &HostRuntime, number: u64) -> bool {
+fn say_hex(rt: &HostRuntime, number: u64) -> Result<()> {
     let line = drawing::hex_line(number);
     say(rt, &line, 24)
 }
 
-// Tells why a drawing is refused.
-fn tell_refused(rt: &HostRuntime, number: u8, place: u8) {
-    if number == BAD_LINE {
-        tell_bad_line(rt, place, 0);
-        return;
+// Tells why a drawing is refused that begins after so many lines.
+fn tell_refused(rt: &HostRuntime, why: Unread, before: u8) {
+    match why {
+        Unread::BadLine(place) => tell_bad_line(rt, place, before),
+        Unread::Unsound => tell_unsound(rt),
     }
-    tell_unsound(rt);
 }
 
 // Says the image of a drawing.
-fn read_one(rt: &HostRuntime, input: &[u8]) {
-    let found = drawing::read(false, input);
-    if found.number == TAKEN {
-        say_hex(rt, found.bits);
-        return;
+fn read_one(rt: &HostRuntime, input: &[u8]) -> Result<()> {
+    match drawing::read(false, input) {
+        Ok(image) => say_hex(rt, image),
+        Err(why) => {
+            tell_refused(rt, why, 0);
+            Ok(())
+        }
     }
-    tell_refused(rt, found.number, found.place);
 }
 
 // Says the image of a drawing and what a second one behind it shows as set apart.
-fn read_both(rt: &HostRuntime, first: &[u8], second: &[u8]) {
+fn read_both(rt: &HostRuntime, first: &[u8], second: &[u8]) -> Result<()> {
     let found = drawing::read(false, first);
-    let apart = drawing::read(true, second);
-    if found.number != TAKEN {
-        tell_refused(rt, found.number, found.place);
-        return;
-    }
-    if apart.number != TAKEN {
-        tell_bad_line(rt, apart.place, LINES);
-        return;
-    }
-    if say_hex(rt, found.bits) {
-        say_hex(rt, apart.bits);
+    match (found, drawing::read(true, second)) {
+        (Ok(image), Ok(apart)) => {
+            say_hex(rt, image)?;
+            say_hex(rt, apart)
+        }
+        (Err(why), _) => {
+            tell_refused(rt, why, 0);
+            Ok(())
+        }
+        (_, Err(why)) => {
+            tell_refused(rt, why, LINES);
+            Ok(())
+        }
     }
 }
 
@@ -173,45 +169,36 @@ fn sixth_end(input: &[u8]) -> usize
 }
 
 // A second drawing begins with one of its marks; other text after the last line is refused with the first.
-fn read_drawing(rt: &HostRuntime, input: &[u8]) {
+fn read_drawing(rt: &HostRuntime, input: &[u8]) -> Result<()> {
     let end = sixth_end(input);
-    let second = &input[end..];
-    if 0 < second.len() {
-        if (second[0] == b'x') | (second[0] == b'.') {
-            read_both(rt, &input[..end], second);
-            return;
-        }
+    match &input[end..] {
+        [b'x' | b'.', ..] => read_both(rt, &input[..end], &input[end..]),
+        _ => read_one(rt, input),
     }
-    read_one(rt, input);
 }
 
 // Hex begins with a digit or a blank, as no line of a floor does.
 fn begins_hex(input: &[u8]) -> bool {
-    if input.len() == 0 {
-        return false;
-    }
-    match input[0] {
-        b'0'..=b'9' | b'A'..=b'F' | b'a'..=b'f' => true,
-        b' ' | b'\t' | b'\r' | b'\n' => true,
-        _ => false,
-    }
+    matches!(
+        input,
+        [
+            b'0'..=b'9' | b'A'..=b'F' | b'a'..=b'f' | b' ' | b'\t' | b'\r' | b'\n',
+            ..
+        ]
+    )
 }
 
-fn answer(rt: &HostRuntime, input: &[u8]) {
+fn answer(rt: &HostRuntime, input: &[u8]) -> Result<()> {
     if begins_hex(input) {
-        draw_image(rt, input);
-        return;
+        return draw_image(rt, input);
     }
-    read_drawing(rt, input);
+    read_drawing(rt, input)
 }
 
-// Answers what is read, unless that failed.
-fn session(rt: &HostRuntime, buf: &mut [u8]) {
-    let came = read_all(rt, buf);
-    if came.failed {
-        return;
-    }
-    answer(rt, &buf[..came.have]);
+// Answers what is read.
+fn session(rt: &HostRuntime, buf: &mut [u8]) -> Result<()> {
+    let n = read_all(rt, buf)?;
+    answer(rt, &buf[..n])
 }
 
 fn main(rt: HostRuntime) {
@@ -222,5 +209,5 @@ fn main(rt: HostRuntime) {
         return;
     }
     let mut buf = [0u8; ROOM];
-    session(&rt, &mut buf);
+    let _ = session(&rt, &mut buf);
 }

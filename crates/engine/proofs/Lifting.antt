@@ -15,7 +15,8 @@ use Rattle.answers.specs.declared.Reason.TheVariants.{OddCount, SameHeight}
 use Rattle.rules.specs.declared.Instruction.TheVariants.{Lift}
 use Rattle.rules.specs.declared.Event.{Event}
 use Rattle.rules.specs.declared.Event.TheVariants.{BeginIn, BeginOut, EndDone, EndNotDone}
-use Rattle.rules.specs.declared.Verdict.TheVariants.{Allowed, NotAllowed}
+use Rattle.rules.specs.declared.Refusal.TheVariants.{NotAllowed}
+use Rattle.std.specs.declared.result.Result.TheVariants.{Ok, Err}
 use Rattle.rules.specs.Rules.{well_formed, clauses, next_record}
 use Rattle.rules.specs.Verdicts.{judged}
 use Rattle.rules.specs.Events.{in_turn, possible, after_event}
@@ -40,10 +41,10 @@ even_of m f = eqb (count (places m) f % 2) 0
 -- what the code's tests say is what the conditions say
 pub lift_law : (height : ℕ) (f : Bits) (still below free whole : Bool) → still ≡ holds (height_is height) f → below ≡ holds at_basement f
     → free ≡ none_of 0x1800 f → whole ≡ even_of 0x7FF f && even_of 0xFE000 f
-    → cond (not still) (cond (not below || (free || whole)) Allowed (NotAllowed OddCount)) (NotAllowed SameHeight) ≡ judged (clauses (Lift height)) f
+    → cond (not still) (cond (not below || (free || whole)) (Ok tt) (Err (NotAllowed OddCount))) (Err (NotAllowed SameHeight)) ≡ judged (clauses (Lift height)) f
 unfolding places
 lift_law height f still below free whole p q u v =
-    ap₂ (λ (x y : Bool). cond (not x) (cond y Allowed (NotAllowed OddCount)) (NotAllowed SameHeight)) p (ap₂ (λ (x y : Bool). not x || y) q (ap₂ ◌||◌ u v))
+    ap₂ (λ (x y : Bool). cond (not x) (cond y (Ok tt) (Err (NotAllowed OddCount))) (Err (NotAllowed SameHeight))) p (ap₂ (λ (x y : Bool). not x || y) q (ap₂ ◌||◌ u v))
 
 -- an event that comes in turn, with its own conditions
 pub in_law : (f : Bits) {due : Bool} → due ≡ in_turn BeginIn f → due && (holds (height_is 0) f && none_of 0x10000000000000 f) ≡ possible BeginIn f

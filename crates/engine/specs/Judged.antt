@@ -9,15 +9,16 @@ use Rattle.rules.specs.declared.Code.{Code}
 use Rattle.rules.specs.Named.{cells, rows_of}
 use Rattle.rules.specs.Rules.{area, next_record}
 use Rattle.rules.specs.Codes.{read_code}
-use Rattle.rules.specs.declared.Verdict.{Verdict}
-use Rattle.rules.specs.Verdicts.{on_code, code_verdict, is_allowed}
+use Rattle.rules.specs.declared.Refusal.{Refusal}
+use Rattle.std.specs.declared.result.Result.TheVariants.{Ok, Err}
+use Rattle.rules.specs.Verdicts.{Verdict, on_code, code_verdict, is_allowed}
 use Rattle.engine.specs.declared.Judged.{Judged}
 
 -- what an area and a verdict tell: ill-formed bytes say no instruction
 abbrev pub is_read : Verdict → Bool
-is_read Verdict.Allowed = true
-is_read (Verdict.NotAllowed why) = true
-is_read Verdict.IllFormed = false
+is_read (Ok done) = true
+is_read (Err (Refusal.NotAllowed why)) = true
+is_read (Err Refusal.IllFormed) = false
 
 abbrev pub judged_as : ℕ → Verdict → Judged
 judged_as a v = record { area = a; good = is_read v; allowed = is_allowed v }

@@ -8,8 +8,9 @@ ghost use Rattle.rows.specs.Private.{judged_row, looks_asked, shifted, span_with
 use super::masks::{CELLS, LOWERED, NEEDED, NEEDED_SET, SLOTS, TILTED};
 use answers::Reason;
 use floor::masks::{FIRST_SLOT, HEIGHT, HEIGHT_LOW, ROW_1, TURNING_CELLS};
-use rules::Verdict;
+use rules::Refusal;
 
+// Kept: early is a bool, as in looks_asked, by which rows say what each instruction asks (specs/Private there).
 // What a row asks of a record: bits that are as needed, room that is there and free, and an even number of occupied cells, before the room
 // or after it.
 fn judged(
@@ -21,26 +22,26 @@ fn judged(
     pairs: u64,
     room: u64,
     late: Reason,
-) -> Verdict
+) -> Result<(), Refusal>
     ensures { result ≡ judged_row (looks_asked care need why early pairs room late) r }
 {
     let even = bits::even(r, pairs);
     if r & care != need {
-        return Verdict::NotAllowed(why);
+        return Err(Refusal::NotAllowed(why));
     }
     if early & !even {
-        return Verdict::NotAllowed(Reason::OddCount);
+        return Err(Refusal::NotAllowed(Reason::OddCount));
     }
     if room == 0 {
-        return Verdict::NotAllowed(late);
+        return Err(Refusal::NotAllowed(late));
     }
     if r & room != 0 {
-        return Verdict::NotAllowed(late);
+        return Err(Refusal::NotAllowed(late));
     }
     if !early & !even {
-        return Verdict::NotAllowed(Reason::OddCount);
+        return Err(Refusal::NotAllowed(Reason::OddCount));
     }
-    Verdict::Allowed
+    Ok(())
 }
 
 // By how many cells belts shift.
@@ -79,18 +80,18 @@ pub fn gaps(mask: u8) -> bool
 }
 
 // Belts: the slots and the lift's height are as needed, the end of the span is free, and in row 1 it holds pairs.
-pub fn belts_judged(r: u64, a: u64, row: u8, mask: u8, toward: u8, size: u8) -> Verdict
+pub fn belts_judged(r: u64, a: u64, row: u8, mask: u8, toward: u8, size: u8) -> Result<(), Refusal>
     requires { T (well_formed (Instruction.Belts row mask toward size)) }
     ensures { result ≡ judged_row (belts_row a row mask toward size) r }
 {
     if !((row == 1) | (size == 1)) {
-        return Verdict::NotAllowed(Reason::HalfMove);
+        return Err(Refusal::NotAllowed(Reason::HalfMove));
     }
     if mask == 0 {
-        return Verdict::NotAllowed(Reason::NothingNamed);
+        return Err(Refusal::NotAllowed(Reason::NothingNamed));
     }
     if gaps(mask) {
-        return Verdict::NotAllowed(Reason::Gap);
+        return Err(Refusal::NotAllowed(Reason::Gap));
     }
     let span = a & CELLS;
     let room = span & !within(span, toward, step(row, size));
@@ -107,15 +108,15 @@ pub fn belts_judged(r: u64, a: u64, row: u8, mask: u8, toward: u8, size: u8) -> 
 }
 
 // Shuttles: the named slots are taken, a lowered one in row 1 has a pair, and the slot that is moved into is there and free.
-pub fn shuttles_judged(r: u64, a: u64, side: u8, mask: u8, orientation: u8) -> Verdict
+pub fn shuttles_judged(r: u64, a: u64, side: u8, mask: u8, orientation: u8) -> Result<(), Refusal>
     requires { (side < 2) × (mask < 8) × (orientation < 2) }
     ensures { result ≡ judged_row (shuttles_row a side mask orientation) r }
 {
     if mask == 0 {
-        return Verdict::NotAllowed(Reason::NothingNamed);
+        return Err(Refusal::NotAllowed(Reason::NothingNamed));
     }
     if mask == 5 {
-        return Verdict::NotAllowed(Reason::Gap);
+        return Err(Refusal::NotAllowed(Reason::Gap));
     }
     let rows = mask as u64;
     let named = rows << (FIRST_SLOT + orientation * 6 + side * 3);
@@ -132,7 +133,7 @@ pub fn shuttles_judged(r: u64, a: u64, side: u8, mask: u8, orientation: u8) -> V
 }
 
 // Tilting: from lowered, the side's three are lowered and the cells free; from tilted, the slot is taken and the lowered one free.
-pub fn tilt_judged(r: u64, a: u64, orientation: u8) -> Verdict
+pub fn tilt_judged(r: u64, a: u64, orientation: u8) -> Result<(), Refusal>
     ensures { result ≡ judged_row (tilt_row a orientation) r }
 {
     if orientation == 0 {
@@ -162,7 +163,7 @@ pub fn tilt_judged(r: u64, a: u64, orientation: u8) -> Verdict
 }
 
 // Rotating: at rotation height with its six cells free.
-pub fn rotate_judged(r: u64) -> Verdict
+pub fn rotate_judged(r: u64) -> Result<(), Refusal>
     ensures { result ≡ judged_row rotate_row r }
 {
     judged(

@@ -10,7 +10,7 @@ ghost use Rattle.rules.specs.Verdicts.{judged, verdict_of, moved_by, moved_of, d
 ghost use Rattle.rows.specs.Private.{whole};
 ghost use Rattle.engine.specs.Judged.{judge, judged_as, code_next};
 
-use rules::{Area, Code, Driven, Event, Instruction, Moved, Reading, Verdict};
+use rules::{Code, Event, Instruction, Refusal, Undriven};
 
 mod judging;
 mod lifts;
@@ -27,7 +27,7 @@ use moves::{belts_next, shuttles_next, tilt_next};
 // ---- instructions
 
 // What the conditions of a well-formed instruction say, given its area.
-fn told(i: Instruction, a: u64, r: u64) -> Verdict
+fn told(i: Instruction, a: u64, r: u64) -> Result<(), Refusal>
     requires { (well_formed i ≡ true) × (a ≡ image (area i)) }
     ensures { result ≡ judged (clauses i) (bit r) }
 {
@@ -42,13 +42,9 @@ fn told(i: Instruction, a: u64, r: u64) -> Verdict
             side,
             mask,
             orientation,
-            toward: _,
+            ..
         } => shuttles_judged(r, a, side, mask, orientation),
-        Instruction::Tilt {
-            side: _,
-            row: _,
-            orientation,
-        } => tilt_judged(r, a, orientation),
+        Instruction::Tilt { orientation, .. } => tilt_judged(r, a, orientation),
         Instruction::Lift { height } => lift_judged(r, height),
         Instruction::Rotate => rotate_judged(r),
     }
@@ -62,88 +58,72 @@ fn next(i: Instruction, a: u64, r: u64) -> u64
     match i {
         Instruction::Belts {
             row,
-            mask: _,
             toward,
             size,
+            ..
         } => belts_next(r, a, row, toward, size),
-        Instruction::Shuttles {
-            side: _,
-            mask: _,
-            orientation: _,
-            toward,
-        } => shuttles_next(r, a, toward),
-        Instruction::Tilt {
-            side: _,
-            row: _,
-            orientation,
-        } => tilt_next(r, a, orientation),
+        Instruction::Shuttles { toward, .. } => shuttles_next(r, a, toward),
+        Instruction::Tilt { orientation, .. } => tilt_next(r, a, orientation),
         Instruction::Lift { height } => lift_next(r, height),
         Instruction::Rotate => r,
     }
 }
 
 // A verdict with the record that is next where it allows.
-fn decided(verdict: Verdict, next: u64) -> Moved
+fn decided(verdict: Result<(), Refusal>, next: u64) -> Result<u64, Refusal>
     ensures { result ≡ moved_by verdict next }
 {
-    match verdict {
-        Verdict::Allowed => Moved::Record(next),
-        Verdict::NotAllowed(why) => Moved::NotAllowed(why),
-        Verdict::IllFormed => Moved::IllFormed,
-    }
+    verdict?;
+    Ok(next)
 }
 
 // The record after a well-formed instruction, where it is allowed. What takes few steps is done at once.
-fn stepped(i: Instruction, a: u64, r: u64) -> Moved
+#[tactic(auto, using(crate::proofs::Answers::taken, crate::proofs::Answers::no_gap))]
+fn stepped(i: Instruction, a: u64, r: u64) -> Result<u64, Refusal>
     requires { (well_formed i ≡ true) × (a ≡ image (area i)) }
     ensures { result ≡ moved_of i r }
 {
     match i {
-        Instruction::Tilt {
-            side: _,
-            row: _,
-            orientation,
-        } => decided(tilt_judged(r, a, orientation), tilt_next(r, a, orientation)),
+        Instruction::Tilt { orientation, .. } => decided(
+            tilt_judged(r, a, orientation),
+            tilt_next(r, a, orientation),
+        ),
         Instruction::Lift { height } => decided(lift_judged(r, height), lift_next(r, height)),
-        _ => match told(i, a, r) {
-            Verdict::Allowed => Moved::Record(next(i, a, r)),
-            Verdict::NotAllowed(why) => Moved::NotAllowed(why),
-            Verdict::IllFormed => Moved::IllFormed,
-        },
+        _ => {
+            told(i, a, r)?;
+            Ok(next(i, a, r))
+        }
     }
 }
 
 // Whether an instruction is allowed, and why not.
-pub fn verdict(i: Instruction, r: u64) -> Verdict
+pub fn verdict(i: Instruction, r: u64) -> Result<(), Refusal>
     ensures { result ≡ verdict_of i r }
 {
-    match areas::area(i) {
-        Area::Mask(a) => told(i, a, r),
-        Area::IllFormed => Verdict::IllFormed,
-    }
+    let Some(area) = areas::area(i) else {
+        return Err(Refusal::IllFormed);
+    };
+    told(i, area, r)
 }
 
 // The record after an instruction, where it is allowed.
-pub fn moved(i: Instruction, r: u64) -> Moved
+pub fn moved(i: Instruction, r: u64) -> Result<u64, Refusal>
     ensures { result ≡ moved_of i r }
 {
-    match areas::area(i) {
-        Area::Mask(a) => stepped(i, a, r),
-        Area::IllFormed => Moved::IllFormed,
-    }
+    let Some(a) = areas::area(i) else {
+        return Err(Refusal::IllFormed);
+    };
+    stepped(i, a, r)
 }
 
 // The same of five bytes.
-pub fn code_moved(x: Code, r: u64) -> Moved
+pub fn code_moved(x: Code, r: u64) -> Result<u64, Refusal>
     ensures { result ≡ code_moved x r }
 {
-    let l = areas::locate(x);
-    let a = l.area;
-    let y = l.reading;
-    match y {
-        Reading::Good(i) => stepped(i, a, r),
-        Reading::Bad => Moved::IllFormed,
-    }
+    let Some(at) = areas::locate(x) else {
+        return Err(Refusal::IllFormed);
+    };
+    stepped(at.instruction, at.area, r)
 }
 
 // What five bytes are told on a record: whether they say an instruction, its area, or none, and whether it is allowed.
@@ -155,21 +135,21 @@ pub struct Judged {
 }
 
 // The same by a verdict.
-fn judged_as(area: u64, verdict: Verdict) -> Judged
+fn judged_as(area: u64, verdict: Result<(), Refusal>) -> Judged
     ensures { result ≡ judged_as area verdict }
 {
     match verdict {
-        Verdict::Allowed => Judged {
+        Ok(()) => Judged {
             area,
             good: true,
             allowed: true,
         },
-        Verdict::NotAllowed(_) => Judged {
+        Err(Refusal::NotAllowed(_)) => Judged {
             area,
             good: true,
             allowed: false,
         },
-        Verdict::IllFormed => Judged {
+        Err(Refusal::IllFormed) => Judged {
             area,
             good: false,
             allowed: false,
@@ -181,12 +161,9 @@ fn judged_as(area: u64, verdict: Verdict) -> Judged
 fn exact(op: u8, a: u8, b: u8, c: u8, d: u8, r: u64) -> Judged
     ensures { result ≡ judge (record { op = op; a = a; b = b; c = c; d = d }) r }
 {
-    let l = areas::locate(Code { op, a, b, c, d });
-    let area = l.area;
-    let y = l.reading;
-    match y {
-        Reading::Good(i) => judged_as(area, told(i, area, r)),
-        Reading::Bad => judged_as(area, Verdict::IllFormed),
+    match areas::locate(Code { op, a, b, c, d }) {
+        Some(at) => judged_as(at.area, told(at.instruction, at.area, r)),
+        None => judged_as(0, Err(Refusal::IllFormed)),
     }
 }
 
@@ -194,8 +171,7 @@ fn exact(op: u8, a: u8, b: u8, c: u8, d: u8, r: u64) -> Judged
 pub fn judge(x: Code, r: u64) -> Judged
     ensures { result ≡ judge x r }
 {
-    let at_once = swift::area(x, r);
-    if at_once != 0 {
+    if let Some(at_once) = swift::area(x, r) {
         return Judged {
             area: at_once,
             good: true,
@@ -206,16 +182,13 @@ pub fn judge(x: Code, r: u64) -> Judged
 }
 
 // The verdict alone.
-pub fn code_verdict(x: Code, r: u64) -> Verdict
+pub fn code_verdict(x: Code, r: u64) -> Result<(), Refusal>
     ensures { result ≡ code_verdict x r }
 {
-    let l = areas::locate(x);
-    let a = l.area;
-    let y = l.reading;
-    match y {
-        Reading::Good(i) => told(i, a, r),
-        Reading::Bad => Verdict::IllFormed,
-    }
+    let Some(said) = areas::locate(x) else {
+        return Err(Refusal::IllFormed);
+    };
+    told(said.instruction, said.area, r)
 }
 
 // The belts or rows that an instruction names leave no gap.
@@ -224,25 +197,9 @@ fn whole(i: Instruction) -> bool
     ensures { result ≡ whole i }
 {
     match i {
-        Instruction::Belts {
-            row: _,
-            mask,
-            toward: _,
-            size: _,
-        } => !gaps(mask),
-        Instruction::Shuttles {
-            side: _,
-            mask,
-            orientation: _,
-            toward: _,
-        } => mask != 5,
-        Instruction::Tilt {
-            side: _,
-            row: _,
-            orientation: _,
-        } => true,
-        Instruction::Lift { height: _ } => true,
-        Instruction::Rotate => true,
+        Instruction::Belts { mask, .. } => !gaps(mask),
+        Instruction::Shuttles { mask, .. } => mask != 5,
+        Instruction::Tilt { .. } | Instruction::Lift { .. } | Instruction::Rotate => true,
     }
 }
 
@@ -251,43 +208,34 @@ fn whole(i: Instruction) -> bool
 pub fn code_next(x: Code, r: u64) -> u64
     ensures { result ≡ code_next x r }
 {
-    let named = swift::named(x);
-    if named != 0 {
+    if let Some(named) = swift::named(x) {
         return belts_next(r, named, x.a, x.c, x.d);
     }
     if swift::runs_lift(x) {
         return lift_next(r, x.a);
     }
-    let l = areas::locate(x);
-    let a = l.area;
-    let y = l.reading;
-    match y {
-        Reading::Good(i) => {
-            if whole(i) {
-                return next(i, a, r);
-            }
-            r
-        }
-        Reading::Bad => r,
+    match areas::locate(x) {
+        Some(at) if whole(at.instruction) => next(at.instruction, at.area, r),
+        _ => r,
     }
 }
 
 // ---- car events
 
 // A begin comes in turn while no drive is under way, an end while one is.
+#[tactic(auto, unfolding(rules::specs::Events::in_turn))]
 fn in_turn(e: Event, r: u64) -> bool
     ensures { result ≡ in_turn e (bit r) }
 {
     let driving = floor::under_way(r);
     match e {
-        Event::BeginIn => !driving,
-        Event::BeginOut => !driving,
-        Event::EndDone => driving,
-        Event::EndNotDone => driving,
+        Event::BeginIn | Event::BeginOut => !driving,
+        Event::EndDone | Event::EndNotDone => driving,
     }
 }
 
 // In its turn, a drive-in can begin at street height if the lift is empty, a drive-out if it is not; an end always comes.
+#[tactic(auto, using(crate::proofs::Lifting::done_law, crate::proofs::Lifting::not_done_law))]
 pub fn possible(e: Event, r: u64) -> bool
     ensures { result ≡ possible e (bit r) }
 {
@@ -295,8 +243,7 @@ pub fn possible(e: Event, r: u64) -> bool
     match e {
         Event::BeginIn => due & (height_is(r, 0) & bits::free(r, RAISED_CAR)),
         Event::BeginOut => due & (height_is(r, 0) & bits::all(r, RAISED_CAR)),
-        Event::EndDone => due,
-        Event::EndNotDone => due,
+        Event::EndDone | Event::EndNotDone => due,
     }
 }
 
@@ -304,15 +251,13 @@ pub fn possible(e: Event, r: u64) -> bool
 const FILLED: u64 = 27;
 
 // A drive-in can begin while there are fewer; no other event is asked how many there are.
+#[tactic(auto, unfolding(rules::specs::Events::places_open))]
 fn places_open(e: Event, r: u64) -> bool
     ensures { result ≡ places_open e (bit r) }
 {
-    let room = floor::cars_in(r) < FILLED;
     match e {
-        Event::BeginIn => room,
-        Event::BeginOut => true,
-        Event::EndDone => true,
-        Event::EndNotDone => true,
+        Event::BeginIn => floor::cars_in(r) < FILLED,
+        _ => true,
     }
 }
 
@@ -339,17 +284,17 @@ fn after(e: Event, r: u64) -> u64
 }
 
 // The record after a car event, where it comes in turn, is possible and fills none of the places that are kept open.
-pub fn driven(e: Event, r: u64) -> Driven
+pub fn driven(e: Event, r: u64) -> Result<u64, Undriven>
     ensures { result ≡ driven_of e r }
 {
     if !in_turn(e, r) {
-        return Driven::OutOfTurn;
+        return Err(Undriven::OutOfTurn);
     }
     if !possible(e, r) {
-        return Driven::Impossible;
+        return Err(Undriven::Impossible);
     }
     if !places_open(e, r) {
-        return Driven::KeptOpen;
+        return Err(Undriven::KeptOpen);
     }
-    Driven::Record(after(e, r))
+    Ok(after(e, r))
 }

@@ -12,26 +12,26 @@ use answers::Reason;
 use floor::masks::{
     HEIGHT, HEIGHT_AT, LEFT_OF_LIFT, LIFT_AND_CELLS, LIFT_CELLS, RAISED, RAISED_CAR, RIGHT_OF_LIFT,
 };
-use rules::Verdict;
+use rules::Refusal;
 
 // The height differs; in the basement the lift's two cells are free, or no car stands half on it: the cells on either side
 // hold an even number each.
-pub fn lift_judged(r: u64, height: u8) -> Verdict
+pub fn lift_judged(r: u64, height: u8) -> Result<(), Refusal>
     ensures { result ≡ judged (clauses (Instruction.Lift height)) (bit r) }
 {
     if height_is(r, height) {
-        return Verdict::NotAllowed(Reason::SameHeight);
+        return Err(Refusal::NotAllowed(Reason::SameHeight));
     }
     if !height_is(r, 2) {
-        return Verdict::Allowed;
+        return Ok(());
     }
     if bits::free(r, LIFT_CELLS) {
-        return Verdict::Allowed;
+        return Ok(());
     }
     if bits::even(r, LEFT_OF_LIFT) & bits::even(r, RIGHT_OF_LIFT) {
-        return Verdict::Allowed;
+        return Ok(());
     }
-    Verdict::NotAllowed(Reason::OddCount)
+    Err(Refusal::NotAllowed(Reason::OddCount))
 }
 
 // The bits of the lift at a height, with a car or without: in the basement the car stands on its two cells.

@@ -1,19 +1,21 @@
 // What most instructions are told, at once: belts that the record allows, by areas that are looked up, and runs of the raised lift. Nothing is
-// said of the others: 0 stands for that.
-ghost use Rattle.std.specs.Prelude.{◌≡◌, true, ◌<◌};
+// said of the others.
+ghost use Rattle.std.specs.Prelude.{◌≡◌, true, ◌<◌, IfSome};
 ghost use Rattle.engine.specs.Judged.{judge};
 ghost use Rattle.engine.specs.Private.{runs, code_runs, fitting, code_lifts};
 
-use super::judging::within;
+use super::judging::{step, within};
 use super::masks::{CELLS, NEEDED, NEEDED_SET, height_is};
 use floor::masks::{LIFT_AND_CELLS, ROW_1};
 use rules::Code;
 
+// Kept: a table for each row, since wrong versions of run_1 and run_2 are named (must-fail/wrong_programs.edit).
 // The areas of belts without a gap: row 1, and the two rows of three belts.
-fn run_1(mask: u8) -> u64
-    ensures { (result ≡ 0 → ⊥) → runs 1 mask result ≡ true }
+#[tactic(auto, unfolding(areas::specs::Private::belts_mask))]
+fn run_1(mask: u8) -> Option<u64>
+    ensures { IfSome result (λ a. runs 1 mask a ≡ true) }
 {
-    match mask {
+    Some(match mask {
         1 => 0x100_0000_0003,
         2 => 0x7FC,
         3 => 0x100_0000_07FF,
@@ -29,61 +31,57 @@ fn run_1(mask: u8) -> u64
         28 => 0x70_0800_000F_F800,
         30 => 0x70_0800_000F_FFFC,
         31 => 0x70_0900_000F_FFFF,
-        _ => 0,
-    }
+        _ => return None,
+    })
 }
 
-fn run_2(mask: u8) -> u64
-    ensures { (result ≡ 0 → ⊥) → runs 2 mask result ≡ true }
+#[tactic(auto, unfolding(areas::specs::Private::belts_mask))]
+fn run_2(mask: u8) -> Option<u64>
+    ensures { IfSome result (λ a. runs 2 mask a ≡ true) }
 {
-    match mask {
+    Some(match mask {
         1 => 0x200_0010_0000,
         2 => 0x1FE0_0000,
         3 => 0x200_1FF0_0000,
         4 => 0x1000_2000_0000,
         6 => 0x1000_3FE0_0000,
         7 => 0x1200_3FF0_0000,
-        _ => 0,
-    }
+        _ => return None,
+    })
 }
 
-fn run_3(mask: u8) -> u64
-    ensures { (result ≡ 0 → ⊥) → runs 3 mask result ≡ true }
+#[tactic(auto, unfolding(areas::specs::Private::belts_mask))]
+fn run_3(mask: u8) -> Option<u64>
+    ensures { IfSome result (λ a. runs 3 mask a ≡ true) }
 {
-    match mask {
+    Some(match mask {
         1 => 0x400_4000_0000,
         2 => 0x7F_8000_0000,
         3 => 0x47F_C000_0000,
         4 => 0x2080_0000_0000,
         6 => 0x20FF_8000_0000,
         7 => 0x24FF_C000_0000,
-        _ => 0,
-    }
+        _ => return None,
+    })
 }
 
-fn run(row: u8, mask: u8) -> u64
-    ensures { (result ≡ 0 → ⊥) → runs row mask result ≡ true }
+fn run(row: u8, mask: u8) -> Option<u64>
+    ensures { IfSome result (λ a. runs row mask a ≡ true) }
 {
     match row {
         1 => run_1(mask),
         2 => run_2(mask),
         3 => run_3(mask),
-        _ => 0,
+        _ => None,
     }
 }
 
 // The area of well-formed belts without a gap.
-pub fn named(x: Code) -> u64
-    ensures { (result ≡ 0 → ⊥) → code_runs x result ≡ true }
+pub fn named(x: Code) -> Option<u64>
+    ensures { IfSome result (λ a. code_runs x a ≡ true) }
 {
-    if x.op != 1 {
-        return 0;
-    }
-    if 1 < x.c {
-        return 0;
-    }
-    if 1 < x.d {
-        return 0;
+    if x.op != 1 || 1 < x.c || 1 < x.d {
+        return None;
     }
     run(x.a, x.b)
 }
@@ -104,42 +102,19 @@ fn fits(a: u64, toward: u8, n: u8, r: u64) -> bool
     bits::even(r, a & ROW_1)
 }
 
-// The area of belts that the record is seen to allow, row by row: above row 1 there is no half move.
-fn belts(x: Code, r: u64) -> u64
-    requires { x.op ≡ 1 }
-    ensures { (result ≡ 0 → ⊥) → record { area = result; good = true; allowed = true } ≡ judge x r }
+// The area of belts that the record is seen to allow: above row 1 there is no half move.
+#[tactic(auto, using(crate::proofs::Shortcuts::belts_pass))]
+fn belts(x: Code, r: u64) -> Option<u64>
+    ensures { IfSome result (λ a. record { area = a; good = true; allowed = true } ≡ judge x r) }
 {
-    if 1 < x.c {
-        return 0;
+    let a = named(x)?;
+    if (x.a != 1) & (x.d == 0) {
+        return None;
     }
-    if 1 < x.d {
-        return 0;
+    if fits(a, x.c, step(x.a, x.d), r) {
+        return Some(a);
     }
-    if x.a == 1 {
-        let a = run_1(x.b);
-        if fits(a, x.c, 1 + x.d, r) {
-            return a;
-        }
-        return 0;
-    }
-    if x.d == 0 {
-        return 0;
-    }
-    if x.a == 2 {
-        let a = run_2(x.b);
-        if fits(a, x.c, 1, r) {
-            return a;
-        }
-        return 0;
-    }
-    if x.a == 3 {
-        let a = run_3(x.b);
-        if fits(a, x.c, 1, r) {
-            return a;
-        }
-        return 0;
-    }
-    0
+    None
 }
 
 // Five bytes say a run of the lift.
@@ -157,14 +132,14 @@ fn rises(x: Code, r: u64) -> bool
 }
 
 // The area of what the record is seen to allow.
-pub fn area(x: Code, r: u64) -> u64
-    ensures { (result ≡ 0 → ⊥) → record { area = result; good = true; allowed = true } ≡ judge x r }
+pub fn area(x: Code, r: u64) -> Option<u64>
+    ensures { IfSome result (λ a. record { area = a; good = true; allowed = true } ≡ judge x r) }
 {
     if x.op == 1 {
         return belts(x, r);
     }
     if rises(x, r) {
-        return LIFT_AND_CELLS;
+        return Some(LIFT_AND_CELLS);
     }
-    0
+    None
 }

@@ -18,7 +18,7 @@ use Rattle.station_laws.specs.Runs as run
 use Rattle.station_laws.specs.Runs.{Call}
 use Rattle.wire.specs.declared.What.{What}
 use Rattle.wire.specs.declared.What.TheVariants.{Request, Event, Result, Image, Ask, Held}
-use Rattle.wire.specs.declared.Received.{Received}
+use Rattle.wire.specs.Reads.{Received}
 use Rattle.wire.specs.declared.Frame.{Frame}
 use Rattle.wire.specs.declared.Frame.TheVariants.{Cut, Wrong, Whole}
 use Rattle.wire.specs.Kinds.{kind_of, in_range, kinds_asked}
@@ -62,11 +62,11 @@ kind_written (Held r apart) count set t = refl
 
 pub written_is_heard : WrittenIsHeard
 unfolding heard
-written_is_heard m room p k e =
-    let w = wrote m room e in
+written_is_heard m room n p k e =
+    let w = wrote m room n e in
     let past = drop (length (message_bytes m)) room in
     let kind : kind_at (writing_message m room).leaves ≡ kind_of m.what = rw w.all (kind_written m.what m.count m.set past) in
-    let r = asked_alike (writing_message m room).leaves (rw kind k) ∙ reads_back m room p e in
+    let r = asked_alike (writing_message m room).leaves (rw kind k) ∙ reads_back m room n p e in
     rw r
 
 -- ---- made as code makes it

@@ -15,8 +15,8 @@ use Rattle.answers.specs.declared.Answer.{Answer}
 use Rattle.answers.specs.declared.Answer.TheVariants.{Taken, BadField, Overlap}
 use Rattle.rules.specs.declared.Instruction.{Instruction}
 use Rattle.rules.specs.declared.Code.{Code}
-use Rattle.rules.specs.declared.Reading.{Reading}
-use Rattle.rules.specs.declared.Reading.TheVariants.{Good, Bad}
+use Rattle.std.specs.declared.option.Option.{Option}
+use Rattle.std.specs.declared.option.Option.TheVariants.{Some, None}
 use Rattle.rules.specs.Rules.{well_formed, area_of, overlap}
 use Rattle.rules.specs.Codes.{read_code, read_bytes, code_from}
 use Rattle.rules.specs.Verdicts.{on_code, sharing_of}
@@ -29,7 +29,7 @@ use Rattle.station_c.proofs.Pairs.{share_either}
 use Rattle.entries_laws.specs.Statements.{PairIsRequest}
 
 -- what is answered of two with enough bytes, by what they say
-abbrev told : Reading → Reading → Answer
+abbrev told : (Option Instruction) → (Option Instruction) → Answer
 told g h = on_code (λ i. on_code (λ j. sharing_said (sharing_of i j)) (BadField 1) h) (BadField 0) g
 
 -- of two that are well formed, by whether they share anything
@@ -40,31 +40,31 @@ shared i j true wi wj e = rw (wi, wj, share_either (area_of i) (area_of j), e)
 shared i j false wi wj e = rw (wi, wj, share_either (area_of i) (area_of j), e)
 
 -- the least bad one
-four : (f : ℕ → Bool) (p : ℕ) (g h : Reading) → IsLeast 2 f p → f 0 ≡ not (on_code (λ i. true) false g)
+four : (f : ℕ → Bool) (p : ℕ) (g h : (Option Instruction)) → IsLeast 2 f p → f 0 ≡ not (on_code (λ i. true) false g)
     → f 1 ≡ not (on_code (λ i. true) false h) → told g h ≡ BadField p
-four f zero Bad h l a b = refl
-four f zero (Good i) h l a b = clash l.passes a
-four f (suc zero) Bad h l a b = clash a (l.none 0 (omega arith))
-four f (suc zero) (Good i) Bad l a b = refl
-four f (suc zero) (Good i) (Good j) l a b = clash l.passes b
+four f zero None h l a b = refl
+four f zero (Some i) h l a b = clash l.passes a
+four f (suc zero) None h l a b = clash a (l.none 0 (omega arith))
+four f (suc zero) (Some i) None l a b = refl
+four f (suc zero) (Some i) (Some j) l a b = clash l.passes b
 four f (suc (suc p)) g h l a b = absurd (omega (arith, l.within))
 
 module _ (x y : Code) where
   -- the least that overlaps an earlier one
-  eight : (f : ℕ → Bool) (p : ℕ) (g h : Reading) → read_code x ≡ g → read_code y ≡ h → IsLeast 2 f p → f 0 ≡ false
+  eight : (f : ℕ → Bool) (p : ℕ) (g h : (Option Instruction)) → read_code x ≡ g → read_code y ≡ h → IsLeast 2 f p → f 0 ≡ false
       → f 1 ≡ share (on_code area_of [] h) (on_code area_of [] g) → told g h ≡ Overlap p
   eight f zero g h d e l a b = clash l.passes a
-  eight f (suc zero) Bad h d e l a b = let (k, p, q) = share_at (on_code area_of [] h) [] (sym b ∙ l.passes) in clash q refl
-  eight f (suc zero) (Good i) Bad d e l a b = clash l.passes b
-  eight f (suc zero) (Good i) (Good j) d e l a b = shared i j true (one_form_lem x i d).1 (one_form_lem y j e).1 (sym b ∙ l.passes)
+  eight f (suc zero) None h d e l a b = let (k, p, q) = share_at (on_code area_of [] h) [] (sym b ∙ l.passes) in clash q refl
+  eight f (suc zero) (Some i) None d e l a b = clash l.passes b
+  eight f (suc zero) (Some i) (Some j) d e l a b = shared i j true (one_form_lem x i d).1 (one_form_lem y j e).1 (sym b ∙ l.passes)
   eight f (suc (suc p)) g h d e l a b = absurd (omega (arith, l.within))
 
   -- none
-  zero_said : (g h : Reading) → read_code x ≡ g → read_code y ≡ h → on_code (λ i. true) false g ≡ true → on_code (λ i. true) false h ≡ true
+  zero_said : (g h : (Option Instruction)) → read_code x ≡ g → read_code y ≡ h → on_code (λ i. true) false g ≡ true → on_code (λ i. true) false h ≡ true
       → share (on_code area_of [] h) (on_code area_of [] g) ≡ false → told g h ≡ Taken
-  zero_said Bad h d e a b s = clash a refl
-  zero_said (Good i) Bad d e a b s = clash b refl
-  zero_said (Good i) (Good j) d e a b s = shared i j false (one_form_lem x i d).1 (one_form_lem y j e).1 s
+  zero_said None h d e a b s = clash a refl
+  zero_said (Some i) None d e a b s = clash b refl
+  zero_said (Some i) (Some j) d e a b s = shared i j false (one_form_lem x i d).1 (one_form_lem y j e).1 s
 
 -- ---- the two in a request's bytes
 

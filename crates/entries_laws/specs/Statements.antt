@@ -15,6 +15,7 @@ use Rattle.station_laws.specs.Orders.{Fate, Order, Alike}
 use Rattle.station_laws.specs.Jams.{stuck, applied, Picks, Chosen}
 use Rattle.station_laws.specs.Motion.{Moving, Unheard, LaidOutInFact, CarsInFact, AnyOrderInFact, AllowedInFact, HeardInFact}
 use Rattle.station_laws.specs.Recovery.{HasWayBack}
+use Rattle.std.specs.declared.result.Result.TheVariants.{Ok}
 use Rattle.wire.specs.declared.What.{What}
 use Rattle.wire.specs.declared.Message.{Message}
 use Rattle.wire.specs.Kinds.{kind_of}
@@ -54,7 +55,7 @@ ImagesSized = (input : List ℕ) → Bytes input → Sized (calls_in (heard_in i
 -- every call can be made: a message of kinds 1 to 5 that was written is heard as what it says
 abbrev pub WrittenIsHeard : Type 0
 WrittenIsHeard =
-    (m : Message) (room : List ℕ) → MessageTyped m → kind_of m.what ≤ 5 → (writing_message m room).says.answer ≡ Taken
+    (m : Message) (room : List ℕ) (n : ℕ) → MessageTyped m → kind_of m.what ≤ 5 → (writing_message m room).says ≡ Ok n
     → let f = one_form m in heard (writing_message m room).leaves ≡ heard_as f.what f.count f.set
 
 -- a question says the number that a request of its one instruction would be told, by a station that holds that sound record, no set and

@@ -5,8 +5,8 @@ use Rattle.std.specs.Prelude.{Bool, true, false, ◌&&◌, List, [], ◌∷◌, 
 use Rattle.bits.specs.Places.{join}
 use Rattle.floor.specs.Floor.{left, right, lowered, tilted, street, rotation, basement}
 use Rattle.floor.specs.Sound.{total}
-use Rattle.floor.specs.declared.Total.{Total}
-use Rattle.floor.specs.declared.Total.TheVariants.{Cars, Unsound}
+use Rattle.std.specs.declared.option.Option.{Option}
+use Rattle.std.specs.declared.option.Option.TheVariants.{Some, None}
 use Rattle.rules.specs.declared.Instruction.{Instruction}
 use Rattle.rules.specs.declared.Instruction.TheVariants.{Belts, Shuttles, Tilt, Lift, Rotate}
 use Rattle.rules.specs.Codes.{bytes_of}
@@ -27,9 +27,9 @@ pub data ExampleStep : Type 0 where
   apart : ℕ → ExampleStep
 
 -- a record's total is so many cars, so it is sound
-abbrev pub is_total : Total → ℕ → Bool
-is_total (Cars n) k = eqb n k
-is_total Unsound k = false
+abbrev pub is_total : Option ℕ → ℕ → Bool
+is_total (Some n) k = eqb n k
+is_total None k = false
 
 -- a call hands back this number and place
 abbrev pub is_answer : Outcome → ℕ → ℕ → Bool

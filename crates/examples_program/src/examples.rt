@@ -1,99 +1,78 @@
 // Document 01's floor examples and its lines that are only run, by calls of the code. A line has the name of an example, then the calls
 // with the numbers that they are answered with, and the records between them. What it must write, the file stdout, was written by hand
 // from the paper. P1 to P12 are proved of the definitions in the crate examples.
+ghost use Rattle.std.specs.Prelude.{◌≤◌};
+
 use answers::NOWHERE;
-use floor::Total;
-use rules::Instruction;
+use rules::{Code, Instruction};
 use station::{Outcome, Picture, Report, Station};
+use std::io;
 use std::num::wrapping_sub_u16;
 
 // ---- what is written
 
-pub fn text(rt: &HostRuntime, t: &[u8]) {
-    let _ = rt.write_all(t);
-}
-
-// The lowest byte as the paper writes it.
-fn show_byte(rt: &HostRuntime, r: u64) {
-    let digits = b"0123456789ABCDEF";
-    let high = (r / 16 % 16) as usize;
-    let low = (r % 16) as usize;
-    text(rt, &[b' ', digits[high], digits[low]]);
-}
-
-fn show_four(rt: &HostRuntime, r: u64) {
-    show_byte(rt, r);
-    show_byte(rt, r / 0x100);
-    show_byte(rt, r / 0x1_0000);
-    show_byte(rt, r / 0x100_0000);
-}
-
 // An image as the paper writes it, the lowest byte first.
-fn show(rt: &HostRuntime, r: u64) {
-    text(rt, b" |");
-    show_four(rt, r);
-    show_four(rt, r / 0x1_0000_0000);
+fn show(rt: &HostRuntime, r: u64) -> io::Result<()> {
+    rt.write_all(b" |")?;
+    for b in r.to_le_bytes() {
+        print!(rt; " {b:02X}")?;
+    }
+    Ok(())
 }
 
 // How many cars a record has, if it is sound.
-fn show_cars(rt: &HostRuntime, r: u64) {
-    text(rt, b" | ");
+fn show_cars(rt: &HostRuntime, r: u64) -> io::Result<()> {
     match floor::cars(r) {
-        Total::Cars(n) => {
-            let _ = rt.print(n);
-            text(rt, b" cars");
-        }
-        Total::Unsound => text(rt, b"not sound"),
+        Some(n) => print!(rt; " | {n} cars"),
+        None => rt.write_all(b" | not sound"),
     }
 }
 
 // A call's answer: its number, and the place where it names one.
-pub fn told(rt: &HostRuntime, name: &[u8], o: Outcome) -> Station {
-    let answer = o.answer;
-    let place = answer.place();
-    text(rt, b" | ");
-    text(rt, name);
-    text(rt, b": ");
-    let _ = rt.print(answer.number() as u64);
+pub fn told(rt: &HostRuntime, name: &str, o: Outcome) -> io::Result<Station> {
+    let number = o.answer.number();
+    print!(rt; " | {name}: {number}")?;
+    let place = o.answer.place();
     if place != NOWHERE {
-        text(rt, b" at ");
-        let _ = rt.print(place as u64);
+        print!(rt; " at {place}")?;
     }
-    o.station
+    Ok(o.station)
 }
 
 // ---- calls
 
+// The five bytes of an instruction, at a place of a set.
+fn put(set: &mut [u8; 40], at: usize, i: Instruction)
+    requires { at ≤ 35 }
+{
+    let Code { op, a, b, c, d } = rules::code_of(i);
+    set[at] = op;
+    set[at + 1] = a;
+    set[at + 2] = b;
+    set[at + 3] = c;
+    set[at + 4] = d;
+}
+
 // The bytes of a set of one or two instructions.
 fn set_of(i: Instruction) -> [u8; 40] {
-    let x = rules::code_of(i);
     let mut set = [0u8; 40];
-    set[0] = x.op;
-    set[1] = x.a;
-    set[2] = x.b;
-    set[3] = x.c;
-    set[4] = x.d;
+    put(&mut set, 0, i);
     set
 }
 
 fn pair_of(i: Instruction, j: Instruction) -> [u8; 40] {
     let mut set = set_of(i);
-    let x = rules::code_of(j);
-    set[5] = x.op;
-    set[6] = x.a;
-    set[7] = x.b;
-    set[8] = x.c;
-    set[9] = x.d;
+    put(&mut set, 5, j);
     set
 }
 
 // One instruction is asked for.
-fn asked(rt: &HostRuntime, s: Station, name: &[u8], i: Instruction) -> Station {
+fn asked(rt: &HostRuntime, s: Station, name: &str, i: Instruction) -> io::Result<Station> {
     told(rt, name, s.request(1, set_of(i)))
 }
 
 // The result of an instruction of the present set.
-fn ended(rt: &HostRuntime, s: Station, name: &[u8], number: u8, ending: u8) -> Station {
+fn ended(rt: &HostRuntime, s: Station, name: &str, number: u8, ending: u8) -> io::Result<Station> {
     let issue = wrapping_sub_u16(s.next, 1);
     told(
         rt,
@@ -107,85 +86,85 @@ fn ended(rt: &HostRuntime, s: Station, name: &[u8], number: u8, ending: u8) -> S
 }
 
 // One instruction is asked for and done, and the record shown.
-fn moved(rt: &HostRuntime, s: Station, name: &[u8], i: Instruction) -> Station {
-    let t = asked(rt, s, name, i);
-    let u = ended(rt, t, b"done", 0, 1);
-    show(rt, u.bits);
-    u
+fn moved(rt: &HostRuntime, s: Station, name: &str, i: Instruction) -> io::Result<Station> {
+    let t = asked(rt, s, name, i)?;
+    let u = ended(rt, t, "done", 0, 1)?;
+    show(rt, u.bits)?;
+    Ok(u)
 }
 
 // A start with this image.
-fn placed(rt: &HostRuntime, r: u64) -> Station {
-    show(rt, r);
+fn placed(rt: &HostRuntime, r: u64) -> io::Result<Station> {
+    show(rt, r)?;
     told(
         rt,
-        b"image",
+        "image",
         Station::start().image(Picture { bits: r, apart: 0 }),
     )
 }
 
 // ---- the examples
 
-fn p1(rt: &HostRuntime) {
-    text(rt, b"P1");
+fn p1(rt: &HostRuntime) -> io::Result<()> {
+    rt.write_all(b"P1")?;
     let s = Station::start();
-    show(rt, s.bits);
-    show_cars(rt, s.bits);
-    text(rt, b"\n");
+    show(rt, s.bits)?;
+    show_cars(rt, s.bits)?;
+    rt.write_all(b"\n")
 }
 
-fn p2(rt: &HostRuntime) -> Station {
-    text(rt, b"P2");
-    let s = told(rt, b"begin in", Station::start().event(1));
-    let t = told(rt, b"done", s.event(3));
-    let u = told(rt, b"begin in", t.event(1));
-    text(rt, b"\n");
-    u
+fn p2(rt: &HostRuntime) -> io::Result<Station> {
+    rt.write_all(b"P2")?;
+    let s = told(rt, "begin in", Station::start().event(1))?;
+    let t = told(rt, "done", s.event(3))?;
+    let u = told(rt, "begin in", t.event(1))?;
+    rt.write_all(b"\n")?;
+    Ok(u)
 }
 
-fn p3(rt: &HostRuntime) {
-    text(rt, b"P3");
-    told(rt, b"begin out", Station::start().event(2));
-    text(rt, b"\n");
+fn p3(rt: &HostRuntime) -> io::Result<()> {
+    rt.write_all(b"P3")?;
+    told(rt, "begin out", Station::start().event(2))?;
+    rt.write_all(b"\n")
 }
 
-fn p4(rt: &HostRuntime, s: Station) -> Station {
-    text(rt, b"P4");
-    let t = moved(rt, s, b"lift to basement", Instruction::Lift { height: 2 });
-    text(rt, b"\n");
-    t
+fn p4(rt: &HostRuntime, s: Station) -> io::Result<Station> {
+    rt.write_all(b"P4")?;
+    let t = moved(rt, s, "lift to basement", Instruction::Lift { height: 2 })?;
+    rt.write_all(b"\n")?;
+    Ok(t)
 }
 
-fn p5(rt: &HostRuntime, s: Station) {
-    text(rt, b"P5");
+fn p5(rt: &HostRuntime, s: Station) -> io::Result<()> {
+    rt.write_all(b"P5")?;
     let t = moved(
         rt,
         s,
-        b"row 1 mask 6 lower half",
+        "row 1 mask 6 lower half",
         Instruction::Belts {
             row: 1,
             mask: 6,
             toward: 0,
             size: 0,
         },
-    );
-    asked(rt, t, b"lift to street", Instruction::Lift { height: 0 });
-    text(rt, b"\n");
+    )?;
+    asked(rt, t, "lift to street", Instruction::Lift { height: 0 })?;
+    rt.write_all(b"\n")
 }
 
-fn p6(rt: &HostRuntime) {
-    text(rt, b"P6");
-    let s = placed(rt, 0x49_1B00_0000_3C00);
-    show_cars(rt, s.bits);
-    let t = asked(rt, s, b"lift to rotation", Instruction::Lift { height: 1 });
-    asked(rt, t, b"lift to street", Instruction::Lift { height: 0 });
-    text(rt, b"\n");
+fn p6(rt: &HostRuntime) -> io::Result<()> {
+    rt.write_all(b"P6")?;
+    let s = placed(rt, 0x49_1B00_0000_3C00)?;
+    show_cars(rt, s.bits)?;
+    let t = asked(rt, s, "lift to rotation", Instruction::Lift { height: 1 })?;
+    asked(rt, t, "lift to street", Instruction::Lift { height: 0 })?;
+    rt.write_all(b"\n")
 }
 
-fn p7(rt: &HostRuntime) {
-    text(rt, b"P7");
-    placed(rt, 0x9_1B00_0000_0001);
-    text(rt, b"\n");
+fn p7(rt: &HostRuntime) -> io::Result<()> {
+    rt.write_all(b"P7")?;
+    placed(rt, 0x9_1B00_0000_0001)?;
+    rt.write_all(b"\n")
 }
 
 // The left lowered shuttles of rows 1 and 2, higher.
@@ -196,26 +175,26 @@ const UP: Instruction = Instruction::Shuttles {
     toward: 1,
 };
 
-fn p8(rt: &HostRuntime) {
-    text(rt, b"P8");
+fn p8(rt: &HostRuntime) -> io::Result<()> {
+    rt.write_all(b"P8")?;
     moved(
         rt,
-        placed(rt, 0x9_1B00_0000_0003),
-        b"left lowered rows 1 and 2 higher",
+        placed(rt, 0x9_1B00_0000_0003)?,
+        "left lowered rows 1 and 2 higher",
         UP,
-    );
-    text(rt, b"\n");
+    )?;
+    rt.write_all(b"\n")
 }
 
-fn p9(rt: &HostRuntime) {
-    text(rt, b"P9");
+fn p9(rt: &HostRuntime) -> io::Result<()> {
+    rt.write_all(b"P9")?;
     asked(
         rt,
-        placed(rt, 0x9_1B00_0000_0006),
-        b"left lowered rows 1 and 2 higher",
+        placed(rt, 0x9_1B00_0000_0006)?,
+        "left lowered rows 1 and 2 higher",
         UP,
-    );
-    text(rt, b"\n");
+    )?;
+    rt.write_all(b"\n")
 }
 
 // The tilted shuttle of row 3 is lowered.
@@ -228,63 +207,55 @@ fn lowers(side: u8) -> Instruction {
 }
 
 // The second of the set with this result.
-fn p10(rt: &HostRuntime, name: &[u8], ending: u8) {
-    text(rt, b"P10");
+fn p10(rt: &HostRuntime, name: &str, ending: u8) -> io::Result<()> {
+    rt.write_all(b"P10")?;
     let set = pair_of(lowers(0), lowers(1));
-    let s = told(rt, b"both lowered", Station::start().request(2, set));
-    let t = ended(rt, s, b"done", 0, 1);
-    let u = ended(rt, t, name, 1, ending);
-    show(rt, u.bits);
-    text(rt, b"\n");
+    let s = told(rt, "both lowered", Station::start().request(2, set))?;
+    let t = ended(rt, s, "done", 0, 1)?;
+    let u = ended(rt, t, name, 1, ending)?;
+    show(rt, u.bits)?;
+    rt.write_all(b"\n")
 }
 
-fn p11(rt: &HostRuntime) {
-    text(rt, b"P11");
+fn p11(rt: &HostRuntime) -> io::Result<()> {
+    rt.write_all(b"P11")?;
     moved(
         rt,
-        placed(rt, 0x29_1B00_0000_00C0),
-        b"rotate",
+        placed(rt, 0x29_1B00_0000_00C0)?,
+        "rotate",
         Instruction::Rotate,
-    );
-    text(rt, b"\nP11");
+    )?;
+    rt.write_all(b"\nP11")?;
     asked(
         rt,
-        placed(rt, 0x29_1B00_0000_0180),
-        b"rotate",
+        placed(rt, 0x29_1B00_0000_0180)?,
+        "rotate",
         Instruction::Rotate,
-    );
-    text(rt, b"\n");
+    )?;
+    rt.write_all(b"\n")
 }
 
-fn p12(rt: &HostRuntime) {
-    text(rt, b"P12");
+fn p12(rt: &HostRuntime) -> io::Result<()> {
+    rt.write_all(b"P12")?;
     let set = pair_of(lowers(0), lowers(0));
-    told(rt, b"same tilt twice", Station::start().request(2, set));
-    text(rt, b"\n");
-}
-
-fn lift_and_belts(rt: &HostRuntime) {
-    p1(rt);
-    let s = p2(rt);
-    p3(rt);
-    let t = p4(rt, s);
-    p5(rt, t);
-    p6(rt);
-}
-
-fn shuttles_and_sets(rt: &HostRuntime) {
-    p7(rt);
-    p8(rt);
-    p9(rt);
-    p10(rt, b"done", 1);
-    p10(rt, b"failed", 0);
-    p11(rt);
-    p12(rt);
+    told(rt, "same tilt twice", Station::start().request(2, set))?;
+    rt.write_all(b"\n")
 }
 
 // Writes all.
-pub fn all(rt: &HostRuntime) {
-    lift_and_belts(rt);
-    shuttles_and_sets(rt);
-    crate::run_only::all(rt);
+pub fn all(rt: &HostRuntime) -> io::Result<()> {
+    p1(rt)?;
+    let s = p2(rt)?;
+    p3(rt)?;
+    let t = p4(rt, s)?;
+    p5(rt, t)?;
+    p6(rt)?;
+    p7(rt)?;
+    p8(rt)?;
+    p9(rt)?;
+    p10(rt, "done", 1)?;
+    p10(rt, "failed", 0)?;
+    p11(rt)?;
+    p12(rt)?;
+    crate::run_only::all(rt)
 }

@@ -2,7 +2,17 @@
 // is driven in, a driver who would drive out gives up, the next one drives out), and the last record is the same each time, and so
 // is what is set apart. The order is proved not to matter (station_laws); here it is seen in the code.
 use station::{Outcome, Picture, Report, Station};
+use std::io;
 use std::num::wrapping_sub_u16;
+
+// The orders of the acts: a drive begins, in or out; it ends, done or not; or the result of the instruction with this digit.
+const ORDERS: [&[u8; 14]; 5] = [
+    b"0i1d23o4n5o6d7",
+    b"i7654d3on2o1d0",
+    b"1357id0o2no4d6",
+    b"63idonod150742",
+    b"2i70d5o1n6od34",
+];
 
 // The start's shuttles and lift. Row 1 has cars in cells 2-3, 6-7, 14-15 and 18-19, row 2 in 20, 22, 25 and 29, row 3 in 31 and 36.
 const FLOOR: u64 = 0x9_1B10_A25C_C0CC;
@@ -36,103 +46,73 @@ fn reported(i: u8) -> u8 {
     }
 }
 
-// A station, and whether each call so far was taken.
-#[derive(Clone, Copy)]
-struct Course {
-    station: Station,
-    taken: bool,
-}
-
-fn after(o: Outcome, before: bool) -> Course {
-    let answer = o.answer;
-    let station = o.station;
-    Course {
-        station,
-        taken: before & (answer.number() == 0),
-    }
+// The station that a call left, if it was taken.
+fn taken(o: Outcome) -> Option<Station> {
+    (o.answer.number() == 0).then_some(o.station)
 }
 
 // The set is outstanding.
-fn opened() -> Course {
-    let placed = after(
-        Station::start().image(Picture {
-            bits: FLOOR,
-            apart: 0,
-        }),
-        true,
-    );
-    let station = placed.station;
-    after(station.request(Station::MOST, SET), placed.taken)
+fn opened() -> Option<Station> {
+    let placed = taken(Station::start().image(Picture {
+        bits: FLOOR,
+        apart: 0,
+    }))?;
+    taken(placed.request(Station::MOST, SET))
 }
 
-// An act: a drive begins, in or out; it ends, done or not; or the result of the instruction with this digit.
-fn acted(r: Course, act: u8) -> Course {
-    let s = r.station;
+// An act on a station.
+fn acted(s: Station, act: u8) -> Option<Station> {
     match act {
-        b'i' => after(s.event(1), r.taken),
-        b'o' => after(s.event(2), r.taken),
-        b'd' => after(s.event(3), r.taken),
-        b'n' => after(s.event(4), r.taken),
+        b'i' => taken(s.event(1)),
+        b'o' => taken(s.event(2)),
+        b'd' => taken(s.event(3)),
+        b'n' => taken(s.event(4)),
         b'0'..=b'7' => {
             let i = act - b'0';
-            let report = Report {
+            taken(s.result(Report {
                 issue: wrapping_sub_u16(s.next, 1),
                 number: i,
                 ending: reported(i),
-            };
-            after(s.result(report), r.taken)
+            }))
         }
-        _ => Course {
-            station: s,
-            taken: false,
-        },
+        _ => None,
     }
 }
 
 // The acts in this order.
-fn run(order: &[u8]) -> Course {
-    let mut r = opened();
-    let mut k = 0;
-    while k < order.len() {
-        r = acted(r, order[k]);
-        k += 1;
+fn run(order: &[u8]) -> Option<Station> {
+    let mut s = opened()?;
+    for act in order {
+        s = acted(s, *act)?;
     }
-    r
+    Some(s)
 }
 
 // Writes the order, the last record and what is set apart, which are answered too.
-fn shown(rt: &HostRuntime, order: &[u8]) -> Picture {
-    let r = run(order);
-    let s = r.station;
-    let _ = rt.write_all(order);
-    if !r.taken {
-        let _ = rt.write_all(b" with a call refused");
-    }
-    let _ = rt.write_all(b" ");
-    let _ = rt.print(format_args!("{:016x}", s.bits));
-    let _ = rt.write_all(b" ");
-    let _ = rt.print(format_args!("{:016x}", s.apart));
-    let _ = rt.write_all(b"\n");
-    Picture {
-        bits: s.bits,
-        apart: s.apart,
+fn shown(rt: &HostRuntime, order: &[u8]) -> io::Result<Option<(u64, u64)>> {
+    rt.write_all(order)?;
+    match run(order) {
+        Some(Station { bits, apart, .. }) => {
+            println!(rt; " {bits:016x} {apart:016x}")?;
+            Ok(Some((bits, apart)))
+        }
+        None => {
+            rt.write_all(b" with a call refused\n")?;
+            Ok(None)
+        }
     }
 }
 
-fn same(p: Picture, q: Picture) -> bool {
-    (p.bits == q.bits) & (p.apart == q.apart)
-}
-
-// Writes all.
-pub fn all(rt: &HostRuntime) {
-    let rising = shown(rt, b"0i1d23o4n5o6d7");
-    let falling = shown(rt, b"i7654d3on2o1d0");
-    let odd_first = shown(rt, b"1357id0o2no4d6");
-    let mixed = shown(rt, b"63idonod150742");
-    let late = shown(rt, b"2i70d5o1n6od34");
-    if same(rising, falling) & same(rising, odd_first) & same(rising, mixed) & same(rising, late) {
-        let _ = rt.write_all(b"same\n");
+// Writes all, and whether each order ends as the first does.
+pub fn all(rt: &HostRuntime) -> io::Result<()> {
+    let first = shown(rt, ORDERS[0])?;
+    let mut same = true;
+    for order in &ORDERS[1..] {
+        same &= shown(rt, *order)? == first;
+    }
+    if same {
+        rt.write_all(b"same\n")
     } else {
-        let _ = rt.write_all(b"different\n");
+        rt.write_all(b"different\n")
     }
 }

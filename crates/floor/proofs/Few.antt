@@ -16,7 +16,7 @@ use Rattle.floor.specs.Floor.{row_cells, raised_car, street, height_low, height_
 use Rattle.floor.specs.Cars.{cars}
 use Rattle.floor.specs.Sound.{sound_rules, paired, sound, total}
 use Rattle.floor.specs.Tests.{free, no, holds, all_hold, height_is, at_basement}
-use Rattle.floor.specs.declared.Total.TheVariants.{Cars, Unsound}
+use Rattle.std.specs.declared.option.Option.TheVariants.{Some, None}
 use Rattle.floor.specs.Promises.{FewCars, ThirtyCars, empty_at_street, AtMost28, TwentyEight}
 use Rattle.floor.proofs.Reading.{nth_holds}
 use Rattle.floor.proofs.Rows.{below, Whole, whole_iff_paired}
@@ -83,19 +83,19 @@ module _ (f : Bits) (r : T (all_hold sound_rules f)) where
 pub few_cars : FewCars
 unfolding total sound
 few_cars r n e = split (sound r)
-    (λ t. let h : Cars (cars (bit r)) ≡ Cars n = rw t at e in
+    (λ t. let h : Some (cars (bit r)) ≡ Some n = rw t at e in
     let k : cars (bit r) ≡ n = cc in
     omega (arith, cars_le (bit r) (true→T (both (paired 20 0 false (bit r)) (all_hold sound_rules (bit r)) t).1)))
-    (λ t. let h : Unsound ≡ Cars n = rw t at e in absurd (let z : ◌≡◌ {A = ℕ} 0 1 = cc in omega arith))
+    (λ t. let h : None ≡ Some n = rw t at e in absurd (let z : ◌≡◌ {A = ℕ} 0 1 = cc in omega arith))
 
 pub at_most_28 : AtMost28
 unfolding total sound
 at_most_28 r n e a = split (sound r)
-    (λ t. let h : Cars (cars (bit r)) ≡ Cars n = rw t at e in
+    (λ t. let h : Some (cars (bit r)) ≡ Some n = rw t at e in
     let k : cars (bit r) ≡ n = cc in
     let (p, q) = both (paired 20 0 false (bit r)) (all_hold sound_rules (bit r)) t in
     omega (arith, cars_at_street (bit r) (true→T q) ((whole_iff_paired (bit r)).0 p) a))
-    (λ t. let h : Unsound ≡ Cars n = rw t at e in absurd (let z : ◌≡◌ {A = ℕ} 0 1 = cc in omega arith))
+    (λ t. let h : None ≡ Some n = rw t at e in absurd (let z : ◌≡◌ {A = ℕ} 0 1 = cc in omega arith))
 
 pub thirty_cars : ThirtyCars
 unfolding total sound paired cars

@@ -2,14 +2,15 @@
 use Rattle.std.specs.Prelude.{◌≡◌, true, false, cond, ◌&&◌, [], ℕ, eqb, get_or}
 use Rattle.bits.specs.Bits.{Bits}
 use Rattle.floor.specs.declared.Belt.{Belt}
-use Rattle.floor.specs.declared.Belt.TheVariants.{On, NoCell}
+use Rattle.std.specs.declared.option.Option.{Option}
+use Rattle.std.specs.declared.option.Option.TheVariants.{Some, None}
 use Rattle.floor.specs.Floor.{belt_of, belt_slots, lift_belt, raised_car, street, rotation}
 use Rattle.floor.specs.Tests.{Test, fact, set, both, either, when, holds, height_is, at_basement}
 
 -- a shuttle's belt is there with its lowered shuttle, the lift's at basement height, any other always; past the cells there is none
-abbrev pub belt_there : Belt → Test
-belt_there (On row belt) = both (set (get_or (belt_slots row) belt [])) (when (eqb row 1 && eqb belt lift_belt) at_basement)
-belt_there NoCell = fact false
+abbrev pub belt_there : Option Belt → Test
+belt_there (Some b) = both (set (get_or (belt_slots b.row) b.number [])) (when (eqb b.row 1 && eqb b.number lift_belt) at_basement)
+belt_there None = fact false
 
 -- the raised lift is there at the two heights above the basement
 abbrev pub lift_raised : Test

@@ -4,7 +4,8 @@
 use Rattle.std.specs.Prelude.{cond, List, [], ◌∷◌, ◌++◌, ℕ, ◌+◌, ◌*◌, eqb, ltb}
 use Rattle.bits.specs.Places.{from}
 use Rattle.floor.specs.declared.Belt.{Belt}
-use Rattle.floor.specs.declared.Belt.TheVariants.{On, NoCell}
+use Rattle.std.specs.declared.option.Option.{Option}
+use Rattle.std.specs.declared.option.Option.TheVariants.{Some, None}
 
 -- ---- cells: the bits 0 to 39
 
@@ -20,21 +21,25 @@ belt_cells row =
     (cond (eqb row 2) (from 20 1 ∷ from 21 8 ∷ from 29 1 ∷ [])
     (from 30 1 ∷ from 31 8 ∷ from 39 1 ∷ []))
 
--- the belt under a cell: its row, and its number in the row from the left, from 0
-unfoldable pub belt_of : ℕ → Belt
+-- a belt by its row, and its number in the row from the left, from 0
+abbrev pub belt : ℕ → ℕ → Option Belt
+belt row number = Some (record { row = row; number = number })
+
+-- the belt under a cell
+unfoldable pub belt_of : ℕ → Option Belt
 belt_of k =
-    cond (ltb k 2) (On 1 0)
-    (cond (ltb k 11) (On 1 1)
-    (cond (ltb k 13) (On 1 2)
-    (cond (ltb k 18) (On 1 3)
-    (cond (ltb k 20) (On 1 4)
-    (cond (ltb k 21) (On 2 0)
-    (cond (ltb k 29) (On 2 1)
-    (cond (ltb k 30) (On 2 2)
-    (cond (ltb k 31) (On 3 0)
-    (cond (ltb k 39) (On 3 1)
-    (cond (ltb k 40) (On 3 2)
-    NoCell))))))))))
+    cond (ltb k 2) (belt 1 0)
+    (cond (ltb k 11) (belt 1 1)
+    (cond (ltb k 13) (belt 1 2)
+    (cond (ltb k 18) (belt 1 3)
+    (cond (ltb k 20) (belt 1 4)
+    (cond (ltb k 21) (belt 2 0)
+    (cond (ltb k 29) (belt 2 1)
+    (cond (ltb k 30) (belt 2 2)
+    (cond (ltb k 31) (belt 3 0)
+    (cond (ltb k 39) (belt 3 1)
+    (cond (ltb k 40) (belt 3 2)
+    None))))))))))
 
 -- ---- shuttles: the bits 40 to 51
 

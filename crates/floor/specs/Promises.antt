@@ -3,9 +3,8 @@
 use Rattle.std.specs.Prelude.{◌≡◌, ◌↔◌, true, false, List, [], ◌∷◌, ℕ, ◌≤◌, ◌<◌, T, length, get_or}
 use Rattle.bits.specs.Bits.{Bits, bit}
 use Rattle.bits.specs.Places.{elem}
-use Rattle.floor.specs.declared.Belt.TheVariants.{On}
-use Rattle.floor.specs.declared.Total.TheVariants.{Cars}
-use Rattle.floor.specs.Floor.{belt_cells, belt_of, raised_car, street}
+use Rattle.std.specs.declared.option.Option.TheVariants.{Some}
+use Rattle.floor.specs.Floor.{belt, belt_cells, belt_of, raised_car, street}
 use Rattle.floor.specs.Tests.{Test, free, both, holds, height_is}
 use Rattle.floor.specs.Cars.{Car, covered, Layout, cars}
 use Rattle.floor.specs.Sound.{Sound, paired, sound, total}
@@ -21,11 +20,11 @@ LayoutCars = (f : Bits) (l : List Car) → Layout f l → length l ≡ cars f
 
 -- a sound record has at most 30 cars
 abbrev pub FewCars : Type 0
-FewCars = (r n : ℕ) → total r ≡ Cars n → n ≤ 30
+FewCars = (r n : ℕ) → total r ≡ Some n → n ≤ 30
 
 -- a record has 30 cars: every cell occupied, every shuttle lowered, the lift in the basement
 abbrev pub ThirtyCars : Type 0
-ThirtyCars = total 0x00403FFFFFFFFFFF ≡ Cars 30
+ThirtyCars = total 0x00403FFFFFFFFFFF ≡ Some 30
 
 -- the lift is at street and empty
 abbrev pub empty_at_street : Test
@@ -33,12 +32,12 @@ empty_at_street = both (height_is street) (free (raised_car ∷ []))
 
 -- a sound record with the lift empty at street has at most 28 cars
 abbrev pub AtMost28 : Type 0
-AtMost28 = (r n : ℕ) → total r ≡ Cars n → holds empty_at_street (bit r) ≡ true → n ≤ 28
+AtMost28 = (r n : ℕ) → total r ≡ Some n → holds empty_at_street (bit r) ≡ true → n ≤ 28
 
 -- a record with the lift empty at street has 28 cars: in row 1 five left of the lift and three right of it, every other cell occupied,
 -- every shuttle lowered
 abbrev pub TwentyEight : Type 0
-TwentyEight = (total 0x00003FFFFFFFC3FF ≡ Cars 28) × (holds empty_at_street (bit 0x00003FFFFFFFC3FF) ≡ true)
+TwentyEight = (total 0x00003FFFFFFFC3FF ≡ Some 28) × (holds empty_at_street (bit 0x00003FFFFFFFC3FF) ≡ true)
 
 -- the test of an image passes exactly if it is a sound record
 abbrev pub SoundExactly : Type 0
@@ -51,4 +50,4 @@ OnBelts = (f : Bits) (l : List Car) → Sound f → Layout f l → (k : ℕ) →
 -- the belt under a cell is a given one exactly if the cell is among that belt's
 abbrev pub BeltsExactly : Type 0
 BeltsExactly =
-    (row belt k : ℕ) → (0 < row) × (row < 4) × (belt < 5) × (k < 64) → (belt_of k ≡ On row belt) ↔ T (elem k (get_or (belt_cells row) belt []))
+    (row number k : ℕ) → (0 < row) × (row < 4) × (number < 5) × (k < 64) → (belt_of k ≡ belt row number) ↔ T (elem k (get_or (belt_cells row) number []))

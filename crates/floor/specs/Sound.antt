@@ -4,8 +4,8 @@ use Rattle.bits.specs.Bits.{Bits, bit}
 use Rattle.floor.specs.Floor.{left, right, lowered, tilted, slot, place, raised_car, street, lift_cells, drive_in, drive_out, drives, spare}
 use Rattle.floor.specs.Tests.{Test, set, free, exactly, no, both, either, all_hold, height_is, at_basement}
 use Rattle.floor.specs.Cars.{Car, Layout, cars}
-use Rattle.floor.specs.declared.Total.{Total}
-use Rattle.floor.specs.declared.Total.TheVariants.{Cars, Unsound}
+use Rattle.std.specs.declared.option.Option.{Option}
+use Rattle.std.specs.declared.option.Option.TheVariants.{Some, None}
 
 -- a shuttle's cell is occupied only if a lowered shuttle is there
 abbrev pub carried_by_shuttle : ℕ → ℕ → Test
@@ -67,10 +67,10 @@ unfoldable pub sound : ℕ → Bool
 sound r = paired 20 0 false (bit r) && all_hold sound_rules (bit r)
 
 -- how many cars it has: told of sound records only
-unfoldable pub total : ℕ → Total
-total r = cond (sound r) (Cars (cars (bit r))) Unsound
+unfoldable pub total : ℕ → Option ℕ
+total r = cond (sound r) (Some (cars (bit r))) None
 
 -- how many cars a total says, none where the record isn't sound
-abbrev pub cars_in : Total → ℕ
-cars_in (Cars n) = n
-cars_in Unsound = 0
+abbrev pub cars_in : Option ℕ → ℕ
+cars_in (Some n) = n
+cars_in None = 0

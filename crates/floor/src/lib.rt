@@ -18,37 +18,30 @@ use masks::{
     RIGHT_SLOTS, RIGHT_TILTED, ROW_1, ROWS_2_3, SPARE,
 };
 
-// The belt under a cell: its row, and its number in the row from the left.
+// A belt: its row, and its number in the row from the left.
 #[derive(Clone, Copy)]
-pub enum Belt {
-    On(u8, u8),
-    NoCell,
+pub struct Belt {
+    pub row: u8,
+    pub number: u8,
 }
 
-// How many cars a record has.
-#[derive(Clone, Copy)]
-pub enum Total {
-    Cars(u64),
-    Unsound,
-}
-
-// A cell's belt by ranges of its number.
-pub fn belt_of(cell: u64) -> Belt
+// The belt under a cell, by ranges of the cell's number.
+pub fn belt_of(cell: u64) -> Option<Belt>
     ensures { result ≡ belt_of cell }
 {
     match cell {
-        0..=1 => Belt::On(1, 0),
-        2..=10 => Belt::On(1, 1),
-        11..=12 => Belt::On(1, 2),
-        13..=17 => Belt::On(1, 3),
-        18..=19 => Belt::On(1, 4),
-        20 => Belt::On(2, 0),
-        21..=28 => Belt::On(2, 1),
-        29 => Belt::On(2, 2),
-        30 => Belt::On(3, 0),
-        31..=38 => Belt::On(3, 1),
-        39 => Belt::On(3, 2),
-        _ => Belt::NoCell,
+        0..=1 => Some(Belt { row: 1, number: 0 }),
+        2..=10 => Some(Belt { row: 1, number: 1 }),
+        11..=12 => Some(Belt { row: 1, number: 2 }),
+        13..=17 => Some(Belt { row: 1, number: 3 }),
+        18..=19 => Some(Belt { row: 1, number: 4 }),
+        20 => Some(Belt { row: 2, number: 0 }),
+        21..=28 => Some(Belt { row: 2, number: 1 }),
+        29 => Some(Belt { row: 2, number: 2 }),
+        30 => Some(Belt { row: 3, number: 0 }),
+        31..=38 => Some(Belt { row: 3, number: 1 }),
+        39 => Some(Belt { row: 3, number: 2 }),
+        _ => None,
     }
 }
 
@@ -151,11 +144,11 @@ pub fn cars_in(r: u64) -> u64
 }
 
 // How many cars the image has, if it is a sound record.
-pub fn cars(r: u64) -> Total
+pub fn cars(r: u64) -> Option<u64>
     ensures { result ≡ total r }
 {
     if sound(r) {
-        return Total::Cars(cars_in(r));
+        return Some(cars_in(r));
     }
-    Total::Unsound
+    None
 }

@@ -7,6 +7,7 @@ ghost use Rattle.journal.specs.Pieces.{replay_begun, Replays, replaying};
 
 use station::Station;
 
+// Kept: have beside the buffer, as service's turn leaves it: the buffer is lent, and Replays speaks of both (no heap).
 // How far a journal is replayed: the station after its whole messages, how many bytes these are, how many bytes behind them are held at the
 // front of the buffer, and whether the journal is damaged: what stands there is a length out of range.
 #[derive(Clone, Copy)]
@@ -21,9 +22,8 @@ pub struct Replay {
 pub fn begin() -> Replay
     ensures { result ≡ replay_begun }
 {
-    let station = Station::start();
     Replay {
-        station,
+        station: Station::start(),
         whole: 0,
         have: 0,
         damaged: false,
@@ -36,12 +36,10 @@ pub fn replay_piece(r: Replay, buf: &mut [u8], end: usize, room: &mut [u8]) -> R
     ensures { Replays (replaying r buf.old end room.old) result buf.new room.new }
 {
     let t = service::buffer::turn(r.station, buf, end, room);
-    let station = t.station;
-    let have = t.have;
     Replay {
-        station,
-        whole: std::num::wrapping_add_usize(r.whole, end - have),
-        have,
+        station: t.station,
+        whole: std::num::wrapping_add_usize(r.whole, end - t.have),
+        have: t.have,
         damaged: t.stop,
     }
 }

@@ -1,10 +1,11 @@
 -- What becomes of an append, case by case. Assumes nothing.
 use mathlib.Core.Path.{◌≡◌, refl, sym, ap, ap₂, ◌∙◌}
 use mathlib.Core.Bool.{Bool, true, false, cond, not, ◌&&◌, ◌||◌}
+use mathlib.Core.Logic.{◌⊎◌, inl, inr}
 use mathlib.Core.List.{List, [], ◌∷◌}
 use Prim.Native.Nat.{ℕ, zero, suc, ◌+◌, ◌-◌, ◌≤◌, ◌<◌}
 use native.Mathlib.Omega.{arith}
-use borrow.Author.Tests.{not-true, not-false, eq-eqb, ne_eqb, lt-ltb, le-ltb, ltb-true, ltb-false}
+use borrow.Author.Tests.{not-true, not-false, eq-eqb, ne_eqb, eqb-false, lt-ltb, le-ltb, ltb-true, ltb-false}
 use lib.Dec.{eqb, ltb}
 use lib.ListN.{length, get_or, take, drop, length-drop}
 use lib.Seq.{drop-drop, length-take-le}
@@ -39,16 +40,6 @@ module _ (r : Replay) (f : Front) {n lead : ℕ} (w v : Served) (e : w ≡ v) (l
       ∙ sym (ap (λ (b : Bool). cond b (not_taken r false) (append_taken v.station f false)) (tests ∙ t))
 
 -- ---- what stands behind the numbers
-
--- as many of them as there are
-module _ (f : Front) {lead : ℕ} (e : lead ≡ lead_of f.kind) where
-  pub few_lead : f.carries < lead → (f.carries ≤ f.carries) × (f.carries ≡ cond (ltb f.carries (lead_of f.kind)) f.carries (lead_of f.kind))
-  few_lead h =
-      (omega arith, sym (ap (λ (b : Bool). cond b f.carries (lead_of f.kind)) (ap (ltb f.carries) (sym e) ∙ lt-ltb f.carries lead h)))
-
-  pub all_lead : lead ≤ f.carries → (lead ≤ f.carries) × (lead ≡ cond (ltb f.carries (lead_of f.kind)) f.carries (lead_of f.kind))
-  all_lead h =
-      (h, e ∙ sym (ap (λ (b : Bool). cond b f.carries (lead_of f.kind)) (ap (ltb f.carries) (sym e) ∙ le-ltb f.carries lead h)))
 
 drop_cut : (l c : ℕ) (x : List ℕ) → drop l (take c x) ≡ take (c - l) (drop l x)
 drop_cut zero c x = ap (λ (n : ℕ). take n x) (let z : c ≡ c - 0 = omega arith in z)
@@ -89,11 +80,21 @@ module _ (r : Replay) (f : Front) where
     pub closes : f.kind ≡ 4 → append_taken r.station f true ≡ mark_taken r f
     closes k = rw (le-ltb (mark_most f.kind) f.carries n, eq-eqb f.kind 4 k)
 
-    pub ends : (f.kind ≡ 4 → ⊥) → eqb f.kind 2 || eqb f.kind 3 ≡ true → append_taken r.station f false ≡ mark_taken r f
-    ends k t = rw (le-ltb (mark_most f.kind) f.carries n, ne_eqb f.kind 4 k, t)
+    pub ends : 2 ≤ f.kind → f.kind ≤ 3 → append_taken r.station f false ≡ mark_taken r f
+    ends a b =
+        rw (le-ltb (mark_most f.kind) f.carries n, ne_eqb f.kind 4 (λ k. omega arith))
+        (split (eqb f.kind 2) (λ t. rw t) (λ t. rw (t, eq-eqb f.kind 3 (omega (arith, eqb-false f.kind 2 t)))))
 
-    pub no_kind : (f.kind ≡ 4 → ⊥) → eqb f.kind 2 || eqb f.kind 3 ≡ false → not_taken r false ≡ mark_taken r f
-    no_kind k t = rw (le-ltb (mark_most f.kind) f.carries n, ne_eqb f.kind 4 k, t)
+    pub no_kind : (f.kind ≡ 4 → ⊥) → (f.kind ≡ 2 → ⊥) → (f.kind ≡ 3 → ⊥) → not_taken r false ≡ mark_taken r f
+    no_kind k a b = rw (le-ltb (mark_most f.kind) f.carries n, ne_eqb f.kind 4 k, ne_eqb f.kind 2 a, ne_eqb f.kind 3 b)
+
+-- which kinds carry messages
+pub has_messages : (k : ℕ) → (k ≡ 1) ⊎ (k ≡ 5) → carries_messages k ≡ true
+has_messages k (inl e) = rw e
+has_messages k (inr e) = rw e
+
+pub has_none : (k : ℕ) → ((k ≡ 1) ⊎ (k ≡ 5) → ⊥) → carries_messages k ≡ false
+has_none k n = rw (ne_eqb k 1 (λ e. n (inl e)), ne_eqb k 5 (λ e. n (inr e)))
 
 -- ---- what a whole append is known by
 

@@ -1,55 +1,44 @@
--- The bytes up to the last that is not zero, as a loop from the end finds them, and the first sector behind them. Assumes nothing.
+-- The bytes up to the last that is not zero, and the first sector behind them. Assumes nothing.
 use mathlib.Core.Path.{◌≡◌, refl, sym, ap, ◌∙◌}
 use mathlib.Core.Bool.{Bool, true, false, cond, not}
-use mathlib.Core.List.{List, [], ◌∷◌, ◌++◌}
+use mathlib.Core.List.{List, [], ◌∷◌}
 use Prim.Native.Nat.{ℕ, zero, suc, ◌+◌, ◌-◌, ◌%◌, ◌≤◌, ◌<◌}
 use native.Mathlib.Omega.{arith}
+use native.Mathlib.Numerals.{add-one}
 use borrow.Author.Tests.{eq-eqb, ne_eqb, lt-ltb, le-ltb, le-leb, lt-leb}
 use lib.Dec.{eqb}
-use lib.Seq.{take-length, take-suc, length-take-le}
-use lib.ListN.{length, get_or, take}
+use lib.ListN.{length, get_or}
+use Rattle.std.specs.Option.{MatchOption}
+use Rattle.std.specs.declared.option.Option.{Option}
+use Rattle.std.specs.declared.option.Option.TheVariants.{Some, None}
 use Rattle.bits.proofs.Cases.{split}
 use Rattle.journal_file.specs.Appends.{Over, carried_of, titled, written, lost_from, zeroed}
 
--- one byte more at the end
-written_more : (l : List ℕ) (b : ℕ) → written (l ++ (b ∷ [])) ≡ cond (eqb b 0) (written l) (suc (length l))
-written_more [] b = refl
-written_more (x ∷ l) b =
-    let h = written_more l b in
-    split (eqb b 0) (λ t. rw (h, t))
-    (λ t.
-    let e : written (l ++ (b ∷ [])) ≡ suc (length l) = h ∙ ap (λ (v : Bool). cond v (written l) (suc (length l))) t in
-    ap (λ (n : ℕ). cond (eqb n 0) (cond (eqb x 0) 0 1) (suc n)) e
-    ∙ ap (λ (v : Bool). cond v (cond (eqb x 0) 0 1) (suc (suc (length l)))) (ne_eqb (suc (length l)) 0 (λ (q : suc (length l) ≡ 0). omega arith))
-    ∙ sym (ap (λ (v : Bool). cond v (written (x ∷ l)) (suc (length (x ∷ l)))) t))
+-- from its last byte on that is not zero a run is zero, or all of it is
+abbrev pub Last : List ℕ → Option ℕ → Type 0
+Last m o =
+    MatchOption o ((k : ℕ) → k < length m → get_or m k 0 ≡ 0)
+    (λ i. (i < length m) × (get_or m i 0 ≡ 0 → ⊥) × ((k : ℕ) → i < k → k < length m → get_or m k 0 ≡ 0))
 
--- before the first turn, where the last byte is zero, and where it is not
-pub all_of : (m : List ℕ) → written m ≡ written (take (length m) m)
-all_of m = ap written (sym (take-length m))
+none_written : (m : List ℕ) → ((k : ℕ) → k < length m → get_or m k 0 ≡ 0) → 0 ≡ written m
+none_written [] z = refl
+none_written (b ∷ m) z =
+    let rest : written m ≡ 0 = sym (none_written m (λ k h. z (suc k) (omega arith))) in
+    let here : b ≡ 0 = z 0 (omega arith) in
+    rw (rest, here)
 
--- a place that is not the first is one more than another
-one_more : (n : ℕ) → 0 < n → n ≡ suc (n - 1)
-one_more n h = omega arith
+last_written : (m : List ℕ) (i : ℕ) → Last m (Some i) → suc i ≡ written m
+last_written [] i l = absurd (omega (arith, l.0))
+last_written (b ∷ m) zero l =
+    let rest : written m ≡ 0 = sym (none_written m (λ k h. l.2 (suc k) (omega arith) (omega arith))) in
+    rw (rest, ne_eqb b 0 l.1)
+last_written (b ∷ m) (suc i) l =
+    let rest : written m ≡ suc i = sym (last_written m i (omega (arith, l.0), l.1, λ k g h. l.2 (suc k) (omega arith) (omega arith))) in
+    rw (rest, ne_eqb (suc i) 0 (λ (q : suc i ≡ 0). omega arith))
 
-last_zero : (m : List ℕ) (n : ℕ) → n < length m → eqb (get_or m n 0) 0 ≡ true → written (take (suc n) m) ≡ written (take n m)
-last_zero m n h t = ap written (take-suc m n 0 h) ∙ written_more (take n m) (get_or m n 0) ∙ rw t
-
-last_written : (m : List ℕ) (n : ℕ) → n < length m → eqb (get_or m n 0) 0 ≡ false → written (take (suc n) m) ≡ suc n
-last_written m n h t =
-    ap written (take-suc m n 0 h) ∙ written_more (take n m) (get_or m n 0) ∙ rw t (ap suc (length-take-le n m (omega arith)))
-
-pub zero_before : (m : List ℕ) (n : ℕ) → 0 < n → n ≤ length m → written m ≡ written (take n m) → get_or m (n - 1) 0 ≡ 0
-    → written m ≡ written (take (n - 1) m)
-zero_before m n h k e t =
-    e ∙ ap (λ (i : ℕ). written (take i m)) (one_more n h) ∙ last_zero m (n - 1) (omega arith) (eq-eqb _ 0 t)
-
-pub written_before : (m : List ℕ) (n : ℕ) → 0 < n → n ≤ length m → written m ≡ written (take n m) → (get_or m (n - 1) 0 ≡ 0 → ⊥)
-    → n ≡ written m
-written_before m n h k e t =
-    one_more n h ∙ sym (e ∙ ap (λ (i : ℕ). written (take i m)) (one_more n h) ∙ last_written m (n - 1) (omega arith) (ne_eqb _ 0 t))
-
-pub none_written : (m : List ℕ) (n : ℕ) → written m ≡ written (take n m) → n ≤ 0 → 0 ≡ written m
-none_written m n e h = let z : n ≡ 0 = omega arith in sym (e ∙ ap (λ (i : ℕ). written (take i m)) z)
+pub written_by : (m : List ℕ) (o : Option ℕ) {n : ℕ} → Last m o → MatchOption o (n ≡ 0) (λ i. n ≡ i + 1) → n ≡ written m
+written_by m None l e = e ∙ none_written m l
+written_by m (Some i) l e = e ∙ add-one i ∙ last_written m i l
 
 -- ---- the first sector
 

@@ -24,8 +24,26 @@ const SECTOR: usize = 512;
 
 const END: u8 = 10;
 
+// What a head begins with: what the file is, in words, and the number of its format.
+const MAGIC: &[u8] = b"Vargsnida, journal.\n";
+
+const FORMAT: u8 = 2;
+
+// The kinds of appends, by the byte that each has in a file.
+// Kept: no enum, since opening and sum_after take any byte, as a file may hold any: a match over these names is the whole conversion.
+const MESSAGES: u8 = 1;
+
+const CUT_SHORT: u8 = 2;
+
+const WRONG_LENGTH: u8 = 3;
+
+const CLOSED: u8 = 4;
+
+const NUMBERS: u8 = 5;
+
 // ---- an append
 
+// Kept: whole and short beside the values, here and in no_front: theorems name whole of a front (specs/Promises, specs/Damage).
 // What stands at the front of some bytes: whether it is a whole append, or the bytes end inside of one; its kind, how many bytes it carries,
 // and its checksum.
 #[derive(Clone, Copy)]
@@ -41,12 +59,8 @@ pub struct Front {
 fn title_of(kind: u8, size: usize) -> [u8; 4]
     ensures { result ≡ title_of kind size }
 {
-    [
-        kind,
-        (size % 256) as u8,
-        (size / 256 % 256) as u8,
-        (size / 256 / 256 % 256) as u8,
-    ]
+    let n = size.to_le_bytes();
+    [kind, n[0], n[1], n[2]]
 }
 
 // What stands before the bytes of an append of this kind, behind an append with this checksum.
@@ -80,7 +94,7 @@ pub fn closing(sum: u32) -> [u8; 5]
 fn joined(a: u8, b: u8, c: u8) -> usize
     ensures { result ≡ from_little_endian 3 0 (a ∷ b ∷ c ∷ []) }
 {
-    a as usize + 256 * (b as usize + 256 * (c as usize))
+    u32::from_le_bytes([a, b, c, 0]) as usize
 }
 
 // How many bytes are carried, as the title says.
@@ -154,14 +168,7 @@ pub fn front_of(t: &[u32], sum: u32, m: &[u8]) -> Front
 fn written_of(m: &[u8]) -> usize
     ensures { result ≡ written m.now }
 {
-    let mut n = m.len();
-    while 0 < n {
-        if m[n - 1] != 0 {
-            return n;
-        }
-        n -= 1;
-    }
-    0
+    m.iter().rposition(|b| *b != 0).map_or(0, |last| last + 1)
 }
 
 // The first place from the n-th byte on at which a sector begins.
@@ -208,6 +215,7 @@ pub enum Kind {
     Good,
 }
 
+// Kept: what it is beside the station, as JournalWeek names the kind of a head (report_program/specs/Journals).
 // A head: what it is, the station to begin with, and the checksum that the first append goes on from.
 #[derive(Clone, Copy)]
 pub struct Head {
@@ -220,33 +228,11 @@ pub struct Head {
 pub fn title() -> [u8; 24]
     ensures { result ≡ title_bytes }
 {
-    let n = version::number();
-    [
-        86,
-        97,
-        114,
-        103,
-        115,
-        110,
-        105,
-        100,
-        97,
-        44,
-        32,
-        106,
-        111,
-        117,
-        114,
-        110,
-        97,
-        108,
-        46,
-        10,
-        2,
-        (n % 256) as u8,
-        (n / 256 % 256) as u8,
-        (n / 256 / 256 % 256) as u8,
-    ]
+    let version = codec::four_bytes(version::number());
+    let mut title = [FORMAT; 24];
+    codec::copy(MAGIC, &mut title[..20]);
+    codec::copy(&version[..3], &mut title[21..]);
+    title
 }
 
 // The checksum of a head with this name, filled up with zeros, and this station.
@@ -276,14 +262,7 @@ pub fn is_garage(word: &[u8]) -> bool
     if 40 < word.len() {
         return false;
     }
-    let mut i: usize = 0;
-    while i < word.len() {
-        if !is_name_byte(word[i]) {
-            return false;
-        }
-        i += 1;
-    }
-    true
+    word.iter().all(|b| is_name_byte(*b))
 }
 
 // What the bytes of a head are.
@@ -291,10 +270,10 @@ fn kind_of(t: &[u32], m: &[u8], station: Station) -> Kind
     requires { (128 ≤ length m.now) × (station ≡ lent_station (take 60 (drop 64 m.now))) }
     ensures { result ≡ head_kind (crc_by t.now) m.now }
 {
-    if !commands::is_text(&m[..20], b"Vargsnida, journal.\n") {
+    if !commands::is_text(&m[..20], MAGIC) {
         return Kind::NoJournal;
     }
-    if m[20] != 2 {
+    if m[20] != FORMAT {
         return Kind::OtherFormat;
     }
     if codec::four_at(m, 124) != checksum::continue_by(t, 0, &m[..124]) {
@@ -336,6 +315,7 @@ pub struct Replay {
     pub closed: bool,
 }
 
+// Kept: took is 0 where none was, and short stands beside it (also in not_taken), as ClosedTakesNothing names took (journal_laws).
 // What became of an append: the replay then, and how many bytes it took; where none was taken, whether the bytes end inside of one.
 #[derive(Clone, Copy)]
 pub struct Step {
@@ -355,9 +335,11 @@ pub fn take_append(t: &[u32], r: Replay, m: &[u8], room: &mut [u8]) -> Step
     if r.closed {
         return not_taken(r, false);
     }
-    if (f.kind == 1) | (f.kind == 5) {
-        let from = 8 + lead_in(f);
-        return take_messages(r, f, &m[from..8 + f.carries], room);
+    match f.kind {
+        MESSAGES | NUMBERS => {
+            let from = 8 + lead_in(f);
+            take_messages(r, f, &m[from..8 + f.carries], room)
+        }
+        _ => take_mark(r, f),
     }
-    take_mark(r, f)
 }

@@ -4,10 +4,8 @@ ghost use Rattle.service.specs.Runs.{serving};
 ghost use Rattle.journal_file.specs.Appends.{lead_of};
 ghost use Rattle.journal_file.specs.Replaying.{not_taken, append_taken, mark_most, mark_taken, messages_taken};
 
-use super::{Front, Replay, Step};
+use super::{AROUND, CLOSED, CUT_SHORT, Front, NUMBERS, Replay, Step, WRONG_LENGTH};
 use station::Station;
-
-const AROUND: usize = 13;
 
 const LEFT: usize = 44;
 
@@ -29,13 +27,12 @@ fn take(station: Station, f: Front, closed: bool) -> Step
     requires { f.carries ≤ 65536 }
     ensures { result ≡ append_taken station f closed }
 {
-    let replay = Replay {
-        station,
-        sum: f.sum,
-        closed,
-    };
     Step {
-        replay,
+        replay: Replay {
+            station,
+            sum: f.sum,
+            closed,
+        },
         took: f.carries + AROUND,
         short: false,
     }
@@ -45,10 +42,7 @@ fn take(station: Station, f: Front, closed: bool) -> Step
 fn mark_most(kind: u8) -> usize
     ensures { result ≡ mark_most kind }
 {
-    if kind == 4 {
-        return 0;
-    }
-    LEFT
+    if kind == CLOSED { 0 } else { LEFT }
 }
 
 // A mark: what ended a session, or that the journal is closed.
@@ -56,38 +50,28 @@ pub fn take_mark(r: Replay, f: Front) -> Step
     requires { f.carries ≤ 65536 }
     ensures { result ≡ mark_taken r f }
 {
-    let station = r.station;
     if mark_most(f.kind) < f.carries {
         return not_taken(r, false);
     }
-    if f.kind == 4 {
-        return take(station, f, true);
+    match f.kind {
+        CLOSED => take(r.station, f, true),
+        CUT_SHORT | WRONG_LENGTH => take(r.station, f, false),
+        _ => not_taken(r, false),
     }
-    if (f.kind == 2) | (f.kind == 3) {
-        return take(station, f, false);
-    }
-    not_taken(r, false)
 }
 
 // How many bytes stand before the messages in an append of this kind: the numbers of cards, where it has any.
 fn lead_of(kind: u8) -> usize
     ensures { result ≡ lead_of kind }
 {
-    if kind == 5 {
-        return CARDS;
-    }
-    0
+    if kind == NUMBERS { CARDS } else { 0 }
 }
 
 // So many of the bytes that are carried, if there are so many.
 pub fn lead_in(f: Front) -> usize
     ensures { (result ≤ f.carries) × (result ≡ cond (ltb f.carries (lead_of f.kind)) f.carries (lead_of f.kind)) }
 {
-    let lead = lead_of(f.kind);
-    if f.carries < lead {
-        return f.carries;
-    }
-    lead
+    f.carries.min(lead_of(f.kind))
 }
 
 // An append of messages, which carries these.
@@ -97,9 +81,8 @@ pub fn take_messages(r: Replay, f: Front, bytes: &[u8], room: &mut [u8]) -> Step
 {
     let lead = lead_of(f.kind);
     let w = service::serve(r.station, bytes, room);
-    let next = w.station;
     if (f.carries == 0) | (f.carries < lead) | (w.used != bytes.len()) {
         return not_taken(r, false);
     }
-    take(next, f, false)
+    take(w.station, f, false)
 }

@@ -1,20 +1,9 @@
--- What a caller learns of a head and of a name that were looked at. Assumes nothing.
-use Rattle.std.proofs.Common.{◌≡◌, ℕ, ◌<◌, Bool, true, false, cond, eqb, List, length, get_or, refl, arith, ext_get_or, eqb-true}
-use Rattle.bits.specs.Search.{every}
-use Rattle.bits.proofs.Cases.{both, clash}
-use Rattle.bits.proofs.Search.{every_at}
-use Rattle.commands.specs.Words.{is_text}
+-- What a caller learns of a head that was looked at. Assumes nothing.
+use Rattle.std.proofs.Common.{◌≡◌, Bool, true, false, cond, refl}
+use Rattle.bits.proofs.Cases.{clash}
 use Rattle.journal_file.specs.declared.Kind.{Kind}
 use Rattle.journal_file.specs.declared.Kind.TheVariants.{NoJournal, OtherFormat, Damaged, Unfit, Good}
 use Rattle.journal_files.specs.Places.{is_good_head}
-
--- a word that is a text has the same bytes
-pub text_is : (text w : List ℕ) → is_text text w ≡ true → w ≡ text
-text_is text w e =
-    let same : ℕ → Bool = λ j. eqb (get_or w j 0) (get_or text j 0) in
-    let b = both (eqb (length w) (length text)) (every (length text) same) e in
-    let l = eqb-true (length w) (length text) b.0 in
-    ext_get_or 0 w text l (λ i h. eqb-true (get_or w i 0) (get_or text i 0) (every_at (length text) same b.1 i (omega (arith, h, l))))
 
 none : (empty : Bool) → cond empty false false ≡ false
 none true = refl

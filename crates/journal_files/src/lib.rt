@@ -2,7 +2,7 @@
 // contract can say; so what is to be written is asked for where it is handed over.
 #![tactic(auto)]
 
-ghost use Rattle.std.specs.Prelude.{◌≡◌, false, ◌++◌};
+ghost use Rattle.std.specs.Prelude.{◌≡◌, is_ok, IfOk, ◌++◌};
 ghost use Rattle.io.specs.Counts.{IsPrefixLen};
 ghost use Rattle.checksum.specs.Slices.{crc_by};
 ghost use Rattle.commands.specs.Words.{is_text};
@@ -14,31 +14,24 @@ use journal_file::Kind;
 use station::Station;
 use std::fs::{File, OpenOptions};
 use std::io::{Error, ErrorKind, Result, Seek, SeekFrom};
+use streams::Told;
 
 // ---- what is told
 
-pub fn tell(rt: &HostRuntime, text: &[u8]) {
-    streams::tell(rt, text);
-}
-
-// Tells something, and that it can't be gone on with.
-fn refused(rt: &HostRuntime, text: &[u8]) -> bool
-    ensures { result ≡ false }
-{
-    tell(rt, text);
-    false
+pub fn tell(rt: &HostRuntime, text: &[u8]) -> Told {
+    streams::tell(rt, text)
 }
 
 // Tells a number and what follows it.
-pub fn tell_number(rt: &HostRuntime, n: usize, text: &[u8]) {
+pub fn tell_number(rt: &HostRuntime, n: usize, text: &[u8]) -> Told {
     let mut digits = [0u8; 20];
     let k = io::decimal(n as u64, &mut digits);
     tell(rt, &digits[..k]);
-    tell(rt, text);
+    tell(rt, text)
 }
 
 // Tells where a journal is damaged: at this place, behind so many appends and messages.
-pub fn tell_damage(rt: &HostRuntime, place: usize, appends: usize, messages: usize) {
+pub fn tell_damage(rt: &HostRuntime, place: usize, appends: usize, messages: usize) -> Told {
     tell(rt, b"station: the journal is damaged at byte ");
     tell_number(rt, place, b", in append ");
     tell_number(rt, std::num::wrapping_add_usize(appends, 1), b" behind ");
@@ -46,50 +39,49 @@ pub fn tell_damage(rt: &HostRuntime, place: usize, appends: usize, messages: usi
         rt,
         messages,
         b" messages; nothing is answered: put a good copy in its place\n",
-    );
+    )
 }
 
-// Whether a head is a good one; where it isn't, that is told.
-pub fn is_good(rt: &HostRuntime, kind: Kind, empty: bool) -> bool
-    ensures { result ≡ is_good_head kind empty }
+// Goes on only with a good head; why it isn't one is told.
+pub fn check_head(rt: &HostRuntime, kind: Kind, empty: bool) -> streams::Result<()>
+    ensures { is_ok result ≡ is_good_head kind empty }
 {
     if empty {
-        return refused(
+        return Err(tell(
             rt,
             b"station: the journal is an empty file: put the right one in its place, or make one with --new\n",
-        );
+        ));
     }
     match kind {
-        Kind::NoJournal => refused(
+        Kind::NoJournal => Err(tell(
             rt,
             b"station: the file is no journal of a station (one of version 1.0 is taken over: --follow OLD NEW --garage NAME)\n",
-        ),
-        Kind::OtherFormat => refused(
+        )),
+        Kind::OtherFormat => Err(tell(
             rt,
             b"station: the journal has another format: start the version of station that wrote it\n",
-        ),
-        Kind::Damaged => refused(
+        )),
+        Kind::Damaged => Err(tell(
             rt,
             b"station: the journal's head is damaged; nothing is answered: put a good copy in its place\n",
-        ),
-        Kind::Unfit => refused(
+        )),
+        Kind::Unfit => Err(tell(
             rt,
             b"station: the journal begins with a station that is not fit; put a good copy in its place\n",
-        ),
-        Kind::Good => true,
+        )),
+        Kind::Good => Ok(()),
     }
 }
 
-// How many bytes there are up to the last that is this one, or is not.
-fn last(name: &[u8], byte: u8, is: bool) -> usize
+// How many bytes there are up to the last that passes.
+fn up_to_last<F: Fn(u8) -> bool>(name: &[u8], passes: F) -> usize
+    requires { F.IsAlwaysCallable passes }
     ensures { IsPrefixLen result name.now }
 {
-    let mut n = name.len();
-    while 0 < n {
-        if (name[n - 1] == byte) == is {
-            return n;
+    for (i, b) in name.iter().enumerate().rev() {
+        if passes(*b) {
+            return i + 1;
         }
-        n -= 1;
     }
     0
 }
@@ -98,23 +90,21 @@ fn last(name: &[u8], byte: u8, is: bool) -> usize
 pub fn name_size(name: &[u8]) -> usize
     ensures { IsPrefixLen result name.now }
 {
-    last(name, 0, false)
+    up_to_last(name, |b| b != 0)
 }
 
-// Whether a journal of this name is the garage's that is asked for; where it isn't, both are told.
-pub fn is_of(rt: &HostRuntime, asked: &[u8], name: &[u8]) -> bool
-    ensures { result ≡ is_text asked.now name.now }
+// Goes on only with a journal of this name that is the garage's that is asked for; else both are told.
+pub fn check_garage(rt: &HostRuntime, asked: &[u8], name: &[u8]) -> streams::Result<()>
+    ensures { is_ok result ≡ is_text asked.now name.now }
 {
     if commands::is_text(name, asked) {
-        return true;
+        return Ok(());
     }
     tell(rt, b"station: the journal is of the garage ");
-    let n = name_size(name);
-    tell(rt, &name[..n]);
+    tell(rt, &name[..name_size(name)]);
     tell(rt, b", not of ");
-    let n = name_size(asked);
-    tell(rt, &asked[..n]);
-    refused(rt, b"\n")
+    tell(rt, &asked[..name_size(asked)]);
+    Err(tell(rt, b"\n"))
 }
 
 // ---- the disk
@@ -123,6 +113,7 @@ pub fn is_of(rt: &HostRuntime, asked: &[u8], name: &[u8]) -> bool
 pub fn place(n: usize) -> i64
     ensures { result ≡ file_offset n }
 {
+    // Kept: `i64::try_from(n).unwrap_or(-1)`, reason (c): its `SFits` could not be brought to the bound in `file_offset`.
     if n < 9223372036854775808 {
         return n as i64;
     }
@@ -134,10 +125,7 @@ const NO_TEXT: i32 = 84;
 
 // A file's name as text.
 fn text_of(name: &[u8]) -> Result<&str> {
-    match std::str::from_utf8(name) {
-        Ok(text) => Ok(text),
-        Err(_) => Err(Error::from_raw_os_error(NO_TEXT)),
-    }
+    std::str::from_utf8(name).map_err(|_| Error::from_raw_os_error(NO_TEXT))
 }
 
 // Opens the file of this name to read it.
@@ -180,82 +168,65 @@ pub fn seek_start(file: &File) -> Result<u64> {
     at.seek(SeekFrom::Start(0))
 }
 
-// Whether the file is so long; where it isn't, that is told. What is written next stands at its end.
-pub fn has_length(rt: &HostRuntime, file: &File, n: usize) -> bool {
-    match seek_end(file) {
-        Err(e) => {
-            streams::fail(rt, b"station: the journal's length can't be told", e);
-            false
-        }
-        Ok(end) => {
-            if end.cast_signed() != place(n) {
-                return refused(
-                    rt,
-                    b"station: the journal has another length than it should: is another station running on it?\n",
-                );
-            }
-            true
-        }
+// Goes on only with a file that is so long; else that is told. What is written next stands at its end.
+pub fn check_length(rt: &HostRuntime, file: &File, n: usize) -> streams::Result<()> {
+    let end = seek_end(file).map_err(|e| streams::fail(
+        rt,
+        b"station: the journal's length can't be told",
+        e,
+    ))?;
+    if end.cast_signed() != place(n) {
+        return Err(tell(
+            rt,
+            b"station: the journal has another length than it should: is another station running on it?\n",
+        ));
     }
+    Ok(())
 }
 
 // Opens the folder that the name stands in: the bytes up to the last slash.
 fn open_folder(rt: &HostRuntime, name: &[u8]) -> Result<File> {
-    let n = last(name, b'/', true);
+    let n = up_to_last(name, |b| b == b'/');
     if n == 0 {
         return open_read(rt, b".");
     }
     open_read(rt, &name[..n])
 }
 
-// Waits until what was written to a file, or the names in a folder, are on the disk; where they can't be, that is told.
-fn synced(rt: &HostRuntime, file: &File, name: &[u8]) -> bool {
-    match file.sync_all() {
-        Ok(()) => true,
-        Err(e) => {
-            streams::fail(rt, name, e);
-            false
-        }
-    }
-}
-
 // Waits until a name is on the disk.
-pub fn sync_folder(rt: &HostRuntime, name: &[u8]) -> bool {
-    match open_folder(rt, name) {
-        Ok(folder) => synced(
-            rt,
-            &folder,
-            b"station: the journal's folder can't be synced",
-        ),
-        Err(e) => {
-            streams::fail(rt, b"station: the journal's folder can't be opened", e);
-            false
-        }
-    }
+pub fn sync_folder(rt: &HostRuntime, name: &[u8]) -> streams::Result<()> {
+    let folder = open_folder(rt, name).map_err(|e| streams::fail(
+        rt,
+        b"station: the journal's folder can't be opened",
+        e,
+    ))?;
+    folder.sync_all().map_err(|e| streams::fail(
+        rt,
+        b"station: the journal's folder can't be synced",
+        e,
+    ))
 }
 
-// Whether all that was written is on the disk; where it isn't, that is told.
-pub fn is_synced(rt: &HostRuntime, file: &File) -> bool {
-    synced(rt, file, b"station: the journal can't be synced")
+// Waits until all that was written is on the disk.
+pub fn sync(rt: &HostRuntime, file: &File) -> streams::Result<()> {
+    file.sync_all().map_err(|e| streams::fail(rt, b"station: the journal can't be synced", e))
 }
 
-// Whether a file that was written and its name are on the disk; where they aren't, that is told. It is closed then.
-pub fn is_settled(rt: &HostRuntime, file: File, name: &[u8]) -> bool {
-    if !is_synced(rt, &file) {
-        return false;
-    }
+// Waits until a file that was written and its name are on the disk, and closes it.
+pub fn settle(rt: &HostRuntime, file: File, name: &[u8]) -> streams::Result<()> {
+    sync(rt, &file)?;
     sync_folder(rt, name)
 }
 
 // Opens a journal to read and to change it; what has no places, as a pipe, is none.
-pub fn open_update(rt: &HostRuntime, name: &[u8]) -> Option<File> {
-    match update(rt, name) {
-        Ok(file) => at_start(rt, file),
-        Err(e) => {
-            streams::fail(rt, b"station: the journal can't be opened", e);
-            None
-        }
-    }
+pub fn open_update(rt: &HostRuntime, name: &[u8]) -> streams::Result<File> {
+    let file = update(rt, name).map_err(|e| streams::fail(
+        rt,
+        b"station: the journal can't be opened",
+        e,
+    ))?;
+    seek_start(&file).map_err(|e| streams::fail(rt, b"station: the journal is no plain file", e))?;
+    Ok(file)
 }
 
 // Opens the file of this name to read and to change it.
@@ -264,17 +235,6 @@ fn update(rt: &HostRuntime, name: &[u8]) -> Result<File> {
         .read(true)
         .write(true)
         .open(rt, text_of(name)?)
-}
-
-// A file that has places.
-fn at_start(rt: &HostRuntime, file: File) -> Option<File> {
-    match seek_start(&file) {
-        Ok(_) => Some(file),
-        Err(e) => {
-            streams::fail(rt, b"station: the journal is no plain file", e);
-            None
-        }
-    }
 }
 
 // Puts an ending behind a name of n bytes, and says how many there are then; 0 where there is no room.
@@ -302,26 +262,27 @@ pub fn is_missing(rt: &HostRuntime, name: &[u8]) -> bool {
     }
 }
 
-// Whether a journal can be started on: while --follow makes it, a file of its name with .part behind it is there, and that is told.
-pub fn is_begun(rt: &HostRuntime, name: &[u8]) -> bool {
+// Goes on only with a journal that is finished: while --follow makes it, a file of its name with .part behind it is there, and that is
+// told. No name is longer than the room for it.
+pub fn check_finished(rt: &HostRuntime, name: &[u8]) -> streams::Result<()> {
     let mut part = io::buffer();
     if part.len() < name.len() {
-        return false;
+        return Err(Told);
     }
     codec::copy(name, &mut part);
     let n = beside(&mut part, name.len(), b".part");
     if !is_missing(rt, &part[..n]) {
-        return refused(
+        return Err(tell(
             rt,
             b"station: the journal is not finished: the file with .part behind its name is there; give --follow once more\n",
-        );
+        ));
     }
-    true
+    Ok(())
 }
 
 // ---- what is written
 
-fn write(rt: &HostRuntime, file: &File, bytes: &[u8]) -> bool {
+fn write(rt: &HostRuntime, file: &File, bytes: &[u8]) -> streams::Result<()> {
     let mut to: &File = file;
     streams::send(
         rt,
@@ -330,13 +291,6 @@ fn write(rt: &HostRuntime, file: &File, bytes: &[u8]) -> bool {
         bytes.len(),
         b"station: the journal can't be written",
     )
-}
-
-// The checksum of an append, and whether all of it was written.
-#[derive(Clone, Copy)]
-pub struct Appended {
-    pub sum: u32,
-    pub well: bool,
 }
 
 // Writes three parts, which are an append behind one with this checksum.
@@ -349,19 +303,15 @@ fn write_parts(
     opening: &[u8],
     bytes: &[u8],
     closing: &[u8],
-) -> bool
+) -> streams::Result<()>
     requires { opening.now ++ (bytes.now ++ closing.now) ≡ append_of (crc_by t.now) was kind bytes.now }
 {
-    if !write(rt, file, opening) {
-        return false;
-    }
-    if !write(rt, file, bytes) {
-        return false;
-    }
+    write(rt, file, opening)?;
+    write(rt, file, bytes)?;
     write(rt, file, closing)
 }
 
-// Writes an append of this kind behind one with this checksum.
+// Writes an append of this kind behind one with this checksum, and returns its own.
 pub fn write_append(
     rt: &HostRuntime,
     t: &[u32],
@@ -369,14 +319,14 @@ pub fn write_append(
     was: u32,
     kind: u8,
     bytes: &[u8],
-) -> Appended
-    ensures { result.sum ≡ sum_after (crc_by t.now) was kind bytes.now }
+) -> streams::Result<u32>
+    ensures { IfOk result (λ sum. sum ≡ sum_after (crc_by t.now) was kind bytes.now) }
 {
     let opening = journal_file::opening(t, was, kind, bytes.len());
     let sum = journal_file::sum_after(t, was, kind, bytes);
     let closing = journal_file::closing(sum);
-    let well = write_parts(rt, t, file, was, kind, &opening, bytes, &closing);
-    Appended { sum, well }
+    write_parts(rt, t, file, was, kind, &opening, bytes, &closing)?;
+    Ok(sum)
 }
 
 // Writes four parts, which are the head of a garage with this name that begins with this station.
@@ -389,18 +339,12 @@ fn write_titled(
     garage: &[u8],
     bytes: &[u8],
     sum: &[u8],
-) -> bool
+) -> streams::Result<()>
     requires { title.now ++ (garage.now ++ (bytes.now ++ sum.now)) ≡ head_bytes (crc_by t.now) garage.now station }
 {
-    if !write(rt, file, title) {
-        return false;
-    }
-    if !write(rt, file, garage) {
-        return false;
-    }
-    if !write(rt, file, bytes) {
-        return false;
-    }
+    write(rt, file, title)?;
+    write(rt, file, garage)?;
+    write(rt, file, bytes)?;
     write(rt, file, sum)
 }
 
@@ -411,7 +355,7 @@ pub fn write_head(
     file: &File,
     garage: &[u8],
     station: Station,
-) -> bool {
+) -> streams::Result<()> {
     let title = journal_file::title();
     let bytes = rooms::station_bytes(station);
     let sum = codec::four_bytes(journal_file::head_sum(t, garage, station));

@@ -17,6 +17,9 @@ use Rattle.journal_file.specs.Cards.{journal_numbers, CardsJournaled}
 use Rattle.journal_file.proofs.Files.{run_of_lem, file_keeps_up, file_keeps_cards, file_keeps_mark}
 use Rattle.journal_file.proofs.Cards.{cards_brought, cards_stay}
 use Rattle.journal_file.proofs.Forms.{append_long}
+use Rattle.std.specs.declared.result.Result.{Result}
+use Rattle.std.specs.declared.result.Result.TheVariants.{Ok, Err}
+use Rattle.std.specs.Result.{IfOk}
 use Rattle.journal_keeper.specs.declared.Journal.{Journal}
 use Rattle.journal_keeper.specs.Keeping.{JournalMakes, Adds, moved_to}
 
@@ -137,3 +140,12 @@ still kept s next bytes numbers {sum} {n} e f j q =
 pub moved_makes : (j : Journal) {r : Journal} (next : Station) (numbers : List ℕ) → r ≡ moved_to j next → JournalMakes numbers (moved_to j next)
     → (r.station ≡ next) × JournalMakes numbers r
 moved_makes j next numbers e f = subst (λ (x : Journal). (x.station ≡ next) × JournalMakes numbers x) (sym e) (refl, f)
+
+-- ---- a call that goes well
+
+pub if_ok : {T E : Type 0} {P Q : T → Type 0} (r : Result T E) → IfOk r P → ((x : T) → P x → Q x) → IfOk r Q
+if_ok (Ok x) p f = f x p
+if_ok (Err e) p f = tt
+
+pub of_ok : {T E : Type 0} (P : T → Type 0) {r : Result T E} {x : T} → r ≡ Ok x → IfOk r P → P x
+of_ok {T} {E} P e p = subst (λ (q : Result T E). IfOk q P) e p

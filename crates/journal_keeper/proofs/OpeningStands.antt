@@ -14,7 +14,7 @@ use Rattle.journal_keeper.specs.declared.opening.Found.{Found}
 use Rattle.journal_keeper.specs.Keeping.{JournalMakes}
 use Rattle.journal_keeper.specs.Opened.{ReadToEnd, GoneOn}
 
-module _ (t room asked buf : List ℕ) (f : Found) (j : Journal) (read : ReadToEnd t room asked f buf) (gone : GoneOn f j) (safe : j.safe ≡ true)
+module _ (t room asked buf : List ℕ) (f : Found) (j : Journal) (read : ReadToEnd t room asked f buf) (gone : GoneOn f j)
     (lent : BuffersLent t room) where
   abbrev found : CardsStand asked f.reading f.cards f.numbers buf
   found = read.2 lent
@@ -28,8 +28,8 @@ module _ (t room asked buf : List ℕ) (f : Found) (j : Journal) (read : ReadToE
   same_replay : r ≡ replay_of j.station j.sum false
   same_replay =
       ap (λ (c : Bool). replay_of r.station r.sum c) read.1.0
-      ∙ ap (λ (s : Station). replay_of s r.sum false) (sym (gone safe).0)
-      ∙ ap (λ (k : ℕ). replay_of j.station k false) (sym (gone safe).1)
+      ∙ ap (λ (s : Station). replay_of s r.sum false) (sym gone.0)
+      ∙ ap (λ (k : ℕ). replay_of j.station k false) (sym gone.1)
 
   -- it makes the journal's station and the numbers that were found
   pub found_makes : JournalMakes f.numbers j
@@ -41,7 +41,7 @@ module _ (t room asked buf : List ℕ) (f : Found) (j : Journal) (read : ReadToE
           appends = s.appends;
           headed = s.headed;
           leads = subst (λ (x : Replay). Leads (file_replay_begun crc_over s.head) s.appends x) same_replay s.leads;
-          long = (gone safe).2 ∙ s.long;
+          long = gone.2 ∙ s.long;
         };
         numbers_are = found.numbers_are;
       }

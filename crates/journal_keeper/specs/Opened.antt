@@ -1,5 +1,5 @@
 -- What the opening of a journal promises of the bytes that stand in the buffer once it was read. Assumes nothing.
-use Rattle.std.specs.Prelude.{◌≡◌, ℕ, true, false, List, length, ◌≢◌}
+use Rattle.std.specs.Prelude.{◌≡◌, ℕ, false, List, length, ◌≢◌}
 use Rattle.checksum.specs.Slices.{crc_by}
 use Rattle.journal_file.specs.Cards.{no_numbers}
 use Rattle.journal_reader.specs.declared.Reading.{Reading}
@@ -20,12 +20,7 @@ FoundStands t room asked f buf = BuffersLent t room → CardsStand asked f.readi
 abbrev pub ReadToEnd : List ℕ → List ℕ → List ℕ → Found → List ℕ → Type 0
 ReadToEnd t room asked f buf = ReadingWithin f.reading (length buf) × CanGoOn t f.reading buf × FoundStands t room asked f buf
 
--- where all went well
-abbrev pub FoundIfWell : List ℕ → List ℕ → List ℕ → Found → List ℕ → Type 0
-FoundIfWell t room asked f buf = f.reading.well ≡ true → ReadToEnd t room asked f buf
-
 -- a journal is gone on with from where it was found: its station, the checksum of its last append and its length are the reading's
 abbrev pub GoneOn : Found → Journal → Type 0
 GoneOn f j =
-    j.safe ≡ true
-    → (j.station ≡ f.reading.replay.station) × (j.sum ≡ f.reading.replay.sum) × (j.length ≡ f.reading.place)
+    (j.station ≡ f.reading.replay.station) × (j.sum ≡ f.reading.replay.sum) × (j.length ≡ f.reading.place)

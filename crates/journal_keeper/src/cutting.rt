@@ -1,10 +1,10 @@
 // What stands behind the last append of a journal that is gone on with: it was never answered. It is kept in a file beside the journal, and
 // only once that is on the disk is it cut off.
 
-use super::not_open;
 use journal_reader::Reading;
 use std::fs::File;
 use std::io::Result;
+use streams::Told;
 
 // Tells what was cut off.
 fn tell_torn(rt: &HostRuntime, place: usize, n: usize, name: &[u8]) {
@@ -21,77 +21,59 @@ fn tell_torn(rt: &HostRuntime, place: usize, n: usize, name: &[u8]) {
 
 // Opens the file for what is cut off, made where it is missing.
 fn open_torn(rt: &HostRuntime, name: &[u8]) -> Result<File> {
-    match journal_files::open_append(rt, name) {
-        Ok(file) => Ok(file),
-        Err(_) => journal_files::create(rt, name),
-    }
+    journal_files::open_append(rt, name).or_else(|_| journal_files::create(rt, name))
 }
 
 // Keeps bytes that are to be cut off in a file, and waits until they are on the disk.
-fn keep_in(rt: &HostRuntime, file: &File, rest: &[u8]) -> bool {
+fn keep_in(rt: &HostRuntime, file: &File, rest: &[u8]) -> streams::Result<()> {
     let mut to: &File = file;
-    if !streams::send(
+    streams::send(
         rt,
         &mut to,
         rest,
         rest.len(),
         b"station: the file beside the journal can't be written",
-    ) {
-        return false;
-    }
-    if let Err(e) = file.sync_all() {
+    )?;
+    file.sync_all().map_err(|e| {
         streams::fail(
             rt,
             b"station: the file beside the journal can't be synced",
             e,
-        );
-        return false;
-    }
-    true
+        )
+    })
 }
 
 // Keeps bytes that are to be cut off in the file of this name, and waits until they are on the disk.
-fn keep_torn(rt: &HostRuntime, name: &[u8], rest: &[u8]) -> bool {
-    match open_torn(rt, name) {
-        Err(e) => {
-            streams::fail(
-                rt,
-                b"station: the file beside the journal can't be opened",
-                e,
-            );
-            false
-        }
-        Ok(file) => {
-            if !keep_in(rt, &file, rest) {
-                return false;
-            }
-            journal_files::sync_folder(rt, name)
-        }
-    }
-}
-
-// Makes a file so long.
-fn set_length(file: &Option<File>, n: usize) -> Result<()> {
-    match file {
-        Some(open) => open.set_len(journal_files::place(n).cast_unsigned()),
-        None => Err(not_open()),
-    }
+fn keep_torn(rt: &HostRuntime, name: &[u8], rest: &[u8]) -> streams::Result<()> {
+    let file = open_torn(rt, name).map_err(|e| {
+        streams::fail(
+            rt,
+            b"station: the file beside the journal can't be opened",
+            e,
+        )
+    })?;
+    keep_in(rt, &file, rest)?;
+    journal_files::sync_folder(rt, name)
 }
 
 // Cuts off what stands behind the last append, and keeps it in the file of this name.
-fn cut(rt: &HostRuntime, file: &Option<File>, place: usize, rest: &[u8], name: &[u8]) -> bool {
-    if !keep_torn(rt, name, rest) {
-        return false;
-    }
+fn cut(
+    rt: &HostRuntime,
+    file: &Option<File>,
+    place: usize,
+    rest: &[u8],
+    name: &[u8],
+) -> streams::Result<()> {
+    keep_torn(rt, name, rest)?;
     tell_torn(rt, place, rest.len(), name);
-    if let Err(e) = set_length(file, place) {
-        streams::fail(rt, b"station: the journal can't be cut", e);
-        return false;
-    }
-    true
+    let Some(open) = file else {
+        return Err(Told);
+    };
+    open.set_len(journal_files::place(place).cast_unsigned())
+        .map_err(|e| streams::fail(rt, b"station: the journal can't be cut", e))
 }
 
-// Cuts off what stands behind the last append, if there is something. The name has n bytes.
+// Cuts off what stands behind the last append, if there is something. The name has n bytes. (What was read lies within the buffer.)
 pub fn cut_rest(
     rt: &HostRuntime,
     file: &Option<File>,
@@ -99,18 +81,13 @@ pub fn cut_rest(
     buf: &[u8],
     name: &mut [u8],
     n: usize,
-) -> bool {
-    let at = q.at;
-    let end = q.end;
-    if at == end {
-        return true;
+) -> streams::Result<()> {
+    if q.at == q.end {
+        return Ok(());
     }
-    if end < at {
-        return false;
-    }
-    if buf.len() < end {
-        return false;
+    if q.end < q.at || buf.len() < q.end {
+        return Err(Told);
     }
     let m = journal_files::beside(name, n, b".torn");
-    cut(rt, file, q.place, &buf[at..end], &name[..m])
+    cut(rt, file, q.place, &buf[q.at..q.end], &name[..m])
 }

@@ -3,7 +3,7 @@
 // journal_file; no contract can say what a file holds.
 #![tactic(auto)]
 
-ghost use Rattle.std.specs.Prelude.{◌≡◌, ◌≤◌, true, false};
+ghost use Rattle.std.specs.Prelude.{◌≡◌, ◌≤◌, false};
 ghost use Rattle.station.specs.Station.{start_of};
 ghost use Rattle.journal_keeper.specs.Keeping.{moved_to, AppendAdded, MessagesKept, CardsKept, EndNoted};
 
@@ -17,9 +17,9 @@ use std::os::fd::AsRawFd;
 use std::path::PathBuf;
 
 // The station, and the journal that makes it: whether one is kept, under which name the system has the file, how many bytes it has, the
-// checksum of its last append, whether that is the mark of a session's end, and whether its bytes are safe, which is to say all on the disk
-// and nothing else with them. Where none is kept nothing is asked of a disk. The file itself, which is open where one is kept, is handed over
-// beside it: what a file holds no contract can say, and all that is here is a value.
+// checksum of its last append, and whether that is the mark of a session's end. Its bytes are all on the disk, and nothing else with them.
+// Where none is kept nothing is asked of a disk. The file itself, which is open where one is kept, is handed over beside it: what a file
+// holds no contract can say, and all that is here is a value.
 #[derive(Clone, Copy)]
 pub struct Journal {
     pub station: Station,
@@ -28,7 +28,6 @@ pub struct Journal {
     pub kept: bool,
     pub called: u32,
     pub ended: bool,
-    pub safe: bool,
 }
 
 // A station without a journal.
@@ -42,7 +41,6 @@ fn without(station: Station) -> Journal
         kept: false,
         called: 0,
         ended: false,
-        safe: true,
     }
 }
 
@@ -53,27 +51,11 @@ pub fn unkept() -> Journal
     without(Station::start())
 }
 
-// What can't be gone on with is not safe.
-fn given_up(found: Journal) -> Journal
-    ensures { result.safe ≡ false }
-{
-    let mut j = found;
-    j.safe = false;
-    j
-}
-
-// There is no journal that could be gone on with: why not was told.
-pub fn lost() -> Journal
-    ensures { result.safe ≡ false }
-{
-    given_up(unkept())
-}
-
 // The system's error number for a file that is not open.
 const NOT_OPEN: i32 = 9;
 
 // Why nothing can be done with a file that is not open.
-pub(crate) fn not_open() -> Error {
+fn not_open() -> Error {
     Error::from_raw_os_error(NOT_OPEN)
 }
 
@@ -93,30 +75,23 @@ fn called_now(rt: &HostRuntime, file: &File) -> u32 {
     }
 }
 
-// Whether the file still has the name that it was opened under; where it hasn't, that is told.
-fn still_called(rt: &HostRuntime, file: &File, called: u32) -> bool {
+// Goes on only with a file that still has the name that it was opened under.
+fn check_name(rt: &HostRuntime, file: &File, called: u32) -> streams::Result<()> {
     if called_now(rt, file) != called {
-        streams::tell(
+        return Err(streams::tell(
             rt,
             b"station: the journal was renamed, replaced or removed\n",
-        );
-        return false;
+        ));
     }
-    true
+    Ok(())
 }
 
-// Whether what was written is at the end of a file that is so long now, alone, on the disk and under its name; where it isn't, that is
-// told. Name and length are looked at after the write: of two stations that append at once, neither answers, or only the one whose bytes
-// come first.
-fn is_there(rt: &HostRuntime, file: &File, called: u32, after: usize) -> bool {
-    if let Err(e) = file.sync_data() {
-        streams::fail(rt, b"station: the journal can't be synced", e);
-        return false;
-    }
-    if !still_called(rt, file, called) {
-        return false;
-    }
-    journal_files::has_length(rt, file, after)
+// Goes on only where what was written is at the end of a file that is so long now, alone, on the disk and under its name. Name and length
+// are looked at after the write: of two stations that append at once, neither answers, or only the one whose bytes come first.
+fn check_there(rt: &HostRuntime, file: &File, called: u32, after: usize) -> streams::Result<()> {
+    file.sync_data().map_err(|e| streams::fail(rt, b"station: the journal can't be synced", e))?;
+    check_name(rt, file, called)?;
+    journal_files::check_length(rt, file, after)
 }
 
 // Puts an append of this kind behind the journal in a file, whose last one has the checksum `was`; it has this station then.
@@ -130,32 +105,21 @@ fn add_to(
     bytes: &[u8],
     next: Station,
     ended: bool,
-) -> Journal
+) -> streams::Result<Journal>
     ensures { AppendAdded t.now j was kind bytes.now next ended result }
 {
-    let length = std::num::wrapping_add_usize(
-        j.length,
-        std::num::wrapping_add_usize(bytes.len(), 13),
-    );
-    if !journal_files::has_length(rt, file, j.length) {
-        return lost();
-    }
-    let a = journal_files::write_append(rt, t, file, was, kind, bytes);
-    if !a.well {
-        return lost();
-    }
-    if !is_there(rt, file, j.called, length) {
-        return lost();
-    }
-    Journal {
+    let length = j.length.wrapping_add(bytes.len().wrapping_add(13));
+    journal_files::check_length(rt, file, j.length)?;
+    let sum = journal_files::write_append(rt, t, file, was, kind, bytes)?;
+    check_there(rt, file, j.called, length)?;
+    Ok(Journal {
         station: next,
-        sum: a.sum,
+        sum,
         length,
         kept: true,
         called: j.called,
         ended,
-        safe: true,
-    }
+    })
 }
 
 // The same where the file is open; where it isn't, that is told.
@@ -169,19 +133,16 @@ fn add(
     bytes: &[u8],
     next: Station,
     ended: bool,
-) -> Journal
+) -> streams::Result<Journal>
     ensures { AppendAdded t.now j was kind bytes.now next ended result }
 {
     match file {
         Some(open) => add_to(rt, t, open, j, was, kind, bytes, next, ended),
-        None => {
-            streams::fail(
-                rt,
-                b"station: the journal's length can't be told",
-                not_open(),
-            );
-            lost()
-        }
+        None => Err(streams::fail(
+            rt,
+            b"station: the journal's length can't be told",
+            not_open(),
+        )),
     }
 }
 
@@ -189,9 +150,7 @@ fn add(
 fn moved(j: Journal, next: Station) -> Journal
     ensures { result ≡ moved_to j next }
 {
-    let mut r = j;
-    r.station = next;
-    r
+    Journal { station: next, ..j }
 }
 
 // Appends the messages that take the journal's station to the next.
@@ -202,13 +161,13 @@ pub fn append(
     j: Journal,
     next: Station,
     bytes: &[u8],
-) -> Journal
+) -> streams::Result<Journal>
     ensures { MessagesKept t.now j next bytes.now result }
 {
     if j.kept & (0 < bytes.len()) {
         return add(rt, t, file, j, j.sum, 1, bytes, next, false);
     }
-    moved(j, next)
+    Ok(moved(j, next))
 }
 
 // Appends numbers of cards, 168 bytes, and behind them the messages that take the journal's station to the next, or none.
@@ -219,20 +178,20 @@ pub fn append_cards(
     j: Journal,
     next: Station,
     bytes: &[u8],
-) -> Journal
+) -> streams::Result<Journal>
     ensures { CardsKept t.now j next bytes.now result }
 {
     if j.kept {
         return add(rt, t, file, j, j.sum, 5, bytes, next, false);
     }
-    moved(j, next)
+    Ok(moved(j, next))
 }
 
 // How many bytes of those that were left a mark carries.
 fn carried(n: usize) -> usize
     ensures { (result ≤ n) × (result ≤ 44) }
 {
-    if n < 44 { n } else { 44 }
+    n.min(44)
 }
 
 // Notes what ended the session, with what was left of the input.
@@ -243,16 +202,12 @@ pub fn note(
     j: Journal,
     kind: u8,
     left: &[u8],
-) -> Journal
+) -> streams::Result<Journal>
     ensures { EndNoted t.now j kind result }
 {
-    let station = j.station;
-    if !j.safe {
-        return lost();
-    }
     if j.kept {
         let n = carried(left.len());
-        return add(rt, t, file, j, j.sum, kind, &left[..n], station, true);
+        return add(rt, t, file, j, j.sum, kind, &left[..n], j.station, true);
     }
-    j
+    Ok(j)
 }

@@ -10,9 +10,9 @@ use Rattle.journal.specs.declared.Replay.{Replay}
 use Rattle.journal.specs.Journal.{counted, Journaled}
 use Rattle.journal.specs.Pieces.{replaying}
 use Rattle.journal.proofs.Which.{used_within, only_messages, stays_journaled}
-use Rattle.streams.specs.declared.Input.{Input}
-use Rattle.streams.specs.declared.Input.TheVariants.{Bytes}
-use Rattle.streams.specs.Input.{Fills}
+use Rattle.std.specs.declared.option.Option.TheVariants.{Some}
+use Rattle.std.specs.declared.result.Result.TheVariants.{Ok}
+use Rattle.streams.specs.Input.{Input, Fills}
 
 -- in room that is enough all is served
 all_served : (s : Station) (buf : List ℕ) (end : ℕ) (room : List ℕ) → enough (length buf) ≤ length room
@@ -23,8 +23,8 @@ all_served s buf end room h =
     rw (le-leb (enough (length (take end buf))) (length room) (omega arith))
 
 -- a read fills no more than the buffer
-pub filled : (before after : List ℕ) (have end : ℕ) (r : Input) → Fills before have r after → r ≡ Bytes end → end ≤ length before
-filled before after have end r f e = let g : Fills before have (Bytes end) after = subst (λ (x : Input). Fills before have x after) e f in g.1
+pub filled : (before after : List ℕ) (have end : ℕ) (r : Input) → Fills before have r after → r ≡ Ok (Some end) → end ≤ length before
+filled before after have end r f e = let g : Fills before have (Ok (Some end)) after = subst (λ (x : Input). Fills before have x after) e f in g.1
 
 -- no bytes make the start
 pub from_start : Journaled start_of 0

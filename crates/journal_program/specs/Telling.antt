@@ -7,17 +7,11 @@ use Rattle.journal_file.specs.declared.Replay.{Replay}
 use Rattle.journal_file.specs.Replaying.{step_of, FileJournaled}
 use Rattle.journal_reader.specs.declared.Reading.{Reading}
 use Rattle.journal_reader.specs.Reading.{ReadingWithin, StandsIn}
-use Rattle.journal_program.specs.declared.older.Older.{Older}
 use Rattle.journal_program.specs.declared.following.End.{End}
 
--- a reading that went well so far lies within a buffer of n bytes
-abbrev pub WithinIfWell : Reading → ℕ → Type 0
-WithinIfWell q n = q.well ≡ true → ReadingWithin q n
-
--- what was read so far stands in the buffer, also where it can't be read on
+-- what was read so far lies within the buffer and stands there, also where it can't be read on
 abbrev pub ReadsOn : List ℕ → Reading → List ℕ → Type 0
-ReadsOn asked q buf =
-    WithinIfWell q (length buf) × (q.well ≡ true → StandsIn asked q buf) × (q.took ≡ true → StandsIn asked q buf)
+ReadsOn asked q buf = ReadingWithin q (length buf) × StandsIn asked q buf
 
 -- some bytes are one append and nothing else, behind some others
 pub record IsAppend (a : List ℕ) : Type 0 where
@@ -31,10 +25,6 @@ pub record IsAppend (a : List ℕ) : Type 0 where
 abbrev pub RoomToTell : List ℕ → List ℕ → Type 0
 RoomToTell buf out = (45 ≤ length buf) × (enough (length buf) ≤ length out)
 
--- the bytes so far make the station; and where there may be more of them, less than a message is held
-abbrev pub OlderReads : Older → Type 0
-OlderReads q = (q.going ≡ true → q.replay.have < 45) × bare.Journaled q.replay.station q.replay.whole
-
 -- ---- the end of a journal
 
 -- a good head and appends make the station at its end, or whole messages do where version 1.0 wrote it
@@ -42,7 +32,3 @@ abbrev pub Ends : End → Type 0
 Ends e =
     (e.older ≡ false → FileJournaled (record { station = e.station; sum = e.sum; closed = e.closed }) e.place)
     × (e.older ≡ true → bare.Journaled e.station e.place)
-
--- if it can be followed
-abbrev pub EndsIfWell : End → Type 0
-EndsIfWell e = e.well ≡ true → Ends e

@@ -1,14 +1,14 @@
 // Tells what a journal is: a name and a value a line. It takes no lock and changes nothing, also while a station runs on the journal.
-ghost use Rattle.std.specs.Prelude.{[], length};
-ghost use Rattle.journal_reader.specs.Reading.{BuffersLent, StandsIn};
-ghost use Rattle.journal_program.specs.Telling.{WithinIfWell};
+ghost use Rattle.std.specs.Prelude.{[], ◌≤◌, length};
+ghost use Rattle.journal_reader.specs.Reading.{BuffersLent};
+ghost use Rattle.journal_program.specs.Telling.{ReadsOn};
 
 use crate::reading;
 use journal_reader::{Reading, Rest};
 use std::fs::File;
 
-// Writes some text, and says whether that went well.
-fn say(rt: &HostRuntime, text: &[u8]) -> bool {
+// Writes some text.
+fn say(rt: &HostRuntime, text: &[u8]) -> streams::Result<()> {
     streams::send(
         rt,
         &mut rt.stdout(),
@@ -19,43 +19,27 @@ fn say(rt: &HostRuntime, text: &[u8]) -> bool {
 }
 
 // Writes some text and a number; after a write that failed nothing more is written.
-fn say_number(rt: &HostRuntime, text: &[u8], n: u64) -> bool {
+fn say_number(rt: &HostRuntime, text: &[u8], n: u64) -> streams::Result<()> {
     let mut digits = [0u8; 20];
     let k = io::decimal(n, &mut digits);
-    if !say(rt, text) {
-        return false;
-    }
+    say(rt, text)?;
     say(rt, &digits[..k])
 }
 
 // The garage's name.
-fn say_garage(rt: &HostRuntime, name: &[u8]) -> bool {
-    let n = journal_files::name_size(name);
-    if !say(rt, b"garage ") {
-        return false;
-    }
-    say(rt, &name[..n])
-}
-
-fn wide(b: u8) -> u64 {
-    b as u64
+fn say_garage(rt: &HostRuntime, name: &[u8]) -> streams::Result<()> {
+    say(rt, b"garage ")?;
+    say(rt, &name[..journal_files::name_size(name)])
 }
 
 // The version that made the journal, and its format.
-fn say_version(rt: &HostRuntime, head: &[u8]) -> bool {
-    if head.len() < 24 {
-        return false;
-    }
-    if !say_number(rt, b"\nversion ", wide(head[23])) {
-        return false;
-    }
-    if !say_number(rt, b".", wide(head[22])) {
-        return false;
-    }
-    if !say_number(rt, b".", wide(head[21])) {
-        return false;
-    }
-    say_number(rt, b"\nformat ", wide(head[20]))
+fn say_version(rt: &HostRuntime, head: &[u8]) -> streams::Result<()>
+    requires { 24 ≤ length head.now }
+{
+    say_number(rt, b"\nversion ", u64::from(head[23]))?;
+    say_number(rt, b".", u64::from(head[22]))?;
+    say_number(rt, b".", u64::from(head[21]))?;
+    say_number(rt, b"\nformat ", u64::from(head[20]))
 }
 
 // Whether a station is the start's: that of a garage that has not moved yet.
@@ -64,17 +48,12 @@ fn is_start(station: &[u8]) -> bool {
     commands::is_text(station, &start)
 }
 
-fn say_which(rt: &HostRuntime, start: bool) -> bool {
-    if start {
-        return say(rt, b"\nbeginning start ");
-    }
-    say(rt, b"\nbeginning snapshot ")
-}
-
 // What the journal begins with: the start or a snapshot, and the record.
-fn say_beginning(rt: &HostRuntime, station: &[u8]) -> bool {
-    if !say_which(rt, is_start(station)) {
-        return false;
+fn say_beginning(rt: &HostRuntime, station: &[u8]) -> streams::Result<()> {
+    if is_start(station) {
+        say(rt, b"\nbeginning start ")?;
+    } else {
+        say(rt, b"\nbeginning snapshot ")?;
     }
     let s = rooms::station_of(station);
     let mut digits = [0u8; 16];
@@ -83,67 +62,42 @@ fn say_beginning(rt: &HostRuntime, station: &[u8]) -> bool {
 }
 
 // What the head says.
-fn say_head(rt: &HostRuntime, head: &[u8]) -> bool {
-    if head.len() < 124 {
-        return false;
-    }
-    if !say_garage(rt, &head[24..64]) {
-        return false;
-    }
-    if !say_version(rt, head) {
-        return false;
-    }
+fn say_head(rt: &HostRuntime, head: &[u8]) -> streams::Result<()>
+    requires { 124 ≤ length head.now }
+{
+    say_garage(rt, &head[24..64])?;
+    say_version(rt, head)?;
     say_beginning(rt, &head[64..124])
 }
 
 // How much was read.
-fn say_counts(rt: &HostRuntime, q: Reading, left: usize) -> bool {
-    if !say_number(rt, b"\nmessages ", q.messages as u64) {
-        return false;
-    }
-    if !say_number(rt, b"\nappends ", q.appends as u64) {
-        return false;
-    }
-    say_number(
-        rt,
-        b"\nbytes ",
-        std::num::wrapping_add_usize(q.place, left) as u64,
-    )
+fn say_counts(rt: &HostRuntime, q: Reading, left: usize) -> streams::Result<()> {
+    say_number(rt, b"\nmessages ", q.messages as u64)?;
+    say_number(rt, b"\nappends ", q.appends as u64)?;
+    say_number(rt, b"\nbytes ", q.place.wrapping_add(left) as u64)
 }
 
 // Whether the journal is whole.
-fn say_state(rt: &HostRuntime, q: Reading, left: usize, rest: Rest) -> bool {
-    let r = q.replay;
+fn say_state(rt: &HostRuntime, q: Reading, left: usize, rest: Rest) -> streams::Result<()> {
     match rest {
-        Rest::Nothing => {
-            if r.closed {
-                return say(rt, b"\nstate closed\n");
-            }
-            say(rt, b"\nstate whole\n")
-        }
+        Rest::Nothing if q.replay.closed => say(rt, b"\nstate closed\n"),
+        Rest::Nothing => say(rt, b"\nstate whole\n"),
         Rest::Torn => {
-            if !say_number(rt, b"\nstate torn ", left as u64) {
-                return false;
-            }
+            say_number(rt, b"\nstate torn ", left as u64)?;
             say(rt, b" bytes\n")
         }
         Rest::Damaged => {
-            if !say_number(rt, b"\nstate damaged at byte ", q.place as u64) {
-                return false;
-            }
+            say_number(rt, b"\nstate damaged at byte ", q.place as u64)?;
             say(rt, b"\n")
         }
     }
 }
 
 // What was read, and what stands behind it.
-fn say_end(rt: &HostRuntime, t: &[u32], q: Reading, buf: &[u8]) {
+fn say_end(rt: &HostRuntime, t: &[u32], q: Reading, buf: &[u8]) -> streams::Result<()> {
     let left = reading::left_in(q);
-    if !say_counts(rt, q, left) {
-        return;
-    }
-    let rest = reading::rest(t, q, buf);
-    say_state(rt, q, left, rest);
+    say_counts(rt, q, left)?;
+    say_state(rt, q, left, reading::rest(t, q, buf))
 }
 
 // Reads on behind the head.
@@ -154,34 +108,33 @@ fn say_rest(
     start: Reading,
     buf: &mut [u8],
     room: &mut [u8],
-)
-    requires { BuffersLent t.now room.old × WithinIfWell start (length buf.old) × StandsIn [] start buf.old }
+) -> streams::Result<()>
+    requires { BuffersLent t.now room.old × ReadsOn [] start buf.old }
 {
-    let q = reading::read_on(rt, t, file, &[], start, false, buf, room);
-    if q.well {
-        say_end(rt, t, q, buf);
-    }
+    let q = reading::read_on(rt, t, file, &[], start, false, buf, room)?;
+    say_end(rt, t, q, buf)
 }
 
 // Tells what the journal in a file is; after a write that failed nothing more is written.
-fn tell(rt: &HostRuntime, t: &[u32], file: &File, buf: &mut [u8], room: &mut [u8])
+fn tell(
+    rt: &HostRuntime,
+    t: &[u32],
+    file: &File,
+    buf: &mut [u8],
+    room: &mut [u8],
+) -> streams::Result<()>
     requires { BuffersLent t.now room.old }
 {
-    let start = reading::begun(rt, t, file, &[], buf);
-    if !start.well {
-        return;
-    }
-    if say_head(rt, buf) {
-        say_rest(rt, t, file, start, buf, room);
-    }
+    let start = reading::begun(rt, t, file, &[], buf)?;
+    say_head(rt, buf)?;
+    say_rest(rt, t, file, start, buf, room)
 }
 
 // Tells what the journal of this name is.
-pub fn describe(rt: &HostRuntime, name: &[u8]) {
-    if let Some(file) = reading::open(rt, name) {
-        let t = checksum::tables();
-        let mut buf = [0u8; 131104];
-        let mut room = [0u8; 327680];
-        tell(rt, &t, &file, &mut buf, &mut room);
-    }
+pub fn describe(rt: &HostRuntime, name: &[u8]) -> streams::Result<()> {
+    let file = reading::open(rt, name)?;
+    let t = checksum::tables();
+    let mut buf = [0u8; 131104];
+    let mut room = [0u8; 327680];
+    tell(rt, &t, &file, &mut buf, &mut room)
 }

@@ -3,26 +3,21 @@
 // holds; what a journal's bytes are stands in journal_file, and how one is read in journal_reader.
 #![tactic(auto)]
 
-ghost use Rattle.std.specs.Prelude.{◌≤◌};
+ghost use Rattle.std.specs.Prelude.{◌≤◌, length, IfOk};
 
 mod describing;
 mod following;
 mod older;
 mod reading;
 
-use std::io::Error;
+use streams::Told;
 
 // Tells how the command is used.
-fn wrong(rt: &HostRuntime) {
+fn wrong(rt: &HostRuntime) -> Told {
     streams::tell(
         rt,
         b"station: usage: station --describe FILE, --recorded FILE or --follow OLD NEW [--garage NAME]\n",
-    );
-}
-
-// Tells that a journal can't be opened, since its name can't be had.
-fn nameless(rt: &HostRuntime, error: Error) {
-    streams::fail(rt, b"station: the journal can't be opened", error);
+    )
 }
 
 // Whether argument i is this word.
@@ -32,114 +27,75 @@ fn is_word(rt: &HostRuntime, i: usize, text: &[u8]) -> bool {
     commands::is_text(&room[..n], text)
 }
 
-// The journal of this name: described, or its messages written.
-fn read_one(rt: &HostRuntime, name: &[u8], tell: bool) {
-    if name.len() == 0 {
-        wrong(rt);
-        return;
+// The file that argument i names: its name is put at the front of the room, and has so many bytes.
+fn file_name(rt: &HostRuntime, i: usize, name: &mut [u8]) -> streams::Result<usize>
+    ensures { IfOk result (λ n. n ≤ length name.new) }
+{
+    let n = commands::whole_word(rt, i, name).map_err(|e| streams::fail(
+        rt,
+        b"station: the journal can't be opened",
+        e,
+    ))?;
+    if n == 0 {
+        return Err(wrong(rt));
     }
-    if tell {
-        reading::recorded(rt, name);
-        return;
-    }
-    describing::describe(rt, name);
+    Ok(n)
 }
 
-// The journal that argument 2 names: described, or its messages written.
-fn read_named(rt: &HostRuntime, tell: bool) {
+// The journal that argument 2 names is described.
+fn describe(rt: &HostRuntime) -> streams::Result<()> {
     let mut name = io::buffer();
-    match commands::whole_word(rt, 2, &mut name) {
-        Ok(n) => read_one(rt, &name[..n], tell),
-        Err(e) => nameless(rt, e),
-    }
+    let n = file_name(rt, 2, &mut name)?;
+    describing::describe(rt, &name[..n])
+}
+
+// The messages of the journal that argument 2 names are written.
+fn write_recorded(rt: &HostRuntime) -> streams::Result<()> {
+    let mut name = io::buffer();
+    let n = file_name(rt, 2, &mut name)?;
+    reading::recorded(rt, &name[..n])
 }
 
 // Whether a word is the name of a file that is made for a journal, and not a journal's own.
 fn is_part(name: &[u8]) -> bool {
-    if name.len() < 5 {
-        return false;
-    }
-    let from = name.len() - 5;
-    commands::is_text(&name[from..], b".part")
-}
-
-// The journal of one name is followed by one of another, which has n bytes.
-fn follow_by(rt: &HostRuntime, old: &[u8], new: &[u8; 4096], n: usize, garage: &[u8])
-    requires { n ≤ 4096 }
-{
-    if n == 0 {
-        wrong(rt);
-        return;
-    }
-    if is_part(old) | is_part(&new[..n]) {
-        wrong(rt);
-        return;
-    }
-    let mut part = *new;
-    let m = journal_files::beside(&mut part, n, b".part");
-    following::follow(rt, old, &new[..n], &part[..m], garage);
-}
-
-// The journal of this name is followed by the one that argument 3 names.
-fn follow_old(rt: &HostRuntime, old: &[u8], garage: &[u8]) {
-    if old.len() == 0 {
-        wrong(rt);
-        return;
-    }
-    let mut new = io::buffer();
-    match commands::whole_word(rt, 3, &mut new) {
-        Ok(n) => follow_by(rt, old, &new, n, garage),
-        Err(e) => nameless(rt, e),
-    }
+    name.ends_with(b".part")
 }
 
 // The journal that argument 2 names is followed by the one that argument 3 names.
-fn follow_named(rt: &HostRuntime, garage: &[u8]) {
+fn follow(rt: &HostRuntime, garage: &[u8]) -> streams::Result<()> {
     let mut old = io::buffer();
-    match commands::whole_word(rt, 2, &mut old) {
-        Ok(n) => follow_old(rt, &old[..n], garage),
-        Err(e) => nameless(rt, e),
+    let n = file_name(rt, 2, &mut old)?;
+    let mut new = io::buffer();
+    let m = file_name(rt, 3, &mut new)?;
+    if is_part(&old[..n]) || is_part(&new[..m]) {
+        return Err(wrong(rt));
     }
+    let mut part = new;
+    let k = journal_files::beside(&mut part, m, b".part");
+    following::follow(rt, &old[..n], &new[..m], &part[..k], garage)
 }
 
-// The garage that argument 5 names.
-fn follow_in_garage(rt: &HostRuntime) {
+// The same for the garage that argument 5 names.
+fn follow_in_garage(rt: &HostRuntime) -> streams::Result<()> {
     let mut name = [0u8; 40];
-    match commands::whole_word(rt, 5, &mut name) {
-        Ok(n) => {
-            if !journal_file::is_garage(&name[..n]) {
-                wrong(rt);
-                return;
-            }
-            follow_named(rt, &name);
-        }
-        Err(_) => wrong(rt),
+    let n = commands::whole_word(rt, 5, &mut name).map_err(|_| wrong(rt))?;
+    if !journal_file::is_garage(&name[..n]) {
+        return Err(wrong(rt));
+    }
+    follow(rt, &name)
+}
+
+// What the words ask for.
+fn asked(rt: &HostRuntime) -> streams::Result<()> {
+    match commands::word_count(rt) {
+        3 if is_word(rt, 1, b"--describe") => describe(rt),
+        3 if is_word(rt, 1, b"--recorded") => write_recorded(rt),
+        4 if is_word(rt, 1, b"--follow") => follow(rt, &[]),
+        6 if is_word(rt, 1, b"--follow") && is_word(rt, 4, b"--garage") => follow_in_garage(rt),
+        _ => Err(wrong(rt)),
     }
 }
 
 fn main(rt: HostRuntime) {
-    let count = commands::word_count(&rt);
-    if count == 3 {
-        if is_word(&rt, 1, b"--describe") {
-            read_named(&rt, false);
-            return;
-        }
-        if is_word(&rt, 1, b"--recorded") {
-            read_named(&rt, true);
-            return;
-        }
-    }
-    if count == 4 {
-        if is_word(&rt, 1, b"--follow") {
-            follow_named(&rt, &[]);
-            return;
-        }
-    }
-    if count == 6 {
-        if is_word(&rt, 1, b"--follow") & is_word(&rt, 4, b"--garage") {
-            follow_in_garage(&rt);
-            return;
-        }
-    }
-    wrong(&rt);
+    let _ = asked(&rt);
 }

@@ -1,132 +1,97 @@
 // A journal of version 1.0, which is whole messages and nothing else: it is read to its end, so that a new journal can follow it. It is
 // closed by a length that no message has, behind the last whole message: version 1.0 does not start on it from then on.
-ghost use Rattle.std.specs.Prelude.{◌≡◌, ◌<◌, ◌≤◌, true, false, length};
+ghost use Rattle.std.specs.Prelude.{◌≡◌, ◌<◌, ◌≤◌, false, length, IfOk};
 ghost use Rattle.journal.specs.Journal.{Journaled};
 ghost use Rattle.service.specs.Runs.{enough};
-ghost use Rattle.journal_program.specs.Telling.{RoomToTell, OlderReads, EndsIfWell};
+ghost use Rattle.journal_program.specs.Telling.{RoomToTell, Ends};
 
-use crate::following::{End, unended};
+use crate::following::End;
 use journal::Replay;
 use std::fs::File;
 use std::os::unix::fs::FileExt;
-use streams::Input;
+use streams::Told;
 
-// How far it is read: what its replay tells so far, whether there may be more of it, and whether all reads went well.
-#[derive(Clone, Copy)]
-struct Older {
-    replay: Replay,
-    going: bool,
-    well: bool,
-}
-
-// Replays what came whole; behind a length that is out of range nothing is read.
-fn replayed(r: Replay, buf: &mut [u8], end: usize, room: &mut [u8]) -> Older
+// Replays what came whole.
+fn replayed(r: Replay, buf: &mut [u8], end: usize, room: &mut [u8]) -> Replay
     requires { (end ≤ length buf.old) × (enough (length buf.old) ≤ length room.old) × Journaled r.station r.whole }
-    ensures { OlderReads result }
+    ensures { (result.damaged ≡ false → result.have < 45) × Journaled result.station result.whole }
 {
-    let next = journal::replay_piece(r, buf, end, room);
-    Older {
-        replay: next,
-        going: !next.damaged,
-        well: true,
-    }
+    journal::replay_piece(r, buf, end, room)
 }
 
-// Reads once, and replays what came whole.
-fn read_piece(rt: &HostRuntime, file: &File, r: Replay, buf: &mut [u8], room: &mut [u8]) -> Older
-    requires { (r.have < 45) × RoomToTell buf.old room.old × Journaled r.station r.whole }
-    ensures { OlderReads result }
-{
-    let have = r.have;
-    let mut from: &File = file;
-    let input = streams::fill(
-        rt,
-        &mut from,
-        buf,
-        have,
-        b"station: the journal can't be read",
-    );
-    match input {
-        Input::Bytes(end) => replayed(r, buf, end, room),
-        Input::Ended => Older {
-            replay: r,
-            going: false,
-            well: true,
-        },
-        _ => Older {
-            replay: r,
-            going: false,
-            well: false,
-        },
-    }
-}
-
-// Piece after piece; no file is so long that it takes more.
-fn replay_all(rt: &HostRuntime, file: &File, buf: &mut [u8], room: &mut [u8]) -> Older
+// Piece after piece; no file is so long that it takes more. Behind a length that is out of range nothing is read.
+fn replay_all(
+    rt: &HostRuntime,
+    file: &File,
+    buf: &mut [u8],
+    room: &mut [u8],
+) -> streams::Result<Replay>
     requires { RoomToTell buf.old room.old }
-    ensures { Journaled result.replay.station result.replay.whole }
+    ensures { IfOk result (λ r. Journaled r.station r.whole) }
 {
-    let start = journal::begin();
-    let mut q = Older {
-        replay: start,
-        going: true,
-        well: true,
-    };
-    let mut pieces = u64::MAX;
-    while 0 < pieces {
-        let r = q.replay;
-        q = read_piece(rt, file, r, buf, room);
-        if !q.going {
-            return q;
+    let mut from: &File = file;
+    let mut r = journal::begin();
+    for _ in 0..u64::MAX {
+        match streams::fill(
+            rt,
+            &mut from,
+            buf,
+            r.have,
+            b"station: the journal can't be read",
+        ) {
+            Ok(Some(end)) => r = replayed(r, buf, end, room),
+            Ok(None) => return Ok(r),
+            Err(_) => return Err(Told),
         }
-        pieces -= 1;
+        if r.damaged {
+            return Ok(r);
+        }
     }
-    q
+    Ok(r)
 }
 
 // Whether the length behind so many bytes is the one that closes the journal.
 fn is_closed(file: &File, whole: usize) -> bool {
     let mut length = [0u8; 2];
-    match file.read_at(&mut length, journal_files::place(whole).cast_unsigned()) {
-        Ok(2) => (length[0] == 255) & (length[1] == 255),
-        _ => false,
-    }
+    matches!(
+        file.read_at(&mut length, journal_files::place(whole).cast_unsigned()),
+        Ok(2)
+    ) && length == [255, 255]
 }
 
 // Where it ends, unless it is damaged or has no message.
-fn end_of(rt: &HostRuntime, r: Replay, garage: [u8; 40], closed: bool) -> End
+fn end_of(rt: &HostRuntime, r: Replay, garage: [u8; 40], closed: bool) -> streams::Result<End>
     requires { Journaled r.station r.whole }
-    ensures { EndsIfWell result }
+    ensures { IfOk result (λ e. Ends e) }
 {
     if (r.damaged & !closed) | (r.whole == 0) {
-        journal_files::tell(
+        return Err(journal_files::tell(
             rt,
             b"station: the file is no journal, of version 1.0 neither, or it is empty or damaged\n",
-        );
-        return unended();
+        ));
     }
-    let station = r.station;
-    End {
+    Ok(End {
         garage,
-        station,
+        station: r.station,
         sum: 0,
         place: r.whole,
         closed,
         older: true,
-        well: true,
-    }
+    })
 }
 
 // Reads it to its end.
-fn read_all(rt: &HostRuntime, file: &File, garage: [u8; 40], buf: &mut [u8], room: &mut [u8]) -> End
+fn read_all(
+    rt: &HostRuntime,
+    file: &File,
+    garage: [u8; 40],
+    buf: &mut [u8],
+    room: &mut [u8],
+) -> streams::Result<End>
     requires { RoomToTell buf.old room.old }
-    ensures { EndsIfWell result }
+    ensures { IfOk result (λ e. Ends e) }
 {
-    let q = replay_all(rt, file, buf, room);
-    let r = q.replay;
-    if !q.well {
-        return unended();
-    }
+    let r = replay_all(rt, file, buf, room)?;
     let closed = is_closed(file, r.whole);
     end_of(rt, r, garage, r.damaged & closed)
 }
@@ -139,20 +104,20 @@ pub fn ended(
     garage: [u8; 40],
     buf: &mut [u8],
     room: &mut [u8],
-) -> End
-    ensures { EndsIfWell result }
+) -> streams::Result<End>
+    ensures { IfOk result (λ e. Ends e) }
 {
     if buf.len() < 45 {
-        return unended();
+        return Err(Told);
     }
     if room.len() / 5 < buf.len() {
-        return unended();
+        return Err(Told);
     }
     read_all(rt, file, garage, buf, room)
 }
 
 // Writes the length that closes it.
-pub fn write_mark(rt: &HostRuntime, file: &File) -> bool {
+pub fn write_mark(rt: &HostRuntime, file: &File) -> streams::Result<()> {
     let mark = [255u8; 2];
     let mut to: &File = file;
     streams::send(

@@ -2,23 +2,24 @@
 use Rattle.std.proofs.Common.{◌≡◌, ℕ, zero, suc, ◌+◌, ◌-◌, ◌<◌, ◌≤◌, Bool, true, false, cond, ltb, List, [], ◌∷◌, ◌++◌, length, take, drop, sym, refl, ap, ◌∙◌, subst, arith, take-take, ltb-false}
 use Rattle.bits.proofs.Cases.{split}
 use lib.Seq.{take-append-le, slice, length-slice}
-use Rattle.streams.specs.declared.Input.{Input}
-use Rattle.streams.specs.declared.Input.TheVariants.{Bytes, Ended, Failed, Full}
-use Rattle.streams.specs.Input.{FrontKept, Fills}
+use Rattle.std.specs.declared.option.Option.TheVariants.{Some, None}
+use Rattle.std.specs.declared.result.Result.TheVariants.{Ok, Err}
+use Rattle.streams.specs.declared.Unread.TheVariants.{Failed, Full}
+use Rattle.streams.specs.Input.{Input, FrontKept, Fills}
 use Rattle.service.specs.Turns.{Holds, holding_front}
 use Rattle.journal_reader.specs.Reading.{part}
 
 -- whatever a read says, the bytes that were held stay
 pub any_kept : (before after : List ℕ) (have : ℕ) (r : Input) → Fills before have r after → FrontKept before have after
-any_kept before after have (Bytes end) f = f.2
-any_kept before after have Ended f = f.1
-any_kept before after have Failed f = f.1
-any_kept before after have Full f = ap (take have) f.1
+any_kept before after have (Ok (Some end)) f = f.2
+any_kept before after have (Ok None) f = f.1
+any_kept before after have (Err Failed) f = f.1
+any_kept before after have (Err Full) f = ap (take have) f.1
 
-pub of_bytes : (before after : List ℕ) (have : ℕ) (r : Input) {end : ℕ} → Fills before have r after → r ≡ Bytes end
+pub of_bytes : (before after : List ℕ) (have : ℕ) (r : Input) {end : ℕ} → Fills before have r after → r ≡ Ok (Some end)
     → (have ≤ end) × (end ≤ length before) × FrontKept before have after
 of_bytes before after have r {end} f e =
-    let g : Fills before have (Bytes end) after = subst (λ (x : Input). Fills before have x after) e f in
+    let g : Fills before have (Ok (Some end)) after = subst (λ (x : Input). Fills before have x after) e f in
     (omega (arith, g.0), g.1, g.2)
 
 -- one read behind others

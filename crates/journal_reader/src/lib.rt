@@ -11,7 +11,7 @@ ghost use Rattle.journal_reader.specs.Private.{FilledUp, stopped_at, ReadingBrou
 
 use journal_file::{Kind, Replay};
 use std::fs::File;
-use streams::Input;
+use streams::Unread;
 
 // An append has at most so many bytes.
 pub const LONGEST: usize = 65549;
@@ -53,48 +53,12 @@ pub enum Rest {
 
 // ---- what a buffer is filled with
 
-// How far a buffer is filled, whether it has room for more of the file, whether the file may have more, and whether all reads went well.
+// How far a buffer is filled, whether the file may have more, and whether all reads went well.
 #[derive(Clone, Copy)]
 struct Filled {
     end: usize,
-    going: bool,
     more: bool,
     well: bool,
-}
-
-// Reads once past the first `have` bytes.
-fn fill_once(rt: &HostRuntime, file: &File, buf: &mut [u8], have: usize, name: &[u8]) -> Filled
-    requires { have ≤ length buf.old }
-    ensures { FilledUp buf.old have result buf.new }
-{
-    let mut from: &File = file;
-    let input = streams::fill(rt, &mut from, buf, have, name);
-    match input {
-        Input::Bytes(end) => Filled {
-            end,
-            going: true,
-            more: true,
-            well: true,
-        },
-        Input::Ended => Filled {
-            end: have,
-            going: false,
-            more: false,
-            well: true,
-        },
-        Input::Failed => Filled {
-            end: have,
-            going: false,
-            more: false,
-            well: false,
-        },
-        Input::Full => Filled {
-            end: have,
-            going: false,
-            more: true,
-            well: true,
-        },
-    }
 }
 
 // Reads past the first `have` bytes until the buffer is full or the file ends.
@@ -102,40 +66,27 @@ fn fill_up(rt: &HostRuntime, file: &File, buf: &mut [u8], have: usize, name: &[u
     requires { have ≤ length buf.old }
     ensures { FilledUp buf.old have result buf.new }
 {
-    let mut f = Filled {
-        end: have,
-        going: true,
-        more: true,
-        well: true,
-    };
-    let mut reads = u64::MAX;
-    while 0 < reads {
-        f = fill_once(rt, file, buf, f.end, name);
-        if !f.going {
-            return f;
-        }
-        reads -= 1;
+    let mut from: &File = file;
+    let mut end = have;
+    loop {
+        let (more, well) = match streams::fill(rt, &mut from, buf, end, name) {
+            Ok(Some(further)) => {
+                end = further;
+                continue;
+            }
+            Ok(None) => (false, true),
+            Err(Unread::Full) => (true, true),
+            Err(Unread::Failed) => (false, false),
+        };
+        return Filled { end, more, well };
     }
-    f
 }
 
 // Whether a reading lies within a buffer of n bytes that has room for what follows.
 fn fits(q: Reading, n: usize) -> bool
     ensures { result ≡ true → ReadingWithin q n }
 {
-    if n < LEAST {
-        return false;
-    }
-    if q.at < q.from {
-        return false;
-    }
-    if q.end < q.at {
-        return false;
-    }
-    if n < q.end {
-        return false;
-    }
-    true
+    LEAST <= n && q.from <= q.at && q.at <= q.end && q.end <= n
 }
 
 // Reads on with the last append held at the front of the buffer.
@@ -143,20 +94,16 @@ fn read_on(rt: &HostRuntime, file: &File, q: Reading, buf: &mut [u8], name: &[u8
     requires { ReadingWithin q (length buf.old) }
     ensures { ReadingBrought q buf.old result buf.new }
 {
-    let replay = q.replay;
     let have = service::buffer::hold(buf, q.from, q.end);
     let f = fill_up(rt, file, buf, have, name);
     Reading {
-        replay,
-        place: q.place,
         from: 0,
         at: q.at - q.from,
         end: f.end,
         more: f.more,
         well: f.well,
         took: false,
-        appends: q.appends,
-        messages: q.messages,
+        ..q
     }
 }
 
@@ -165,10 +112,7 @@ fn bring(rt: &HostRuntime, file: &File, q: Reading, buf: &mut [u8], name: &[u8])
     requires { ReadingWithin q (length buf.old) }
     ensures { ReadingBrought q buf.old result buf.new }
 {
-    if !q.more {
-        return q;
-    }
-    if LONGEST < q.end - q.at {
+    if !q.more || LONGEST < q.end - q.at {
         return q;
     }
     read_on(rt, file, q, buf, name)
@@ -186,13 +130,13 @@ fn size_of(a: u8, b: u8) -> usize
 // How many messages stand one behind the other, by their lengths.
 fn messages_in(m: &[u8]) -> usize {
     let mut n: usize = 0;
-    let mut i: usize = 0;
-    while 2 <= m.len() - i {
-        let size = size_of(m[i], m[i + 1]);
-        if m.len() - i < size {
-            return n;
+    let mut rest = m;
+    while let [a, b, ..] = rest {
+        let size = size_of(*a, *b);
+        if rest.len() < size {
+            break;
         }
-        i += size;
+        rest = &rest[size..];
         n += 1;
     }
     n
@@ -202,34 +146,21 @@ fn messages_in(m: &[u8]) -> usize {
 fn messages_of(buf: &[u8], from: usize, to: usize) -> usize
     requires { (from + 13 ≤ to) × (to ≤ length buf.now) }
 {
-    if buf[from] == 1 {
-        return messages_in(&buf[from + 8..to - 5]);
+    match buf[from] {
+        1 => messages_in(&buf[from + 8..to - 5]),
+        5 if 181 <= to - from => messages_in(&buf[from + 176..to - 5]),
+        _ => 0,
     }
-    if buf[from] != 5 {
-        return 0;
-    }
-    if to - from < 181 {
-        return 0;
-    }
-    messages_in(&buf[from + 176..to - 5])
 }
 
 // Nothing was taken.
 fn stopped(q: Reading, well: bool) -> Reading
     ensures { result ≡ stopped_at q well }
 {
-    let replay = q.replay;
     Reading {
-        replay,
-        place: q.place,
-        from: q.from,
-        at: q.at,
-        end: q.end,
-        more: q.more,
         well: q.well & well,
         took: false,
-        appends: q.appends,
-        messages: q.messages,
+        ..q
     }
 }
 
@@ -243,20 +174,18 @@ fn take(t: &[u32], q: Reading, sum: u32, end: usize, buf: &[u8], room: &mut [u8]
     if s.took == 0 {
         return stopped(q, true);
     }
-    let replay = s.replay;
     let next = at + s.took;
     let messages = messages_of(buf, at, next);
     Reading {
-        replay,
-        place: std::num::wrapping_add_usize(q.place, s.took),
+        replay: s.replay,
+        place: q.place.wrapping_add(s.took),
         from: at,
         at: next,
         end,
-        more: q.more,
-        well: q.well,
         took: true,
-        appends: std::num::wrapping_add_usize(q.appends, 1),
-        messages: std::num::wrapping_add_usize(q.messages, messages),
+        appends: q.appends.wrapping_add(1),
+        messages: q.messages.wrapping_add(messages),
+        ..q
     }
 }
 
@@ -279,8 +208,7 @@ pub fn next(
     if !b.well {
         return stopped(b, false);
     }
-    let r = b.replay;
-    take(t, b, r.sum, b.end, buf, room)
+    take(t, b, b.replay.sum, b.end, buf, room)
 }
 
 // ---- cards
@@ -289,27 +217,17 @@ pub fn next(
 fn last_size(q: Reading, buf: &[u8]) -> usize
     ensures { (result ≡ length (last_in q buf.now)) × (0 < result → q.from + result ≤ length buf.now) }
 {
-    if q.at <= q.from {
-        return 0;
-    }
-    if buf.len() <= q.from {
-        return 0;
-    }
-    if buf.len() - q.from < q.at - q.from {
-        return buf.len() - q.from;
-    }
-    q.at - q.from
+    q.at.min(buf.len()).saturating_sub(q.from)
 }
 
 // Whether the append that stands in the buffer has cards.
 pub fn has_cards(q: Reading, buf: &[u8]) -> bool
     ensures { result ≡ has_cards (last_in q buf.now) }
 {
-    let from = q.from;
     if last_size(q, buf) == 0 {
         return false;
     }
-    buf[from] == 5
+    buf[q.from] == 5
 }
 
 // The numbers of cards after the append that stands in the buffer: its own where it has cards, else those before.
@@ -334,7 +252,7 @@ pub fn numbers_after(was: [u8; 168], q: Reading, buf: &[u8]) -> [u8; 168]
 pub fn rest_of(t: &[u32], sum: u32, place: usize, m: &[u8]) -> Rest
     ensures { result ≡ rest_of (crc_by t.now) sum place m.now }
 {
-    if m.len() == 0 {
+    if m.is_empty() {
         return Rest::Nothing;
     }
     let f = journal_file::front_of(t, sum, m);
@@ -350,7 +268,7 @@ pub fn rest_of(t: &[u32], sum: u32, place: usize, m: &[u8]) -> Rest
 fn head_size(end: usize) -> usize
     ensures { result ≡ (if nat_lt end 128 then end else 128) }
 {
-    if end < 128 { end } else { 128 }
+    end.min(128)
 }
 
 // Begins to read: what the head is.
@@ -358,13 +276,9 @@ pub fn begin(rt: &HostRuntime, t: &[u32], file: &File, buf: &mut [u8], name: &[u
     ensures { ReadingBegins (crc_by t.now) result buf.new }
 {
     let f = fill_up(rt, file, buf, 0, name);
-    let end = f.end;
-    let size = head_size(end);
-    let h = journal_file::head_of(t, &buf[..size]);
-    let kind = h.kind;
-    let station = h.station;
+    let h = journal_file::head_of(t, &buf[..head_size(f.end)]);
     let replay = Replay {
-        station,
+        station: h.station,
         sum: h.sum,
         closed: false,
     };
@@ -373,12 +287,15 @@ pub fn begin(rt: &HostRuntime, t: &[u32], file: &File, buf: &mut [u8], name: &[u
         place: 128,
         from: 0,
         at: 128,
-        end,
+        end: f.end,
         more: f.more,
         well: f.well,
         took: true,
         appends: 0,
         messages: 0,
     };
-    Beginning { kind, reading }
+    Beginning {
+        kind: h.kind,
+        reading,
+    }
 }

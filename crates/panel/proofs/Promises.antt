@@ -1,5 +1,5 @@
 -- The promises of specs/Promises.antt kept: both sides go along the list of conditions. Assumes nothing.
-use mathlib.Core.Path.{◌≡◌, refl, ap, ap₂, subst, ◌∙◌}
+use mathlib.Core.Path.{◌≡◌, refl, sym, ap, ap₂, subst, ◌∙◌}
 use mathlib.Core.Logic.{◌↔◌, ⊎_elim}
 use mathlib.Core.Bool.{Bool, true, false, cond, not, ◌&&◌, ◌||◌}
 use mathlib.Core.List.{List, [], ◌∷◌}
@@ -7,6 +7,8 @@ use Prim.Native.Nat.{ℕ, zero, suc, ◌+◌, ◌-◌, ◌%◌, ◌≤◌, ◌<�
 use native.Mathlib.Omega.{arith}
 use lib.Dec.{T, eqb, ltb, ltb→lt}
 use borrow.Author.Tests.{ltb-true, ltb-false}
+use Rattle.std.specs.declared.option.Option.{Option}
+use Rattle.std.specs.declared.option.Option.TheVariants.{Some, None}
 use Rattle.bits.specs.Bits.{Bits}
 use Rattle.bits.specs.Places.{elem}
 use Rattle.bits.proofs.Cases.{split, clash, and_intro, T→true, true→T}
@@ -20,71 +22,86 @@ use Rattle.floor.specs.Tests.{Test, fact, set, exactly, even, no, both, either, 
 use Rattle.answers.specs.declared.Reason.{Reason}
 use Rattle.answers.specs.declared.Reason.TheVariants.{NothingNamed}
 use Rattle.rules.specs.declared.Instruction.{Instruction}
-use Rattle.rules.specs.declared.Verdict.{Verdict}
-use Rattle.rules.specs.declared.Verdict.TheVariants.{Allowed, NotAllowed, IllFormed}
+use Rattle.rules.specs.declared.Refusal.TheVariants.{NotAllowed, IllFormed}
+use Rattle.std.specs.declared.result.Result.TheVariants.{Ok, Err}
 use Rattle.rules.specs.Rules.{well_formed, Clause, ◌else◌, clauses}
-use Rattle.rules.specs.Verdicts.{judged, is_allowed}
+use Rattle.rules.specs.Verdicts.{Verdict, judged, is_allowed}
 use Rattle.rules.proofs.Every.{everywhere, each}
+use Rattle.plain.specs.declared.Condition.{Condition}
 use Rattle.plain.specs.Conditions.{condition_in, condition_of, verdict_on}
+use Rattle.plain_moves.specs.declared.Parts.{Parts}
 use Rattle.plain_moves.specs.Moves.{parts_bits, parts_at}
 use Rattle.plain.proofs.Listing.{listed_at}
-use Rattle.panel.specs.Panel.{read_by, read_in, explained}
-use Rattle.panel.specs.Promises.{FirstShownFails, RefusalExplained, AllowedExplained, among, PartsDecide}
+use Rattle.panel.specs.declared.Explanation.{Explanation}
+use Rattle.panel.specs.Panel.{read_by, read_in, with_parts, explained}
+use Rattle.panel.specs.Promises.{shown_holds, shown_parts, FirstShownFails, RefusalExplained, AllowedExplained, among, PartsDecide}
 use Rattle.panel.proofs.Tested.{past_last}
 
 -- ---- conditions and verdicts, over a list of clauses
 
 -- what tells verdicts apart
 abbrev reason_in : Verdict → Reason
-reason_in Allowed = NothingNamed
-reason_in (NotAllowed why) = why
-reason_in IllFormed = NothingNamed
+reason_in (Ok done) = NothingNamed
+reason_in (Err (NotAllowed why)) = why
+reason_in (Err IllFormed) = NothingNamed
 
 abbrev refuses : Verdict → Bool
-refuses Allowed = false
-refuses (NotAllowed why) = true
-refuses IllFormed = false
+refuses (Ok done) = false
+refuses (Err (NotAllowed why)) = true
+refuses (Err IllFormed) = false
+
+-- whether a condition holds, where there is one, and its reason
+abbrev holds_in : Option Condition → Bool
+holds_in None = true
+holds_in (Some x) = x.holds
+
+abbrev why_in : Option Condition → Reason
+why_in None = NothingNamed
+why_in (Some x) = x.why
 
 module _ (f : Bits) where
   -- condition c of a list is the first that fails
   record First (cs : List Clause) (why : Reason) (c : ℕ) : Type 0 where
-    there : (condition_in cs c f).there ≡ true
-    fails : (condition_in cs c f).holds ≡ false
-    told : (condition_in cs c f).why ≡ why
-    before : (j : ℕ) → j < c → (condition_in cs j f).holds ≡ true
+    shown : Condition
+    there : condition_in cs c f ≡ Some shown
+    fails : shown.holds ≡ false
+    told : shown.why ≡ why
+    before : (j : ℕ) → j < c → holds_in (condition_in cs j f) ≡ true
 
   -- one more that holds before them
   later : (t : Test) (w : Reason) (cs : List Clause) (why : Reason) (c : ℕ) → holds t f ≡ true → First cs why c → First ((t else w) ∷ cs) why (suc c)
-  later t w cs why c h F = record { there = F.there; fails = F.fails; told = F.told; before = before }
+  later t w cs why c h F = record { shown = F.shown; there = F.there; fails = F.fails; told = F.told; before = before }
     where
-      before : (j : ℕ) → j < suc c → (condition_in ((t else w) ∷ cs) j f).holds ≡ true
+      before : (j : ℕ) → j < suc c → holds_in (condition_in ((t else w) ∷ cs) j f) ≡ true
       before zero l = h
       before (suc j) l = F.before j (omega arith)
 
-  first_of : (cs : List Clause) (why : Reason) → judged cs f ≡ NotAllowed why → (c : ℕ) × First cs why c
+  first_of : (cs : List Clause) (why : Reason) → judged cs f ≡ Err (NotAllowed why) → (c : ℕ) × First cs why c
   first_of [] why e = clash refl (ap is_allowed e)
   first_of ((t else w) ∷ cs) why e = split (holds t f)
       (λ h. let (c, F) = first_of cs why (rw h at e) in (suc c, later t w cs why c h F))
-      (λ h. (0, record { there = refl; fails = h; told = ap reason_in (rw h at e); before = λ j l. absurd (omega arith) }))
+      (λ h. (0, record { shown = record { holds = holds t f; why = w }; there = refl; fails = h; told = ap reason_in (rw h at e); before = λ j l. absurd (omega arith) }))
 
-  first_is : (cs : List Clause) (why : Reason) (c : ℕ) → First cs why c → judged cs f ≡ NotAllowed why
-  first_is [] why c F = clash F.there refl
-  first_is ((t else w) ∷ cs) why zero F = rw F.fails (ap NotAllowed F.told)
+  first_is : (cs : List Clause) (why : Reason) (c : ℕ) → First cs why c → judged cs f ≡ Err (NotAllowed why)
+  first_is [] why c F = let e : None ≡ Some F.shown = F.there in cc
+  first_is ((t else w) ∷ cs) why zero F =
+      let h : holds t f ≡ false = ap holds_in F.there ∙ F.fails in
+      rw h (ap (λ (x : Reason). Err (NotAllowed x)) (ap why_in F.there ∙ F.told))
   first_is ((t else w) ∷ cs) why (suc c) F =
       rw (F.before 0 (omega arith))
-      (first_is cs why c (record { there = F.there; fails = F.fails; told = F.told; before = λ j l. F.before (suc j) (omega arith) }))
+      (first_is cs why c (record { shown = F.shown; there = F.there; fails = F.fails; told = F.told; before = λ j l. F.before (suc j) (omega arith) }))
 
-  all_of : (cs : List Clause) → judged cs f ≡ Allowed → (c : ℕ) → (condition_in cs c f).holds ≡ true
+  all_of : (cs : List Clause) → judged cs f ≡ Ok tt → (c : ℕ) → holds_in (condition_in cs c f) ≡ true
   all_of [] e c = refl
   all_of ((t else w) ∷ cs) e c = split (holds t f)
       (λ h. go c h (all_of cs (rw h at e)))
       (λ h. clash refl (ap refuses (rw h at e)))
     where
-      go : (c : ℕ) → holds t f ≡ true → ((c : ℕ) → (condition_in cs c f).holds ≡ true) → (condition_in ((t else w) ∷ cs) c f).holds ≡ true
+      go : (c : ℕ) → holds t f ≡ true → ((c : ℕ) → holds_in (condition_in cs c f) ≡ true) → holds_in (condition_in ((t else w) ∷ cs) c f) ≡ true
       go zero h rest = h
       go (suc c) h rest = rest c
 
-  all_is : (cs : List Clause) → ((c : ℕ) → (condition_in cs c f).holds ≡ true) → judged cs f ≡ Allowed
+  all_is : (cs : List Clause) → ((c : ℕ) → holds_in (condition_in cs c f) ≡ true) → judged cs f ≡ Ok tt
   all_is [] h = refl
   all_is ((t else w) ∷ cs) h = rw (h 0) (all_is cs (λ c. h (suc c)))
 
@@ -94,14 +111,45 @@ module _ (f : Bits) where
 abbrev asked : Instruction → List Clause
 asked i = cond (well_formed i) (clauses i) []
 
+-- a condition with its parts, as what is shown
+shown_of : (ps : Parts) (o : Option Condition) → holds_in o ≡ shown_holds (with_parts ps o)
+shown_of ps None = refl
+shown_of ps (Some x) = refl
+
+abbrev condition_shown : Option Explanation → Option Condition
+condition_shown None = None
+condition_shown (Some x) = Some x.condition
+
+condition_back : (ps : Parts) (o : Option Condition) → o ≡ condition_shown (with_parts ps o)
+condition_back ps None = refl
+condition_back ps (Some x) = refl
+
 module _ (i : Instruction) (f : Bits) where
+  -- the parts of condition c
+  read : ℕ → Parts
+  read c = parts_at (read_in (asked i) c)
+
   first_explained : (why : Reason) (c : ℕ) → First f (asked i) why c → FirstShownFails i f why c
-  unfolding explained condition_of
-  first_explained why c F = record { there = F.there; fails = F.fails; told = F.told; before = F.before }
+  unfolding explained condition_of read
+  first_explained why c F =
+      record {
+        shown = record { condition = F.shown; parts = read c };
+        there = ap (with_parts (read c)) F.there;
+        fails = F.fails;
+        told = F.told;
+        before = λ j l. sym (shown_of (read j) (condition_in (asked i) j f)) ∙ F.before j l;
+      }
 
   explained_first : (why : Reason) (c : ℕ) → FirstShownFails i f why c → First f (asked i) why c
-  unfolding explained condition_of
-  explained_first why c F = record { there = F.there; fails = F.fails; told = F.told; before = F.before }
+  unfolding explained condition_of read
+  explained_first why c F =
+      record {
+        shown = F.shown.condition;
+        there = condition_back (read c) (condition_in (asked i) c f) ∙ ap condition_shown F.there;
+        fails = F.fails;
+        told = F.told;
+        before = λ j l. shown_of (read j) (condition_in (asked i) j f) ∙ F.before j l;
+      }
 
 pub refusal_explained : RefusalExplained
 unfolding verdict_on
@@ -112,12 +160,16 @@ refusal_explained i f why = split (well_formed i)
     ))
     (λ w. (
       λ e. clash (ap refuses (rw w at e)) refl,
-      λ p. let F = explained_first i f why p.0 p.1 in clash (rw w at F).there refl,
+      λ p. let F = explained_first i f why p.0 p.1 in let e : None ≡ Some F.shown = (rw w at F).there in cc,
     ))
 
-all_explained : (i : Instruction) (f : Bits) → well_formed i ≡ true → (verdict_on i f ≡ Allowed) ↔ ((c : ℕ) → (explained i c f).holds ≡ true)
+all_explained : (i : Instruction) (f : Bits) → well_formed i ≡ true → (verdict_on i f ≡ Ok tt) ↔ ((c : ℕ) → shown_holds (explained i c f) ≡ true)
 unfolding verdict_on explained condition_of
-all_explained i f w = rw w (all_of f (clauses i), all_is f (clauses i))
+all_explained i f w =
+    rw w (
+      λ e c. sym (shown_of (parts_at (read_in (clauses i) c)) (condition_in (clauses i) c f)) ∙ all_of f (clauses i) e c,
+      λ h. all_is f (clauses i) (λ c. shown_of (parts_at (read_in (clauses i) c)) (condition_in (clauses i) c f) ∙ h c),
+    )
 
 pub allowed_explained : AllowedExplained
 allowed_explained i f w = all_explained i f w
@@ -138,7 +190,7 @@ module _ (f g : Bits) where
   same_test (either t u) e =
       ap₂ ◌||◌ (same_test t (λ k m. e k (in_left k (read_by t) (read_by u) m))) (same_test u (λ k m. e k (in_right k (read_by t) (read_by u) m)))
 
-  same_condition : (cs : List Clause) (c : ℕ) → ((k : ℕ) → T (elem k (read_in cs c)) → f k ≡ g k) → (condition_in cs c f).holds ≡ (condition_in cs c g).holds
+  same_condition : (cs : List Clause) (c : ℕ) → ((k : ℕ) → T (elem k (read_in cs c)) → f k ≡ g k) → holds_in (condition_in cs c f) ≡ holds_in (condition_in cs c g)
   same_condition [] c e = refl
   same_condition ((t else w) ∷ cs) zero e = same_test t e
   same_condition ((t else w) ∷ cs) (suc c) e = same_condition cs c e
@@ -175,6 +227,16 @@ read_among i c k m = split (well_formed i)
     (λ w. among_parts (read_in (asked i) c) k (low_read i w c k (rw w at m)) m)
     (λ w. absurd (rw w at m))
 
+-- the parts that are shown, also where there is no condition
+parts_shown : (cs : List Clause) (c : ℕ) (f : Bits) → parts_at (read_in cs c) ≡ shown_parts (with_parts (parts_at (read_in cs c)) (condition_in cs c f))
+parts_shown [] c f = refl
+parts_shown ((t else w) ∷ cs) zero f = refl
+parts_shown ((t else w) ∷ cs) (suc c) f = parts_shown cs c f
+
 pub parts_decide : PartsDecide
 unfolding explained condition_of
-parts_decide i c f g e = same_condition f g (asked i) c (λ k m. e k (read_among i c k m))
+parts_decide i c f g e =
+    let ps = parts_at (read_in (asked i) c) in
+    sym (shown_of ps (condition_in (asked i) c f))
+    ∙ same_condition f g (asked i) c (λ k m. e k (ap (λ (q : Parts). among q k) (sym (parts_shown (asked i) c f)) ∙ read_among i c k m))
+    ∙ shown_of ps (condition_in (asked i) c g)

@@ -1,7 +1,6 @@
 // The parts that decide each condition of an instruction: what it looks at on the floor. Where that is what the instruction takes, it comes
 // from the instruction's area.
 ghost use Rattle.std.specs.Prelude.{◌≡◌, cond, [], ◌≤◌, ◌<◌};
-ghost use Rattle.rules.specs.Named.{step};
 ghost use Rattle.rules.specs.Rules.{well_formed, clauses};
 ghost use Rattle.plain_moves.specs.Moves.{parts_at};
 ghost use Rattle.panel.specs.Panel.{read_in};
@@ -19,8 +18,7 @@ pub fn cells_alone(cells: [bool; 40]) -> Parts
 {
     Parts {
         cells,
-        slots: [false; 12],
-        lift: false,
+        ..Parts::NONE
     }
 }
 
@@ -29,9 +27,8 @@ pub fn slots_alone(slots: [bool; 12]) -> Parts
     ensures { result ≡ slots_alone slots }
 {
     Parts {
-        cells: [false; 40],
         slots,
-        lift: false,
+        ..Parts::NONE
     }
 }
 
@@ -41,8 +38,8 @@ fn lift_with(cells: [bool; 40]) -> Parts
 {
     Parts {
         cells,
-        slots: [false; 12],
         lift: true,
+        ..Parts::NONE
     }
 }
 
@@ -50,7 +47,7 @@ fn lift_with(cells: [bool; 40]) -> Parts
 pub fn nothing() -> Parts
     ensures { result ≡ no_parts }
 {
-    cells_alone([false; 40])
+    Parts::NONE
 }
 
 // ---- belts
@@ -73,43 +70,30 @@ fn end(span: [bool; 40], toward: u8, n: u8) -> [bool; 40]
     let up = toward == 1;
     let mut marked = [false; 40];
     let mut left = n;
-    let mut j: u8 = 0;
-    while j < 40 {
+    for j in 0..40 {
         let cell = from_end(up, j);
         let here = (0 < left) & span[cell as usize];
         marked[cell as usize] = here;
         left -= here as u8;
-        j += 1;
     }
     marked
-}
-
-// By how many cells a move shifts, and so how many must be free at the end.
-fn step(row: u8, size: u8) -> u8
-    ensures { result ≡ step row size }
-{
-    if (row == 1) & (size == 1) { 2 } else { 1 }
 }
 
 // Whether rows 2 and 3 move full, whether a belt is named and whether there is a gap need no look at the floor.
 fn of_belts(area: Parts, row: u8, toward: u8, size: u8, c: u8) -> Parts
     ensures { result ≡ belts_read area row toward size c }
 {
-    let span = area.cells;
-    let slots = area.slots;
-    let lift = area.lift;
     match c {
         // Each belt is available: the slots of shuttle belts, and the lift if its belt is named.
         3 => Parts {
             cells: [false; 40],
-            slots,
-            lift,
+            ..area
         },
         // The end of the span toward d is free.
-        4 => cells_alone(end(span, toward, step(row, size))),
+        4 => cells_alone(end(area.cells, toward, plain::step(row, size))),
         // In row 1 the number of occupied cells in the span is even.
         5 => if row == 1 {
-            cells_alone(span)
+            cells_alone(area.cells)
         } else {
             nothing()
         },
@@ -124,13 +108,12 @@ fn of_tilt(area: Parts, side: u8, row: u8, orientation: u8, c: u8) -> Parts
     requires { side ≤ 1 }
     ensures { result ≡ tilt_read area side row orientation c }
 {
-    let cells = area.cells;
     if orientation == 0 {
         return match c {
             // All three of the side are lowered.
             0 => slots_alone(shuttles::slots_in(side, 0, [true; 3])),
             // The position's cells are free.
-            1 => cells_alone(cells),
+            1 => cells_alone(area.cells),
             _ => nothing(),
         };
     }
@@ -150,10 +133,8 @@ fn row_one() -> [bool; 40]
     ensures { result ≡ row_one }
 {
     let mut cells = [false; 40];
-    let mut cell: u8 = 0;
-    while cell < 40 {
-        cells[cell as usize] = cell < 20;
-        cell += 1;
+    for cell in 0..40 {
+        cells[cell] = cell < 20;
     }
     cells
 }
@@ -170,15 +151,14 @@ fn of_lift(c: u8) -> Parts
     }
 }
 
-fn of_rotate(area: Parts, c: u8) -> Parts
-    ensures { result ≡ rotate_read area c }
+fn of_rotate(beside: Parts, c: u8) -> Parts
+    ensures { result ≡ rotate_read beside c }
 {
-    let beside = area.cells;
     match c {
         // At rotation height.
         0 => lift_with([false; 40]),
         // With its six cells free.
-        1 => cells_alone(beside),
+        1 => cells_alone(beside.cells),
         _ => nothing(),
     }
 }

@@ -6,36 +6,25 @@ ghost use Rattle.std.specs.Prelude.{◌≡◌};
 ghost use Rattle.plain.specs.Plain.{plain_bits};
 ghost use Rattle.panel.specs.Panel.{explained};
 
-use answers::Reason;
-use plain::Floor;
+use plain::{Condition, Floor};
 use plain_moves::Parts;
 use rules::Instruction;
 
 mod deciding;
 mod shuttles;
 
-// A condition explained: whether there is one of this number, whether it holds, why not, and which cells, slots or whether the lift decide it.
+// A condition explained: whether it holds and why not, and which cells, slots or whether the lift decide it.
 #[derive(Clone, Copy)]
 pub struct Explanation {
-    pub there: bool,
-    pub holds: bool,
-    pub why: Reason,
+    pub condition: Condition,
     pub parts: Parts,
 }
 
-// Condition c of an instruction on a floor, in the paper's order from 0.
-pub fn explained(f: Floor, i: Instruction, c: u8) -> Explanation
+// Condition c of an instruction on a floor, in the paper's order from 0, if there is one.
+pub fn explained(f: Floor, i: Instruction, c: u8) -> Option<Explanation>
     ensures { result ≡ explained i c (plain_bits f) }
 {
+    let condition = f.condition(i, c)?;
     let parts = deciding::parts(i, c);
-    let x = f.condition(i, c);
-    let there = x.there;
-    let holds = x.holds;
-    let why = x.why;
-    Explanation {
-        there,
-        holds,
-        why,
-        parts,
-    }
+    Some(Explanation { condition, parts })
 }

@@ -14,14 +14,15 @@ use Rattle.floor.specs.Tests.{holds, under_way}
 use Rattle.floor.specs.Sound.{sound}
 use Rattle.codec.specs.Bytes.{little_endian}
 use Rattle.rules.specs.declared.Instruction.{Instruction}
-use Rattle.rules.specs.declared.Reading.{Reading}
-use Rattle.rules.specs.declared.Reading.TheVariants.{Good, Bad}
-use Rattle.rules.specs.declared.Verdict.{Verdict}
-use Rattle.rules.specs.declared.Verdict.TheVariants.{Allowed, NotAllowed, IllFormed}
-use Rattle.rules.specs.declared.Moved.{Moved}
+use Rattle.std.specs.declared.option.Option.{Option}
+use Rattle.std.specs.declared.option.Option.TheVariants.{Some, None}
+use Rattle.rules.specs.declared.Refusal.{Refusal}
+use Rattle.rules.specs.declared.Refusal.TheVariants.{NotAllowed, IllFormed}
+use Rattle.std.specs.declared.result.Result.{Result}
+use Rattle.std.specs.declared.result.Result.TheVariants.{Ok, Err}
 use Rattle.rules.specs.Rules.{area_of}
 use Rattle.rules.specs.Codes.{code_from, read_code, read_bytes}
-use Rattle.rules.specs.Verdicts.{on_code, answer_for, moved_by, moved_of}
+use Rattle.rules.specs.Verdicts.{Verdict, on_code, answer_for, moved_by, moved_of}
 use Rattle.rules.proofs.CodeLaws.{one_form_lem}
 use Rattle.answers.specs.declared.Reason.{Reason}
 use Rattle.answers.specs.declared.Answer.{Answer}
@@ -63,15 +64,15 @@ reason_there Reason.CellsNotFree e = absurd (omega arith)
 -- what is written of a verdict and a next record is written of the move
 of_move : (v : Verdict) (x : ℕ) (room : List ℕ)
     → writes (answer_for v nowhere) (little_endian 8 x) room ≡ writes (answer_to (moved_by v x)) (little_endian 8 (record_in (moved_by v x))) room
-of_move Allowed x room = refl
-of_move (NotAllowed why) x room = refused_writes _ _ room (reason_there why) ∙ sym (refused_writes _ _ room (reason_there why))
-of_move IllFormed x room = refused_writes _ _ room (λ e. omega arith) ∙ sym (refused_writes _ _ room (λ e. omega arith))
+of_move (Ok done) x room = refl
+of_move (Err (NotAllowed why)) x room = refused_writes _ _ room (reason_there why) ∙ sym (refused_writes _ _ room (reason_there why))
+of_move (Err IllFormed) x room = refused_writes _ _ room (λ e. omega arith) ∙ sym (refused_writes _ _ room (λ e. omega arith))
 
 -- ---- on a sound record
 
 module _ (r : ℕ) (k : r < 2 ^ 64) (s : sound r ≡ true) {f : Floor} (e : f ≡ floor_of (bit r)) where
   -- the instruction of some bytes crosses a drive
-  crossing : (five : List ℕ) (i : Instruction) → read_code (code_from five) ≡ Good i
+  crossing : (five : List ℕ) (i : Instruction) → read_code (code_from five) ≡ Some i
       → (f.coming || f.going) && (area_parts i).lift ≡ crosses (code_from five) r
   unfolding crosses area_parts parts_at held_area
   crossing five i g =
@@ -84,14 +85,14 @@ module _ (r : ℕ) (k : r < 2 ^ 64) (s : sound r ≡ true) {f : Floor} (e : f �
   plain_move i = ap (λ (g : Floor). moved_by (verdict_on i (plain_bits g)) (image (plain_bits (moved_floor i g)))) e ∙ same_as_packed.next i r (k, s)
 
   -- what is written of it
-  followed : (five room : List ℕ) (i : Instruction) → read_code (code_from five) ≡ Good i
+  followed : (five room : List ℕ) (i : Instruction) → read_code (code_from five) ≡ Some i
       → writes (floor_answer f i) (little_endian 8 (floor_next f i)) room
       ≡ writes (cond (crosses (code_from five) r) OutOfTurn (answer_to (moved_of i r))) (little_endian 8 (record_in (moved_of i r))) room
   unfolding floor_answer
   followed five room i g =
       ap (λ (b : Bool). writes (cond b OutOfTurn (answer_for (verdict_on i (plain_bits f)) nowhere)) (little_endian 8 (floor_next f i)) room) (crossing five i g)
       ∙ either (crosses (code_from five) r)
-      ∙ ap (λ (m : Moved). writes (cond (crosses (code_from five) r) OutOfTurn (answer_to m)) (little_endian 8 (record_in m)) room) (plain_move i)
+      ∙ ap (λ (m : Result ℕ Refusal). writes (cond (crosses (code_from five) r) OutOfTurn (answer_to m)) (little_endian 8 (record_in m)) room) (plain_move i)
     where
       v : Verdict
       v = verdict_on i (plain_bits f)
@@ -127,7 +128,7 @@ module _ (r : ℕ) (five room : List ℕ) where
       unfolding followed_by
       not_sound s e = lead (by_tests false false false (le-ltb (length room) 8 h) (le-ltb (length five) 5 l) s) (e, refl)
 
-      module _ (s : sound r ≡ true) {one : Reading} (d : one ≡ read_bytes five) where
+      module _ (s : sound r ≡ true) {one : (Option Instruction)} (d : one ≡ read_bytes five) where
         -- the five bytes are all that is read
         reading : read_code (code_from five) ≡ one
         unfolding read_bytes
@@ -135,30 +136,30 @@ module _ (r : ℕ) (five room : List ℕ) where
 
         -- the packed engine's entry, by what they say
         as_next : next_into r five room
-            ≡ writes (cond (crosses (code_from five) r) OutOfTurn (answer_to (on_code (λ i. moved_of i r) Moved.IllFormed one)))
-            (little_endian 8 (record_in (on_code (λ i. moved_of i r) Moved.IllFormed one))) room
+            ≡ writes (cond (crosses (code_from five) r) OutOfTurn (answer_to (on_code (λ i. moved_of i r) (Err Refusal.IllFormed) one)))
+            (little_endian 8 (record_in (on_code (λ i. moved_of i r) (Err Refusal.IllFormed) one))) room
         unfolding followed_by nexting request_answer moved
         as_next = by_tests false false true (le-ltb (length room) 8 h) (le-ltb (length five) 5 l) s ∙ rw (le-ltb (length room) 8 h, le-ltb (length five) 5 l, d)
 
         -- bytes that say no instruction have no area
-        no_area : one ≡ Bad → crosses (code_from five) r ≡ false
+        no_area : one ≡ None → crosses (code_from five) r ≡ false
         unfolding crosses held_area
-        no_area g = ap (λ (y : Reading). holds under_way (bit r) && share (on_code area_of [] y) lift) (reading ∙ g) ∙ and-false (holds under_way (bit r))
+        no_area g = ap (λ (y : (Option Instruction)). holds under_way (bit r) && share (on_code area_of [] y) lift) (reading ∙ g) ∙ and-false (holds under_way (bit r))
 
-        pub says_none : {x : ℕ} → one ≡ Bad → x ≡ returned (BadField nowhere) → LeavesRoom (next_into r five room) x room
+        pub says_none : {x : ℕ} → one ≡ None → x ≡ returned (BadField nowhere) → LeavesRoom (next_into r five room) x room
         says_none g e =
             lead (as_next
-            ∙ ap₂ (λ (b : Bool) (y : Reading). writes (cond b OutOfTurn (answer_to (on_code (λ i. moved_of i r) Moved.IllFormed y)))
-            (little_endian 8 (record_in (on_code (λ i. moved_of i r) Moved.IllFormed y))) room) (no_area g) g
+            ∙ ap₂ (λ (b : Bool) (y : (Option Instruction)). writes (cond b OutOfTurn (answer_to (on_code (λ i. moved_of i r) (Err Refusal.IllFormed) y)))
+            (little_endian 8 (record_in (on_code (λ i. moved_of i r) (Err Refusal.IllFormed) y))) room) (no_area g) g
             ∙ refused_writes (BadField nowhere) _ room (λ z. omega arith)) (e, refl)
 
-        pub next_so : (i : Instruction) {f : Floor} {x : ℕ} {last : List ℕ} → one ≡ Good i → r < 2 ^ 64 → f ≡ floor_of (bit r)
+        pub next_so : (i : Instruction) {f : Floor} {x : ℕ} {last : List ℕ} → one ≡ Some i → r < 2 ^ 64 → f ≡ floor_of (bit r)
             → LeavesRoom (writes (floor_answer f i) (little_endian 8 (floor_next f i)) room) x last → LeavesRoom (next_into r five room) x last
         next_so i g k e w =
             lead (as_next
-            ∙ ap (λ (y : Reading). writes (cond (crosses (code_from five) r) OutOfTurn
-            (answer_to (on_code (λ i. moved_of i r) Moved.IllFormed y)))
-            (little_endian 8 (record_in (on_code (λ i. moved_of i r) Moved.IllFormed y))) room) g
+            ∙ ap (λ (y : (Option Instruction)). writes (cond (crosses (code_from five) r) OutOfTurn
+            (answer_to (on_code (λ i. moved_of i r) (Err Refusal.IllFormed) y)))
+            (little_endian 8 (record_in (on_code (λ i. moved_of i r) (Err Refusal.IllFormed) y))) room) g
             ∙ sym (followed r k s e five room i (reading ∙ g))) w
 
 -- ---- an instruction on a floor

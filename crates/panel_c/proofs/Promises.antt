@@ -9,8 +9,9 @@ use lib.Dec.{ltb}
 use lib.ListN.{length}
 use Rattle.bits.specs.Bits.{bit}
 use Rattle.floor.specs.Sound.{sound}
-use Rattle.rules.specs.declared.Reading.{Reading}
-use Rattle.rules.specs.declared.Reading.TheVariants.{Good, Bad}
+use Rattle.rules.specs.declared.Instruction.{Instruction}
+use Rattle.std.specs.declared.option.Option.{Option}
+use Rattle.std.specs.declared.option.Option.TheVariants.{Some, None}
 use Rattle.rules.specs.Codes.{read_bytes}
 use Rattle.rules.specs.Verdicts.{on_code}
 use Rattle.answers.specs.declared.Answer.{Answer}
@@ -51,9 +52,9 @@ module _ (room : List ℕ) where
   fair_explaining r five c = either (ltb (length room) 11) (fair_refuses NoRoom)
       (either (ltb (length five) 5) (fair_refuses TooFewBytes) (read (read_bytes five)))
     where
-      read : (y : Reading) → Fair room (on_code (λ i. cond (sound r) (writes Taken (condition_bytes (explained i c (bit r))) room) (refuses Unsound room)) (refuses (BadField nowhere) room) y)
-      read (Good i) = either (sound r) (fair_writes (condition_bytes (explained i c (bit r)))) (fair_refuses Unsound)
-      read Bad = fair_refuses (BadField nowhere)
+      read : (y : (Option Instruction)) → Fair room (on_code (λ i. cond (sound r) (writes Taken (condition_bytes (explained i c (bit r))) room) (refuses Unsound room)) (refuses (BadField nowhere) room) y)
+      read (Some i) = either (sound r) (fair_writes (condition_bytes (explained i c (bit r)))) (fair_refuses Unsound)
+      read None = fair_refuses (BadField nowhere)
 
   fair_following : (r : ℕ) (five : List ℕ) → Fair room (next_into r five room)
   unfolding next_into

@@ -1,11 +1,14 @@
 -- What the entries of the service panel answer, and what they leave in the room that is lent to them. The plain station's entries have no
 -- definitions of their own: they answer what station_c's answer, in the words of rooms' specs/Rooms.antt. Assumes nothing.
-use Rattle.std.specs.Prelude.{cond, List, ◌∷◌, ◌++◌, ℕ, ◌+◌, ◌*◌, ltb, length, drop}
+use Rattle.std.specs.Prelude.{cond, List, ◌∷◌, ◌++◌, ℕ, ◌+◌, ◌*◌, ltb, length, drop, replicate}
+use Rattle.std.specs.declared.option.Option.{Option}
+use Rattle.std.specs.declared.option.Option.TheVariants.{Some, None}
 use Rattle.bits.specs.Bits.{bit, digit, image}
 use Rattle.floor.specs.Sound.{sound}
 use Rattle.codec.specs.Bytes.{little_endian}
 use Rattle.rules.specs.Codes.{read_bytes}
 use Rattle.rules.specs.Verdicts.{on_code}
+use Rattle.answers.specs.declared.Reason.TheVariants.{NothingNamed}
 use Rattle.answers.specs.declared.Answer.{Answer}
 use Rattle.answers.specs.declared.Answer.TheVariants.{Taken, TooFewBytes, BadField, Unsound}
 use Rattle.answers.specs.Answers.{reason_number, nowhere}
@@ -21,9 +24,10 @@ abbrev pub refuses : Answer → List ℕ → Entry
 refuses a room = record { says = returned a; leaves = room }
 
 -- a condition explained, in eleven bytes: whether there is one of this number, whether it holds, the number that is told where it is the
--- first to fail, and the parts that decide it, as the number that shows what is set apart has them
-unfoldable pub condition_bytes : Explanation → List ℕ
-condition_bytes x = digit x.there ∷ digit x.holds ∷ reason_number x.why ∷ little_endian 8 (image (parts_bits x.parts))
+-- first to fail, and the parts that decide it, as the number that shows what is set apart has them. Where there is none nothing fails
+unfoldable pub condition_bytes : Option Explanation → List ℕ
+condition_bytes None = 0 ∷ 1 ∷ reason_number NothingNamed ∷ replicate 8 0
+condition_bytes (Some x) = 1 ∷ digit x.condition.holds ∷ reason_number x.condition.why ∷ little_endian 8 (image (parts_bits x.parts))
 
 -- condition c of the instruction that five bytes say, on the record r: 17, 1, 4, 15, or its eleven bytes
 unfoldable pub explaining : ℕ → List ℕ → ℕ → List ℕ → Entry

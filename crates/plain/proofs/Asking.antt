@@ -5,7 +5,8 @@ use mathlib.Core.List.{List, [], ◌∷◌, ◌++◌, map}
 use Prim.Native.Nat.{ℕ, ◌+◌, ◌/◌, ◌≤◌}
 use native.Mathlib.Omega.{arith}
 use lib.Dec.{T, eqb}
-use borrow.Author.Tests.{ne_eqb}
+use Rattle.std.specs.declared.option.Option.{Option}
+use Rattle.std.specs.declared.option.Option.TheVariants.{Some, None}
 use Rattle.bits.specs.Bits.{Bits, bit, digit, all_set}
 use Rattle.bits.specs.Places.{is_empty, named}
 use Rattle.bits.proofs.Digits.{bit_suc}
@@ -74,20 +75,20 @@ one_free true = refl
 one_free false = refl
 
 -- a row that the shuttles move into exists, and its slot is free
-module _ (side mask orientation toward : ℕ) (f : Bits) (h : mask ≤ 7) (l : toward ≤ 1) {row : ℕ} (e : row ≡ row_ahead toward mask) where
-  rows : row_in row ≡ ahead toward mask
+module _ (side mask orientation toward : ℕ) (f : Bits) (h : mask ≤ 7) (l : toward ≤ 1) {next : Option ℕ} (e : next ≡ row_ahead toward mask) where
+  rows : row_in next ≡ ahead toward mask
   rows = ap row_in e ∙ ahead_is mask (omega arith) toward (omega arith)
 
   abbrev room : List ℕ → Bool
   room rs = holds (both (fact (not (is_empty rs))) (free (map (slot side orientation) rs))) f
 
-  pub no_row : row ≡ 0 → false ≡ room (ahead toward mask)
-  no_row z = ap (λ (x : ℕ). room (row_in x)) (sym z) ∙ ap room rows
+  pub no_row : next ≡ None → false ≡ room (ahead toward mask)
+  no_row z = ap (λ (x : Option ℕ). room (row_in x)) (sym z) ∙ ap room rows
 
-  pub next_row : (row ≡ 0 → ⊥) → {s : Bool} → s ≡ f (slot side orientation row) → not s ≡ room (ahead toward mask)
-  next_row z {s} d =
+  pub next_row : {row : ℕ} → next ≡ Some row → {s : Bool} → s ≡ f (slot side orientation row) → not s ≡ room (ahead toward mask)
+  next_row {row} z {s} d =
       ap not d ∙ one_free (f (slot side orientation row))
-      ∙ ap (λ (b : Bool). room (cond b [] (row ∷ []))) (sym (ne_eqb row 0 z)) ∙ ap room rows
+      ∙ ap (λ (x : Option ℕ). room (row_in x)) (sym z) ∙ ap room rows
 
 -- ---- tilts
 

@@ -1,6 +1,6 @@
 -- What masks name, by tests that antt computes at every row, mask and direction: that there is no gap, the slots that belts need, the row
 -- ahead, and the last cells of a span, which a loop meets as it goes over a row from its end. Assumes nothing.
-use mathlib.Core.Path.{◌≡◌, refl, sym, ap, ap₂, ◌∙◌}
+use mathlib.Core.Path.{◌≡◌, refl, sym, ap, ap₂, subst, ◌∙◌}
 use mathlib.Core.Bool.{Bool, true, false, cond, not, ◌&&◌, beq}
 use mathlib.Core.List.{List, [], ◌∷◌, ◌++◌, reverse, reverse_aux}
 use Prim.Native.Nat.{ℕ, zero, suc, ◌+◌, ◌-◌, ◌≤◌, ◌<◌}
@@ -9,6 +9,8 @@ use native.Mathlib.Numerals.{add-one}
 use lib.Dec.{T, eqb, ltb, leb, leb→le}
 use mir.Val.{bool_byte}
 use borrow.Author.Tests.{ltb-true}
+use Rattle.std.specs.declared.option.Option.{Option}
+use Rattle.std.specs.declared.option.Option.TheVariants.{Some, None}
 use Rattle.bits.specs.Bits.{Bits, bit, digit, count}
 use Rattle.bits.specs.Places.{is_empty, adjacent}
 use Rattle.bits.specs.Search.{every}
@@ -64,11 +66,16 @@ rows_border_test : T (every 8 λ mask. beq (gapless mask) (adjacent (rows_of mas
 unfolding every gapless_from
 rows_border_test = tt
 
--- a row as a list, where 0 is none
-abbrev pub row_in : ℕ → List ℕ
-row_in row = cond (eqb row 0) [] (row ∷ [])
+-- a row, or none, as a list; and whether it is one of the three
+abbrev pub row_in : Option ℕ → List ℕ
+row_in None = []
+row_in (Some row) = row ∷ []
 
-ahead_test : T (every 8 λ mask. every 2 λ toward. same (row_in (row_ahead toward mask)) (ahead toward mask) && leb (row_ahead toward mask) 3)
+abbrev pub of_three : Option ℕ → Bool
+of_three None = true
+of_three (Some row) = leb 1 row && leb row 3
+
+ahead_test : T (every 8 λ mask. every 2 λ toward. same (row_in (row_ahead toward mask)) (ahead toward mask) && of_three (row_ahead toward mask))
 unfolding every row_ahead
 ahead_test = tt
 
@@ -80,14 +87,16 @@ module _ (mask : ℕ) (h : mask < 8) where
   rows_border = beq→eq (gapless mask) _ (each 8 _ rows_border_test mask h)
 
   module _ (toward : ℕ) (l : toward < 2) where
-    ahead_at : T (same (row_in (row_ahead toward mask)) (ahead toward mask) && leb (row_ahead toward mask) 3)
-    ahead_at = each 2 (λ toward. same (row_in (row_ahead toward mask)) (ahead toward mask) && leb (row_ahead toward mask) 3) (each 8 _ ahead_test mask h) toward l
+    ahead_at : T (same (row_in (row_ahead toward mask)) (ahead toward mask) && of_three (row_ahead toward mask))
+    ahead_at = each 2 (λ toward. same (row_in (row_ahead toward mask)) (ahead toward mask) && of_three (row_ahead toward mask)) (each 8 _ ahead_test mask h) toward l
 
     pub ahead_is : row_in (row_ahead toward mask) ≡ ahead toward mask
-    ahead_is = same_eq _ _ (and_l (same (row_in (row_ahead toward mask)) (ahead toward mask)) (leb (row_ahead toward mask) 3) ahead_at)
+    ahead_is = same_eq _ _ (and_l (same (row_in (row_ahead toward mask)) (ahead toward mask)) (of_three (row_ahead toward mask)) ahead_at)
 
-    pub ahead_row : row_ahead toward mask ≤ 3
-    ahead_row = leb→le _ _ (and_r (same (row_in (row_ahead toward mask)) (ahead toward mask)) (leb (row_ahead toward mask) 3) ahead_at)
+    pub ahead_row : {row : ℕ} → row_ahead toward mask ≡ Some row → (1 ≤ row) × (row ≤ 3)
+    ahead_row {row} e =
+        let t = subst (λ (r : Option ℕ). T (of_three r)) e (and_r (same (row_in (row_ahead toward mask)) (ahead toward mask)) (of_three (row_ahead toward mask)) ahead_at) in
+        (leb→le 1 row (and_l (leb 1 row) (leb row 3) t), leb→le row 3 (and_r (leb 1 row) (leb row 3) t))
 
 -- ---- the last cells of a span
 

@@ -1,9 +1,10 @@
 -- What the contracts of private functions cite; no public one rests on it. A condition as it is told, masks without a gap, a row from its
 -- end, the row ahead, a digit of a height, and a walk with one car more. Assumes nothing.
 use Rattle.std.specs.Prelude.{Bool, true, false, cond, not, ◌&&◌, ◌||◌, ℕ, zero, suc, ◌+◌, ◌-◌, eqb, set}
+use Rattle.std.specs.declared.option.Option.{Option}
+use Rattle.std.specs.declared.option.Option.TheVariants.{Some, None}
 use Rattle.bits.specs.Bits.{bit, digit}
 use Rattle.answers.specs.declared.Reason.{Reason}
-use Rattle.answers.specs.declared.Reason.TheVariants.{NothingNamed}
 use Rattle.rules.specs.Named.{higher}
 use Rattle.plain.specs.declared.Condition.{Condition}
 use Rattle.plain.specs.declared.Height.{Height}
@@ -11,12 +12,13 @@ use Rattle.plain.specs.declared.Walk.{Walk}
 use Rattle.plain.specs.Plain.{height_number}
 
 -- a condition that is there
-abbrev pub condition : Bool → Reason → Condition
-condition holds why = record { there = true; holds = holds; why = why }
+abbrev pub condition : Bool → Reason → Option Condition
+condition holds why = Some (record { holds = holds; why = why })
 
--- past the last there is none
-abbrev pub no_condition : Condition
-no_condition = record { there = false; holds = true; why = NothingNamed }
+-- why a condition fails, where there is one and it does
+abbrev pub failing : Option Condition → Option Reason
+failing None = None
+failing (Some x) = cond x.holds None (Some x.why)
 
 -- n bits of a mask from k on, where begun says that a bit before is 1 and before that the last of them is: after a gap none is 1
 unfoldable pub gapless_from : ℕ → ℕ → Bool → Bool → ℕ → Bool
@@ -51,14 +53,14 @@ last_belt row = cond (eqb row 1) 4 2
 abbrev pub pick : Bool → ℕ → ℕ → ℕ
 pick up a b = cond up a b
 
--- the row next to those named, toward d; 0 if there is none
-unfoldable pub row_ahead : ℕ → ℕ → ℕ
+-- the row next to those named, toward d, if there is one
+unfoldable pub row_ahead : ℕ → ℕ → Option ℕ
 row_ahead toward mask =
     let up = higher toward in
-    cond (bit mask (pick up 2 0)) 0
-    (cond (bit mask 1) (pick up 3 1)
-    (cond (bit mask (pick up 0 2)) 2
-    0))
+    cond (bit mask (pick up 2 0)) None
+    (cond (bit mask 1) (Some (pick up 3 1))
+    (cond (bit mask (pick up 0 2)) (Some 2)
+    None))
 
 -- ---- heights
 

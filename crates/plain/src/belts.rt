@@ -3,15 +3,15 @@ ghost use Rattle.std.specs.Prelude.{◌≡◌, ◌≤◌, ◌<◌, T};
 ghost use Rattle.bits.specs.Bits.{count};
 ghost use Rattle.floor.specs.Tests.{holds, both, set, when, at_basement};
 ghost use Rattle.rules.specs.declared.Instruction.{Instruction};
-ghost use Rattle.rules.specs.Named.{cells, needed_slots, lift_named, step, end};
+ghost use Rattle.rules.specs.Named.{cells, needed_slots, lift_named, end};
 ghost use Rattle.rules.specs.Rules.{belts_named, well_formed, clauses};
 ghost use Rattle.plain.specs.Plain.{plain_bits};
 ghost use Rattle.plain.specs.Conditions.{condition_in};
 ghost use Rattle.plain.specs.Private.{row_first_cell, width, row_from_end, last_belt};
 
-use super::conditions::{none, told};
+use super::conditions::told;
 use super::places::{gapless, lift_at, names, occupied, shuttle};
-use super::{Condition, Floor, named};
+use super::{Condition, Floor, named, step};
 use answers::Reason;
 
 // ---- rows
@@ -55,13 +55,6 @@ fn last_belt(row: u8) -> u8
 
 // ---- spans
 
-// By how many cells a move shifts.
-fn step(row: u8, size: u8) -> u8
-    ensures { result ≡ step row size }
-{
-    if (row == 1) & (size == 1) { 2 } else { 1 }
-}
-
 // Of the last n cells of the span toward d, how many are occupied: the row's cells from its end back, until n are on named belts.
 fn at_end(f: Floor, row: u8, mask: u8, toward: u8, n: u8) -> u8
     requires { T (belts_named row mask) × (toward ≤ 1) × (n ≤ 20) }
@@ -70,13 +63,11 @@ fn at_end(f: Floor, row: u8, mask: u8, toward: u8, n: u8) -> u8
     let width = width(row);
     let mut left = n;
     let mut m: u8 = 0;
-    let mut j: u8 = 0;
-    while j < width {
+    for j in 0..width {
         let cell = from_end(row, toward, j);
         let here = (0 < left) & named(row, mask, cell);
         m += (here & occupied(f, cell)) as u8;
         left -= here as u8;
-        j += 1;
     }
     m
 }
@@ -96,7 +87,14 @@ fn available(f: Floor, row: u8, mask: u8) -> bool
 const ALL: u8 = 20;
 
 // Condition c of a belt move.
-pub fn belts_condition(f: Floor, row: u8, mask: u8, toward: u8, size: u8, c: u8) -> Condition
+pub fn belts_condition(
+    f: Floor,
+    row: u8,
+    mask: u8,
+    toward: u8,
+    size: u8,
+    c: u8,
+) -> Option<Condition>
     requires { T (well_formed (Instruction.Belts row mask toward size)) }
     ensures { result ≡ condition_in (clauses (Instruction.Belts row mask toward size)) c (plain_bits f) }
 {
@@ -119,6 +117,6 @@ pub fn belts_condition(f: Floor, row: u8, mask: u8, toward: u8, size: u8, c: u8)
             !(row == 1) | (at_end(f, row, mask, toward, ALL) % 2 == 0),
             Reason::OddCount,
         ),
-        _ => none(),
+        _ => None,
     }
 }

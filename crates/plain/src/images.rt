@@ -11,10 +11,8 @@ pub fn cells_of(r: u64) -> [bool; 40]
     ensures { result ≡ listed 40 (bit r) }
 {
     let mut cells = [false; 40];
-    let mut k: u8 = 0;
-    while k < 40 {
-        cells[k as usize] = bits::bit(r, k as u64);
-        k += 1;
+    for k in 0..40 {
+        cells[k] = bits::bit(r, k as u64);
     }
     cells
 }
@@ -24,10 +22,8 @@ pub fn slots_of(r: u64) -> [bool; 12]
     ensures { result ≡ listed 12 (λ j. bit r (40 + j)) }
 {
     let mut slots = [false; 12];
-    let mut j: u8 = 0;
-    while j < 12 {
-        slots[j as usize] = bits::bit(r, 40 + j as u64);
-        j += 1;
+    for j in 0..12 {
+        slots[j] = bits::bit(r, 40 + j as u64);
     }
     slots
 }
@@ -45,6 +41,7 @@ pub fn height_of(low: bool, high: bool) -> Height
     Height::Street
 }
 
+// Kept: a bool that picks the digit: height_digit is named by a wrong version (must-fail/wrong_programs.edit).
 // A digit of the height: of street 0 and 0, of rotation 1 and 0, of the basement 0 and 1.
 fn height_digit(h: Height, high: bool) -> bool
     ensures { result ≡ height_digit h high }
@@ -61,18 +58,15 @@ pub fn bit(f: Floor, k: u8) -> bool
     ensures { result ≡ plain_bits f k }
 {
     if k < 40 {
-        let cells = f.cells;
-        return cells[k as usize];
+        return f.cells[k as usize];
     }
     if k < 52 {
-        let slots = f.slots;
-        return slots[(k - 40) as usize];
+        return f.slots[(k - 40) as usize];
     }
-    let height = f.height;
     match k {
         52 => f.car,
-        53 => height_digit(height, false),
-        54 => height_digit(height, true),
+        53 => height_digit(f.height, false),
+        54 => height_digit(f.height, true),
         55 => f.coming,
         56 => f.going,
         _ => false,

@@ -5,12 +5,13 @@
 ghost use Rattle.std.specs.Prelude.{◌≡◌};
 ghost use Rattle.bits.specs.Bits.{bit, image};
 ghost use Rattle.plain.specs.Plain.{plain_bits, floor_of};
+ghost use Rattle.rules.specs.Named.{step};
 ghost use Rattle.rules.specs.Cells.{cell_named};
 ghost use Rattle.plain.specs.Conditions.{condition_of, verdict_on};
+ghost use Rattle.plain.specs.Private.{failing};
 
 use answers::Reason;
-use floor::Belt;
-use rules::{Instruction, Verdict};
+use rules::{Instruction, Refusal};
 
 mod belts;
 mod conditions;
@@ -34,6 +35,8 @@ pub enum Height {
     Basement,
 }
 
+// Kept: a side, a row, an orientation and a direction are numbers, in all functions of this crate and of those above it, since the arguments
+// of public functions are numbers of any value (docs/CONTRACTS.md) and the definitions of rules count with them.
 // The floor: which cells are occupied, which slots have a shuttle (lowered in left rows 1 to 3, right rows 1 to 3, then tilted in the same
 // order), whether a car is on the raised lift, where the lift is, and whether a driver is coming or going.
 #[derive(Clone, Copy)]
@@ -46,10 +49,10 @@ pub struct Floor {
     pub going: bool,
 }
 
-// A condition of an instruction: whether it has one of this number, whether that holds, and what is told where it is the first to fail.
+// A condition of an instruction: whether it holds, and what is told where it is the first to fail.
+// Kept: `why` beside `holds`, not a Result, since panel_c's panel_condition writes it of a condition that holds too.
 #[derive(Clone, Copy)]
 pub struct Condition {
-    pub there: bool,
     pub holds: bool,
     pub why: Reason,
 }
@@ -84,9 +87,16 @@ pub fn named(row: u8, mask: u8, cell: u8) -> bool
 {
     let belt = floor::belt_of(cell as u64);
     match belt {
-        Belt::On(on, number) => (on == row) & places::names(mask, number),
-        Belt::NoCell => false,
+        Some(belt) => (belt.row == row) & places::names(mask, belt.number),
+        None => false,
     }
+}
+
+// By how many cells a belt move shifts.
+pub fn step(row: u8, size: u8) -> u8
+    ensures { result ≡ step row size }
+{
+    if (row == 1) & (size == 1) { 2 } else { 1 }
 }
 
 // No instruction has more conditions than a belt move.
@@ -98,21 +108,19 @@ impl Floor {
         ensures { result ≡ image (plain_bits self) }
     {
         let mut r: u64 = 0;
-        let mut k: u8 = 64;
-        while 0 < k {
-            let one = images::bit(self, k - 1);
+        for k in (0..64).rev() {
+            let one = images::bit(self, k);
             r = r * 2 + one as u64;
-            k -= 1;
         }
         r
     }
 
     // Condition c of an instruction, from 0, in the paper's order; an ill-formed one has none.
-    pub fn condition(self, i: Instruction, c: u8) -> Condition
+    pub fn condition(self, i: Instruction, c: u8) -> Option<Condition>
         ensures { result ≡ condition_of i c (plain_bits self) }
     {
         if !rules::well_formed(i) {
-            return conditions::none();
+            return None;
         }
         match i {
             Instruction::Belts {
@@ -137,22 +145,28 @@ impl Floor {
         }
     }
 
+    // Why condition c fails, where there is one and it does.
+    fn failing(self, i: Instruction, c: u8) -> Option<Reason>
+        ensures { result ≡ failing (condition_of i c (plain_bits self)) }
+    {
+        match self.condition(i, c) {
+            Some(x) if !x.holds => Some(x.why),
+            _ => None,
+        }
+    }
+
     // Whether an instruction is allowed, and why not: the reason of the first condition that fails.
-    pub fn verdict(self, i: Instruction) -> Verdict
+    pub fn verdict(self, i: Instruction) -> Result<(), Refusal>
         ensures { result ≡ verdict_on i (plain_bits self) }
     {
         if !rules::well_formed(i) {
-            return Verdict::IllFormed;
+            return Err(Refusal::IllFormed);
         }
-        let mut c: u8 = 0;
-        while c < MOST {
-            let x = self.condition(i, c);
-            if !x.holds {
-                let why = x.why;
-                return Verdict::NotAllowed(why);
+        for c in 0..MOST {
+            if let Some(why) = self.failing(i, c) {
+                return Err(Refusal::NotAllowed(why));
             }
-            c += 1;
         }
-        Verdict::Allowed
+        Ok(())
     }
 }

@@ -7,7 +7,7 @@ ghost use Rattle.rules.specs.Rules.{well_formed, clauses};
 ghost use Rattle.plain.specs.Plain.{plain_bits};
 ghost use Rattle.plain.specs.Conditions.{condition_in};
 
-use super::conditions::{none, told};
+use super::conditions::told;
 use super::places::{among, lift_at};
 use super::{Condition, Floor};
 use answers::Reason;
@@ -22,7 +22,7 @@ fn may_leave(f: Floor) -> bool
 }
 
 // Condition c of a lift move.
-pub fn lift_condition(f: Floor, height: u8, c: u8) -> Condition
+pub fn lift_condition(f: Floor, height: u8, c: u8) -> Option<Condition>
     requires { T (well_formed (Instruction.Lift height)) }
     ensures { result ≡ condition_in (clauses (Instruction.Lift height)) c (plain_bits f) }
 {
@@ -31,12 +31,12 @@ pub fn lift_condition(f: Floor, height: u8, c: u8) -> Condition
         0 => told(!lift_at(f, height), Reason::SameHeight),
         // No car stands half on the lift when it leaves the basement.
         1 => told(may_leave(f), Reason::OddCount),
-        _ => none(),
+        _ => None,
     }
 }
 
 // Condition c of rotating.
-pub fn rotate_condition(f: Floor, c: u8) -> Condition
+pub fn rotate_condition(f: Floor, c: u8) -> Option<Condition>
     ensures { result ≡ condition_in (clauses Instruction.Rotate) c (plain_bits f) }
 {
     match c {
@@ -44,6 +44,6 @@ pub fn rotate_condition(f: Floor, c: u8) -> Condition
         0 => told(lift_at(f, 1), Reason::NotAtRotation),
         // Cells 8, 9, 10, 13, 14, 15 are free.
         1 => told(among(f, 8, 3) + among(f, 13, 3) == 0, Reason::CellsNotFree),
-        _ => none(),
+        _ => None,
     }
 }

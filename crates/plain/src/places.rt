@@ -16,8 +16,7 @@ pub fn occupied(f: Floor, cell: u8) -> bool
     requires { cell < 40 }
     ensures { result ≡ plain_bits f cell }
 {
-    let cells = f.cells;
-    cells[cell as usize]
+    f.cells[cell as usize]
 }
 
 // How many of n neighbouring cells are.
@@ -26,14 +25,14 @@ pub fn among(f: Floor, first: u8, n: u8) -> u8
     ensures { result ≡ count (from first n) (plain_bits f) }
 {
     let mut m: u8 = 0;
-    let mut j: u8 = 0;
-    while j < n {
+    for j in 0..n {
         m += occupied(f, first + j) as u8;
-        j += 1;
     }
     m
 }
 
+// Kept: where positions and slots are is said in plain_moves and panel too, each for its own arrays: a public function here would need a
+// `requires` on the side and the row, and none may have one.
 // How many of the cells at a shuttle's position are: two in row 1, one in rows 2 and 3.
 pub fn at_position(f: Floor, side: u8, row: u8) -> u8
     requires { (side ≤ 1) × (row ≤ 3) }
@@ -51,8 +50,7 @@ pub fn shuttle(f: Floor, side: u8, orientation: u8, row: u8) -> bool
     requires { (side ≤ 1) × (orientation ≤ 1) × (1 ≤ row) × (row ≤ 3) }
     ensures { result ≡ plain_bits f (slot side orientation row) }
 {
-    let slots = f.slots;
-    slots[(orientation * 6 + side * 3 + row - 1) as usize]
+    f.slots[(orientation * 6 + side * 3 + row - 1) as usize]
 }
 
 // Whether the lift is at a height.
@@ -60,8 +58,7 @@ pub fn lift_at(f: Floor, height: u8) -> bool
     requires { height ≤ 2 }
     ensures { result ≡ holds (height_is height) (plain_bits f) }
 {
-    let here = f.height;
-    match here {
+    match f.height {
         Height::Street => height == 0,
         Height::Rotation => height == 1,
         Height::Basement => height == 2,
@@ -84,13 +81,11 @@ pub fn gapless(mask: u8) -> bool
     let mut fine = true;
     let mut begun = false;
     let mut before = false;
-    let mut n: u8 = 0;
-    while n < 5 {
+    for n in 0..5 {
         let here = names(mask, n);
         fine = fine & !(here & begun & !before);
         begun = begun | here;
         before = here;
-        n += 1;
     }
     fine
 }

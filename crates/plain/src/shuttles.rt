@@ -11,7 +11,7 @@ ghost use Rattle.plain.specs.Plain.{plain_bits};
 ghost use Rattle.plain.specs.Conditions.{condition_in};
 ghost use Rattle.plain.specs.Private.{pick, row_ahead};
 
-use super::conditions::{none, told};
+use super::conditions::told;
 use super::places::{at_position, gapless, names, shuttle};
 use super::{Condition, Floor};
 use answers::Reason;
@@ -34,6 +34,7 @@ fn whole(f: Floor, side: u8, mask: u8, orientation: u8) -> bool
     !((orientation == 0) & names(mask, 0)) | (at_position(f, side, 1) % 2 == 0)
 }
 
+// Kept: a bool that picks, since a wrong version that doesn't look at it is named (must-fail/wrong_programs.edit).
 // One of two numbers, by the direction.
 fn pick(up: bool, a: u8, b: u8) -> u8
     ensures { result ≡ pick up a b }
@@ -41,21 +42,21 @@ fn pick(up: bool, a: u8, b: u8) -> u8
     if up { a } else { b }
 }
 
-// The row next to those named, toward d; 0 if there is none.
-fn ahead(mask: u8, toward: u8) -> u8
+// The row next to those named, toward d, if there is one.
+fn ahead(mask: u8, toward: u8) -> Option<u8>
     ensures { result ≡ row_ahead toward mask }
 {
     let up = toward == 1;
     if names(mask, pick(up, 2, 0)) {
-        return 0;
+        return None;
     }
     if names(mask, 1) {
-        return pick(up, 3, 1);
+        return Some(pick(up, 3, 1));
     }
     if names(mask, pick(up, 0, 2)) {
-        return 2;
+        return Some(2);
     }
-    0
+    None
 }
 
 // It exists, and has no shuttle in that orientation.
@@ -63,11 +64,10 @@ fn room_ahead(f: Floor, side: u8, mask: u8, orientation: u8, toward: u8) -> bool
     requires { T (well_formed (Instruction.Shuttles side mask orientation toward)) }
     ensures { result ≡ holds (both (fact (not (is_empty (ahead toward mask)))) (free (map (slot side orientation) (ahead toward mask)))) (plain_bits f) }
 {
-    let row = ahead(mask, toward);
-    if row == 0 {
-        return false;
+    match ahead(mask, toward) {
+        Some(row) => !shuttle(f, side, orientation, row),
+        None => false,
     }
-    !shuttle(f, side, orientation, row)
 }
 
 // Condition c of a shuttle move.
@@ -78,7 +78,7 @@ pub fn shuttles_condition(
     orientation: u8,
     toward: u8,
     c: u8,
-) -> Condition
+) -> Option<Condition>
     requires { T (well_formed (Instruction.Shuttles side mask orientation toward)) }
     ensures { result ≡ condition_in (clauses (Instruction.Shuttles side mask orientation toward)) c (plain_bits f) }
 {
@@ -96,6 +96,6 @@ pub fn shuttles_condition(
             room_ahead(f, side, mask, orientation, toward),
             Reason::NotFree,
         ),
-        _ => none(),
+        _ => None,
     }
 }

@@ -8,7 +8,7 @@ ghost use Rattle.floor.specs.Tests.{holds, set};
 ghost use Rattle.plain.specs.Plain.{plain_bits};
 ghost use Rattle.plain.specs.Conditions.{condition_in};
 
-use super::conditions::{none, told};
+use super::conditions::told;
 use super::places::{at_position, shuttle};
 use super::{Condition, Floor};
 use answers::Reason;
@@ -22,7 +22,7 @@ fn all_lowered(f: Floor, side: u8) -> bool
 }
 
 // Condition c of a tilt from lowered.
-fn from_lowered(f: Floor, side: u8, row: u8, c: u8) -> Condition
+fn from_lowered(f: Floor, side: u8, row: u8, c: u8) -> Option<Condition>
     requires { (side ≤ 1) × (row ≤ 3) }
     ensures { result ≡ condition_in (clauses (Instruction.Tilt side row lowered)) c (plain_bits f) }
 {
@@ -31,12 +31,12 @@ fn from_lowered(f: Floor, side: u8, row: u8, c: u8) -> Condition
         0 => told(all_lowered(f, side), Reason::NotAvailable),
         // The position's cells are free.
         1 => told(at_position(f, side, row) == 0, Reason::CellsNotFree),
-        _ => none(),
+        _ => None,
     }
 }
 
 // Condition c of a tilt from tilted.
-fn from_tilted(f: Floor, side: u8, row: u8, c: u8) -> Condition
+fn from_tilted(f: Floor, side: u8, row: u8, c: u8) -> Option<Condition>
     requires { (side ≤ 1) × (1 ≤ row) × (row ≤ 3) }
     ensures { result ≡ condition_in (clauses (Instruction.Tilt side row tilted)) c (plain_bits f) }
 {
@@ -45,12 +45,12 @@ fn from_tilted(f: Floor, side: u8, row: u8, c: u8) -> Condition
         0 => told(shuttle(f, side, 1, row), Reason::NotAvailable),
         // No lowered one is.
         1 => told(!shuttle(f, side, 0, row), Reason::NotFree),
-        _ => none(),
+        _ => None,
     }
 }
 
 // Condition c of a tilt.
-pub fn tilt_condition(f: Floor, side: u8, row: u8, orientation: u8, c: u8) -> Condition
+pub fn tilt_condition(f: Floor, side: u8, row: u8, orientation: u8, c: u8) -> Option<Condition>
     requires { T (well_formed (Instruction.Tilt side row orientation)) }
     ensures { result ≡ condition_in (clauses (Instruction.Tilt side row orientation)) c (plain_bits f) }
 {

@@ -37,13 +37,11 @@ fn row_1(f: Floor) -> Walk
         count: 0,
     };
     let mut half = false;
-    let mut k: u8 = 0;
-    while k < 20 {
+    for k in 0..20 {
         let here = occupied(f, k);
         let begins = here & !half;
         w = noted(w, begins, k);
         half = begins;
-        k += 1;
     }
     w
 }
@@ -53,10 +51,8 @@ fn all_rows(f: Floor) -> Walk
     ensures { result ≡ walk_of (pairs_from 20 0 false (plain_bits f) ++ singles_of (row_cells 2 ++ row_cells 3) (plain_bits f)) }
 {
     let mut w = row_1(f);
-    let mut k: u8 = 20;
-    while k < 40 {
+    for k in 20..40 {
         w = noted(w, occupied(f, k), k);
-        k += 1;
     }
     w
 }

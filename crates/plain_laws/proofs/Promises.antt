@@ -5,15 +5,15 @@ use Prim.Native.Nat.{ℕ}
 use Rattle.bits.specs.Bits.{Bits, bit, image}
 use Rattle.bits.proofs.Cases.{both, true→T}
 use Rattle.bits.proofs.Digits.{image_bit}
-use Rattle.floor.specs.declared.Total.TheVariants.{Cars}
+use Rattle.std.specs.declared.option.Option.TheVariants.{Some}
 use Rattle.floor.specs.Tests.{all_hold}
 use Rattle.floor.specs.Sound.{total}
 use Rattle.floor.proofs.Promises.{sound_exactly}
 use Rattle.rules.specs.declared.Instruction.{Instruction}
-use Rattle.rules.specs.declared.Verdict.{Verdict}
-use Rattle.rules.specs.declared.Moved.{Moved}
+use Rattle.rules.specs.declared.Refusal.{Refusal}
+use Rattle.std.specs.declared.result.Result.TheVariants.{Ok, Err}
 use Rattle.rules.specs.Rules.{well_formed, clauses, conditions, allowed, next_record}
-use Rattle.rules.specs.Verdicts.{judged, verdict_of, moved_by, moved_of}
+use Rattle.rules.specs.Verdicts.{Verdict, judged, verdict_of, moved_by, moved_of}
 use Rattle.rules.proofs.Reasons.{allowed_exactly}
 use Rattle.station_laws.proofs.Fits.{fit_has}
 use Rattle.plain.specs.Plain.{plain_bits, floor_of}
@@ -47,7 +47,7 @@ module _ (r : ℕ) (s : SoundRecord r) where
 
   verdict_shown : (i : Instruction) → verdict_on i (plain_bits (floor_of (bit r))) ≡ verdict_of i r
   unfolding verdict_on verdict_of
-  verdict_shown i = ap (λ (f : Bits). cond (well_formed i) (judged (clauses i) f) Verdict.IllFormed) shows
+  verdict_shown i = ap (λ (f : Bits). cond (well_formed i) (judged (clauses i) f) (Err Refusal.IllFormed)) shows
 
   same_verdict_lem : (i : Instruction) → plain_verdict i r ≡ verdict_of i r
   same_verdict_lem i = verdict_shown i
@@ -61,9 +61,9 @@ module _ (r : ℕ) (s : SoundRecord r) where
 
   -- where it is allowed, the record after it
   next_shown : (i : Instruction) (v : Verdict) → verdict_of i r ≡ v → moved_by v (image (plain_bits (moved_floor i (floor_of (bit r))))) ≡ moved_by v (image (next_record i (bit r)))
-  next_shown i Verdict.Allowed e = ap (λ (g : Bits). Moved.Record (image g)) (shows_next i ((allowed_exactly i r).0 e))
-  next_shown i (Verdict.NotAllowed why) e = refl
-  next_shown i Verdict.IllFormed e = refl
+  next_shown i (Ok done) e = ap (λ (g : Bits). Ok (image g)) (shows_next i ((allowed_exactly i r).0 e))
+  next_shown i (Err (Refusal.NotAllowed why)) e = refl
+  next_shown i (Err Refusal.IllFormed) e = refl
 
   same_next : (i : Instruction) → plain_moved i r ≡ moved_of i r
   unfolding moved_of
@@ -71,9 +71,9 @@ module _ (r : ℕ) (s : SoundRecord r) where
       ap (λ (v : Verdict). moved_by v (image (plain_bits (moved_floor i (floor_of (bit r)))))) (verdict_shown i)
       ∙ next_shown i (verdict_of i r) refl
 
-  cars_shown : Cars (walk_of (walked (plain_bits (floor_of (bit r))))).count ≡ total r
+  cars_shown : Some (walk_of (walked (plain_bits (floor_of (bit r))))).count ≡ total r
   unfolding walk_of total
-  cars_shown = rw (shows, s.1) (ap Cars (walked_cars (bit r) ((sound_exactly r).0 s.1)))
+  cars_shown = rw (shows, s.1) (ap Some (walked_cars (bit r) ((sound_exactly r).0 s.1)))
 
   same_cars : plain_total r ≡ total r
   same_cars = cars_shown

@@ -20,8 +20,9 @@ use Rattle.floor.proofs.Promises.{sound_exactly}
 use Rattle.rules.specs.declared.Event.{Event}
 use Rattle.rules.specs.declared.Event.TheVariants.{BeginIn, BeginOut, EndDone, EndNotDone}
 use Rattle.rules.specs.declared.Code.{Code}
-use Rattle.rules.specs.declared.Reading.{Reading}
-use Rattle.rules.specs.declared.Reading.TheVariants.{Good, Bad}
+use Rattle.rules.specs.declared.Instruction.{Instruction}
+use Rattle.std.specs.declared.option.Option.{Option}
+use Rattle.std.specs.declared.option.Option.TheVariants.{Some, None}
 use Rattle.rules.specs.Rules.{allowed, next_record}
 use Rattle.rules.specs.Events.{in_turn, possible, places_open, filled, after_event}
 use Rattle.rules.specs.Codes.{read_code, most_in_set}
@@ -119,9 +120,9 @@ module _ (s : Station) (c : Crosses s) where
   unfolding held_allowed held_next
   held_drawn x = read (read_code x) refl
     where
-      read : (g : Reading) → read_code x ≡ g → on_code (λ i. allowed i (bit s.bits)) false g ≡ true → Drawn (on_code (λ i. next_record i (bit s.bits)) (bit s.bits) g)
-      read (Good i) e a = next_drawn (bit s.bits) c.drawn i (true→T (one_form_lem x i e).1)
-      read Bad e a = c.drawn
+      read : (g : (Option Instruction)) → read_code x ≡ g → on_code (λ i. allowed i (bit s.bits)) false g ≡ true → Drawn (on_code (λ i. next_record i (bit s.bits)) (bit s.bits) g)
+      read (Some i) e a = next_drawn (bit s.bits) c.drawn i (true→T (one_form_lem x i e).1)
+      read None e a = c.drawn
 
   after_crosses : (x : Code) → Drawn (bit (held_after x s.bits)) × (held_after x s.bits < 2 ^ 64)
   unfolding held_after

@@ -2,16 +2,16 @@
 -- Each is proved in proofs/. Assumes nothing.
 use Rattle.std.specs.Prelude.{◌≡◌, true, List, ℕ, ◌^◌, ◌<◌}
 use Rattle.bits.specs.Bits.{Bits, bit, image}
-use Rattle.floor.specs.declared.Total.{Total}
-use Rattle.floor.specs.declared.Total.TheVariants.{Cars}
+use Rattle.std.specs.declared.option.Option.{Option}
+use Rattle.std.specs.declared.option.Option.TheVariants.{Some}
 use Rattle.floor.specs.Cars.{Layout}
 use Rattle.floor.specs.Sound.{Sound, sound, total}
 use Rattle.cars.specs.Lists.{Rising}
 use Rattle.rules.specs.declared.Instruction.{Instruction}
-use Rattle.rules.specs.declared.Verdict.{Verdict}
-use Rattle.rules.specs.declared.Moved.{Moved}
+use Rattle.rules.specs.declared.Refusal.{Refusal}
+use Rattle.std.specs.declared.result.Result.{Result}
 use Rattle.rules.specs.Rules.{well_formed, overlap}
-use Rattle.rules.specs.Verdicts.{verdict_of, moved_of, moved_by}
+use Rattle.rules.specs.Verdicts.{Verdict, verdict_of, moved_of, moved_by}
 use Rattle.station.specs.declared.Station.{Station}
 use Rattle.station.specs.declared.Report.{Report}
 use Rattle.station.specs.Station.{fit}
@@ -53,11 +53,11 @@ StationComesBack = (s : Station) → SoundStation s → packed_of (plain_of s) �
 abbrev pub plain_verdict : Instruction → ℕ → Verdict
 plain_verdict i r = verdict_on i (plain_bits (floor_of (bit r)))
 
-abbrev pub plain_moved : Instruction → ℕ → Moved
+abbrev pub plain_moved : Instruction → ℕ → Result ℕ Refusal
 plain_moved i r = moved_by (plain_verdict i r) (image (plain_bits (moved_floor i (floor_of (bit r)))))
 
-abbrev pub plain_total : ℕ → Total
-plain_total r = Cars (walk_of (walked (plain_bits (floor_of (bit r))))).count
+abbrev pub plain_total : ℕ → Option ℕ
+plain_total r = Some (walk_of (walked (plain_bits (floor_of (bit r))))).count
 
 -- the two engines say the same. On every sound record: of an instruction the verdict with its reason, and the next record; of two whether
 -- they overlap; how many cars there are. On every station with a sound record, fit or not: of a set, a result and a car event the answer

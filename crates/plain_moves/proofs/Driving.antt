@@ -13,10 +13,9 @@ use Rattle.floor.specs.Tests.{holds, height_is, under_way}
 use Rattle.rules.specs.declared.Instruction.{Instruction}
 use Rattle.rules.specs.declared.Event.{Event}
 use Rattle.rules.specs.declared.Event.TheVariants.{BeginIn, BeginOut, EndDone, EndNotDone}
-use Rattle.rules.specs.declared.Verdict.{Verdict}
 use Rattle.rules.specs.Rules.{well_formed, clauses, allowed, next_record}
 use Rattle.rules.specs.Events.{in_turn, possible, after_event}
-use Rattle.rules.specs.Verdicts.{is_allowed}
+use Rattle.rules.specs.Verdicts.{Verdict, is_allowed}
 use Rattle.rules.proofs.Reasons.{judged_allows}
 use Rattle.plain.specs.declared.Floor.{Floor}
 use Rattle.plain.specs.Plain.{plain_bits, floor_of}

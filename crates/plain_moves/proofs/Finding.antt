@@ -6,16 +6,19 @@ use mathlib.Core.List.{List, [], ◌∷◌}
 use Prim.Native.Nat.{ℕ, suc, ◌+◌, ◌-◌, ◌*◌, ◌≤◌, ◌<◌}
 use native.Mathlib.Omega.{arith}
 use native.Mathlib.Numerals.{add-one}
-use lib.Dec.{eqb, ltb}
+use lib.Dec.{eqb, ltb, leb}
 use lib.ListN.{set}
-use borrow.Author.Tests.{le-ltb, eq-eqb, ne_eqb, ltb-true, ltb-false}
+use borrow.Author.Tests.{lt-ltb, le-ltb, eq-eqb, ne_eqb, ltb-true, ltb-false, leb-true, le-leb}
+use Rattle.std.specs.Prelude.{SomeIff}
+use Rattle.std.specs.declared.option.Option.{Option}
+use Rattle.std.specs.declared.option.Option.TheVariants.{Some, None}
 use Rattle.bits.specs.Bits.{Bits, bit, all_set}
 use Rattle.bits.proofs.Cases.{split, clash, both}
 use Rattle.bits.proofs.Digits.{bit_past}
 use Rattle.floor.specs.Floor.{belt_of, slot, place}
 use Rattle.rules.specs.Named.{step}
 use Rattle.rules.specs.Cells.{cell_named, row_named, row_behind}
-use Rattle.plain_moves.specs.Private.{cell_bits, slot_bits, slot_index, stored, cell_behind, belt_after, row_source, position_first_cell, slot_from, slots_after, car_at, row_from, cells_after}
+use Rattle.plain_moves.specs.Private.{cell_bits, slot_bits, slot_index, stored, cell_behind, in_span, belt_after, row_source, some_row, is_row, position_first_cell, slot_from, slots_after, car_at, row_from, cells_after}
 
 -- ---- belts
 
@@ -37,19 +40,30 @@ named_cell row mask k e = split (ltb k 40) (λ t. ltb-true k 40 t) (λ t. let h 
       t,
     )))
 
+-- the cell behind, toward the right and toward the left
+pub left_behind : {o : Option ℕ} {toward : ℕ} (n k : ℕ) → toward ≡ 1 → SomeIff o (n ≤ k) (k - n) → o ≡ cell_behind toward n k
+unfolding cell_behind
+left_behind {o = None} {toward} n k e s = rw (eq-eqb toward 1 e, lt-ltb k n (omega (arith, s)))
+left_behind {o = Some j} {toward} n k e s = rw (eq-eqb toward 1 e, le-ltb k n s.0) (ap (λ (x : ℕ). Some x) s.1)
+
 module _ (row mask toward size : ℕ) (f : Bits) (k : ℕ) where
   pub stays : cell_named row mask k ≡ false → f k ≡ belt_after row mask toward size f k
   unfolding belt_after
   stays n = rw n
 
-  module _ {n j : ℕ} (s : n ≡ step row size) (e : j ≡ cell_behind toward n k) (m : cell_named row mask k ≡ true) where
-    pub comes : cell_named row mask j ≡ true → f j ≡ belt_after row mask toward size f k
+  module _ {n : ℕ} {o : Option ℕ} (s : n ≡ step row size) (e : o ≡ cell_behind toward n k) (m : cell_named row mask k ≡ true) where
+    spans : in_span row mask f o ≡ belt_after row mask toward size f k
     unfolding belt_after
-    comes l = rw (← s, ← e, m, l)
+    spans = rw (← s, ← e, m)
 
-    pub none_comes : cell_named row mask j ≡ false → false ≡ belt_after row mask toward size f k
-    unfolding belt_after
-    none_comes l = rw (← s, ← e, m, l)
+    pub comes : {j : ℕ} → o ≡ Some j → cell_named row mask j ≡ true → f j ≡ belt_after row mask toward size f k
+    comes {j} i l = ap (λ (b : Bool). b && f j) (sym l) ∙ ap (in_span row mask f) (sym i) ∙ spans
+
+    pub none_comes : {j : ℕ} → o ≡ Some j → cell_named row mask j ≡ false → false ≡ belt_after row mask toward size f k
+    none_comes {j} i l = ap (λ (b : Bool). b && f j) (sym l) ∙ ap (in_span row mask f) (sym i) ∙ spans
+
+    pub nowhere_comes : o ≡ None → false ≡ belt_after row mask toward size f k
+    nowhere_comes i = ap (in_span row mask f) (sym i) ∙ spans
 
 -- ---- rows
 
@@ -64,45 +78,52 @@ named_row mask row h e =
     (omega arith, omega arith)
 
 module _ (mask toward row : ℕ) {back : ℕ} (e : back ≡ row_behind toward row) where
-  pub comes_from : row_named mask back ≡ true → back ≡ row_source mask toward row
+  pub comes_from : row_named mask back ≡ true → Some back ≡ row_source mask toward row
   unfolding row_source
   comes_from n = rw (← e, n)
 
   module _ (n : row_named mask back ≡ false) where
-    pub leaves : row_named mask row ≡ true → 0 ≡ row_source mask toward row
+    pub leaves : row_named mask row ≡ true → None ≡ row_source mask toward row
     unfolding row_source
     leaves m = rw (← e, n, m)
 
-    pub stays_there : row_named mask row ≡ false → row ≡ row_source mask toward row
+    pub stays_there : row_named mask row ≡ false → Some row ≡ row_source mask toward row
     unfolding row_source
     stays_there m = rw (← e, n, m)
 
-pub source_row : (mask toward row : ℕ) → mask ≤ 7 → row ≤ 3 → row_source mask toward row ≤ 3
+in_three : (row : ℕ) → 1 ≤ row → row ≤ 3 → some_row (Some row) ≡ true
+in_three row h l = rw (le-leb 1 row h, le-leb row 3 l)
+
+pub source_row : (mask toward row : ℕ) → mask ≤ 7 → 1 ≤ row → row ≤ 3 → some_row (row_source mask toward row) ≡ true
 unfolding row_source
-source_row mask toward row h l = split (row_named mask (row_behind toward row))
-    (λ t. rw t (named_row mask (row_behind toward row) h t).1)
-    (λ t. split (row_named mask row) (λ u. rw (t, u) (omega arith)) (λ u. rw (t, u) l))
+source_row mask toward row h k l = split (row_named mask (row_behind toward row))
+    (λ t. let n = named_row mask (row_behind toward row) h t in rw t (in_three (row_behind toward row) n.0 n.1))
+    (λ t. split (row_named mask row) (λ u. rw (t, u)) (λ u. rw (t, u) (in_three row k l)))
+
+-- the row, if there is one
+pub of_three : {from : Option ℕ} {row : ℕ} → some_row from ≡ true → from ≡ Some row → (1 ≤ row) × (row ≤ 3)
+of_three {from} {row} e i =
+    let (a, b) = both (leb 1 row) (leb row 3) (ap some_row (sym i) ∙ e) in
+    (leb-true 1 row a, leb-true row 3 b)
 
 -- ---- what comes from a row
 
-module _ (side orientation : ℕ) (f : Bits) {from : ℕ} where
-  pub no_slot : from ≡ 0 → false ≡ slot_from side orientation f from
-  unfolding slot_from
-  no_slot e = rw (eq-eqb from 0 e)
+module _ (side orientation : ℕ) (f : Bits) {from : Option ℕ} where
+  pub no_slot : from ≡ None → false ≡ slot_from side orientation f from
+  no_slot e = ap (slot_from side orientation f) (sym e)
 
-  pub that_slot : (from ≡ 0 → ⊥) → f (slot side orientation from) ≡ slot_from side orientation f from
-  unfolding slot_from
-  that_slot e = rw (ne_eqb from 0 e)
+  pub that_slot : {row : ℕ} → from ≡ Some row → f (slot side orientation row) ≡ slot_from side orientation f from
+  that_slot e = ap (slot_from side orientation f) (sym e)
 
-module _ (side : ℕ) (f : Bits) {row from : ℕ} (new : List Bool) where
-  pub row_stays : from ≡ row → new ≡ row_from side f row from new
+module _ (side : ℕ) (f : Bits) (row : ℕ) (from : Option ℕ) (new : List Bool) where
+  pub row_stays : is_row from row ≡ true → new ≡ row_from side f row from new
   unfolding row_from
-  row_stays e = rw (eq-eqb from row e)
+  row_stays e = rw e
 
-  pub row_comes : (from ≡ row → ⊥) → {a : List Bool} {car : Bool} → car ≡ car_at side f from → a ≡ stored (place side row) car new
+  pub row_comes : is_row from row ≡ false → {a : List Bool} {car : Bool} → car ≡ car_at side f from → a ≡ stored (place side row) car new
       → a ≡ row_from side f row from new
   unfolding row_from
-  row_comes e {a} {car} d q = q ∙ ap (λ (b : Bool). stored (place side row) b new) d ∙ rw (ne_eqb from row e)
+  row_comes e {a} {car} d q = q ∙ ap (λ (b : Bool). stored (place side row) b new) d ∙ rw e
 
 -- ---- the cells of a position
 
@@ -133,16 +154,12 @@ module _ (side row : ℕ) {first : ℕ} (d : first ≡ position_first_cell side 
       (λ t. let p : first ≡ 20 + side * 9 = d ∙ rw (o, t) in rw (o, t) (ap (λ (k : ℕ). k ∷ []) (sym p)))
       (λ t. let p : first ≡ 30 + side * 9 = d ∙ rw (o, t) in rw (o, t) (ap (λ (k : ℕ). k ∷ []) (sym p)))
 
-  car_there : (f : Bits) → (row ≡ 0 → ⊥) → all_set (place side row) f ≡ car_at side f row
-  unfolding car_at
-  car_there f n = rw (ne_eqb row 0 n)
+  pub car_halves : (f : Bits) {from : Option ℕ} → from ≡ Some row → row ≡ 1 → f first && f (first + 1) ≡ car_at side f from
+  car_halves f i e =
+      ap (λ (b : Bool). f first && b) (sym (and-true (f (first + 1)))) ∙ sym (ap (λ (ks : List ℕ). all_set ks f) (place_two e)) ∙ ap (car_at side f) (sym i)
 
-  pub car_halves : (f : Bits) → (row ≡ 0 → ⊥) → row ≡ 1 → f first && f (first + 1) ≡ car_at side f row
-  car_halves f n e =
-      ap (λ (b : Bool). f first && b) (sym (and-true (f (first + 1)))) ∙ sym (ap (λ (ks : List ℕ). all_set ks f) (place_two e)) ∙ car_there f n
-
-  pub car_cell : (f : Bits) → (row ≡ 0 → ⊥) → (row ≡ 1 → ⊥) → f first ≡ car_at side f row
-  car_cell f n e = sym (and-true (f first)) ∙ sym (ap (λ (ks : List ℕ). all_set ks f) (place_one e)) ∙ car_there f n
+  pub car_cell : (f : Bits) {from : Option ℕ} → from ≡ Some row → (row ≡ 1 → ⊥) → f first ≡ car_at side f from
+  car_cell f i e = sym (and-true (f first)) ∙ sym (ap (λ (ks : List ℕ). all_set ks f) (place_one e)) ∙ ap (car_at side f) (sym i)
 
   pub put_halves : (v : Bool) (a : List Bool) → row ≡ 1 → set (set a first v) (first + 1) v ≡ stored (place side row) v a
   unfolding stored
@@ -152,14 +169,13 @@ module _ (side row : ℕ) {first : ℕ} (d : first ≡ position_first_cell side 
   unfolding stored
   put_cell v a e = sym (ap (λ (ks : List ℕ). stored ks v a) (place_one e))
 
-pub no_car : (side : ℕ) (f : Bits) {row : ℕ} → row ≡ 0 → false ≡ car_at side f row
-unfolding car_at
-no_car side f {row} e = rw (eq-eqb row 0 e)
+pub no_car : (side : ℕ) (f : Bits) {from : Option ℕ} → from ≡ None → false ≡ car_at side f from
+no_car side f e = ap (car_at side f) (sym e)
 
 -- ---- loops over the three rows
 
 -- as many rows are made as come before the next
-pub slots_more : (side mask orientation toward : ℕ) (a : List Bool) {new : List Bool} {row at from : ℕ} {v : Bool} → 1 ≤ row
+pub slots_more : (side mask orientation toward : ℕ) (a : List Bool) {new : List Bool} {row at : ℕ} {from : Option ℕ} {v : Bool} → 1 ≤ row
     → new ≡ slots_after side mask orientation toward a (row - 1) → at ≡ slot_index side orientation row → from ≡ row_source mask toward row
     → v ≡ slot_from side orientation (slot_bits a) from → set new at v ≡ slots_after side mask orientation toward a (row + 1 - 1)
 unfolding slots_after
@@ -172,13 +188,13 @@ slots_more side mask orientation toward a {new} {row} {at} {from} {v} h e d s q 
     (slot_from side orientation (slot_bits a) (row_source mask toward n))) r
     ∙ ap (slots_after side mask orientation toward a) m
 
-pub cells_more : (side mask toward : ℕ) (a : List Bool) {new made : List Bool} {row from : ℕ} → 1 ≤ row → new ≡ cells_after side mask toward a (row - 1)
+pub cells_more : (side mask toward : ℕ) (a : List Bool) {new made : List Bool} {row : ℕ} {from : Option ℕ} → 1 ≤ row → new ≡ cells_after side mask toward a (row - 1)
     → from ≡ row_source mask toward row → made ≡ row_from side (cell_bits a) row from new → made ≡ cells_after side mask toward a (row + 1 - 1)
 unfolding cells_after
 cells_more side mask toward a {new} {made} {row} {from} h e s q =
     let r : row ≡ suc (row - 1) = omega arith in
     let m : suc (row - 1) ≡ row + 1 - 1 = omega arith in
-    q ∙ ap₂ (λ (j : ℕ) (l : List Bool). row_from side (cell_bits a) row j l) s e
+    q ∙ ap₂ (λ (j : Option ℕ) (l : List Bool). row_from side (cell_bits a) row j l) s e
     ∙ ap (λ (n : ℕ). row_from side (cell_bits a) n (row_source mask toward n) (cells_after side mask toward a (row - 1))) r
     ∙ ap (cells_after side mask toward a) m
 

@@ -9,22 +9,41 @@ use lib.ListN.{get_or, set}
 use borrow.Author.Tests.{eq-eqb, ne_eqb, eqb-true}
 use Rattle.bits.specs.Bits.{Bits, bit, all_set}
 use Rattle.bits.proofs.Cases.{split}
-use Rattle.floor.specs.Floor.{raised_car, height_low, height_high, basement, lift_cells}
-use Rattle.floor.specs.Tests.{Test, fact, choose, holds, at_basement, changed}
+use Rattle.floor.specs.Floor.{raised_car, height_low, height_high, street, basement, lift_cells}
+use Rattle.floor.specs.Tests.{Test, fact, choose, holds, height_is, at_basement, changed}
 use Rattle.floor.specs.Tests.{set as set_at}
 use Rattle.rules.specs.declared.Instruction.TheVariants.{Lift}
 use Rattle.rules.specs.Rules.{changes, next_record}
 use Rattle.plain.specs.declared.Floor.{Floor}
 use Rattle.plain.specs.declared.Height.{Height}
+use Rattle.plain.specs.declared.Height.TheVariants.{Street, Rotation, Basement}
 use Rattle.plain.specs.Plain.{listed, height_from, plain_bits, floor_of}
 use Rattle.plain.proofs.Listing.{listed_same, list_is, set_listed}
 use Rattle.plain.proofs.Imaging.{floor_is, coming_bit, going_bit}
-use Rattle.plain.proofs.Standing.{cell_bit}
+use Rattle.plain.proofs.Standing.{cell_bit, at_height}
 use Rattle.plain_moves.proofs.Floors.{Sized, cells_kept, slots_kept}
 
 -- the height of a number
 pub height_number : {m n : ℕ} → n ≡ m → height_from (bit m 0) (bit m 1) ≡ height_from (bit n 0) (bit n 1)
 height_number e = ap (λ (n : ℕ). height_from (bit n 0) (bit n 1)) (sym e)
+
+-- a lift that is not at a height
+module _ (f : Floor) where
+  pub not_at_street : (f.height ≡ Street → ⊥) → false ≡ holds (height_is street) (plain_bits f)
+  not_at_street n = go f.height refl
+    where
+      go : (h : Height) → f.height ≡ h → false ≡ holds (height_is street) (plain_bits f)
+      go Street e = absurd (n e)
+      go Rotation e = at_height f 0 (omega arith) e
+      go Basement e = at_height f 0 (omega arith) e
+
+  pub not_at_basement : (f.height ≡ Basement → ⊥) → false ≡ holds at_basement (plain_bits f)
+  not_at_basement n = go f.height refl
+    where
+      go : (h : Height) → f.height ≡ h → false ≡ holds at_basement (plain_bits f)
+      go Street e = at_height f 2 (omega arith) e
+      go Rotation e = at_height f 2 (omega arith) e
+      go Basement e = absurd (n e)
 
 -- ---- the lift's two cells
 

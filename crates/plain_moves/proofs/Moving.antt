@@ -6,7 +6,9 @@ use Prim.Native.Nat.{ℕ, zero, suc, ◌+◌, ◌-◌, ◌*◌, ◌≤◌, ◌<�
 use native.Mathlib.Omega.{arith}
 use lib.Dec.{T, eqb}
 use lib.ListN.{length, get_or, set}
-use Rattle.bits.specs.Bits.{Bits, all_set}
+use Rattle.std.specs.declared.option.Option.{Option}
+use Rattle.std.specs.declared.option.Option.TheVariants.{Some, None}
+use Rattle.bits.specs.Bits.{Bits}
 use Rattle.bits.specs.Places.{elem, from, adjacent, is_empty}
 use Rattle.bits.specs.Search.{every}
 use Rattle.bits.proofs.Cases.{both, and_l, and_r, true→T}
@@ -21,14 +23,14 @@ use Rattle.rules.specs.Rules.{well_formed, conditions, allowed, changes, next_re
 use Rattle.plain.specs.declared.Floor.{Floor}
 use Rattle.plain.specs.Plain.{listed, plain_bits, floor_of}
 use Rattle.rules.specs.Cells.{cell_named}
-use Rattle.plain_moves.specs.Private.{cell_bits, slot_bits, slot_index, cell_behind, belt_after, row_source, slot_from, slots_after, car_at, row_from, cells_after}
+use Rattle.plain_moves.specs.Private.{cell_bits, slot_bits, slot_index, cell_behind, in_span, belt_after, row_source, is_row, slot_from, slots_after, car_at, row_from, cells_after}
 use Rattle.plain.proofs.Listing.{listed_same}
-use Rattle.plain_moves.proofs.Contents.{Content, told, all, has, Told, told_starts, told_set, told_stored, told_either, right_at, told_ends, keeps, kept}
+use Rattle.plain_moves.proofs.Contents.{Content, told, has, Told, told_starts, told_set, told_stored, told_either, right_at, told_ends, keeps, kept}
 use Rattle.plain.proofs.Imaging.{floor_is, car_bit, coming_bit, going_bit}
 use Rattle.plain.proofs.Ranges.{shuttles_ranges}
 use Rattle.plain.proofs.Standing.{cell_bit}
 use Rattle.plain_moves.proofs.Floors.{Sized, slot_in, height_bits, floor_kept}
-use Rattle.plain_moves.proofs.Takings.{itself, slot_place, belt_content, slot_content, slot_contents, car_content, cell_contents, tilt_contents, right_by, belts_right, shuttles_right, tilt_right}
+use Rattle.plain_moves.proofs.Takings.{itself, slot_place, span_content, belt_content, slot_content, slot_contents, car_content, cell_contents, tilt_contents, right_by, belts_right, shuttles_right, tilt_right}
 
 -- ---- what an allowed instruction has
 
@@ -92,12 +94,16 @@ module _ (f : Floor) (i : Instruction) (x y : ℕ → Content) (right : T (right
 
 belt_has : (row mask toward size : ℕ) (f : Bits) (k : ℕ) → belt_after row mask toward size f k ≡ has (belt_content row mask toward size k) f
 unfolding belt_after belt_content
-belt_has row mask toward size f k = go (cell_named row mask k) (cell_named row mask (cell_behind toward (step row size) k)) (cell_behind toward (step row size) k)
+belt_has row mask toward size f k = go (cell_named row mask k) (cell_behind toward (step row size) k)
   where
-    go : (n m : Bool) (j : ℕ) → cond n (m && f j) (f k) ≡ has (cond n (cond m (itself j) (told false)) (itself k)) f
-    go true true j = sym (and-true (f j))
-    go true false j = refl
-    go false m j = sym (and-true (f k))
+    one : (m : Bool) (j : ℕ) → m && f j ≡ has (cond m (itself j) (told false)) f
+    one true j = sym (and-true (f j))
+    one false j = refl
+
+    go : (n : Bool) (o : Option ℕ) → cond n (in_span row mask f o) (f k) ≡ has (cond n (span_content row mask o) (itself k)) f
+    go true None = refl
+    go true (Some j) = one (cell_named row mask j) j
+    go false o = sym (and-true (f k))
 
 module _ (f : Floor) (full : Sized f) where
   pub belts_run : (row mask toward size : ℕ) → allowed (Belts row mask toward size) (plain_bits f) ≡ true
@@ -113,13 +119,9 @@ module _ (f : Floor) (full : Sized f) where
 
 -- ---- shuttles
 
-slot_has : (side orientation : ℕ) (f : Bits) (from : ℕ) → slot_from side orientation f from ≡ has (slot_content side orientation from) f
-unfolding slot_from slot_content
-slot_has side orientation f from = go (eqb from 0) (slot side orientation from)
-  where
-    go : (n : Bool) (k : ℕ) → not n && f k ≡ has (cond n (told false) (itself k)) f
-    go true k = refl
-    go false k = sym (and-true (f k))
+slot_has : (side orientation : ℕ) (f : Bits) (from : Option ℕ) → slot_from side orientation f from ≡ has (slot_content side orientation from) f
+slot_has side orientation f None = refl
+slot_has side orientation f (Some row) = sym (and-true (f (slot side orientation row)))
 
 module _ (side mask orientation toward : ℕ) where
   slots_told : side ≤ 1 → orientation ≤ 1 → (a : List Bool) → length a ≡ 12 → (n : ℕ) → n ≤ 3
@@ -138,13 +140,9 @@ place_cell side row k s = go (eqb row 1) (eqb row 2)
     go false true m = let h = from_elem k (20 + side * 9) 1 m in omega arith
     go false false m = let h = from_elem k (30 + side * 9) 1 m in omega arith
 
-car_has : (side : ℕ) (f : Bits) (from : ℕ) → car_at side f from ≡ has (car_content side from) f
-unfolding car_at car_content
-car_has side f from = go (eqb from 0)
-  where
-    go : (n : Bool) → not n && all_set (place side from) f ≡ has (cond n (told false) (all (place side from))) f
-    go true = refl
-    go false = refl
+car_has : (side : ℕ) (f : Bits) (from : Option ℕ) → car_at side f from ≡ has (car_content side from) f
+car_has side f None = refl
+car_has side f (Some row) = refl
 
 module _ (side mask toward : ℕ) where
   cells_told : side ≤ 1 → (a : List Bool) → length a ≡ 40 → (n : ℕ) → Told 40 (cell_bits a) (cells_after side mask toward a n) (cell_contents side mask toward n)
@@ -153,7 +151,7 @@ module _ (side mask toward : ℕ) where
   cells_told s a len (suc n) =
       let before = cells_told s a len n in
       let from = row_source mask toward (suc n) in
-      told_either (eqb from (suc n)) before
+      told_either (is_row from (suc n)) before
       (told_stored before (place side (suc n)) (car_content side from) (λ k. place_cell side (suc n) k s) (car_has side (cell_bits a) from))
 
 module _ (f : Floor) (full : Sized f) where

@@ -5,6 +5,8 @@ use mathlib.Core.Bool.{Bool, true, false, cond, ◌&&◌}
 use mathlib.Core.List.{List, [], ◌∷◌}
 use Prim.Native.Nat.{ℕ, zero, suc, ◌+◌, ◌-◌}
 use lib.Dec.{T, eqb}
+use Rattle.std.specs.declared.option.Option.{Option}
+use Rattle.std.specs.declared.option.Option.TheVariants.{Some, None}
 use Rattle.bits.specs.Places.{elem, from, adjacent}
 use Rattle.bits.specs.Search.{every}
 use Rattle.bits.proofs.Cases.{under}
@@ -16,7 +18,7 @@ use Rattle.rules.specs.Named.{cells, step, rows_of}
 use Rattle.rules.specs.Rules.{well_formed, changes}
 use Rattle.rules.proofs.Every.{everywhere, each}
 use Rattle.rules.specs.Cells.{cell_named, row_named, row_behind}
-use Rattle.plain_moves.specs.Private.{slot_index, cell_behind, row_source}
+use Rattle.plain_moves.specs.Private.{slot_index, cell_behind, row_source, is_row}
 use Rattle.plain_moves.proofs.Contents.{Content, told, all, right_at, keeps}
 
 -- ---- what is taken
@@ -28,15 +30,18 @@ itself k = all (k ∷ [])
 abbrev pub slot_place : ℕ → ℕ
 slot_place j = 40 + j
 
--- a cell after a belt run
+-- a cell, if there is one, in the span; and a cell after a belt run
+abbrev pub span_content : ℕ → ℕ → Option ℕ → Content
+span_content row mask None = told false
+span_content row mask (Some j) = cond (cell_named row mask j) (itself j) (told false)
+
 unfoldable pub belt_content : ℕ → ℕ → ℕ → ℕ → ℕ → Content
-belt_content row mask toward size k =
-    let j = cell_behind toward (step row size) k in
-    cond (cell_named row mask k) (cond (cell_named row mask j) (itself j) (told false)) (itself k)
+belt_content row mask toward size k = cond (cell_named row mask k) (span_content row mask (cell_behind toward (step row size) k)) (itself k)
 
 -- what a slot takes from the slot of a row, and the slots with the first n rows made so
-unfoldable pub slot_content : ℕ → ℕ → ℕ → Content
-slot_content side orientation from = cond (eqb from 0) (told false) (itself (slot side orientation from))
+abbrev pub slot_content : ℕ → ℕ → Option ℕ → Content
+slot_content side orientation None = told false
+slot_content side orientation (Some row) = itself (slot side orientation row)
 
 unfoldable pub slot_contents : ℕ → ℕ → ℕ → ℕ → ℕ → ℕ → Content
 slot_contents side mask orientation toward zero j = itself (slot_place j)
@@ -45,14 +50,15 @@ slot_contents side mask orientation toward (suc n) j =
     cond (eqb (slot_index side orientation (suc n)) j) (slot_content side orientation (row_source mask toward (suc n))) r
 
 -- what the cells of a row take from the position of another, and the cells with the first n rows made so
-unfoldable pub car_content : ℕ → ℕ → Content
-car_content side from = cond (eqb from 0) (told false) (all (place side from))
+abbrev pub car_content : ℕ → Option ℕ → Content
+car_content side None = told false
+car_content side (Some row) = all (place side row)
 
 unfoldable pub cell_contents : ℕ → ℕ → ℕ → ℕ → ℕ → Content
 cell_contents side mask toward zero k = itself k
 cell_contents side mask toward (suc n) k =
     let r = cell_contents side mask toward n k in
-    cond (eqb (row_source mask toward (suc n)) (suc n)) r (cond (elem k (place side (suc n))) (car_content side (row_source mask toward (suc n))) r)
+    cond (is_row (row_source mask toward (suc n)) (suc n)) r (cond (elem k (place side (suc n))) (car_content side (row_source mask toward (suc n))) r)
 
 -- the slots after a tilt
 unfoldable pub tilt_contents : ℕ → ℕ → ℕ → ℕ → Content
@@ -80,7 +86,7 @@ right_of (Lift height) = true
 right_of Rotate = true
 
 all_right_lem : T (everywhere right_of)
-unfolding everywhere every belt_of right_of cell_behind row_named row_behind row_source belt_content slot_content slot_contents car_content cell_contents tilt_contents
+unfolding everywhere every belt_of right_of cell_behind row_named row_behind row_source belt_content slot_contents cell_contents tilt_contents
 all_right_lem = tt
 
 -- ---- what it says of each

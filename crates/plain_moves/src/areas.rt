@@ -15,11 +15,7 @@ const ON_LIFT: u8 = 11;
 pub fn nothing() -> Parts
     ensures { result ≡ parts_at [] }
 {
-    Parts {
-        cells: [false; 40],
-        slots: [false; 12],
-        lift: false,
-    }
+    Parts::NONE
 }
 
 // The cells of the belts of a row that a mask names.
@@ -27,10 +23,8 @@ fn belt_cells(row: u8, mask: u8) -> [bool; 40]
     ensures { result ≡ listed 40 (cell_named row mask) }
 {
     let mut cells = [false; 40];
-    let mut cell: u8 = 0;
-    while cell < 40 {
-        cells[cell as usize] = plain::named(row, mask, cell);
-        cell += 1;
+    for cell in 0..40 {
+        cells[cell] = plain::named(row, mask, cell as u8);
     }
     cells
 }
@@ -65,14 +59,13 @@ pub fn of_shuttles(side: u8, mask: u8, orientation: u8, toward: u8) -> Parts
 {
     let mut cells = [false; 40];
     let mut slots = [false; 12];
-    let mut row: u8 = 1;
-    while row < 4 {
+    for row in 1..4 {
         let on = touched(mask, toward, row);
         let at = shuttles::slot(side, orientation, row);
         slots[at as usize] = on;
+        // Kept: `cells = put(cells, ..)` straight was tried; the prover does not cover a call's array stored in what the call is lent.
         let marked = shuttles::put(cells, side, row, on & (orientation == 0));
         cells = marked;
-        row += 1;
     }
     Parts {
         cells,
@@ -90,11 +83,9 @@ pub fn of_tilt(side: u8, row: u8, orientation: u8) -> Parts
     let tilted = shuttles::slot(side, 1, row);
     let mut slots = [false; 12];
     slots[tilted as usize] = true;
-    let mut other: u8 = 1;
-    while other < 4 {
+    for other in 1..4 {
         let at = shuttles::slot(side, 0, other);
         slots[at as usize] = (other == row) | (orientation == 0);
-        other += 1;
     }
     Parts {
         cells,
@@ -112,8 +103,8 @@ pub fn of_lift() -> Parts
     cells[12] = true;
     Parts {
         cells,
-        slots: [false; 12],
         lift: true,
+        ..Parts::NONE
     }
 }
 
@@ -122,15 +113,13 @@ pub fn of_rotate() -> Parts
     ensures { result ≡ parts_at (area_of Instruction.Rotate) }
 {
     let mut cells = [false; 40];
-    let mut beside: u8 = 0;
-    while beside < 3 {
-        cells[(8 + beside) as usize] = true;
-        cells[(13 + beside) as usize] = true;
-        beside += 1;
+    for beside in 0..3 {
+        cells[8 + beside] = true;
+        cells[13 + beside] = true;
     }
     Parts {
         cells,
-        slots: [false; 12],
         lift: true,
+        ..Parts::NONE
     }
 }

@@ -1,35 +1,21 @@
 // Belt runs, cell by cell: each cell of the span takes what the cell behind it in the span has.
 ghost use Rattle.std.specs.Prelude.{◌≡◌, true, ◌≤◌, ◌<◌};
 ghost use Rattle.rules.specs.declared.Instruction.{Instruction};
-ghost use Rattle.rules.specs.Named.{step};
 ghost use Rattle.rules.specs.Rules.{allowed, next_record};
 ghost use Rattle.plain.specs.Plain.{listed, plain_bits, floor_of};
 ghost use Rattle.plain_moves.specs.Private.{cell_bits, cell_behind, belt_after};
 
 use plain::Floor;
 
-// No cell's number.
-const NO_CELL: u8 = 64;
-
-// By how many cells a run shifts.
-fn step(row: u8, size: u8) -> u8
-    ensures { result ≡ step row size }
-{
-    if (row == 1) & (size == 1) { 2 } else { 1 }
-}
-
-// The cell n behind, seen toward d; nowhere if that is below 0.
-fn behind(toward: u8, n: u8, cell: u8) -> u8
+// The cell n behind, seen toward d, unless that is below 0.
+fn behind(toward: u8, n: u8, cell: u8) -> Option<u8>
     requires { (cell < 40) × (n ≤ 2) }
     ensures { result ≡ cell_behind toward n cell }
 {
     if toward == 1 {
-        if cell < n {
-            return NO_CELL;
-        }
-        return cell - n;
+        return cell.checked_sub(n);
     }
-    cell + n
+    Some(cell + n)
 }
 
 // What a cell has after the run. One that is not on the belts keeps what it has; one of the span takes what the cell behind it has, and is
@@ -41,11 +27,10 @@ fn comes(old: &[bool; 40], row: u8, mask: u8, toward: u8, size: u8, cell: u8) ->
     if !plain::named(row, mask, cell) {
         return old[cell as usize];
     }
-    let from = behind(toward, step(row, size), cell);
-    if plain::named(row, mask, from) {
-        return old[from as usize];
+    match behind(toward, plain::step(row, size), cell) {
+        Some(from) if plain::named(row, mask, from) => old[from as usize],
+        _ => false,
     }
-    false
 }
 
 // The cells after the run.
@@ -53,10 +38,8 @@ fn shifted(old: [bool; 40], row: u8, mask: u8, toward: u8, size: u8) -> [bool; 4
     ensures { result ≡ listed 40 (belt_after row mask toward size (cell_bits old)) }
 {
     let mut new = [false; 40];
-    let mut cell: u8 = 0;
-    while cell < 40 {
-        new[cell as usize] = comes(&old, row, mask, toward, size, cell);
-        cell += 1;
+    for cell in 0..40 {
+        new[cell] = comes(&old, row, mask, toward, size, cell as u8);
     }
     new
 }
@@ -66,9 +49,8 @@ pub fn run(f: Floor, row: u8, mask: u8, toward: u8, size: u8) -> Floor
     requires { allowed (Instruction.Belts row mask toward size) (plain_bits f) ≡ true }
     ensures { result ≡ floor_of (next_record (Instruction.Belts row mask toward size) (plain_bits f)) }
 {
-    let old = f.cells;
-    let cells = shifted(old, row, mask, toward, size);
-    let mut new = f;
-    new.cells = cells;
-    new
+    Floor {
+        cells: shifted(f.cells, row, mask, toward, size),
+        ..f
+    }
 }

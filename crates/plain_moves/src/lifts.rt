@@ -25,24 +25,14 @@ fn height_of(n: u8) -> Height
 pub fn at_street(f: Floor) -> bool
     ensures { result ≡ holds (height_is street) (plain_bits f) }
 {
-    let height = f.height;
-    match height {
-        Height::Street => true,
-        Height::Rotation => false,
-        Height::Basement => false,
-    }
+    matches!(f.height, Height::Street)
 }
 
 // The lift is in the basement.
 fn at_basement(f: Floor) -> bool
     ensures { result ≡ holds at_basement (plain_bits f) }
 {
-    let height = f.height;
-    match height {
-        Height::Street => false,
-        Height::Rotation => false,
-        Height::Basement => true,
-    }
+    matches!(f.height, Height::Basement)
 }
 
 // The floor after the lift has moved. Arriving in the basement, both of its cells take what is on the raised lift; leaving it, a car is on
@@ -53,17 +43,14 @@ pub fn moved(f: Floor, height: u8) -> Floor
 {
     let to = height_of(height);
     let mut cells = f.cells;
-    let slots = f.slots;
     if height == 2 {
         cells[11] = f.car;
         cells[12] = f.car;
         return Floor {
             cells,
-            slots,
             car: false,
             height: to,
-            coming: f.coming,
-            going: f.going,
+            ..f
         };
     }
     if at_basement(f) {
@@ -72,19 +59,10 @@ pub fn moved(f: Floor, height: u8) -> Floor
         cells[12] = false;
         return Floor {
             cells,
-            slots,
             car,
             height: to,
-            coming: f.coming,
-            going: f.going,
+            ..f
         };
     }
-    Floor {
-        cells,
-        slots,
-        car: f.car,
-        height: to,
-        coming: f.coming,
-        going: f.going,
-    }
+    Floor { height: to, ..f }
 }

@@ -16,10 +16,8 @@ fn cells_with(p: Parts, q: Parts) -> [bool; 40]
     ensures { result ≡ listed 40 (λ k. parts_bits p k || parts_bits q k) }
 {
     let mut cells = [false; 40];
-    let mut k: u8 = 0;
-    while k < 40 {
+    for k in 0..40 {
         cells[k as usize] = p.has(k) | q.has(k);
-        k += 1;
     }
     cells
 }
@@ -29,10 +27,8 @@ fn slots_with(p: Parts, q: Parts) -> [bool; 12]
     ensures { result ≡ listed 12 (λ j. parts_bits p (40 + j) || parts_bits q (40 + j)) }
 {
     let mut slots = [false; 12];
-    let mut j: u8 = 0;
-    while j < 12 {
+    for j in 0..12 {
         slots[j as usize] = p.has(40 + j) | q.has(40 + j);
-        j += 1;
     }
     slots
 }
@@ -55,6 +51,7 @@ impl Parts {
     fn floor(self) -> Floor
         ensures { result ≡ record { cells = self.cells; slots = self.slots; car = self.lift; height = Street; coming = false; going = false } }
     {
+        // Kept: an array of a struct goes into another struct through a variable (the prover covers no other way).
         let cells = self.cells;
         let slots = self.slots;
         Floor {
@@ -71,20 +68,17 @@ impl Parts {
     pub fn number(self) -> u64
         ensures { result ≡ image (parts_bits self) }
     {
-        let f = self.floor();
-        f.image()
+        self.floor().image()
     }
 
     // Whether two have a part in common.
     pub fn meets(self, q: Parts) -> bool
         ensures { result ≡ meeting self q }
     {
-        let mut k: u8 = 0;
-        while k < END {
+        for k in 0..END {
             if self.has(k) & q.has(k) {
                 return true;
             }
-            k += 1;
         }
         false
     }
@@ -93,11 +87,9 @@ impl Parts {
     pub fn with(self, q: Parts) -> Parts
         ensures { result ≡ together self q }
     {
-        let cells = cells_with(self, q);
-        let slots = slots_with(self, q);
         Parts {
-            cells,
-            slots,
+            cells: cells_with(self, q),
+            slots: slots_with(self, q),
             lift: self.lift | q.lift,
         }
     }

@@ -5,7 +5,7 @@ ghost use Rattle.rules.specs.Cells.{row_named, row_behind};
 ghost use Rattle.rules.specs.declared.Instruction.{Instruction};
 ghost use Rattle.rules.specs.Rules.{well_formed, allowed, next_record};
 ghost use Rattle.plain.specs.Plain.{plain_bits, floor_of};
-ghost use Rattle.plain_moves.specs.Private.{cell_bits, slot_bits, slot_index, stored, position_first_cell, row_source, slot_from, slots_after, car_at, row_from, cells_after};
+ghost use Rattle.plain_moves.specs.Private.{cell_bits, slot_bits, slot_index, stored, position_first_cell, row_source, some_row, slot_from, slots_after, car_at, row_from, cells_after};
 
 use plain::Floor;
 
@@ -28,6 +28,7 @@ pub fn named(mask: u8, row: u8) -> bool
 }
 
 // The row behind, seen toward d.
+// Kept: 0 or 4 where there is none, as rules' definition `row_behind` has it.
 pub fn behind(toward: u8, row: u8) -> u8
     requires { (1 ≤ row) × (row ≤ 3) }
     ensures { result ≡ row_behind toward row }
@@ -38,20 +39,20 @@ pub fn behind(toward: u8, row: u8) -> u8
     row + 1
 }
 
-// The row from which a row takes what it has afterwards: the named row behind it. Where none is, a named row takes from 0, where nothing
-// is, and any other row stays as it is.
-fn source(mask: u8, toward: u8, row: u8) -> u8
+// The row from which a row takes what it has afterwards: the named row behind it. Where none is, a named row takes nothing, and any other
+// row stays as it is.
+fn source(mask: u8, toward: u8, row: u8) -> Option<u8>
     requires { (1 ≤ row) × (row ≤ 3) }
     ensures { result ≡ row_source mask toward row }
 {
     let back = behind(toward, row);
     if named(mask, back) {
-        return back;
+        return Some(back);
     }
     if named(mask, row) {
-        return 0;
+        return None;
     }
-    row
+    Some(row)
 }
 
 // The first cell of a position.
@@ -69,15 +70,14 @@ pub fn first_cell(side: u8, row: u8) -> u8
 // ---- slots
 
 // What a slot has afterwards: what the slot of the row has from which it takes.
-fn slot_from(slots: &[bool; 12], side: u8, orientation: u8, from: u8) -> bool
-    requires { (side ≤ 1) × (orientation ≤ 1) × (from ≤ 3) }
+fn slot_from(slots: &[bool; 12], side: u8, orientation: u8, from: Option<u8>) -> bool
+    requires { (side ≤ 1) × (orientation ≤ 1) × (some_row from ≡ true) }
     ensures { result ≡ slot_from side orientation (slot_bits slots.now) from }
 {
-    if from == 0 {
-        return false;
+    match from {
+        Some(row) => slots[slot(side, orientation, row) as usize],
+        None => false,
     }
-    let at = slot(side, orientation, from);
-    slots[at as usize]
 }
 
 // The slots shift by a row.
@@ -86,26 +86,24 @@ fn slots_after(slots: [bool; 12], side: u8, mask: u8, orientation: u8, toward: u
     ensures { result ≡ slots_after side mask orientation toward slots 3 }
 {
     let mut new = slots;
-    let mut row: u8 = 1;
-    while row < 4 {
+    for row in 1..4 {
         let at = slot(side, orientation, row);
         let from = source(mask, toward, row);
         new[at as usize] = slot_from(&slots, side, orientation, from);
-        row += 1;
     }
     new
 }
 
 // ---- cells
 
-// A car is at the position of a row: on both half cells in row 1, on the one cell in rows 2 and 3.
-fn car_at(cells: &[bool; 40], side: u8, row: u8) -> bool
+// A car is at the position of the row, if there is one: on both half cells in row 1, on the one cell in rows 2 and 3.
+fn car_at(cells: &[bool; 40], side: u8, from: Option<u8>) -> bool
     requires { side ≤ 1 }
-    ensures { result ≡ car_at side (cell_bits cells.now) row }
+    ensures { result ≡ car_at side (cell_bits cells.now) from }
 {
-    if row == 0 {
+    let Some(row) = from else {
         return false;
-    }
+    };
     let first = first_cell(side, row);
     if row == 1 {
         return cells[first as usize] & cells[(first + 1) as usize];
@@ -130,14 +128,14 @@ pub fn put(cells: [bool; 40], side: u8, row: u8, car: bool) -> [bool; 40]
 
 // The cells with those of one row made anew from the row from which it takes. A row that stays keeps its cells as they are, also half a car
 // in row 1.
-fn row_from(new: [bool; 40], old: &[bool; 40], side: u8, row: u8, from: u8) -> [bool; 40]
+fn row_from(new: [bool; 40], old: &[bool; 40], side: u8, row: u8, from: Option<u8>) -> [bool; 40]
     requires { side ≤ 1 }
     ensures { result ≡ row_from side (cell_bits old.now) row from new }
 {
-    if from == row {
-        return new;
+    match from {
+        Some(same) if same == row => new,
+        _ => put(new, side, row, car_at(old, side, from)),
     }
-    put(new, side, row, car_at(old, side, from))
 }
 
 // Lowered shuttles take their cars along.
@@ -146,12 +144,11 @@ fn cells_after(cells: [bool; 40], side: u8, mask: u8, toward: u8) -> [bool; 40]
     ensures { result ≡ cells_after side mask toward cells 3 }
 {
     let mut new = cells;
-    let mut row: u8 = 1;
-    while row < 4 {
+    for row in 1..4 {
         let from = source(mask, toward, row);
+        // Kept: `new = row_from(new, ..)` straight was tried; the prover does not cover a call's array stored in what the call is lent.
         let made = row_from(new, &cells, side, row, from);
         new = made;
-        row += 1;
     }
     new
 }
@@ -163,17 +160,12 @@ pub fn moved(f: Floor, side: u8, mask: u8, orientation: u8, toward: u8) -> Floor
     requires { allowed (Instruction.Shuttles side mask orientation toward) (plain_bits f) ≡ true }
     ensures { result ≡ floor_of (next_record (Instruction.Shuttles side mask orientation toward) (plain_bits f)) }
 {
-    let old = f.slots;
-    let slots = slots_after(old, side, mask, orientation, toward);
-    let mut new = f;
-    new.slots = slots;
+    let slots = slots_after(f.slots, side, mask, orientation, toward);
     if orientation == 0 {
-        let stood = f.cells;
-        let cells = cells_after(stood, side, mask, toward);
-        new.cells = cells;
-        return new;
+        let cells = cells_after(f.cells, side, mask, toward);
+        return Floor { cells, slots, ..f };
     }
-    new
+    Floor { slots, ..f }
 }
 
 // The floor after a shuttle has taken the other orientation.
@@ -186,7 +178,5 @@ pub fn tilted(f: Floor, side: u8, row: u8, orientation: u8) -> Floor
     let to = slot(side, 1 - orientation, row);
     slots[from as usize] = false;
     slots[to as usize] = true;
-    let mut new = f;
-    new.slots = slots;
-    new
+    Floor { slots, ..f }
 }

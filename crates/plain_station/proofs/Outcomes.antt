@@ -1,6 +1,6 @@
 -- What a call hands back: which branch of its definition a test takes, the station that a request opens, and the one after a result.
 -- Assumes nothing.
-use Rattle.std.proofs.Common.{◌≡◌, ℕ, ◌+◌, ◌-◌, ◌*◌, ◌%◌, ◌<◌, ◌≤◌, Bool, true, false, cond, not, ◌&&◌, ◌||◌, eqb, ltb, List, ◌++◌, length, take, set, replicate, sym, refl, ap, ◌∙◌, ap₂, arith, le-ltb, lt-ltb, eq-eqb, ne_eqb}
+use Rattle.std.proofs.Common.{◌≡◌, ℕ, ◌+◌, ◌-◌, ◌*◌, ◌%◌, ◌<◌, ◌≤◌, Bool, true, false, cond, not, ◌&&◌, ◌||◌, eqb, ltb, List, ◌++◌, length, take, set, replicate, sym, refl, ap, ◌∙◌, ap₂, arith, eq-eqb, ne_eqb}
 use lib.Bits.{bit_or}
 use Rattle.bits.specs.Bits.{bit, image}
 use Rattle.bits.specs.Search.{least}
@@ -10,7 +10,8 @@ use Rattle.answers.specs.declared.Answer.{Answer}
 use Rattle.answers.specs.declared.Answer.TheVariants.{Taken, Opened, BadField, EventImpossible, KeptOpen}
 use Rattle.answers.specs.Answers.{nowhere}
 use Rattle.rules.specs.declared.Event.{Event}
-use Rattle.rules.specs.declared.EventReading.{EventReading}
+use Rattle.std.specs.declared.option.Option.{Option}
+use Rattle.std.specs.declared.option.Option.TheVariants.{Some, None}
 use Rattle.rules.specs.Codes.{read_event}
 use Rattle.rules.specs.Events.{possible}
 use Rattle.station.specs.declared.Station.{Station}
@@ -29,8 +30,8 @@ use Rattle.plain_moves.proofs.Driving.{under_way_lem}
 use Rattle.plain_station.specs.declared.Plain.{Plain}
 use Rattle.plain_station.specs.declared.PlainOutcome.{PlainOutcome}
 use Rattle.plain_station.specs.Plain.{packed_of, plain_of, plain_outcome, refused_plain, on_floor, plain_driven, plain_evented}
-use Rattle.plain_station.specs.Private.{all_answered, plain_answering, plain_entered}
-use Rattle.plain_station.proofs.Standing.{Sized, floor_bits, floor_back, parts_bits_lem, parts_back}
+use Rattle.plain_station.specs.Private.{first, all_answered, plain_answering, plain_entered}
+use Rattle.plain_station.proofs.Standing.{Sized, comes_back, floor_bits, floor_back, parts_bits_lem, parts_back}
 use Rattle.plain_station.proofs.Areas.{apart_with}
 use Rattle.plain_station.proofs.Marks.{marked_list, marked_every}
 
@@ -44,12 +45,24 @@ pub where_false : {A : Type 0} (b : Bool) (x y : A) → b ≡ false → y ≡ co
 where_false b x y e = rw e
 
 -- the least of n that is at fault was searched for, and found, or not
-module _ (n : ℕ) (fault : ℕ → Bool) (s : Station) (a : ℕ → Answer) (o : Outcome) {k : ℕ} (e : k ≡ least n fault) where
-  pub found : k < n → refused s (a k) ≡ unless_any n fault s a o
-  found h = ap (λ (j : ℕ). refused s (a j)) e ∙ where_true (ltb (least n fault) n) (refused s (a (least n fault))) o (lt-ltb (least n fault) n (rw (← e) h))
+module _ (n : ℕ) (fault : ℕ → Bool) (s : Station) (a : ℕ → Answer) (o : Outcome) {k : Option ℕ} (e : k ≡ first n fault) where
+  pub found : {j : ℕ} → k ≡ Some j → refused s (a j) ≡ unless_any n fault s a o
+  found {j} h = go (ltb (least n fault) n) (least n fault) (sym h ∙ e)
+    where
+      go : (b : Bool) (l : ℕ) → Some j ≡ cond b (Some l) None → refused s (a j) ≡ cond b (refused s (a l)) o
+      go true l d = cc
+      go false l d = cc
 
-  pub none_found : n ≤ k → o ≡ unless_any n fault s a o
-  none_found h = where_false (ltb (least n fault) n) (refused s (a (least n fault))) o (le-ltb (least n fault) n (rw (← e) h))
+  pub none_found : k ≡ None → o ≡ unless_any n fault s a o
+  none_found h = go (ltb (least n fault) n) (least n fault) (sym h ∙ e)
+    where
+      go : (b : Bool) (l : ℕ) → None ≡ cond b (Some l) None → o ≡ cond b (refused s (a l)) o
+      go true l d = cc
+      go false l d = refl
+
+-- the station as it was, and why, is what the packed one hands back
+pub back : (p : Plain) → Sized p → (a : Answer) → refused_plain p a ≡ plain_outcome (refused (packed_of p) a)
+back p z a = ap (λ (q : Plain). refused_plain q a) (sym (comes_back p z))
 
 -- ---- a driver is coming or going
 
@@ -161,7 +174,7 @@ module _ (p : Plain) (e : Event) {able : Bool} (a : able ≡ possible e (plain_b
     driven_there u f = ap (on_floor p) f ∙ entered_so true true (passed a t) (passed open_so u)
 
 -- by what its byte says
-pub event_read : (p : Plain) (b : ℕ) {g : EventReading} → g ≡ read_event b → on_event (plain_driven p) (refused_plain p (BadField nowhere)) g ≡ plain_evented p b
+pub event_read : (p : Plain) (b : ℕ) {g : (Option Event)} → g ≡ read_event b → on_event (plain_driven p) (refused_plain p (BadField nowhere)) g ≡ plain_evented p b
 unfolding plain_evented read_event
 event_read p b d =
     rw d (split (eqb b 1) (λ t. rw t)

@@ -1,6 +1,11 @@
 -- What the contracts of private functions cite; no public one rests on it. Assumes nothing.
-use Rattle.std.specs.Prelude.{ℕ, Bool, true, false, cond, List, length, set, replicate, slice_index_or}
-use Rattle.bits.specs.Search.{every}
+use Rattle.std.specs.Prelude.{ℕ, Bool, true, false, cond, nat_lt, List, length, set, replicate, slice_index_or}
+use Rattle.std.specs.declared.option.Option.{Option}
+use Rattle.std.specs.declared.option.Option.TheVariants.{Some, None}
+use Rattle.std.specs.declared.result.Result.{Result}
+use Rattle.std.specs.declared.result.Result.TheVariants.{Ok, Err}
+use Rattle.bits.specs.Search.{every, least}
+use Rattle.answers.specs.declared.Answer.{Answer}
 use Rattle.answers.specs.declared.Answer.TheVariants.{EventImpossible, KeptOpen}
 use Rattle.rules.specs.declared.Event.{Event}
 use Rattle.rules.specs.Events.{possible}
@@ -12,6 +17,15 @@ use Rattle.plain_moves.specs.Moves.{driven_floor, opens_with}
 use Rattle.plain_station.specs.declared.Plain.{Plain}
 use Rattle.plain_station.specs.declared.PlainOutcome.{PlainOutcome}
 use Rattle.plain_station.specs.Plain.{refused_plain, on_floor}
+
+-- what a call hands back: what it has made, or the station as it was, and why
+abbrev pub handed : Plain → Result PlainOutcome Answer → PlainOutcome
+handed p (Ok o) = o
+handed p (Err a) = refused_plain p a
+
+-- the least number below n that passes, if there is one
+abbrev pub first : ℕ → (ℕ → Bool) → Option ℕ
+first n p = cond (nat_lt (least n p) n) (Some (least n p)) None
 
 -- each of the first n is answered
 unfoldable pub all_answered : List Bool → ℕ → Bool

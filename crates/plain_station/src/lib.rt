@@ -4,9 +4,9 @@
 
 ghost use Rattle.std.specs.Prelude.{◌≡◌, false, slice_index_or};
 ghost use Rattle.bits.specs.Bits.{bit, packed};
-ghost use Rattle.station.specs.Calls as packed_calls;
 ghost use Rattle.plain.specs.Plain.{listed};
-ghost use Rattle.plain_station.specs.Plain.{packed_of, plain_of, plain_outcome, refused_plain};
+ghost use Rattle.plain_station.specs.Plain.{packed_of, plain_of, refused_plain};
+ghost use Rattle.plain_station.specs.Private.{handed};
 
 use answers::Answer;
 use plain::Floor;
@@ -18,6 +18,7 @@ mod requests;
 mod results;
 mod sets;
 
+// Kept: count beside set, here and in all calls and searches of this crate, as the packed station has them (packed_of).
 // The station: the instructions are the request's own five bytes each, unused places zero.
 #[derive(Clone, Copy)]
 pub struct Plain {
@@ -30,6 +31,7 @@ pub struct Plain {
 }
 
 // What a call hands back.
+// Kept: a station beside an answer, not a Result, since it is defined by the packed station's Outcome (specs/Plain.antt).
 #[derive(Clone, Copy)]
 pub struct PlainOutcome {
     pub station: Plain,
@@ -59,9 +61,7 @@ fn byte_of(marks: [bool; 8]) -> u8
     ensures { result ≡ packed 8 0 (λ j. slice_index_or marks j false) }
 {
     let mut byte: u8 = 0;
-    let mut i: usize = 8;
-    while 0 < i {
-        i -= 1;
+    for i in (0..8).rev() {
         byte = byte * 2 + marks[i] as u8;
     }
     byte
@@ -71,6 +71,7 @@ fn byte_of(marks: [bool; 8]) -> u8
 pub fn of_station(s: Station) -> Plain
     ensures { result ≡ plain_of s }
 {
+    // Kept: an array of a struct goes into another struct through a variable (the prover covers no other way).
     let set = s.set;
     Plain {
         floor: plain::of_image(s.bits),
@@ -87,27 +88,35 @@ impl Plain {
     pub fn packed(self) -> Station
         ensures { result ≡ packed_of self }
     {
-        let floor = self.floor;
-        let apart = self.apart;
-        let marks = self.answered;
+        // Kept: an array of a struct goes into another struct through a variable (the prover covers no other way).
         let set = self.set;
         Station {
-            bits: floor.image(),
+            bits: self.floor.image(),
             count: self.count,
-            answered: byte_of(marks),
+            answered: byte_of(self.answered),
             set,
             next: self.next,
-            apart: apart.number(),
+            apart: self.apart.number(),
         }
     }
 
     // The station as it was, and why.
     fn refused(self, answer: Answer) -> PlainOutcome
-        ensures { (result ≡ refused_plain self answer) × (result ≡ plain_outcome (packed_calls.refused (packed_of self) answer)) }
+        ensures { result ≡ refused_plain self answer }
     {
         PlainOutcome {
             station: self,
             answer,
+        }
+    }
+
+    // What a call hands back: what it has made, or the station as it was, and why.
+    fn handed(self, made: Result<PlainOutcome, Answer>) -> PlainOutcome
+        ensures { result ≡ handed self made }
+    {
+        match made {
+            Ok(outcome) => outcome,
+            Err(answer) => self.refused(answer),
         }
     }
 }

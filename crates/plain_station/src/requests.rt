@@ -3,6 +3,7 @@
 ghost use Rattle.std.specs.Prelude.{◌≡◌};
 ghost use Rattle.station.specs.Calls as packed_calls;
 ghost use Rattle.plain_station.specs.Plain.{packed_of, plain_outcome, plain_requested};
+ghost use Rattle.plain_station.specs.Private.{handed};
 
 use super::{Plain, PlainOutcome, sets};
 use answers::Answer;
@@ -14,15 +15,12 @@ impl Plain {
     fn opened(self, count: u8, set: [u8; 40]) -> PlainOutcome
         ensures { result ≡ plain_outcome (packed_calls.opening (packed_of self) count set) }
     {
-        let floor = self.floor;
-        let apart = self.apart;
         let station = Plain {
-            floor,
-            apart,
             count,
             answered: [false; 8],
             set: sets::only(set, count),
             next: wrapping_add_u16(self.next, 1),
+            ..self
         };
         PlainOutcome {
             station,
@@ -31,55 +29,56 @@ impl Plain {
     }
 
     // The end of a request: no two of its instructions overlap, and each is allowed on the floor.
-    fn accepted(self, count: u8, set: [u8; 40]) -> PlainOutcome
-        ensures { result ≡ plain_outcome (packed_calls.accepted (packed_of self) count set) }
+    fn accepted(self, count: u8, set: [u8; 40]) -> Result<PlainOutcome, Answer>
+        ensures { handed self result ≡ plain_outcome (packed_calls.accepted (packed_of self) count set) }
     {
-        let overlapping = sets::least_overlapping(set, count);
-        if overlapping < count {
-            return self.refused(Answer::Overlap(overlapping));
+        if let Some(overlapping) = sets::least_overlapping(set, count) {
+            return Err(Answer::Overlap(overlapping));
         }
-        let floor = self.floor;
-        let barred = sets::least_barred(set, count, floor);
-        if barred < count {
-            let verdict = sets::verdict_at(&set, barred, floor);
-            return self.refused(verdict.answer(barred));
+        if let Some(barred) = sets::least_barred(set, count, self.floor) {
+            let verdict = sets::verdict_at(&set, barred, self.floor);
+            return Err(rules::answer_for(verdict, barred));
         }
-        self.opened(count, set)
+        Ok(self.opened(count, set))
     }
 
     // Before it: while a driver is coming or going none has the lift in its area, and none touches a part that is set apart.
-    fn cleared(self, count: u8, set: [u8; 40]) -> PlainOutcome
-        ensures { result ≡ plain_outcome (packed_calls.cleared (packed_of self) count set) }
+    fn cleared(self, count: u8, set: [u8; 40]) -> Result<PlainOutcome, Answer>
+        ensures { handed self result ≡ plain_outcome (packed_calls.cleared (packed_of self) count set) }
     {
         let floor = self.floor;
         if (floor.coming | floor.going) & sets::lift_in(set, count) {
-            return self.refused(Answer::OutOfTurn);
+            return Err(Answer::OutOfTurn);
         }
-        let apart = self.apart;
-        let touching = sets::least_touching(set, count, apart);
-        if touching < count {
-            return self.refused(Answer::SetApart(touching));
+        if let Some(touching) = sets::least_touching(set, count, self.apart) {
+            return Err(Answer::SetApart(touching));
         }
         self.accepted(count, set)
+    }
+
+    // Before it: no set is outstanding, and 1 to 8 instructions are well formed.
+    fn asked(self, count: u8, set: [u8; 40]) -> Result<PlainOutcome, Answer>
+        ensures { handed self result ≡ plain_requested self count set }
+    {
+        if 0 < self.count {
+            return Err(Answer::SetOutstanding);
+        }
+        if Station::MOST < count {
+            return Err(Answer::TooMany);
+        }
+        if count == 0 {
+            return Err(Answer::EmptySet);
+        }
+        if let Some(bad) = sets::least_bad(set, count) {
+            return Err(Answer::BadField(bad));
+        }
+        self.cleared(count, set)
     }
 
     // A request of `count` instructions, five bytes each, past the test of fitness; bytes past them are not looked at.
     pub fn requested(self, count: u8, set: [u8; 40]) -> PlainOutcome
         ensures { result ≡ plain_requested self count set }
     {
-        if 0 < self.count {
-            return self.refused(Answer::SetOutstanding);
-        }
-        if Station::MOST < count {
-            return self.refused(Answer::TooMany);
-        }
-        if count == 0 {
-            return self.refused(Answer::EmptySet);
-        }
-        let bad = sets::least_bad(set, count);
-        if bad < count {
-            return self.refused(Answer::BadField(bad));
-        }
-        self.cleared(count, set)
+        self.handed(self.asked(count, set))
     }
 }

@@ -4,7 +4,7 @@ ghost use Rattle.answers.specs.declared.Answer.TheVariants.{Taken};
 ghost use Rattle.station.specs.Station.{in_set, behind};
 ghost use Rattle.station.specs.Calls as packed_calls;
 ghost use Rattle.plain_station.specs.Plain.{packed_of, plain_outcome, plain_resulted};
-ghost use Rattle.plain_station.specs.Private.{all_answered, plain_answering};
+ghost use Rattle.plain_station.specs.Private.{handed, all_answered, plain_answering};
 
 use super::{Plain, PlainOutcome, sets};
 use answers::{Answer, NOWHERE};
@@ -18,12 +18,10 @@ fn all_answered(marks: [bool; 8], n: u8) -> bool
     requires { n ≤ 8 }
     ensures { result ≡ all_answered marks n }
 {
-    let mut i: usize = 0;
-    while i < n as usize {
+    for i in 0..n as usize {
         if !marks[i] {
             return false;
         }
-        i += 1;
     }
     true
 }
@@ -44,20 +42,17 @@ impl Plain {
                     count: 0,
                     answered: [false; 8],
                     set: [0; 40],
-                    next: self.next,
+                    ..self
                 },
                 answer: Answer::Taken,
             };
         }
-        let set = self.set;
         PlainOutcome {
             station: Plain {
                 floor,
                 apart,
-                count: self.count,
                 answered,
-                set,
-                next: self.next,
+                ..self
             },
             answer: Answer::Taken,
         }
@@ -68,16 +63,11 @@ impl Plain {
         requires { (self.count ≤ 8) × (i < self.count) }
         ensures { result ≡ plain_outcome (packed_calls.ended (packed_of self) i ending) }
     {
-        let set = self.set;
-        let floor = self.floor;
-        let apart = self.apart;
-        if ending == 1 {
-            return self.answering(i, sets::moved_by(&set, i, floor), apart);
+        match ending {
+            1 => self.answering(i, sets::moved_by(&self.set, i, self.floor), self.apart),
+            2 => self.answering(i, self.floor, self.apart.with(sets::area_at(&self.set, i))),
+            _ => self.answering(i, self.floor, self.apart),
         }
-        if ending == 2 {
-            return self.answering(i, floor, apart.with(sets::area_at(&set, i)));
-        }
-        self.answering(i, floor, apart)
     }
 
     // Whether the set has an instruction of this number.
@@ -88,17 +78,16 @@ impl Plain {
     }
 
     // A result by its instruction's number.
-    fn numbered(self, i: u8, ending: u8) -> PlainOutcome
-        ensures { result ≡ plain_outcome (packed_calls.numbered (packed_of self) i ending) }
+    fn numbered(self, i: u8, ending: u8) -> Result<PlainOutcome, Answer>
+        ensures { handed self result ≡ plain_outcome (packed_calls.numbered (packed_of self) i ending) }
     {
         if !self.in_set(i) {
-            return self.refused(Answer::NotInSet);
+            return Err(Answer::NotInSet);
         }
-        let answered = self.answered;
-        if answered[i as usize] {
-            return self.refused(Answer::AlreadyAnswered);
+        if self.answered[i as usize] {
+            return Err(Answer::AlreadyAnswered);
         }
-        self.ended(i, ending)
+        Ok(self.ended(i, ending))
     }
 
     // How far an issue is behind the present set's, counted round the end.
@@ -109,26 +98,33 @@ impl Plain {
     }
 
     // A result by the issue of its set.
-    fn timely(self, report: Report) -> PlainOutcome
-        ensures { result ≡ plain_outcome (packed_calls.timely (packed_of self) report) }
+    fn timely(self, report: Report) -> Result<PlainOutcome, Answer>
+        ensures { handed self result ≡ plain_outcome (packed_calls.timely (packed_of self) report) }
     {
         match self.behind(report.issue) {
             0 => self.numbered(report.number, report.ending),
-            1..=32767 => self.refused(Answer::Late),
-            _ => self.refused(Answer::NotIssued),
+            1..=32767 => Err(Answer::Late),
+            _ => Err(Answer::NotIssued),
         }
+    }
+
+    // A result whose ending is known, 0 failed, 1 done or 2 stuck, while a set is outstanding.
+    fn reported(self, report: Report) -> Result<PlainOutcome, Answer>
+        ensures { handed self result ≡ plain_resulted self report }
+    {
+        if 2 < report.ending {
+            return Err(Answer::BadField(NOWHERE));
+        }
+        if self.count == 0 {
+            return Err(Answer::NoSet);
+        }
+        self.timely(report)
     }
 
     // A result past the test of fitness: 0 failed, 1 done, 2 stuck.
     pub fn resulted(self, report: Report) -> PlainOutcome
         ensures { result ≡ plain_resulted self report }
     {
-        if 2 < report.ending {
-            return self.refused(Answer::BadField(NOWHERE));
-        }
-        if self.count == 0 {
-            return self.refused(Answer::NoSet);
-        }
-        self.timely(report)
+        self.handed(self.reported(report))
     }
 }

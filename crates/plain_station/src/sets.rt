@@ -1,39 +1,40 @@
 // A set of instructions as the station holds it, read one after the other, and the searches through it for the least that is at fault.
 ghost use Rattle.std.specs.Prelude.{◌≡◌, ◌-◌, ◌*◌, ◌++◌, length, take, replicate};
 ghost use Rattle.bits.specs.Bits.{bit, image};
-ghost use Rattle.bits.specs.Search.{least};
 ghost use Rattle.rules.specs.Codes.{read_code};
 ghost use Rattle.rules.specs.Verdicts.{is_allowed, code_verdict};
 ghost use Rattle.station.specs.Held.{code_at, held_area, held_after, bad, touches, overlaps_earlier, barred, lift_in};
 ghost use Rattle.plain.specs.Plain.{plain_bits, floor_of};
 ghost use Rattle.plain_moves.specs.Moves.{parts_bits, parts_at};
+ghost use Rattle.plain_station.specs.Private.{first};
 
 use plain::Floor;
 use plain_moves::Parts;
-use rules::{Reading, Verdict};
+use rules::{Instruction, Refusal};
 
 // ---- one instruction
 
 // What instruction i of a set says, by its own five bytes; past the eighth there is none.
-fn instruction(set: &[u8], i: u8) -> Reading
+fn instruction(set: &[u8], i: u8) -> Option<Instruction>
     requires { length set.now ≡ 40 }
     ensures { result ≡ read_code (code_at set.now i) }
 {
     if 8 <= i {
-        return Reading::Bad;
+        return None;
     }
     let at = 5 * (i as usize);
     rules::read_bytes(&set[at..])
 }
 
 // It says none.
+// Kept: an arm for each, not `is_none`, since each has a wrong program of its own (must-fail/wrong_programs.edit).
 fn is_bad(set: &[u8], i: u8) -> bool
     requires { length set.now ≡ 40 }
     ensures { result ≡ bad set.now i }
 {
     match instruction(set, i) {
-        Reading::Good(_) => false,
-        Reading::Bad => true,
+        Some(_) => false,
+        None => true,
     }
 }
 
@@ -43,23 +44,19 @@ pub fn area_at(set: &[u8], i: u8) -> Parts
     ensures { result ≡ parts_at (held_area (code_at set.now i)) }
 {
     match instruction(set, i) {
-        Reading::Good(x) => plain_moves::area(x),
-        Reading::Bad => Parts {
-            cells: [false; 40],
-            slots: [false; 12],
-            lift: false,
-        },
+        Some(x) => plain_moves::area(x),
+        None => Parts::NONE,
     }
 }
 
 // What the floor says of it.
-pub fn verdict_at(set: &[u8], i: u8, floor: Floor) -> Verdict
+pub fn verdict_at(set: &[u8], i: u8, floor: Floor) -> Result<(), Refusal>
     requires { length set.now ≡ 40 }
     ensures { result ≡ code_verdict (code_at set.now i) (image (plain_bits floor)) }
 {
     match instruction(set, i) {
-        Reading::Good(x) => floor.verdict(x),
-        Reading::Bad => Verdict::IllFormed,
+        Some(x) => floor.verdict(x),
+        None => Err(Refusal::IllFormed),
     }
 }
 
@@ -69,55 +66,32 @@ pub fn moved_by(set: &[u8], i: u8, floor: Floor) -> Floor
     ensures { result ≡ floor_of (bit (held_after (code_at set.now i) (image (plain_bits floor)))) }
 {
     match instruction(set, i) {
-        Reading::Good(x) => plain_moves::moved(floor, x),
-        Reading::Bad => floor,
+        Some(x) => plain_moves::moved(floor, x),
+        None => floor,
     }
 }
 
 // ---- the first n of them
 
-// The least that says no instruction, or n.
-pub fn least_bad(set: [u8; 40], n: u8) -> u8
-    ensures { result ≡ least n (bad set) }
+// The least that says no instruction, if there is one.
+pub fn least_bad(set: [u8; 40], n: u8) -> Option<u8>
+    ensures { result ≡ first n (bad set) }
 {
-    let mut i = 0;
-    while i < n {
-        if is_bad(&set, i) {
-            return i;
-        }
-        i += 1;
-    }
-    n
+    (0..n).find(|&i| is_bad(&set, i))
 }
 
 // One of them has the lift in its area.
 pub fn lift_in(set: [u8; 40], n: u8) -> bool
     ensures { result ≡ lift_in set n }
 {
-    let mut i = 0;
-    while i < n {
-        let area = area_at(&set, i);
-        if area.lift {
-            return true;
-        }
-        i += 1;
-    }
-    false
+    (0..n).any(|i| area_at(&set, i).lift)
 }
 
-// The least whose area meets what is set apart, or n.
-pub fn least_touching(set: [u8; 40], n: u8, apart: Parts) -> u8
-    ensures { result ≡ least n (touches set (image (parts_bits apart))) }
+// The least whose area meets what is set apart, if there is one.
+pub fn least_touching(set: [u8; 40], n: u8, apart: Parts) -> Option<u8>
+    ensures { result ≡ first n (touches set (image (parts_bits apart))) }
 {
-    let mut i = 0;
-    while i < n {
-        let area = area_at(&set, i);
-        if area.meets(apart) {
-            return i;
-        }
-        i += 1;
-    }
-    n
+    (0..n).find(|&i| area_at(&set, i).meets(apart))
 }
 
 // The area of instruction i meets that of an earlier one.
@@ -126,54 +100,28 @@ fn overlaps_earlier(set: &[u8], i: u8) -> bool
     ensures { result ≡ overlaps_earlier set.now i }
 {
     let area = area_at(set, i);
-    let mut j = 0;
-    while j < i {
-        let earlier = area_at(set, j);
-        if area.meets(earlier) {
-            return true;
-        }
-        j += 1;
-    }
-    false
+    (0..i).any(|j| area.meets(area_at(set, j)))
 }
 
-// The least that overlaps an earlier one, or n.
-pub fn least_overlapping(set: [u8; 40], n: u8) -> u8
-    ensures { result ≡ least n (overlaps_earlier set) }
+// The least that overlaps an earlier one, if there is one.
+pub fn least_overlapping(set: [u8; 40], n: u8) -> Option<u8>
+    ensures { result ≡ first n (overlaps_earlier set) }
 {
-    let mut i = 0;
-    while i < n {
-        if overlaps_earlier(&set, i) {
-            return i;
-        }
-        i += 1;
-    }
-    n
+    (0..n).find(|&i| overlaps_earlier(&set, i))
 }
 
 // Whether a verdict allows.
-fn allows(v: Verdict) -> bool
+fn allows(v: Result<(), Refusal>) -> bool
     ensures { result ≡ is_allowed v }
 {
-    match v {
-        Verdict::Allowed => true,
-        Verdict::NotAllowed(_) => false,
-        Verdict::IllFormed => false,
-    }
+    v.is_ok()
 }
 
-// The least that the floor does not allow, or n.
-pub fn least_barred(set: [u8; 40], n: u8, floor: Floor) -> u8
-    ensures { result ≡ least n (barred set (image (plain_bits floor))) }
+// The least that the floor does not allow, if there is one.
+pub fn least_barred(set: [u8; 40], n: u8, floor: Floor) -> Option<u8>
+    ensures { result ≡ first n (barred set (image (plain_bits floor))) }
 {
-    let mut i = 0;
-    while i < n {
-        if !allows(verdict_at(&set, i, floor)) {
-            return i;
-        }
-        i += 1;
-    }
-    n
+    (0..n).find(|&i| !allows(verdict_at(&set, i, floor)))
 }
 
 // Their bytes, the unused places zero.
@@ -185,10 +133,8 @@ pub fn only(set: [u8; 40], n: u8) -> [u8; 40]
     }
     let mut kept = [0u8; 40];
     let end = 5 * (n as usize);
-    let mut k = 0;
-    while k < end {
+    for k in 0..end {
         kept[k] = set[k];
-        k += 1;
     }
     kept
 }

@@ -1,3 +1,4 @@
+pub mod Numbered
 pub mod Walking
 pub mod Parts
 pub mod Cases

@@ -11,15 +11,18 @@ use Rattle.bits.proofs.Operations.{bit_and_lem}
 use Rattle.bits.proofs.Meeting.{meet}
 use Rattle.bits.proofs.Sharing.{share_masks}
 use Rattle.floor.specs.Floor.{lift}
+use Rattle.rules.specs.declared.Instruction.{Instruction}
 use Rattle.rules.specs.declared.Code.{Code}
-use Rattle.rules.specs.declared.Reading.{Reading}
-use Rattle.rules.specs.declared.Reading.TheVariants.{Good, Bad}
+use Rattle.rules.specs.declared.Instruction.{Instruction}
+use Rattle.std.specs.declared.option.Option.{Option}
+use Rattle.std.specs.declared.option.Option.TheVariants.{Some, None}
 use Rattle.rules.specs.Rules.{area_of, area}
 use Rattle.rules.specs.Codes.{read_code}
-use Rattle.rules.specs.Verdicts.{on_code}
-use Rattle.areas.specs.declared.Located.{Located}
-use Rattle.areas.specs.Located.{locate}
+use Rattle.std.specs.Prelude.{unwrap_or}
+use Rattle.rules.specs.Verdicts.{on_code, mask_of, code_mask}
+use Rattle.rules.proofs.CodeLaws.{one_form_lem}
 use Rattle.answers.specs.declared.Answer.{Answer}
+use Rattle.answers.specs.declared.Answer.TheVariants.{Overlap}
 use Rattle.answers.specs.Answers.{number_of, place_of, nowhere}
 use Rattle.station.specs.Held.{code_at, held_area, held_parts}
 use Rattle.station.specs.Private.{held_mask}
@@ -36,18 +39,19 @@ pub code_so : (set : List ℕ) (i : ℕ) {o a b c d : ℕ}
     → ◌≡◌ {A = Code} (record { op = o; a = a; b = b; c = c; d = d }) (code_at set i)
 code_so set i e f g h k = rw (e, f, g, h, k) (sym (five_at set i))
 
-located_mask : (x : Code) → (locate x).area ≡ held_mask x
-unfolding locate held_mask held_area area packed
-located_mask x = read (read_code x)
+-- an area is its mask, and that of bytes that say nothing is empty
+area_mask_lem : (x : Code) → unwrap_or (code_mask x) 0 ≡ held_mask x
+unfolding code_mask mask_of held_mask held_area area packed
+area_mask_lem x = read (read_code x) refl
   where
-    read : (g : Reading) → on_code (λ i. image (λ k. elem k (area_of i))) 0 g ≡ image (λ k. elem k (on_code area_of [] g))
-    read (Good i) = refl
-    read Bad = refl
+    read : (g : (Option Instruction)) → read_code x ≡ g → unwrap_or (on_code mask_of None g) 0 ≡ image (λ k. elem k (on_code area_of [] g))
+    read (Some i) e = rw (one_form_lem x i e).1
+    read None e = refl
 
-pub parts_so : (set : List ℕ) (i : ℕ) {x : Code} {l : Located} → x ≡ code_at set i → l ≡ locate x
-    → bit_and l.area parts_mask ≡ held_parts (code_at set i)
-parts_so set i {x} {l} d e =
-    parts_is (code_at set i) (ap (λ (y : Located). y.area) e ∙ located_mask x ∙ ap held_mask d)
+pub parts_so : (set : List ℕ) (i : ℕ) {x : Code} {m : Option ℕ} {a : ℕ} → x ≡ code_at set i → m ≡ code_mask x → a ≡ unwrap_or m 0
+    → bit_and a parts_mask ≡ held_parts (code_at set i)
+parts_so set i {x} d e f =
+    parts_is (code_at set i) (f ∙ ap (λ (o : Option ℕ). unwrap_or o 0) e ∙ area_mask_lem x ∙ ap held_mask d)
 
 -- ---- two instructions
 
@@ -125,13 +129,16 @@ meets_so m h = ap not (ne_eqb m 0 h)
 -- ---- the grounds of a refusal
 
 module _ (k bits : ℕ) (set : List ℕ) (a : Answer) {number place : ℕ} (e : number ≡ number_of a) (f : place ≡ place_of a) where
-  pub refused_overlap : {earlier p q : ℕ} → number ≡ 8 → earlier ≡ first_overlapped set place
-      → p ≡ held_parts (code_at set place) → q ≡ held_parts (code_at set earlier)
+  pub refused_overlap : {i earlier p q : ℕ} → a ≡ Overlap i → earlier ≡ first_overlapped set i
+      → p ≡ held_parts (code_at set i) → q ≡ held_parts (code_at set earlier)
       → ◌≡◌ {A = Grounds} (record { number = number; set = k; place = place; earlier = earlier; parts = bit_and p q; bits = bits }) (refused_set k bits set a)
   unfolding refused_set
-  refused_overlap h g m n = rw (m, n, g, ← e, ← f, eq-eqb number 8 h)
+  refused_overlap {i} h g m n =
+      let x : number ≡ 8 = e ∙ ap number_of h in
+      let y : place ≡ i = f ∙ ap place_of h in
+      rw (m, n, g, ← y, ← e, ← f, eq-eqb number 8 x)
 
-  pub refused_other : {p : ℕ} → (number ≡ 8 → ⊥) → p ≡ cond (eqb number 31) (2 ^ 52) 0
+  pub refused_other : {p : ℕ} → (number_of a ≡ 8 → ⊥) → p ≡ cond (eqb (number_of a) 31) (2 ^ 52) 0
       → ◌≡◌ {A = Grounds} (record { number = number; set = k; place = place; earlier = nowhere; parts = p; bits = bits }) (refused_set k bits set a)
   unfolding refused_set
-  refused_other h g = rw (g, ← e, ← f, ne_eqb number 8 h)
+  refused_other h g = rw (g, ← e, ← f, ne_eqb number 8 (λ z. h (sym e ∙ z)))

@@ -14,8 +14,12 @@ use floor::masks::{HEIGHT_HIGH, HEIGHT_LOW, RAISED_CAR};
 use station::{Outcome, Picture, Report, Station};
 use std::num::wrapping_sub_u16;
 
+mod bytes;
 mod sets;
 
+use bytes::Whole;
+
+// Kept: number and set stay numbers: theorems PlanNumbers, PlanOrder and FirstRefused speak of each, and the edits wholly, judge and explain.
 // The judgement of a plan: 0 accepted, or why not; and the first set refused, from 0, or 255.
 #[derive(Clone, Copy)]
 pub struct Judged {
@@ -78,13 +82,11 @@ fn wholly(number: u8, bits: u64) -> Grounds
 fn size(plan: &[u8]) -> usize
     ensures { result ≡ plan_size (plan_in plan.now) }
 {
-    let n = wire::byte(plan, SETS);
     let mut at: usize = HEAD;
-    let mut k: u8 = 0;
-    while k < n {
+    let n = wire::byte(plan, SETS);
+    for _k in 0..n {
         let count = wire::byte(plan, at);
         at = at + 1 + 5 * (count as usize);
-        k += 1;
     }
     at
 }
@@ -98,20 +100,15 @@ fn done(s: Station, i: u8) -> Station
         number: i,
         ending: 1,
     });
-    let held = s.set;
-    let o = s.after(t, held);
-    o.station
+    s.after(t, s.set).station
 }
 
 // The station after the first n succeed, one after the other.
-fn succeeded(s: Station, n: u8) -> Station
+fn succeeded(mut s: Station, n: u8) -> Station
     ensures { result ≡ succeeded n s }
 {
-    let mut s = s;
-    let mut i: u8 = 0;
-    while i < n {
+    for i in 0..n {
         s = done(s, i);
-        i += 1;
     }
     s
 }
@@ -148,63 +145,52 @@ fn ended(wish: u8, r: u64) -> Grounds
 }
 
 // The sets of a plan, one after the other, on the station that its image left; then the wish.
-fn tried(s: Station, plan: &[u8]) -> Grounds
-    requires { length plan.now ≡ plan_size (plan_in plan.now) }
-    ensures { result ≡ tried (plan_in plan.now).wish 0 s (plan_in plan.now).sets }
+fn tried(mut s: Station, plan: Whole) -> Grounds
+    ensures { result ≡ tried (plan_in plan.entry.bytes.now).wish 0 s (plan_in plan.entry.bytes.now).sets }
 {
-    let n = wire::byte(plan, SETS);
-    let mut s = s;
+    let bytes = plan.bytes;
+    let n = wire::byte(bytes, SETS);
     let mut at: usize = HEAD;
-    let mut k: u8 = 0;
-    while k < n {
-        let count = plan[at];
+    for k in 0..n {
+        let count = bytes[at];
         let from = at + 1;
         let to = from + 5 * (count as usize);
-        let o = asked(s, count, &plan[from..to]);
-        let answer = o.answer;
-        let number = answer.number();
-        if number != 0 {
-            return sets::refused(k, s.bits, wire::set_of(&plan[from..to]), answer);
+        let o = asked(s, count, &bytes[from..to]);
+        if o.answer.number() != 0 {
+            return sets::refused(k, s.bits, wire::set_of(&bytes[from..to]), o.answer);
         }
-        let opened = o.station;
-        s = succeeded(opened, count);
+        s = succeeded(o.station, count);
         at = to;
-        k += 1;
     }
-    ended(wire::byte(plan, WISH), s.bits)
+    ended(wire::byte(bytes, WISH), s.bits)
 }
 
 // The image of a plan on the start station.
-fn imaged(plan: &[u8]) -> Outcome
-    requires { length plan.now ≡ plan_size (plan_in plan.now) }
-    ensures { result ≡ imaged_at (plan_in plan.now) }
+fn imaged(plan: Whole) -> Outcome
+    ensures { result ≡ imaged_at (plan_in plan.entry.bytes.now) }
 {
     let start = Station::start();
-    let apart = wire::image_of(&plan[APART..]);
+    let apart = wire::image_of(&plan.bytes[APART..]);
     let t = start.imaged(Picture {
-        bits: wire::image_of(plan),
+        bits: wire::image_of(plan.bytes),
         apart,
     });
-    let held = start.set;
-    start.after(t, held)
+    start.after(t, start.set)
 }
 
 // A plan that is whole: its image, how many sets it has, then the sets and the wish.
-fn weighed(plan: &[u8]) -> Grounds
-    requires { length plan.now ≡ plan_size (plan_in plan.now) }
-    ensures { result ≡ weighed (plan_in plan.now) }
+fn weighed(plan: Whole) -> Grounds
+    ensures { result ≡ weighed (plan_in plan.entry.bytes.now) }
 {
     let o = imaged(plan);
-    let answer = o.answer;
-    let number = answer.number();
+    let number = o.answer.number();
     if number != 0 {
         return wholly(number, 0);
     }
-    if SETS_MOST < wire::byte(plan, SETS) {
+    if SETS_MOST < wire::byte(plan.bytes, SETS) {
         return wholly(TOO_MANY_SETS, 0);
     }
-    let s = o.station;
-    tried(s, plan)
+    tried(o.station, plan)
 }
 
 // The grounds on which a plan's bytes are judged.
@@ -221,7 +207,7 @@ pub fn explain(plan: &[u8]) -> Grounds
     if n < plan.len() {
         return wholly(BAD_FIELD, 0);
     }
-    weighed(plan)
+    weighed(Whole { bytes: plan })
 }
 
 // The judgement of a plan's bytes.

@@ -1,16 +1,12 @@
 // The grounds on which a set is refused: the instruction at fault, the first earlier one that it overlaps, and the parts that both take.
 ghost use Rattle.std.specs.Prelude.{◌≡◌, ◌^◌, if◌then◌else◌, nat_eq};
+ghost use Rattle.answers.specs.Answers.{number_of};
 ghost use Rattle.station.specs.Held.{code_at, held_parts};
 ghost use Rattle.plan.specs.Plans.{first_overlapped, refused_set};
 
 use super::Grounds;
 use answers::{Answer, NOWHERE};
 use rules::Code;
-
-// The number of an overlap, and that of the lift out of turn.
-const OVERLAP: u8 = 8;
-
-const OUT_OF_TURN: u8 = 31;
 
 // The bits of parts, as what is set apart has them; and the lift's.
 const PARTS: u64 = 0x1F_FFFF_FFFF_FFFF;
@@ -35,8 +31,7 @@ fn code_at(set: &[u8], i: u8) -> Code
 fn parts_at(set: &[u8], i: u8) -> u64
     ensures { result ≡ held_parts (code_at set.now i) }
 {
-    let x = areas::locate(code_at(set, i));
-    x.area & PARTS
+    areas::code_area(code_at(set, i)).unwrap_or(0) & PARTS
 }
 
 // The first before i that it overlaps, or i.
@@ -44,50 +39,43 @@ fn first_overlapped(set: &[u8], i: u8) -> u8
     ensures { result ≡ first_overlapped set.now i }
 {
     let own = parts_at(set, i);
-    let mut j: u8 = 0;
-    while j < i {
-        let other = parts_at(set, j);
-        if own & other != 0 {
+    for j in 0..i {
+        if own & parts_at(set, j) != 0 {
             return j;
         }
-        j += 1;
     }
     i
 }
 
 // The lift, if it is out of turn.
-fn lift_if(number: u8) -> u64
-    ensures { result ≡ (if nat_eq number 31 then 2 ^ 52 else 0) }
+fn lift_if(answer: Answer) -> u64
+    ensures { result ≡ (if nat_eq (number_of answer) 31 then 2 ^ 52 else 0) }
 {
-    if number == OUT_OF_TURN {
-        return LIFT_PART;
+    match answer {
+        Answer::OutOfTurn => LIFT_PART,
+        _ => 0,
     }
-    0
 }
 
 // Set k is refused so on a record.
 pub fn refused(k: u8, bits: u64, set: [u8; 40], answer: Answer) -> Grounds
     ensures { result ≡ refused_set k bits set answer }
 {
-    let number = answer.number();
-    let place = answer.place();
-    if number == OVERLAP {
-        let earlier = first_overlapped(&set, place);
-        return Grounds {
-            number,
-            set: k,
-            place,
-            earlier,
-            parts: parts_at(&set, place) & parts_at(&set, earlier),
-            bits,
-        };
-    }
-    Grounds {
-        number,
+    let alone = Grounds {
+        number: answer.number(),
         set: k,
-        place,
+        place: answer.place(),
         earlier: NOWHERE,
-        parts: lift_if(number),
+        parts: lift_if(answer),
         bits,
+    };
+    let Answer::Overlap(place) = answer else {
+        return alone;
+    };
+    let earlier = first_overlapped(&set, place);
+    Grounds {
+        earlier,
+        parts: parts_at(&set, place) & parts_at(&set, earlier),
+        ..alone
     }
 }

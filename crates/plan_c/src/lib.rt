@@ -13,6 +13,7 @@ use rooms::{image_in, tell};
 // The bytes of the grounds.
 const GROUNDS: usize = 18;
 
+// Kept: number and set in one number, as C is told them (returned_judgement).
 // A judgement as one number.
 fn said(number: u8, set: u8) -> u32
     ensures { result ≡ number + 256 * set }
@@ -33,11 +34,11 @@ pub extern "C" fn plan_judge(plan: &[u8]) -> u32
 fn grounds_bytes(g: Grounds) -> [u8; GROUNDS]
     ensures { result ≡ grounds_bytes g }
 {
-    let b = image_in(g.bits, g.parts);
-    [
-        b[0], b[1], b[2], b[3], b[4], b[5], b[6], b[7], b[8], b[9], b[10], b[11], b[12], b[13],
-        b[14], b[15], g.place, g.earlier,
-    ]
+    let mut bytes = [0; GROUNDS];
+    bytes[..16].copy_from_slice(&image_in(g.bits, g.parts));
+    bytes[16] = g.place;
+    bytes[17] = g.earlier;
+    bytes
 }
 
 // Judges a plan, and writes the grounds to a room of their own.

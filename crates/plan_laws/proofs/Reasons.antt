@@ -19,8 +19,8 @@ use Rattle.bits.proofs.Operations.{bit_and_lem}
 use Rattle.answers.specs.declared.Answer.{Answer}
 use Rattle.answers.specs.Answers.{number_of, place_of, nowhere}
 use Rattle.rules.specs.declared.Instruction.{Instruction}
-use Rattle.rules.specs.declared.Reading.{Reading}
-use Rattle.rules.specs.declared.Reading.TheVariants.{Good, Bad}
+use Rattle.std.specs.declared.option.Option.{Option}
+use Rattle.std.specs.declared.option.Option.TheVariants.{Some, None}
 use Rattle.rules.specs.Rules.{area_of, overlap}
 use Rattle.rules.specs.Codes.{read_code}
 use Rattle.rules.specs.Verdicts.{on_code}
@@ -61,8 +61,8 @@ module _ (held : List ℕ) (i j : ℕ) where
   pub record TwoSaid : Type 0 where
     pub one : Instruction
     pub other : Instruction
-    pub says : read_code (code_at held i) ≡ Good one
-    pub other_says : read_code (code_at held j) ≡ Good other
+    pub says : read_code (code_at held i) ≡ Some one
+    pub other_says : read_code (code_at held j) ≡ Some other
 
   no_place : (ks : List ℕ) → share ks [] ≡ false
   no_place [] = refl
@@ -72,18 +72,18 @@ module _ (held : List ℕ) (i j : ℕ) where
   unfolding held_area
   two_said e = read (read_code (code_at held i)) (read_code (code_at held j)) refl refl
     where
-      read : (g h : Reading) → read_code (code_at held i) ≡ g → read_code (code_at held j) ≡ h → TwoSaid
-      read Bad h p q = clash e (rw p)
-      read (Good a) Bad p q = clash e (rw (p, q) (no_place (area_of a)))
-      read (Good a) (Good b) p q = record { one = a; other = b; says = p; other_says = q }
+      read : (g h : (Option Instruction)) → read_code (code_at held i) ≡ g → read_code (code_at held j) ≡ h → TwoSaid
+      read None h p q = clash e (rw p)
+      read (Some a) None p q = clash e (rw (p, q) (no_place (area_of a)))
+      read (Some a) (Some b) p q = record { one = a; other = b; says = p; other_says = q }
 
   -- and they overlap by the rules
-  by_rules : (one other : Instruction) → read_code (code_at held i) ≡ Good one → read_code (code_at held j) ≡ Good other → overlaps_that held i j ≡ overlap one other
+  by_rules : (one other : Instruction) → read_code (code_at held i) ≡ Some one → read_code (code_at held j) ≡ Some other → overlaps_that held i j ≡ overlap one other
   unfolding held_area overlap
   by_rules one other p q = rw (p, q)
 
   -- the parts of both
-  in_both : (one other : Instruction) → read_code (code_at held i) ≡ Good one → read_code (code_at held j) ≡ Good other
+  in_both : (one other : Instruction) → read_code (code_at held i) ≡ Some one → read_code (code_at held j) ≡ Some other
       → (k : ℕ) → k < 64 → bit (shared_parts held i j) k ≡ parts_in (area_of one) k && parts_in (area_of other) k
   unfolding held_parts held_area
   in_both one other p q k h =

@@ -7,7 +7,7 @@ use Rattle.floor.specs.Tests.{holds, under_way}
 use Rattle.answers.specs.declared.Answer.TheVariants.{TooFewBytes, BadField, Overlap, Unsound, OutOfTurn}
 use Rattle.answers.specs.Answers.{number_of, nowhere}
 use Rattle.rules.specs.declared.Instruction.{Instruction}
-use Rattle.rules.specs.declared.Reading.TheVariants.{Good}
+use Rattle.std.specs.declared.option.Option.TheVariants.{Some}
 use Rattle.rules.specs.Rules.{area_of, overlap}
 use Rattle.rules.specs.Codes.{read_code}
 use Rattle.wire.specs.Kinds.{set_of}
@@ -37,11 +37,11 @@ RefusedAsThere =
 pub record FirstOverlap (held : List ℕ) (i j parts : ℕ) : Type 0 where
   pub one : Instruction
   pub other : Instruction
-  pub says : read_code (code_at held i) ≡ Good one
-  pub other_says : read_code (code_at held j) ≡ Good other
+  pub says : read_code (code_at held i) ≡ Some one
+  pub other_says : read_code (code_at held j) ≡ Some other
   pub earlier : j < i
   pub overlapping : overlap one other ≡ true
-  pub first : (m : ℕ) (between : Instruction) → m < j → read_code (code_at held m) ≡ Good between → overlap one between ≡ false
+  pub first : (m : ℕ) (between : Instruction) → m < j → read_code (code_at held m) ≡ Some between → overlap one between ≡ false
   pub both : (k : ℕ) → k < 64 → bit parts k ≡ parts_in (area_of one) k && parts_in (area_of other) k
   pub some : parts ≡ 0 → ⊥
 

@@ -1,12 +1,10 @@
 -- Totals in bytes read back, and have one form. Assumes nothing.
 use mathlib.Core.Path.{◌≡◌, ap}
-use mathlib.Core.List.{List}
 use mathlib.Core.Logic.{◌⊎◌, inl, inr}
 use Prim.Native.Nat.{ℕ, ◌≤◌, ◌<◌}
 use native.Mathlib.Omega.{arith}
 use lib.ListN.{length, get_or, get_or-eq_default}
 use Rattle.bits.proofs.Search.{lt_or_ge}
-use Rattle.codec.specs.Bytes.{Bytes}
 use Rattle.totals.specs.Totals.{totals_of}
 use Rattle.codec.proofs.Fours.{valued_length}
 use Rattle.codec.proofs.Forms.{number, held_at, number_small, fours_read_back, fours_one_form}

@@ -1,31 +1,34 @@
 -- Totals in which a message is counted are such as code holds, and a room that keeps them holds them. Assumes nothing.
-use mathlib.Core.Path.{◌≡◌, refl, sym, ◌∙◌}
+use mathlib.Core.Path.{◌≡◌, refl, sym, ap, ◌∙◌}
 use mathlib.Core.Bool.{Bool, true, false, ◌&&◌}
 use mathlib.Core.Logic.{◌⊎◌, inl, inr}
 use mathlib.Core.List.{List}
 use Prim.Native.Nat.{ℕ, ◌+◌, ◌/◌, ◌≤◌, ◌<◌}
 use native.Mathlib.Omega.{arith}
-use borrow.Author.Tests.{le-ltb, leb-false, ltb-false, eqb-true, eqb-false}
-use lib.Dec.{eqb, leb, ltb}
+use borrow.Author.Tests.{le-ltb, leb-false, ltb-false}
+use lib.Dec.{leb, ltb}
 use lib.ListN.{get_or, length, drop, length-append}
 use Rattle.bits.specs.Bits.{digit}
-use Rattle.bits.proofs.Cases.{split}
+use Rattle.std.specs.Prelude.{is_none}
+use Rattle.bits.proofs.Cases.{split, clash}
 use Rattle.bits.proofs.Search.{lt_or_ge}
 use Rattle.bits.proofs.Least.{least_below}
-use Rattle.floor.specs.declared.Total.{Total}
-use Rattle.floor.specs.declared.Total.TheVariants.{Cars, Unsound}
+use Rattle.std.specs.declared.option.Option.{Option}
+use Rattle.std.specs.declared.option.Option.TheVariants.{Some, None}
 use Rattle.floor.specs.Sound.{total, cars_in}
 use Rattle.floor.proofs.Few.{few_cars}
 use Rattle.station.specs.declared.Station.{Station}
 use Rattle.service.specs.Service.{respond}
 use Rattle.totals.specs.declared.Totals.{Totals}
 use Rattle.totals.specs.declared.Happened.{Happened}
-use Rattle.totals.specs.Totals.{Name, size, order, name_at, counts, next_total, nexts, most_counted, none_full, full, first_full, counted_in}
-use Rattle.totals.specs.Totals.Name.{Kind, Number, Done, Failed, CarsIn, CarsOut, MostCars}
+use Rattle.totals.specs.declared.Name.{Name}
+use Rattle.totals.specs.Totals.{size, order, name_at, counts, next_total, nexts, most_counted, full, first_full, counted_in}
+use Rattle.totals.specs.declared.Name.TheVariants.{Kind, Number, Done, Failed, CarsIn, CarsOut, MostCars}
+use Rattle.totals.proofs.Steps.{none_told}
 use Rattle.totals.proofs.Order.{nexts_length, after_at, after_beyond}
 use Rattle.week.specs.Weeks.{happened}
 use Rattle.rooms.specs.Rooms.{station_of, writes}
-use Rattle.report_c.specs.Entries.{totals_bytes, totals_in, tallied, counting}
+use Rattle.report_c.specs.Entries.{full_byte, totals_bytes, totals_in, tallied, counting}
 use Rattle.report_c.specs.Promises.{TotalsTyped, MessageCounted}
 use Rattle.report_c.proofs.Forms.{totals_read_back, any_bytes_hold}
 use Rattle.report_c.proofs.Rooms.{totals_size}
@@ -60,13 +63,13 @@ module _ (t : Totals) (h : Happened) where
       go e p (inr l) = rw (after_beyond h t.counts p l) (w.small p)
 
   -- where one is full, all stay
-  full_stays : ((counted_in t h).full ≡ none_full → ⊥) → (counted_in t h).totals ≡ t
+  full_stays : is_none (counted_in t h).full ≡ false → (counted_in t h).totals ≡ t
   unfolding counted_in
-  full_stays n = split (ltb (first_full t h) size) (λ e. rw e) (λ e. absurd (n (rw e)))
+  full_stays n = split (ltb (first_full t h) size) (λ e. rw e) (λ e. clash {b = is_none (counted_in t h).full} (rw e) n)
 
-few : (x : Total) → ((n : ℕ) → x ≡ Cars n → n ≤ 30) → cars_in x ≤ most_counted
-few (Cars n) f = let k = f n refl in omega arith
-few Unsound f = omega arith
+few : (x : Option ℕ) → ((n : ℕ) → x ≡ Some n → n ≤ 30) → cars_in x ≤ most_counted
+few (Some n) f = let k = f n refl in omega arith
+few None f = omega arith
 
 happened_few : (s : Station) (message : List ℕ) → (happened s message).cars ≤ most_counted
 unfolding happened
@@ -79,7 +82,7 @@ pub record Counted (room station message : List ℕ) : Type 0 where
   pub long : 208 ≤ length (counting room station message).leaves
   pub typed : TotalsTyped (counted_in (totals_in room) (happened (station_of station) message)).totals
   pub totals : totals_in (counting room station message).leaves ≡ (counted_in (totals_in room) (happened (station_of station) message)).totals
-  pub full : (counting room station message).says / 256 ≡ (counted_in (totals_in room) (happened (station_of station) message)).full
+  pub full : (counting room station message).says / 256 ≡ full_byte (counted_in (totals_in room) (happened (station_of station) message)).full
 
 pub counted_room : (room station message : List ℕ) → TotalsTyped (totals_in room) → 208 ≤ length room → 60 ≤ length station → Counted room station message
 unfolding counting tallied writes
@@ -89,8 +92,8 @@ counted_room room station message w h l =
     let c = counted_in t x in
     let typed = counted_typed t x w (happened_few (station_of station) message) in
     let past = drop (length (totals_bytes c.totals)) room in
-    split (eqb c.full none_full)
-    (λ e. let f = eqb-true c.full none_full e in
+    split (is_none c.full)
+    (λ e. let f = ap full_byte (none_told c.full e) in
     let z = totals_size c.totals in
     record {
       long = rw (le-ltb _ _ h, le-ltb _ _ l, e, length-append (totals_bytes c.totals) past) (omega arith);
@@ -101,7 +104,7 @@ counted_room room station message w h l =
     (λ e. record {
       long = rw (le-ltb _ _ h, le-ltb _ _ l, e) h;
       typed = typed;
-      totals = rw (le-ltb _ _ h, le-ltb _ _ l, e) (sym (full_stays t x (eqb-false c.full none_full e)));
+      totals = rw (le-ltb _ _ h, le-ltb _ _ l, e) (sym (full_stays t x e));
       full = rw (le-ltb _ _ h, le-ltb _ _ l, e) (omega arith);
     })
 

@@ -1,23 +1,25 @@
 -- What each entry answers and leaves, case by case. Assumes nothing.
-use mathlib.Core.Path.{◌≡◌, refl, sym, ap, ◌∙◌}
+use mathlib.Core.Path.{◌≡◌, refl, ap, ◌∙◌}
 use mathlib.Core.Bool.{Bool, true, false, not}
 use mathlib.Core.List.{List, ◌++◌}
 use Prim.Native.Nat.{ℕ, ◌+◌, ◌*◌, ◌-◌, ◌≤◌, ◌<◌}
 use native.Mathlib.Omega.{arith}
-use borrow.Author.Tests.{lt-ltb, le-ltb, eq-eqb, ne_eqb}
+use borrow.Author.Tests.{lt-ltb, le-ltb}
 use lib.ListN.{length, take, drop, replicate, length-append}
 use lib.Seq.{take_at, take-length, length-take-le}
 use Rattle.bits.proofs.Cases.{passed, failed}
 use Rattle.answers.specs.declared.Answer.TheVariants.{Taken, BadField, NoRoom}
 use Rattle.answers.specs.Answers.{nowhere}
+use Rattle.std.specs.declared.option.Option.{Option}
+use Rattle.std.specs.declared.option.Option.TheVariants.{Some, None}
 use Rattle.totals.specs.declared.Totals.{Totals}
-use Rattle.totals.specs.Totals.{totals_of, none_full, counted_in, LeavesCounts, blank}
+use Rattle.totals.specs.Totals.{totals_of, counted_in, LeavesCounts, blank}
 use Rattle.week.specs.Weeks.{happened}
 use Rattle.station.specs.declared.Station.{Station}
 use Rattle.report_text.specs.declared.Text.{Text}
 use Rattle.report_text.specs.Lines.{report_of, text_of}
 use Rattle.rooms.specs.Rooms.{station_of, lent_station, returned, LeavesRoom, writes}
-use Rattle.report_c.specs.Entries.{totals_bytes, totals_in, starting, full_number, tallied, counting, known_full, texting, lining}
+use Rattle.report_c.specs.Entries.{totals_bytes, totals_in, starting, full_number, full_by, tallied, counting, known_full, texting, lining}
 use Rattle.codec.proofs.Fours.{bytes_to, bytes_length}
 
 pub totals_size : (t : Totals) → length (totals_bytes t) ≡ 208
@@ -59,15 +61,15 @@ module _ (room station message : List ℕ) {r : ℕ} where
   station_short h l e = rw (le-ltb _ _ h, lt-ltb _ _ l) (e, refl)
 
   module _ (h : 208 ≤ length room) (l : 60 ≤ length station) {s : Station} {t : Totals} (e : s ≡ lent_station station) (f : t ≡ totals_in room)
-      {full : ℕ} {after : List ℕ} (c : LeavesCounts (counted_in (totals_of t.counts) (happened s message)) full after) where
-    pub count_full : (full ≡ none_full → ⊥) → r ≡ full_number + 256 * full → LeavesRoom (counting room station message) r room
+      {full : Option ℕ} {after : List ℕ} (c : LeavesCounts (counted_in (totals_of t.counts) (happened s message)) full after) where
+    pub count_full : (place : ℕ) → full ≡ Some place → r ≡ full_number + 256 * place → LeavesRoom (counting room station message) r room
     unfolding counting tallied
-    count_full z g = rw (le-ltb _ _ h, le-ltb _ _ l, ← lent_is station l e, ← f, ← c.full, ne_eqb _ _ z) (g, refl)
+    count_full place z g = rw (le-ltb _ _ h, le-ltb _ _ l, ← lent_is station l e, ← f, ← c.full, z) (g, refl)
 
-    pub count_written : {last : List ℕ} → full ≡ none_full → r ≡ returned Taken → last ≡ totals_bytes (totals_of after) ++ drop 208 room
+    pub count_written : {last : List ℕ} → full ≡ None → r ≡ returned Taken → last ≡ totals_bytes (totals_of after) ++ drop 208 room
         → LeavesRoom (counting room station message) r last
     unfolding counting tallied
-    count_written z g w = rw (le-ltb _ _ h, le-ltb _ _ l, ← lent_is station l e, ← f, ← c.full, eq-eqb _ _ z) (written _ room g (w ∙ rw c.counts))
+    count_written z g w = rw (le-ltb _ _ h, le-ltb _ _ l, ← lent_is station l e, ← f, ← c.full, z) (written _ room g (w ∙ rw c.counts))
 
 -- ---- the text
 
@@ -105,7 +107,7 @@ module _ (room : List ℕ) (full : ℕ) (out : List ℕ) {b : Bool} (asked : b �
   unfolding lining
   lines_short h l e = rw (passed asked h, lt-ltb _ _ l) (e, refl)
 
-  pub lines_written : {t : Totals} {x : Text} {last : List ℕ} → not b ≡ false → 208 ≤ length room → t ≡ totals_in room → x ≡ text_of (report_of t full)
+  pub lines_written : {t : Totals} {x : Text} {last : List ℕ} → not b ≡ false → 208 ≤ length room → t ≡ totals_in room → x ≡ text_of (report_of t (full_by full))
       → LeavesRoom (texting (take x.size x.bytes) out) r last → LeavesRoom (lining room full out) r last
   unfolding lining
-  lines_written {t} {x} h l e f w = rw (passed asked h, le-ltb _ _ l, ← e, ← text_bytes (report_of t full) x f) w
+  lines_written {t} {x} h l e f w = rw (passed asked h, le-ltb _ _ l, ← e, ← text_bytes (report_of t (full_by full)) x f) w

@@ -5,7 +5,7 @@ use Rattle.totals.specs.declared.Totals.{Totals}
 use Rattle.totals.specs.Totals.{size, most_counted, counted_in}
 use Rattle.week.specs.Weeks.{happened}
 use Rattle.rooms.specs.Rooms.{station_size, station_of}
-use Rattle.report_c.specs.Entries.{totals_size, totals_bytes, totals_in, starting, counting, lining}
+use Rattle.report_c.specs.Entries.{full_byte, totals_size, totals_bytes, totals_in, starting, counting, lining}
 
 -- totals as code holds them: one for each place, none above the most
 pub record TotalsTyped (t : Totals) : Type 0 where
@@ -33,7 +33,7 @@ abbrev pub MessageCounted : Type 0
 MessageCounted =
     (room station message : List ℕ) → Bytes room → totals_size ≤ length room → station_size ≤ length station
     → let c = counted_in (totals_in room) (happened (station_of station) message) in
-    (totals_in (counting room station message).leaves ≡ c.totals) × ((counting room station message).says / 256 ≡ c.full)
+    (totals_in (counting room station message).leaves ≡ c.totals) × ((counting room station message).says / 256 ≡ full_byte c.full)
 
 -- an entry that refuses leaves the room as it was
 abbrev pub ReportEntryUntouched : Type 0

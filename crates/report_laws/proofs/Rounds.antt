@@ -1,12 +1,12 @@
 -- The report's room beside a station's: what each round leaves in both, and the week of all messages. Assumes nothing.
 use mathlib.Core.Path.{◌≡◌, refl, sym, ap, subst, ◌∙◌}
-use mathlib.Core.Bool.{true}
+use mathlib.Core.Bool.{Bool, true}
 use mathlib.Core.List.{List, [], ◌∷◌, ◌++◌, map}
 use Prim.Native.Nat.{ℕ, ◌≤◌}
 use native.Mathlib.Omega.{arith}
-use borrow.Author.Tests.{le-leb, le-ltb}
+use borrow.Author.Tests.{le-leb, le-ltb, eqb-true}
 use lib.Dec.{eqb, ltb}
-use lib.ListN.{length, drop, drop_of_length-le}
+use lib.ListN.{length, drop_of_length-le}
 use Rattle.bits.specs.Places.{join}
 use Rattle.bits.proofs.Cases.{split}
 use Rattle.codec.specs.Bytes.{Bytes}
@@ -16,19 +16,22 @@ use Rattle.service.specs.declared.Reply.{Reply}
 use Rattle.service.specs.Service.{respond, answer_bytes}
 use Rattle.service.proofs.Replies.{answer_bytes_length}
 use Rattle.journal.specs.Journal.{Messages, station_after_messages}
+use Rattle.std.specs.declared.option.Option.{Option}
+use Rattle.std.specs.declared.option.Option.TheVariants.{Some, None}
+use Rattle.std.specs.Prelude.{is_none}
 use Rattle.totals.specs.declared.Totals.{Totals}
 use Rattle.totals.specs.declared.Happened.{Happened}
 use Rattle.totals.specs.declared.Tally.{Tally}
-use Rattle.totals.specs.Totals.{size, none_full, first_full, blank, counted_in, counted_all}
+use Rattle.totals.specs.Totals.{size, first_full, blank, counted_in, counted_all}
 use Rattle.week.specs.Weeks.{happened, happenings_for, happenings, week_of}
 use Rattle.week.proofs.Pieces.{happenings_more}
 use Rattle.report_text.specs.Lines.{report_of}
 use Rattle.rooms.specs.Rooms.{station_of}
-use Rattle.report_c.specs.Entries.{known_full, texting, lining}
+use Rattle.report_c.specs.Entries.{no_total, full_by, known_full, texting, lining}
 use Rattle.entries_laws.specs.Uses.{start, message, entry_used, roomy, started}
 use Rattle.entries_laws.proofs.Messages.{message_is_call}
 use Rattle.entries_laws.proofs.Lent as lent
-use Rattle.report_laws.specs.Rounds.{HostReport, Told, tell_all, StationsLent, room_tally, happened_to, Host, host_begun, Round, round, rounds, Answered, messages_in, happened_in}
+use Rattle.report_laws.specs.Rounds.{HostReport, Told, tell_all, StationsLent, happened_to, Host, host_begun, Round, round, rounds, Answered, messages_in, happened_in}
 use Rattle.report_laws.specs.Statements.{RoomsCountTheWeek, RoomsHoldTheWeek, RoomsTellTheWeek, ReplyFits}
 use Rattle.report_laws.proofs.Reports.{Holds, new_told}
 
@@ -123,16 +126,26 @@ rooms_hold_the_week totals station h l rs a w = (counted totals station h l rs a
 -- ---- its text
 
 -- what a count says is full is a place or none
-known_one : (t : Totals) (x : Happened) → known_full (counted_in t x).full ≡ true
-unfolding counted_in
-known_one t x = split (ltb (first_full t x) size) (λ e. rw (e, e)) (λ e. rw e)
+abbrev a_place : Option ℕ → Bool
+a_place None = true
+a_place (Some p) = ltb p size
 
-known_all : (t : Totals) (xs : List Happened) → known_full (counted_all t xs).full ≡ true
+place_one : (t : Totals) (x : Happened) → a_place (counted_in t x).full ≡ true
+unfolding counted_in
+place_one t x = split (ltb (first_full t x) size) (λ e. rw (e, e)) (λ e. rw e)
+
+place_all : (t : Totals) (xs : List Happened) → a_place (counted_all t xs).full ≡ true
 unfolding counted_all
-known_all t [] = refl
-known_all t (x ∷ xs) =
+place_all t [] = refl
+place_all t (x ∷ xs) =
     let c = counted_in t x in
-    split (eqb c.full none_full) (λ e. rw e (known_all c.totals xs)) (λ e. rw e (known_one t x))
+    split (is_none c.full) (λ e. rw e (place_all c.totals xs)) (λ e. rw e (place_one t x))
+
+known_by : (n : ℕ) (o : Option ℕ) → full_by n ≡ o → a_place o ≡ true → known_full n ≡ true
+known_by n o e w =
+    split (eqb n no_total)
+    (λ t. ap known_full (eqb-true n no_total t))
+    (λ t. let q : Some n ≡ o = rw t at e in rw (ap a_place q ∙ w))
 
 pub rooms_tell_the_week : RoomsTellTheWeek
 unfolding lining
@@ -140,5 +153,5 @@ rooms_tell_the_week totals station h l rs a w out =
     let c = counted totals station h l rs a in
     let e = c.counted ∙ week_is (messages_in rs) w in
     let r = (rounds (host_begun totals station) rs).report in
-    let k : known_full r.full ≡ true = ap (λ (t : Tally). known_full t.full) c.counted ∙ known_all blank (happened_in start_of (messages_in rs)) in
+    let k = known_by r.full _ (ap (λ (t : Tally). t.full) c.counted) (place_all blank (happened_in start_of (messages_in rs))) in
     rw (k, le-ltb _ _ c.long) (ap (λ (t : Tally). texting (report_of t.totals t.full) out) e)

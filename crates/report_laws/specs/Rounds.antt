@@ -6,23 +6,22 @@ use Rattle.station.specs.declared.Station.{Station}
 use Rattle.service.specs.Service.{respond}
 use Rattle.totals.specs.declared.Happened.{Happened}
 use Rattle.totals.specs.declared.Tally.{Tally}
-use Rattle.totals.specs.Totals.{none_full}
 use Rattle.week.specs.Weeks.{happened}
 use Rattle.rooms.specs.Rooms.{station_size, station_of}
 use Rattle.station_c.specs.Entries.{exchange}
-use Rattle.report_c.specs.Entries.{totals_in, starting, counting}
+use Rattle.report_c.specs.Entries.{no_total, full_by, totals_in, starting, counting}
 use Rattle.entries_laws.specs.Uses.{start, message, entry_used, roomy}
 
 -- ---- the report alone
 
--- what the host has of its report: the room of totals, and the place of the total that report_message returned as full, or none
+-- what the host has of its report: the room of totals, and the place of the total that report_message returned as full, or the number of none
 pub record HostReport : Type 0 where
   pub room : List ℕ
   pub full : ℕ
 
 -- after report_start
 abbrev pub new_report : List ℕ → HostReport
-new_report room = record { room = (starting room).leaves; full = none_full }
+new_report room = record { room = (starting room).leaves; full = no_total }
 
 -- a message, and the station's room that is lent with it
 pub record Told : Type 0 where
@@ -33,7 +32,7 @@ pub record Told : Type 0 where
 abbrev pub tell : HostReport → Told → HostReport
 tell r x =
     let e = counting r.room x.station x.message in
-    cond (eqb r.full none_full) (record { room = e.leaves; full = e.says / 256 % 256 }) r
+    cond (eqb r.full no_total) (record { room = e.leaves; full = e.says / 256 % 256 }) r
 
 -- one after the other
 abbrev pub tell_all : HostReport → List Told → HostReport
@@ -47,7 +46,7 @@ StationsLent (x ∷ xs) = (station_size ≤ length x.station) × StationsLent xs
 
 -- the totals that the room holds, and which of them is full
 abbrev pub room_tally : HostReport → Tally
-room_tally r = record { totals = totals_in r.room; full = r.full }
+room_tally r = record { totals = totals_in r.room; full = full_by r.full }
 
 -- what a message does on the station that is lent with it
 abbrev pub happened_to : Told → Happened

@@ -13,7 +13,8 @@ use Rattle.station.specs.declared.Station.{Station}
 use Rattle.service.specs.Service.{respond}
 use Rattle.totals.specs.declared.Happened.{Happened}
 use Rattle.totals.specs.declared.Totals.{Totals}
-use Rattle.totals.specs.Totals.{none_full, counted_in, counted_all}
+use Rattle.std.specs.Prelude.{is_none}
+use Rattle.totals.specs.Totals.{counted_in, counted_all}
 use Rattle.week.specs.Weeks.{happened, happenings_for, happenings}
 use Rattle.week.proofs.Pieces.{happenings_more}
 use Rattle.journal.specs.Journal.{Messages, station_after_messages, Follows}
@@ -98,11 +99,11 @@ session_ended r q reads l all =
 
 -- some, and then others
 pub counted_both : (t : Totals) (some more : List Happened)
-    → counted_all t (some ++ more) ≡ (let c = counted_all t some in cond (eqb c.full none_full) (counted_all c.totals more) c)
+    → counted_all t (some ++ more) ≡ (let c = counted_all t some in cond (is_none c.full) (counted_all c.totals more) c)
 unfolding counted_all
 counted_both t [] more = refl
 counted_both t (h ∷ some) more =
     let c = counted_in t h in
-    split (eqb c.full none_full)
+    split (is_none c.full)
     (λ q. rw q (counted_both c.totals some more))
     (λ q. rw (q, q))

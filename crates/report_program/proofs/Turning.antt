@@ -10,9 +10,10 @@ use lib.Seq.{take-take, take_at}
 use Rattle.bits.proofs.Cases.{clash}
 use Rattle.station.specs.declared.Station.{Station}
 use Rattle.station.specs.Station.{start_of}
-use Rattle.streams.specs.declared.Input.{Input}
-use Rattle.streams.specs.declared.Input.TheVariants.{Bytes, Ended, Failed, Full}
-use Rattle.streams.specs.Input.{Fills}
+use Rattle.std.specs.declared.option.Option.{Option}
+use Rattle.std.specs.declared.option.Option.TheVariants.{Some, None}
+use Rattle.std.specs.declared.result.Result.TheVariants.{Ok, Err}
+use Rattle.streams.specs.Input.{Input, Fills}
 use Rattle.totals.specs.declared.Totals.{Totals}
 use Rattle.totals.specs.Totals.{totals_of, blank, LeavesCounts}
 use Rattle.service.specs.Turns as turns
@@ -27,8 +28,8 @@ use Rattle.report_program.specs.Turning.{count_turn, close_turn, failed_turn, tu
 -- ---- one turn
 
 -- a read fills no more than the buffer
-pub filled : (before after : List ℕ) (have end : ℕ) (r : Input) → Fills before have r after → r ≡ Bytes end → end ≤ length before
-filled before after have end r f e = let g : Fills before have (Bytes end) after = subst (λ (x : Input). Fills before have x after) e f in g.1
+pub filled : (before after : List ℕ) (have end : ℕ) (r : Input) → Fills before have r after → r ≡ Ok (Some end) → end ≤ length before
+filled before after have end r f e = let g : Fills before have (Ok (Some end)) after = subst (λ (x : Input). Fills before have x after) e f in g.1
 
 -- the count and the hold are a turn
 pub as_count_turn : (t : Totals) (s : Station) (buf : List ℕ) (end : ℕ) {w : Counted} {counts : List ℕ} {have : ℕ} {after : List ℕ}
@@ -51,10 +52,10 @@ held_short t s buf end (says, _, _) q =
     rw (ap (λ (b : Between). b.have) says)
     (cut_below (drop (count_on t s input).says.used input) (left_cut (length input) t s input (omega arith) stop))
 
-pub as_close_turn : (c : List ℕ) (s : Station) (buf : List ℕ) (have : ℕ) {full : ℕ} {counts : List ℕ} → LeavesCounts (count_end (totals_of c) s (take have buf)) full counts
+pub as_close_turn : (c : List ℕ) (s : Station) (buf : List ℕ) (have : ℕ) {full : Option ℕ} {counts : List ℕ} → LeavesCounts (count_end (totals_of c) s (take have buf)) full counts
     → TurnIs (close_turn (totals_of c) s buf have) (record { station = s; have = 0; full = full; stop = true; failed = false }) counts buf
 unfolding close_turn
-as_close_turn c s buf have h = (ap (λ (n : ℕ). record { station = s; have = 0; full = n; stop = true; failed = false }) h.full, h.counts, refl)
+as_close_turn c s buf have h = (ap (λ (n : Option ℕ). record { station = s; have = 0; full = n; stop = true; failed = false }) h.full, h.counts, refl)
 
 pub close_stops : (t : Totals) (s : Station) (buf : List ℕ) (have : ℕ) → (close_turn t s buf have).says.stop ≡ true
 unfolding close_turn
@@ -86,7 +87,7 @@ nothing_yet counts b buf e s h = record { pieces = []; on = λ more. rw (e, s, h
 -- a week that has come to its end
 module _ {counts : List ℕ} {b : Between} {before : List ℕ} (so : SoFar counts b before) where
   -- after these pieces and some more, with nothing left
-  ended : (more : List (List ℕ)) {full : ℕ} {last : List ℕ} → count_fed (totals_of counts) b.station (take b.have before) more ≡ record { totals = totals_of last; full = full }
+  ended : (more : List (List ℕ)) {full : Option ℕ} {last : List ℕ} → count_fed (totals_of counts) b.station (take b.have before) more ≡ record { totals = totals_of last; full = full }
       → Week last full
   ended more e = record {
     pieces = so.pieces ++ more;
@@ -98,7 +99,7 @@ module _ {counts : List ℕ} {b : Between} {before : List ℕ} (so : SoFar count
   After r last buf = HasWeek r last × (r.stop ≡ false → SoFar last r buf)
 
   -- a read brought bytes
-  module _ (end : ℕ) (read : List ℕ) (fills : Fills before b.have (Bytes end) read) where
+  module _ (end : ℕ) (read : List ℕ) (fills : Fills before b.have (Ok (Some end)) read) where
     abbrev piece : List ℕ
     piece = drop b.have (take end read)
 
@@ -126,7 +127,7 @@ module _ {counts : List ℕ} {b : Between} {before : List ℕ} (so : SoFar count
       λ q _. ended (piece ∷ [])
           (one_more []
           ∙ ap (λ (t : Bool). cond t (tally_in w) (count_fed w.leaves w.says.station rest [])) (sym (ap (λ (x : Between). x.stop) says) ∙ q)
-          ∙ ap₂ (λ (l : List ℕ) (n : ℕ). record { totals = totals_of l; full = n }) (sym leaves) (sym (ap (λ (x : Between). x.full) says))),
+          ∙ ap₂ (λ (l : List ℕ) (n : Option ℕ). record { totals = totals_of l; full = n }) (sym leaves) (sym (ap (λ (x : Between). x.full) says))),
       λ q. record {
         pieces = so.pieces ++ (piece ∷ []);
         on = λ more.
@@ -139,13 +140,13 @@ module _ {counts : List ℕ} {b : Between} {before : List ℕ} (so : SoFar count
     )
 
   -- the input has ended
-  by_end : (read : List ℕ) → Fills before b.have Ended read → {r : Between} {last buf : List ℕ}
+  by_end : (read : List ℕ) → Fills before b.have (Ok None) read → {r : Between} {last buf : List ℕ}
       → TurnIs (close_turn (totals_of counts) b.station read b.have) r last buf → After r last buf
   unfolding close_turn count_fed
   by_end read (_, kept) {r} {last} (says, leaves, front) = (
     λ _ _. ended []
         (ap (count_end (totals_of counts) b.station) (sym kept)
-        ∙ ap₂ (λ (l : List ℕ) (n : ℕ). record { totals = totals_of l; full = n }) (sym leaves) (sym (ap (λ (x : Between). x.full) says))),
+        ∙ ap₂ (λ (l : List ℕ) (n : Option ℕ). record { totals = totals_of l; full = n }) (sym leaves) (sym (ap (λ (x : Between). x.full) says))),
     λ q. clash (ap (λ (x : Between). x.stop) says) q,
   )
 
@@ -155,10 +156,9 @@ module _ {counts : List ℕ} {b : Between} {before : List ℕ} (so : SoFar count
 
   by_input : (input : Input) (read : List ℕ) → Fills before b.have input read → {r : Between} {last buf : List ℕ}
       → TurnIs (turn_by (totals_of counts) b.station b.have input read) r last buf → After r last buf
-  by_input (Bytes end) read f u = by_bytes end read f u
-  by_input Ended read f u = by_end read f u
-  by_input Failed read f u = by_failure u.0
-  by_input Full read f u = by_failure u.0
+  by_input (Ok (Some end)) read f u = by_bytes end read f u
+  by_input (Ok None) read f u = by_end read f u
+  by_input (Err e) read f u = by_failure u.0
 
   pub turned_on : {r : Between} {last buf : List ℕ} → TurnByRead (totals_of counts) b before r last buf
       → HasWeek r last × (r.stop ≡ false → SoFar last r buf)

@@ -1,5 +1,6 @@
 -- The week of a journal: what happened by each of its appends, as a report over the sessions' own input counts it. Assumes nothing.
 use Rattle.std.specs.Prelude.{◌≡◌, true, List, [], ◌∷◌, ◌++◌, ℕ, length, get_or}
+use Rattle.std.specs.declared.option.Option.{Option}
 use Rattle.station.specs.declared.Station.{Station}
 use Rattle.totals.specs.declared.Happened.{Happened}
 use Rattle.totals.specs.Totals.{totals_of, blank, counted_all}
@@ -23,7 +24,7 @@ happenings_in r [] = []
 happenings_in r (a ∷ more) = happenings_by r.station a ++ happenings_in (step_of crc_over r a).replay more
 
 -- the totals are the week of a journal behind its first `skipped` appends
-pub record JournalWeek (skipped : ℕ) (counts : List ℕ) (full : ℕ) : Type 0 where
+pub record JournalWeek (skipped : ℕ) (counts : List ℕ) (full : Option ℕ) : Type 0 where
   pub head : List ℕ
   pub before : List (List ℕ)
   pub appends : List (List ℕ)

@@ -1,14 +1,15 @@
 -- What a turn of the report's program leaves: its totals, its station and its buffer, by what a read brought. And when totals are a week, so
 -- that they may be printed. Assumes nothing.
 use Rattle.std.specs.Prelude.{◌≡◌, true, false, List, ℕ, ◌<◌, take}
+use Rattle.std.specs.declared.option.Option.{Option}
 use Rattle.bits.specs.Places.{join}
 use Rattle.station.specs.declared.Station.{Station}
-use Rattle.streams.specs.declared.Input.{Input}
-use Rattle.streams.specs.declared.Input.TheVariants.{Bytes, Ended, Failed, Full}
-use Rattle.streams.specs.Input.{Fills}
+use Rattle.std.specs.declared.option.Option.TheVariants.{Some, None}
+use Rattle.std.specs.declared.result.Result.TheVariants.{Ok, Err}
+use Rattle.streams.specs.Input.{Input, Fills}
 use Rattle.service.specs.Turns.{holding_front}
 use Rattle.totals.specs.declared.Totals.{Totals}
-use Rattle.totals.specs.Totals.{totals_of, none_full}
+use Rattle.totals.specs.Totals.{totals_of}
 use Rattle.week.specs.Weeks.{week_of}
 use Rattle.week.specs.Counts.{count_on, count_end}
 use Rattle.report_program.specs.declared.Between.{Between}
@@ -40,14 +41,13 @@ close_turn t s buf have =
 
 -- where the read failed, nothing is counted, and nothing is to be printed
 abbrev pub failed_turn : Station → Between
-failed_turn s = record { station = s; have = 0; full = none_full; stop = true; failed = true }
+failed_turn s = record { station = s; have = 0; full = None; stop = true; failed = true }
 
 -- a turn by what the read brought
 abbrev pub turn_by : Totals → Station → ℕ → Input → List ℕ → ReportTurn
-turn_by t s have (Bytes end) buf = count_turn t s buf end
-turn_by t s have Ended buf = close_turn t s buf have
-turn_by t s have Failed buf = record { says = failed_turn s; totals = t; buffer = buf }
-turn_by t s have Full buf = record { says = failed_turn s; totals = t; buffer = buf }
+turn_by t s have (Ok (Some end)) buf = count_turn t s buf end
+turn_by t s have (Ok None) buf = close_turn t s buf have
+turn_by t s have (Err e) buf = record { says = failed_turn s; totals = t; buffer = buf }
 
 -- what a turn says is said, and what it leaves is left
 abbrev pub TurnIs : ReportTurn → Between → List ℕ → List ℕ → Type 0
@@ -67,7 +67,7 @@ Short r = r.stop ≡ false → r.have < 45
 -- ---- a session
 
 -- the totals are the week of some bytes, which came in these pieces
-pub record Week (counts : List ℕ) (full : ℕ) : Type 0 where
+pub record Week (counts : List ℕ) (full : Option ℕ) : Type 0 where
   pub pieces : List (List ℕ)
   pub counted : record { totals = totals_of counts; full = full } ≡ week_of (join pieces)
 

@@ -11,25 +11,26 @@ ghost use Rattle.totals.specs.Totals.{totals_of, blank};
 use station::Station;
 use std::fs::{File, OpenOptions};
 use std::io::{IsTerminal, Write};
-use streams::Input;
-use totals::{NOTHING, Totals};
+use streams::Unread;
+use totals::Totals;
 
 // Where it says how far it is, if that is a terminal: bin/report opens descriptor 3 on its own standard error. The program's is for failures.
 const PROGRESS: &str = "/proc/self/fd/3";
 
+// Kept: have beside the lent buffer (no heap); stop and failed are flags, as the edits session and failed change them (must-fail/).
 // Between two turns: the station, how many bytes are held at the front of the buffer, the place of the total that is full, whether nothing
 // more is to be read, and whether a read failed, so that nothing is to be printed.
 #[derive(Clone, Copy)]
 struct Between {
     station: Station,
     have: usize,
-    full: u8,
+    full: Option<u8>,
     stop: bool,
     failed: bool,
 }
 
 // Reads once past the bytes that are held.
-fn read_on(rt: &HostRuntime, buf: &mut [u8], have: usize) -> Input
+fn read_on(rt: &HostRuntime, buf: &mut [u8], have: usize) -> Result<Option<usize>, Unread>
     ensures { Fills buf.old have result buf.new }
 {
     streams::fill(rt, &mut rt.stdin(), buf, have, b"report: standard input")
@@ -41,11 +42,9 @@ fn count(s: Station, counts: &mut [u32; 52], buf: &mut [u8], end: usize) -> Betw
     ensures { Short result × TurnIs (count_turn (totals_of counts.old) s buf.old end) result counts.new buf.new }
 {
     let w = week::count_all(counts, s, &buf[..end]);
-    let station = w.station;
-    let have = service::buffer::hold(buf, w.used, end);
     Between {
-        station,
-        have,
+        station: w.station,
+        have: service::buffer::hold(buf, w.used, end),
         full: w.full,
         stop: w.stop,
         failed: false,
@@ -74,7 +73,7 @@ fn failed(s: Station) -> Between
     Between {
         station: s,
         have: 0,
-        full: NOTHING,
+        full: None,
         stop: true,
         failed: true,
     }
@@ -85,21 +84,17 @@ fn one_turn(rt: &HostRuntime, t: Between, counts: &mut [u32; 52], buf: &mut [u8]
     requires { (t.have < 45) × (45 ≤ length buf.old) }
     ensures { Short result × TurnByRead (totals_of counts.old) t buf.old result counts.new buf.new }
 {
-    let station = t.station;
-    let have = t.have;
-    let input = read_on(rt, buf, have);
-    match input {
-        Input::Bytes(end) => count(station, counts, buf, end),
-        Input::Ended => close(station, counts, buf, have),
-        Input::Failed => failed(station),
-        Input::Full => failed(station),
+    match read_on(rt, buf, t.have) {
+        Ok(Some(end)) => count(t.station, counts, buf, end),
+        Ok(None) => close(t.station, counts, buf, t.have),
+        Err(_) => failed(t.station),
     }
 }
 
 // The terminal where it says how far it is, if there is one.
 fn progress(rt: &HostRuntime) -> Option<File> {
     let file = OpenOptions::new().write(true).open(rt, PROGRESS).ok()?;
-    if file.is_terminal() { Some(file) } else { None }
+    file.is_terminal().then_some(file)
 }
 
 // Writes a byte to the terminal, if there is one.
@@ -134,38 +129,33 @@ fn session(
     requires { (45 ≤ length buf.old) × (counts.old ≡ blank.counts) }
     ensures { HasWeek result counts.new }
 {
-    let station = Station::start();
     let mut t = Between {
-        station,
+        station: Station::start(),
         have: 0,
-        full: NOTHING,
+        full: None,
         stop: false,
         failed: false,
     };
-    let mut reads: u64 = 0;
-    while reads < u64::MAX {
+    for reads in 0..u64::MAX {
         t = one_turn(rt, t, counts, buf);
         if t.stop {
             end_dots(shown, reads);
             return t;
         }
-        reads += 1;
-        say_dot(shown, reads);
+        say_dot(shown, reads + 1);
     }
     t
 }
 
 // Prints the week.
-fn print(rt: &HostRuntime, counts: [u32; 52], full: u8)
+fn print(rt: &HostRuntime, counts: [u32; 52], full: Option<u8>)
     requires { Week counts full }
 {
-    let t = Totals { counts };
-    let text = report_text::report(t, full);
-    let bytes = text.bytes;
-    streams::send(
+    let text = report_text::report(Totals { counts }, full);
+    let _ = streams::send(
         rt,
         &mut rt.stdout(),
-        &bytes,
+        &text.bytes,
         text.size,
         b"report: standard output",
     );

@@ -1,6 +1,6 @@
 -- The promises of specs/Promises.antt. What is said of every place or every number below a bound is tried at each. Assumes nothing.
 use mathlib.Core.Path.{◌≡◌, refl, ap, subst, ◌∙◌}
-use mathlib.Core.Bool.{Bool, true, false, cond, not, ◌||◌}
+use mathlib.Core.Bool.{Bool, true, false, not, ◌||◌}
 use mathlib.Core.List.{List, [], ◌∷◌}
 use Prim.Native.Nat.{ℕ, zero, suc, ◌+◌, ◌*◌, ◌≤◌, ◌<◌}
 use native.Mathlib.Omega.{arith}
@@ -8,15 +8,18 @@ use lib.Dec.{T, eqb, ltb}
 use lib.ListN.{length, get_or, length-append, length-map}
 use borrow.Author.Tests.{eqb-true, eq-eqb, ltb-true}
 use Rattle.bits.specs.Bits.{count}
-use Rattle.bits.specs.Places.{from, join}
+use Rattle.bits.specs.Places.{from}
 use Rattle.bits.specs.Search.{every}
 use Rattle.bits.proofs.Cases.{split, T→true}
 use Rattle.bits.proofs.Search.{each}
 use Rattle.bits.proofs.Lists.{same}
 use Rattle.answers.specs.Answers.{OfTable, in_table}
 use Rattle.answers.proofs.Promises.{table_exactly, number_byte}
-use Rattle.totals.specs.Totals.{Name, order, name_at, most_counted, none_full}
-use Rattle.totals.specs.Totals.Name.{Number}
+use Rattle.std.specs.declared.option.Option.{Option}
+use Rattle.std.specs.declared.option.Option.TheVariants.{Some, None}
+use Rattle.totals.specs.declared.Name.{Name}
+use Rattle.totals.specs.declared.Name.TheVariants.{Number}
+use Rattle.totals.specs.Totals.{order, name_at, most_counted}
 use Rattle.totals.proofs.Order.{number_at}
 use Rattle.codec.specs.Text.{ascii, decimal_to}
 use Rattle.report_text.specs.Lines.{total_name, full_line, filtered, in_force, report_lines, report_of}
@@ -88,11 +91,11 @@ text_short c (suc n) h =
 
 pub report_fits : ReportFits
 unfolding report_of full_line ascii
-report_fits t full h = go (eqb full none_full)
+report_fits t full h = go full
   where
     alone : (x : Name) → length (total_name x) ≤ 9 → length (full_line x) ≤ 1092
     alone x l = omega (arith, length-append (total_name x) (ascii "\n"))
 
-    go : (b : Bool) → length (cond b (join (report_lines t)) (full_line (name_at full))) ≤ 1092
-    go true = rw (← text_all t.counts) (omega (arith, text_short t.counts 52 h))
-    go false = alone (name_at full) (name_short full)
+    go : (o : Option ℕ) → length (report_of t o) ≤ 1092
+    go None = rw (← text_all t.counts) (omega (arith, text_short t.counts 52 h))
+    go (Some p) = alone (name_at p) (name_short p)

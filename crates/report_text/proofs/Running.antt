@@ -9,18 +9,17 @@ use native.Mathlib.Omega.{arith}
 use native.Mathlib.Numerals.{add-one}
 use lib.Dec.{T, leb}
 use lib.ListN.{length, take, drop, get_or, replicate, take-append-drop}
-use borrow.Author.Tests.{leb-true, eq-eqb, ne_eqb}
+use borrow.Author.Tests.{leb-true}
 use Rattle.bits.specs.Places.{from, join}
 use Rattle.bits.specs.Search.{every}
 use Rattle.bits.proofs.Cases.{T→true}
 use Rattle.bits.proofs.Search.{each, lt_or_ge}
-use Rattle.totals.specs.declared.Totals.{Totals}
-use Rattle.totals.specs.Totals.{order, name_at, none_full, totals_of}
+use Rattle.totals.specs.Totals.{order, name_at, totals_of}
 use Rattle.totals.proofs.Order.{most_cars_from}
 use Rattle.report_text.specs.declared.Text.{Text}
 use Rattle.codec.specs.Text.{ascii, decimal_to}
-use Rattle.report_text.specs.Lines.{total_name, line_of, printed, full_line, filtered, in_force, report_lines, report_of, text_of}
-use Rattle.report_text.specs.Private.{laid_text, Laid, line_if}
+use Rattle.report_text.specs.Lines.{total_name, line_of, printed, filtered, in_force, report_lines, text_of}
+use Rattle.report_text.specs.Private.{no_text, laid_text, AddsText, line_if}
 use Rattle.report_text.proofs.Digits.{decimal_short}
 use Rattle.report_text.proofs.Laying.{then}
 use Rattle.report_text.proofs.Names.{line_length}
@@ -40,7 +39,7 @@ name_short p = go (lt_or_ge p 52)
     go (inr l) = rw (most_cars_from p (omega arith)) (omega arith)
 
 pub line_short : (p v : ℕ) → v < 2 ^ 32 → length (line_of (name_at p) v) ≤ 21
-line_short p v l = omega (arith, line_length p v, name_short p, decimal_short 9 v (omega arith))
+line_short p v l = omega (arith, line_length (name_at p) v, name_short p, decimal_short 9 v (omega arith))
 
 pub line_if_short : (p v : ℕ) → v < 2 ^ 32 → length (line_if p v) ≤ 21
 unfolding line_if
@@ -95,38 +94,36 @@ unfolding text_to report_lines in_force
 text_all c = refl
 
 -- nothing laid
-pub laid_none : (d : List ℕ) (at : ℕ) → Laid d at [] d at
+pub adds_none : (d : Text) → AddsText d [] d
 unfolding laid_text
-laid_none d at = record { holds = sym (whole (at + 0) (omega arith)); next = omega arith }
+adds_none d = record { holds = sym (whole (d.size + 0) (omega arith)); next = omega arith; same = refl }
   where
-    whole : (n : ℕ) → n ≡ at → take at d ++ [] ++ drop n d ≡ d
-    whole n e = rw (e, append-nil) (take-append-drop at d)
+    whole : (n : ℕ) → n ≡ d.size → take d.size d.bytes ++ [] ++ drop n d.bytes ≡ d.bytes
+    whole n e = rw (e, append-nil) (take-append-drop d.size d.bytes)
 
 -- ---- the loop
 
--- the lines of the first i places are laid, and the next place is p
-pub record Running (d c e : List ℕ) (p i : ℕ) : Type 0 where
+-- the lines of the first i places are added to a text that had none
+pub record Running (d : Text) (c : List ℕ) (e : Text) (i : ℕ) : Type 0 where
   pub within : i ≤ 52
-  pub same : length e ≡ length d
-  pub short : p ≤ i * 21
-  pub lines : Laid d 0 (text_to c i) e p
+  pub short : e.size ≤ i * 21
+  pub lines : AddsText d (text_to c i) e
 
-pub starts : (d c : List ℕ) → Running d c d 0 0
+pub starts : (d : Text) (c : List ℕ) → d.size ≡ 0 → Running d c d 0
 unfolding text_to filtered
-starts d c = record { within = omega arith; same = refl; short = omega arith; lines = laid_none d 0 }
+starts d c z = record { within = omega arith; short = omega arith; lines = adds_none d }
 
-pub turns : (d c e f : List ℕ) (p q i : ℕ) → i < 52 → q ≤ p + 21 → length f ≡ length e → Running d c e p i
-    → Laid e p (line_if i (get_or c i 0)) f q → Running d c f q (i + 1)
-turns d c e f p q i l v s r x = record {
+pub turns : (d : Text) (c : List ℕ) (e f : Text) (i : ℕ) → i < 52 → d.size ≤ length d.bytes → f.size ≤ e.size + 21
+    → Running d c e i → AddsText e (line_if i (get_or c i 0)) f → Running d c f (i + 1)
+turns d c e f i l z v r x = record {
   within = omega arith;
-  same = s ∙ r.same;
-  short = omega arith;
-  lines = rw (add-one, text_more) (then d e f 0 p q (text_to c i) (line_if i (get_or c i 0)) (omega arith) r.lines x);
+  short = omega (arith, r.short);
+  lines = rw (add-one, text_more) (then d e f (text_to c i) (line_if i (get_or c i 0)) z r.lines x);
 }
 
-pub ends : (d c e : List ℕ) (p i : ℕ) → 52 ≤ i → Running d c e p i → Laid d 0 (join (report_lines (totals_of c))) e p
-ends d c e p i l r =
-    let z : i ≡ 52 = omega arith in
+pub ends : (d : Text) (c : List ℕ) (e : Text) (i : ℕ) → 52 ≤ i → Running d c e i → AddsText d (join (report_lines (totals_of c))) e
+ends d c e i l r =
+    let z : i ≡ 52 = omega (arith, r.within) in
     rw (← text_all c, ← z) r.lines
 
 -- ---- the whole text
@@ -146,21 +143,15 @@ drop_zeros (suc k) (suc n) =
     let e : n - k ≡ suc n - suc k = omega arith in
     drop_zeros k n ∙ ap zeros e
 
--- a text laid into zeros
-pub laid_text_lem : (s e : List ℕ) (r : ℕ) → Laid (zeros 1092) 0 s e r → ◌≡◌ {A = Text} (record { bytes = e; size = r }) (text_of s)
+pub no_text_room : length no_text.bytes ≡ 1092
+no_text_room = refl
+
+-- what is added to no text is the text
+pub whole_text : (s : List ℕ) (u : Text) → AddsText no_text s u → u ≡ text_of s
 unfolding laid_text
-laid_text_lem s e r x =
+whole_text s u x =
     let z : 0 + length s ≡ length s = omega arith in
     ap₂ made (x.holds ∙ ap (λ (b : List ℕ). s ++ b) (ap (λ (n : ℕ). drop n (zeros 1092)) z ∙ drop_zeros (length s) 1092)) (x.next ∙ z)
   where
     made : List ℕ → ℕ → Text
     made b n = record { bytes = b; size = n }
-
-module _ (t : Totals) where
-  pub all_lines : (full : ℕ) → full ≡ none_full → join (report_lines t) ≡ report_of t full
-  unfolding report_of
-  all_lines full e = rw (eq-eqb full none_full e)
-
-  pub full_alone : (full : ℕ) → (full ≡ none_full → ⊥) → full_line (name_at full) ≡ report_of t full
-  unfolding report_of
-  full_alone full e = rw (ne_eqb full none_full e)

@@ -1,10 +1,13 @@
 -- The report as text: a line for each total that is in force, in the report's order; or the name of the first that is full. Assumes nothing.
-use Rattle.std.specs.Prelude.{Bool, true, cond, List, [], ◌∷◌, ◌++◌, map, ℕ, ◌-◌, eqb, length, get_or, replicate}
+use Rattle.std.specs.Prelude.{Bool, true, cond, List, [], ◌∷◌, ◌++◌, map, ℕ, ◌-◌, length, get_or, replicate}
+use Rattle.std.specs.declared.option.Option.{Option}
+use Rattle.std.specs.declared.option.Option.TheVariants.{Some, None}
 use Rattle.bits.specs.Places.{from, join}
 use Rattle.answers.specs.Answers.{in_table}
 use Rattle.totals.specs.declared.Totals.{Totals}
-use Rattle.totals.specs.Totals.{Name, size, name_at, none_full}
-use Rattle.totals.specs.Totals.Name.{Kind, Number, Done, Failed, CarsIn, CarsOut, MostCars}
+use Rattle.totals.specs.Totals.{size, name_at}
+use Rattle.totals.specs.declared.Name.{Name}
+use Rattle.totals.specs.declared.Name.TheVariants.{Kind, Number, Done, Failed, CarsIn, CarsOut, MostCars}
 use Rattle.report_text.specs.declared.Text.{Text}
 use Rattle.codec.specs.Text.{ascii, decimal}
 
@@ -50,8 +53,9 @@ unfoldable pub report_lines : Totals → List (List ℕ)
 report_lines t = map (λ p. line_of (name_at p) (get_or t.counts p 0)) in_force
 
 -- what is printed of totals of which the one at a place is full, or none
-unfoldable pub report_of : Totals → ℕ → List ℕ
-report_of t full = cond (eqb full none_full) (join (report_lines t)) (full_line (name_at full))
+unfoldable pub report_of : Totals → Option ℕ → List ℕ
+report_of t None = join (report_lines t)
+report_of t (Some place) = full_line (name_at place)
 
 -- a text as its bytes in room for the longest report, zeros past it, and how many they are
 abbrev pub text_of : List ℕ → Text

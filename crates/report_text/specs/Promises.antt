@@ -1,11 +1,12 @@
 -- What is promised of the report's text. Proved in proofs/Promises.antt. Assumes nothing.
 use Rattle.std.specs.Prelude.{◌≡◌, true, ℕ, ◌+◌, ◌≤◌, ◌<◌, length, get_or}
+use Rattle.std.specs.declared.option.Option.{Option}
 use Rattle.bits.specs.Bits.{count}
 use Rattle.bits.specs.Places.{from}
 use Rattle.answers.specs.Answers.{in_table}
 use Rattle.totals.specs.declared.Totals.{Totals}
 use Rattle.totals.specs.Totals.{size, name_at, most_counted}
-use Rattle.totals.specs.Totals.Name.{Number}
+use Rattle.totals.specs.declared.Name.TheVariants.{Number}
 use Rattle.codec.specs.Text.{decimal}
 use Rattle.report_text.specs.Lines.{total_name, report_lines, report_of}
 
@@ -27,4 +28,4 @@ AsManyLines = (t : Totals) → length (report_lines t) ≡ count (from 0 256) in
 
 -- no report has more than 1,092 bytes
 abbrev pub ReportFits : Type 0
-ReportFits = (t : Totals) (full : ℕ) → ((p : ℕ) → get_or t.counts p 0 ≤ most_counted) → length (report_of t full) ≤ 1092
+ReportFits = (t : Totals) (full : Option ℕ) → ((p : ℕ) → get_or t.counts p 0 ≤ most_counted) → length (report_of t full) ≤ 1092

@@ -32,12 +32,10 @@ pub apart_in : (m : List ℕ) → from_little_endian 8 0 (take 8 (drop 52 m)) �
 apart_in m = within 8 0 8 (drop 52 m) (omega arith) ∙ simp get_or-drop
 
 -- places of zeros, into which what is set apart, the next issue, the set, the record, the count and the marks were put
-pub laid_out : (s : Station) (image head rest parts last : List ℕ) → s.next < 65536 → image ≡ little_endian 8 s.bits
+pub laid_out : (s : Station) (image head rest bytes issue parts last : List ℕ) → image ≡ little_endian 8 s.bits
     → head ≡ take (length image) image ++ drop (length image) (replicate 8 0) → rest ++ [] ≡ s.set
+    → bytes ≡ little_endian 2 s.next → issue ≡ take (length bytes) bytes ++ drop (length bytes) (replicate 2 0)
     → parts ≡ little_endian 8 s.apart → last ≡ take (length parts) parts ++ drop (length parts) (replicate 8 0)
-    → list.set (list.set (head ++ (0 ∷ 0 ∷ (rest ++ (s.next % 256 ∷ s.next / 256 ∷ (last ++ []))))) 8 s.count) 9 s.answered ≡ station_bytes s
+    → list.set (list.set (head ++ (0 ∷ 0 ∷ (rest ++ (issue ++ (last ++ []))))) 8 s.count) 9 s.answered ≡ station_bytes s
 unfolding station_bytes
-laid_out s image head rest parts last small e h r p l =
-    let byte : s.next / 256 ≡ s.next / 256 % 256 = omega arith in
-    rw (h, e, sym (append-nil rest) ∙ r, l, p)
-    (ap (λ (b : ℕ). little_endian 8 s.bits ++ (s.count ∷ s.answered ∷ (s.set ++ (s.next % 256 ∷ b ∷ little_endian 8 s.apart)))) byte)
+laid_out s image head rest bytes issue parts last e h r b m p l = rw (h, e, sym (append-nil rest) ∙ r, m, b, l, p)

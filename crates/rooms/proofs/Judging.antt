@@ -7,13 +7,13 @@ use borrow.Author.Tests.{lt-ltb, le-ltb}
 use lib.ListN.{length}
 use Rattle.bits.specs.Bits.{bit, image}
 use Rattle.rules.specs.declared.Instruction.{Instruction}
-use Rattle.rules.specs.declared.Moved.{Moved}
-use Rattle.rules.specs.declared.Reading.{Reading}
-use Rattle.rules.specs.declared.Verdict.{Verdict}
-use Rattle.rules.specs.declared.Verdict.TheVariants.{Allowed, NotAllowed, IllFormed}
+use Rattle.rules.specs.declared.Refusal.{Refusal}
+use Rattle.rules.specs.declared.Refusal.TheVariants.{NotAllowed, IllFormed}
+use Rattle.std.specs.declared.result.Result.TheVariants.{Ok, Err}
+use Rattle.std.specs.declared.option.Option.{Option}
 use Rattle.rules.specs.Rules.{next_record}
 use Rattle.rules.specs.Codes.{read_bytes, code_from}
-use Rattle.rules.specs.Verdicts.{verdict_of, moved_by, moved_of, answer_for, on_code}
+use Rattle.rules.specs.Verdicts.{Verdict, verdict_of, moved_by, moved_of, answer_for, on_code}
 use Rattle.answers.specs.declared.Answer.{Answer}
 use Rattle.answers.specs.declared.Answer.TheVariants.{TooFewBytes, OutOfTurn}
 use Rattle.answers.specs.Answers.{nowhere}
@@ -23,9 +23,9 @@ use Rattle.rooms.specs.Questions.{moved, answer_to, request_answer}
 
 -- the answer for a verdict is the one with the next record
 by_verdict : (v : Verdict) (x : ℕ) → answer_for v nowhere ≡ answer_to (moved_by v x)
-by_verdict Allowed x = refl
-by_verdict (NotAllowed why) x = refl
-by_verdict IllFormed x = refl
+by_verdict (Ok done) x = refl
+by_verdict (Err (NotAllowed why)) x = refl
+by_verdict (Err IllFormed) x = refl
 
 pub judged_so : (i : Instruction) (r : ℕ) {v : Verdict} → v ≡ verdict_of i r → answer_for v nowhere ≡ answer_to (moved_of i r)
 unfolding moved_of
@@ -56,7 +56,7 @@ pub under_driver : (r : ℕ) (five : List ℕ) {x : ℕ} → 5 ≤ length five �
 under_driver r five h c w = w ∙ ap returned (sym (crossed_says r five h c))
 
 -- or else say an instruction, or none
-pub by_reading : (r : ℕ) (five : List ℕ) {one known : Reading} {x : ℕ} → 5 ≤ length five → crosses (code_from five) r ≡ false → one ≡ read_bytes five → one ≡ known
-    → x ≡ returned (answer_to (on_code (λ i. moved_of i r) Moved.IllFormed known)) → x ≡ returned (request_answer r five)
+pub by_reading : (r : ℕ) (five : List ℕ) {one known : (Option Instruction)} {x : ℕ} → 5 ≤ length five → crosses (code_from five) r ≡ false → one ≡ read_bytes five → one ≡ known
+    → x ≡ returned (answer_to (on_code (λ i. moved_of i r) (Err Refusal.IllFormed) known)) → x ≡ returned (request_answer r five)
 unfolding moved
-by_reading r five h c e k w = w ∙ ap (λ (g : Reading). returned (answer_to (on_code (λ i. moved_of i r) Moved.IllFormed g))) (sym k ∙ e) ∙ ap returned (sym (clear_says r five h c))
+by_reading r five h c e k w = w ∙ ap (λ (g : (Option Instruction)). returned (answer_to (on_code (λ i. moved_of i r) (Err Refusal.IllFormed) g))) (sym k ∙ e) ∙ ap returned (sym (clear_says r five h c))

@@ -9,9 +9,10 @@ use borrow.Author.Tests.{ne_eqb}
 use Rattle.bits.specs.Bits.{Bits, count, digit, all_set}
 use Rattle.floor.specs.Tests.{Test, fact, set, exactly, even, no, both, either, holds}
 use Rattle.answers.specs.declared.Reason.{Reason}
-use Rattle.rules.specs.declared.Verdict.{Verdict}
+use Rattle.rules.specs.declared.Refusal.{Refusal}
+use Rattle.std.specs.declared.result.Result.TheVariants.{Err}
 use Rattle.rules.specs.Rules.{Clause, ◌else◌}
-use Rattle.rules.specs.Verdicts.{judged}
+use Rattle.rules.specs.Verdicts.{Verdict, judged}
 use Rattle.rows.proofs.Steps.{Atom, Never, Look, Even, Other, meets, flat, Step, ◌or◌, run, steps, cut}
 
 unfoldable pub all_meet : List Atom → Bits → Bool
@@ -53,25 +54,25 @@ module _ (f : Bits) where
 
   -- several with one reason
   pub one_reason : (as' : List Atom) (why : Reason) (ss : List Step)
-      → run (map (λ a. a or why) as' ++ ss) f ≡ cond (all_meet as' f) (run ss f) (Verdict.NotAllowed why)
+      → run (map (λ a. a or why) as' ++ ss) f ≡ cond (all_meet as' f) (run ss f) (Err (Refusal.NotAllowed why))
   unfolding all_meet
   one_reason [] why ss = refl
   one_reason (a ∷ as') why ss = go (meets a f) (one_reason as' why ss)
     where
-      go : (b : Bool) → run (map (λ a. a or why) as' ++ ss) f ≡ cond (all_meet as' f) (run ss f) (Verdict.NotAllowed why)
-          → cond b (run (map (λ a. a or why) as' ++ ss) f) (Verdict.NotAllowed why) ≡ cond (b && all_meet as' f) (run ss f) (Verdict.NotAllowed why)
+      go : (b : Bool) → run (map (λ a. a or why) as' ++ ss) f ≡ cond (all_meet as' f) (run ss f) (Err (Refusal.NotAllowed why))
+          → cond b (run (map (λ a. a or why) as' ++ ss) f) (Err (Refusal.NotAllowed why)) ≡ cond (b && all_meet as' f) (run ss f) (Err (Refusal.NotAllowed why))
       go true e = e
       go false e = refl
 
   pub steps_right : (cs : List Clause) → judged cs f ≡ run (steps cs) f
   steps_right [] = refl
   steps_right ((t else why) ∷ cs) =
-      ap₂ (λ (b : Bool) (v : Verdict). cond b v (Verdict.NotAllowed why)) (flat_right t) (steps_right cs)
+      ap₂ (λ (b : Bool) (v : Verdict). cond b v (Err (Refusal.NotAllowed why))) (flat_right t) (steps_right cs)
       ∙ sym (one_reason (flat t) why (steps cs))
 
   pub cut_right : (ss : List Step) → run (cut ss) f ≡ run ss f
   cut_right [] = refl
   cut_right ((Never or why) ∷ ss) = refl
-  cut_right ((Look b k or why) ∷ ss) = ap (λ (v : Verdict). cond (meets (Look b k) f) v (Verdict.NotAllowed why)) (cut_right ss)
-  cut_right ((Even ks or why) ∷ ss) = ap (λ (v : Verdict). cond (meets (Even ks) f) v (Verdict.NotAllowed why)) (cut_right ss)
-  cut_right ((Other t or why) ∷ ss) = ap (λ (v : Verdict). cond (holds t f) v (Verdict.NotAllowed why)) (cut_right ss)
+  cut_right ((Look b k or why) ∷ ss) = ap (λ (v : Verdict). cond (meets (Look b k) f) v (Err (Refusal.NotAllowed why))) (cut_right ss)
+  cut_right ((Even ks or why) ∷ ss) = ap (λ (v : Verdict). cond (meets (Even ks) f) v (Err (Refusal.NotAllowed why))) (cut_right ss)
+  cut_right ((Other t or why) ∷ ss) = ap (λ (v : Verdict). cond (holds t f) v (Err (Refusal.NotAllowed why))) (cut_right ss)

@@ -10,7 +10,9 @@ use Rattle.bits.specs.Bits.{bit}
 use Rattle.bits.proofs.Cases.{both}
 use Rattle.bits.specs.Places.{places}
 use Rattle.floor.specs.Tests.{fact, even}
-use Rattle.rules.specs.declared.Verdict.{Verdict}
+use Rattle.rules.specs.declared.Refusal.{Refusal}
+use Rattle.std.specs.declared.result.Result.TheVariants.{Err}
+use Rattle.rules.specs.Verdicts.{Verdict}
 use Rattle.rows.specs.Private.{Part, look, pairs, halt, because, passes, judged_row}
 use Rattle.rows.proofs.Steps.{atoms_of, row_steps, run, fits, all_fit}
 use Rattle.rows.proofs.Flat.{all_meet, flat_right, one_reason}
@@ -34,5 +36,5 @@ module _ (r : ℕ) where
   row_right [] h = refl
   row_right (p ∷ ps) h =
       let b = both (fits p) (all_fit ps) h in
-      ap₂ (λ (t : Bool) (v : Verdict). cond t v (Verdict.NotAllowed (because p))) (part_right p b.0) (row_right ps b.1)
+      ap₂ (λ (t : Bool) (v : Verdict). cond t v (Err (Refusal.NotAllowed (because p)))) (part_right p b.0) (row_right ps b.1)
       ∙ sym (one_reason (bit r) (atoms_of p) (because p) (row_steps ps))

@@ -8,7 +8,9 @@ use Rattle.bits.specs.Bits.{Bits, bit, count}
 use Rattle.bits.specs.Places.{places}
 use Rattle.floor.specs.Tests.{Test, fact, set, exactly, even, no, both, either, holds}
 use Rattle.answers.specs.declared.Reason.{Reason}
-use Rattle.rules.specs.declared.Verdict.{Verdict}
+use Rattle.rules.specs.declared.Refusal.{Refusal}
+use Rattle.std.specs.declared.result.Result.TheVariants.{Ok, Err}
+use Rattle.rules.specs.Verdicts.{Verdict}
 use Rattle.rules.specs.Rules.{Clause, ◌else◌}
 use Rattle.rows.specs.Private.{Part, look, pairs, halt, because}
 
@@ -42,8 +44,8 @@ pub data Step : Type 0 where
 
 infix 70 ◌or◌
 abbrev pub run : List Step → Bits → Verdict
-run [] f = Verdict.Allowed
-run ((a or why) ∷ ss) f = cond (meets a f) (run ss f) (Verdict.NotAllowed why)
+run [] f = Ok tt
+run ((a or why) ∷ ss) f = cond (meets a f) (run ss f) (Err (Refusal.NotAllowed why))
 
 abbrev pub steps : List Clause → List Step
 steps [] = []

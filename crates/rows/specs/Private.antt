@@ -8,7 +8,9 @@ use Rattle.answers.specs.declared.Reason.{Reason}
 use Rattle.answers.specs.declared.Reason.TheVariants.{NothingNamed, Gap, NotAvailable, NotFree, OddCount, HalfMove, NotAtRotation, CellsNotFree}
 use Rattle.rules.specs.declared.Instruction.{Instruction}
 use Rattle.rules.specs.declared.Instruction.TheVariants.{Belts, Shuttles, Tilt, Lift, Rotate}
-use Rattle.rules.specs.declared.Verdict.{Verdict}
+use Rattle.rules.specs.declared.Refusal.{Refusal}
+use Rattle.std.specs.declared.result.Result.TheVariants.{Ok, Err}
+use Rattle.rules.specs.Verdicts.{Verdict}
 use Rattle.rules.specs.Named.{step}
 use Rattle.areas.specs.Private.{area_mask}
 
@@ -34,8 +36,8 @@ passes (halt b why) r = not b
 
 -- what a record says of a row: it passes all, or the reason of the first that fails
 abbrev pub judged_row : List Part → ℕ → Verdict
-judged_row [] r = Verdict.Allowed
-judged_row (p ∷ ps) r = cond (passes p r) (judged_row ps r) (Verdict.NotAllowed (because p))
+judged_row [] r = Ok tt
+judged_row (p ∷ ps) r = cond (passes p r) (judged_row ps r) (Err (Refusal.NotAllowed (because p)))
 
 -- what looks at the record, in order: these bits are so; there is room, and it is free; and, before the room or after it, pairs
 abbrev pub looks_asked : ℕ → ℕ → Reason → Bool → ℕ → ℕ → Reason → List Part

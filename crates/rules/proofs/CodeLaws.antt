@@ -10,19 +10,19 @@ use Rattle.bits.proofs.Cases.{split, both}
 use Rattle.rules.specs.declared.Instruction.{Instruction}
 use Rattle.rules.specs.declared.Instruction.TheVariants.{Belts, Shuttles, Tilt, Lift, Rotate}
 use Rattle.rules.specs.declared.Code.{Code}
-use Rattle.rules.specs.declared.Reading.TheVariants.{Good, Bad}
+use Rattle.std.specs.declared.option.Option.TheVariants.{Some, None}
 use Rattle.rules.specs.declared.Event.{Event}
 use Rattle.rules.specs.declared.Event.TheVariants.{BeginIn, BeginOut, EndDone, EndNotDone}
-use Rattle.rules.specs.declared.EventReading.{EventReading}
+use Rattle.std.specs.declared.option.Option.{Option}
 use Rattle.rules.specs.Rules.{well_formed}
 use Rattle.rules.specs.Codes.{code_of, well_formed_only, read_code, event_code, read_event}
 
-pub reads_back : (i : Instruction) → well_formed i ≡ true → read_code (code_of i) ≡ Good i
+pub reads_back : (i : Instruction) → well_formed i ≡ true → read_code (code_of i) ≡ Some i
 unfolding read_code code_of
-reads_back (Belts row mask toward size) w = ap (λ (b : Bool). cond b (Good (Belts row mask toward size)) Bad) w
-reads_back (Shuttles side mask orientation toward) w = ap (λ (b : Bool). cond b (Good (Shuttles side mask orientation toward)) Bad) w
-reads_back (Tilt side row orientation) w = ap (λ (b : Bool). cond b (Good (Tilt side row orientation)) Bad) w
-reads_back (Lift height) w = ap (λ (b : Bool). cond b (Good (Lift height)) Bad) w
+reads_back (Belts row mask toward size) w = ap (λ (b : Bool). cond b (Some (Belts row mask toward size)) None) w
+reads_back (Shuttles side mask orientation toward) w = ap (λ (b : Bool). cond b (Some (Shuttles side mask orientation toward)) None) w
+reads_back (Tilt side row orientation) w = ap (λ (b : Bool). cond b (Some (Tilt side row orientation)) None) w
+reads_back (Lift height) w = ap (λ (b : Bool). cond b (Some (Lift height)) None) w
 reads_back Rotate w = refl
 
 -- ---- what is read has one form
@@ -40,17 +40,17 @@ module _ (x : Code) (i : Instruction) where
   abbrev Form : Type 0
   Form = (x ≡ code_of i) × (well_formed i ≡ true)
 
-  bad : Bad ≡ Good i → Form
+  bad : None ≡ Some i → Form
   bad e = absurd (let z : ◌≡◌ {A = ℕ} 0 1 = cc in omega arith)
 
-  good : (j : Instruction) → x ≡ code_of j → well_formed_only j ≡ Good i → Form
+  good : (j : Instruction) → x ≡ code_of j → well_formed_only j ≡ Some i → Form
   good j p e = split (well_formed j)
-      (λ w. let h : Good j ≡ Good i = sym (ap (λ (b : Bool). cond b (Good j) Bad) w) ∙ e in
+      (λ w. let h : Some j ≡ Some i = sym (ap (λ (b : Bool). cond b (Some j) None) w) ∙ e in
       let s : j ≡ i = cc in
       (p ∙ ap code_of s, ap well_formed (sym s) ∙ w))
-      (λ w. bad (sym (ap (λ (b : Bool). cond b (Good j) Bad) w) ∙ e))
+      (λ w. bad (sym (ap (λ (b : Bool). cond b (Some j) None) w) ∙ e))
 
-  pub one_form_lem : read_code x ≡ Good i → (x ≡ code_of i) × (well_formed i ≡ true)
+  pub one_form_lem : read_code x ≡ Some i → (x ≡ code_of i) × (well_formed i ≡ true)
   unfolding read_code code_of
   one_form_lem e = split (eqb x.op 1)
       (λ o. good (Belts x.a x.b x.c x.d) (bytes x 1 x.a x.b x.c x.d (eqb-true x.op 1 o) refl refl refl refl) (rw o at e))
@@ -74,14 +74,14 @@ module _ (x : Code) (i : Instruction) where
 
 -- ---- events
 
-pub event_reads_back : (e : Event) → read_event (event_code e) ≡ EventReading.Good e
+pub event_reads_back : (e : Event) → read_event (event_code e) ≡ Option.Some e
 unfolding read_event
 event_reads_back BeginIn = refl
 event_reads_back BeginOut = refl
 event_reads_back EndDone = refl
 event_reads_back EndNotDone = refl
 
-pub event_one_form : (b : ℕ) (e : Event) → read_event b ≡ EventReading.Good e → b ≡ event_code e
+pub event_one_form : (b : ℕ) (e : Event) → read_event b ≡ Option.Some e → b ≡ event_code e
 unfolding read_event
 event_one_form b e r = split (eqb b 1)
     (λ o. told 1 BeginIn o (rw o at r) refl)
@@ -91,7 +91,7 @@ event_one_form b e r = split (eqb b 1)
     (λ o. told 3 EndDone o (rw (n, m, o) at r) refl)
     (λ l. split (eqb b 4)
     (λ o. told 4 EndNotDone o (rw (n, m, l, o) at r) refl)
-    (λ k. let h : EventReading.Bad ≡ EventReading.Good e = rw (n, m, l, k) at r in absurd (let z : ◌≡◌ {A = ℕ} 0 1 = cc in omega arith)))))
+    (λ k. let h : Option.None ≡ Option.Some e = rw (n, m, l, k) at r in absurd (let z : ◌≡◌ {A = ℕ} 0 1 = cc in omega arith)))))
   where
-    told : (c : ℕ) (d : Event) → eqb b c ≡ true → EventReading.Good d ≡ EventReading.Good e → event_code d ≡ c → b ≡ event_code e
+    told : (c : ℕ) (d : Event) → eqb b c ≡ true → Option.Some d ≡ Option.Some e → event_code d ≡ c → b ≡ event_code e
     told c d o h p = let s : d ≡ e = cc in eqb-true b c o ∙ sym p ∙ ap event_code s

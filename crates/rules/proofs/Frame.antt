@@ -17,12 +17,12 @@ use Rattle.floor.specs.Tests.{Test, fact, free, even, no, holds, all_hold, heigh
 use Rattle.floor.proofs.Reading.{reads_in, all_read_in, change_in, holds_agree, all_agree, changed_agree, changed_outside}
 use Rattle.rules.specs.declared.Instruction.{Instruction}
 use Rattle.rules.specs.declared.Instruction.TheVariants.{Belts, Shuttles, Tilt, Lift, Rotate}
-use Rattle.rules.specs.declared.Verdict.{Verdict}
-use Rattle.rules.specs.declared.Verdict.TheVariants.{NotAllowed, IllFormed}
+use Rattle.rules.specs.declared.Refusal.TheVariants.{NotAllowed, IllFormed}
+use Rattle.std.specs.declared.result.Result.TheVariants.{Err}
 use Rattle.rules.specs.declared.Event.{Event}
 use Rattle.rules.specs.declared.Event.TheVariants.{BeginIn, BeginOut, EndDone, EndNotDone}
 use Rattle.rules.specs.Rules.{well_formed, area_of, area, seen, Clause, ◌else◌, test, clauses, conditions, changes, allowed, next_record}
-use Rattle.rules.specs.Verdicts.{judged, verdict_of}
+use Rattle.rules.specs.Verdicts.{Verdict, judged, verdict_of}
 use Rattle.rules.specs.Events.{turn, begin_conditions, event_conditions, event_changes, in_turn, possible, after_event}
 use Rattle.rules.proofs.Every.{everywhere, each}
 
@@ -118,7 +118,7 @@ module _ (f g : Bits) where
 
   judged_alike : (cs : List Clause) → Alike f g (map test cs) → judged cs f ≡ judged cs g
   judged_alike [] a = refl
-  judged_alike ((t else why) ∷ cs) a = ap₂ (λ (b : Bool) (v : Verdict). cond b v (NotAllowed why)) (a 0) (judged_alike cs (λ n. a (suc n)))
+  judged_alike ((t else why) ∷ cs) a = ap₂ (λ (b : Bool) (v : Verdict). cond b v (Err (NotAllowed why))) (a 0) (judged_alike cs (λ n. a (suc n)))
 
 same_conditions : (i : Instruction) → T (well_formed i) → (f g : Bits) → Agree i f g → seen i f ≡ seen i g → Alike f g (conditions i)
 same_conditions i w f g e v = conditions_alike i f g (reads_alike f g (area_of i) (in_area_lem i f g e) (own i) (own_in i w)) v
@@ -133,7 +133,7 @@ same_verdict_lem i f g e v = split (well_formed i)
 pub same_reason : (i : Instruction) (r q : ℕ) → Agree i (bit r) (bit q) → seen i (bit r) ≡ seen i (bit q) → verdict_of i r ≡ verdict_of i q
 unfolding verdict_of
 same_reason i r q e v = split (well_formed i)
-    (λ w. ap (λ (x : Verdict). cond (well_formed i) x IllFormed) (judged_alike (bit r) (bit q) (clauses i) (same_conditions i (true→T w) (bit r) (bit q) e v)))
+    (λ w. ap (λ (x : Verdict). cond (well_formed i) x (Err IllFormed)) (judged_alike (bit r) (bit q) (clauses i) (same_conditions i (true→T w) (bit r) (bit q) e v)))
     (λ w. rw w)
 
 -- ---- events read and write the lift and the drives alone

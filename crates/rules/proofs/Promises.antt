@@ -8,7 +8,7 @@ use lib.ListN.{get_or, length, take}
 use borrow.Author.Tests.{le-ltb, ltb-false}
 use Rattle.bits.proofs.Cases.{split}
 use Rattle.rules.specs.declared.Code.{Code}
-use Rattle.rules.specs.declared.Reading.TheVariants.{Good, Bad}
+use Rattle.std.specs.declared.option.Option.TheVariants.{Some, None}
 use Rattle.rules.specs.Codes.{bytes_of, code_from, read_bytes}
 use Rattle.rules.specs.Promises.{CodeReadsBack, CodeOneForm, BytesReadBack, BytesOneForm, EventReadsBack, EventOneForm}
 use Rattle.rules.proofs.CodeLaws as laws
@@ -35,7 +35,7 @@ five (a ∷ b ∷ c ∷ d ∷ e ∷ s) h = refl
 pub bytes_one_form : BytesOneForm
 unfolding read_bytes
 bytes_one_form s i e = split (ltb (length s) 5)
-    (λ t. let z : Bad ≡ Good i = rw t at e in absurd (let z : ◌≡◌ {A = ℕ} 0 1 = cc in omega arith))
+    (λ t. let z : None ≡ Some i = rw t at e in absurd (let z : ◌≡◌ {A = ℕ} 0 1 = cc in omega arith))
     (λ t. let (form, well) = laws.one_form_lem (code_from s) i (rw t at e) in
     (five s (ltb-false (length s) 5 t) ∙ ap (λ (x : Code). x.op ∷ x.a ∷ x.b ∷ x.c ∷ x.d ∷ []) form, well))
 

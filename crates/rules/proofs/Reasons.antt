@@ -1,5 +1,5 @@
 -- The promises of specs/Promises.antt on verdicts: conditions are judged by the first that fails. Assumes nothing.
-use mathlib.Core.Path.{◌≡◌, refl, sym, ap, ◌∙◌, subst}
+use mathlib.Core.Path.{◌≡◌, refl, sym, ap, ◌∙◌}
 use mathlib.Core.Bool.{Bool, true, false, cond, true≢false}
 use mathlib.Core.List.{List, [], ◌∷◌, ◌++◌, map}
 use Prim.Native.Nat.{ℕ}
@@ -8,10 +8,10 @@ use Rattle.bits.proofs.Cases.{split, clash, both, and_intro}
 use Rattle.floor.specs.Tests.{Test, holds, all_hold}
 use Rattle.answers.specs.declared.Reason.{Reason}
 use Rattle.rules.specs.declared.Instruction.{Instruction}
-use Rattle.rules.specs.declared.Verdict.{Verdict}
-use Rattle.rules.specs.declared.Verdict.TheVariants.{Allowed, NotAllowed, IllFormed}
+use Rattle.rules.specs.declared.Refusal.TheVariants.{NotAllowed, IllFormed}
+use Rattle.std.specs.declared.result.Result.TheVariants.{Ok, Err}
 use Rattle.rules.specs.Rules.{well_formed, Clause, ◌else◌, test, clauses, allowed}
-use Rattle.rules.specs.Verdicts.{judged, verdict_of, is_allowed}
+use Rattle.rules.specs.Verdicts.{Verdict, judged, verdict_of, is_allowed}
 use Rattle.rules.specs.Promises.{FirstFails, AllowedExactly, ReasonFirst}
 
 -- ---- a list of conditions
@@ -21,10 +21,10 @@ pub judged_allows : (cs : List Clause) (f : Bits) → is_allowed (judged cs f) �
 judged_allows [] f = refl
 judged_allows ((t else why) ∷ cs) f = split (holds t f) (λ a. rw a (judged_allows cs f)) (λ a. rw a)
 
-allowed_only : (v : Verdict) → is_allowed v ≡ true → v ≡ Allowed
-allowed_only Allowed e = refl
-allowed_only (NotAllowed why) e = clash e refl
-allowed_only IllFormed e = clash e refl
+allowed_only : (v : Verdict) → is_allowed v ≡ true → v ≡ Ok tt
+allowed_only (Ok done) e = refl
+allowed_only (Err (NotAllowed why)) e = clash e refl
+allowed_only (Err IllFormed) e = clash e refl
 
 module _ (f : Bits) where
   -- a condition that holds leaves the verdict to the others
@@ -33,7 +33,7 @@ module _ (f : Bits) where
 
   -- where those before it hold, one that fails gives its reason
   judged_at : (before : List Clause) (t : Test) (why : Reason) (after : List Clause)
-      → all_hold (map test before) f ≡ true → holds t f ≡ false → judged (before ++ (t else why) ∷ after) f ≡ NotAllowed why
+      → all_hold (map test before) f ≡ true → holds t f ≡ false → judged (before ++ (t else why) ∷ after) f ≡ Err (NotAllowed why)
   judged_at [] t why after h n = rw n
   judged_at ((u else w) ∷ before) t why after h n =
       let (a, b) = both (holds u f) (all_hold (map test before) f) h in
@@ -41,12 +41,12 @@ module _ (f : Bits) where
 
   -- the reason of a verdict that has one
   reason_in : Reason → Verdict → Reason
-  reason_in else' Allowed = else'
-  reason_in else' (NotAllowed why) = why
-  reason_in else' IllFormed = else'
+  reason_in else' (Ok done) = else'
+  reason_in else' (Err (NotAllowed why)) = why
+  reason_in else' (Err IllFormed) = else'
 
   -- a reason is of the first that fails
-  pub judged_first : (cs : List Clause) (why : Reason) → judged cs f ≡ NotAllowed why → FirstFails cs f why
+  pub judged_first : (cs : List Clause) (why : Reason) → judged cs f ≡ Err (NotAllowed why) → FirstFails cs f why
   unfolding reason_in
   judged_first [] why e = clash refl (ap is_allowed e)
   judged_first ((t else w) ∷ cs) why e = split (holds t f) (λ a. later a (judged_first cs why (sym (passing t w cs a) ∙ e))) here
@@ -74,11 +74,11 @@ module _ (f : Bits) where
             fails = a;
           }
 
-  pub first_judged : (cs : List Clause) (why : Reason) → FirstFails cs f why → judged cs f ≡ NotAllowed why
+  pub first_judged : (cs : List Clause) (why : Reason) → FirstFails cs f why → judged cs f ≡ Err (NotAllowed why)
   first_judged cs why x = ap (λ (l : List Clause). judged l f) x.stands ∙ judged_at x.before x.condition why x.after x.hold x.fails
 
 -- conditions that don't all hold are refused for some reason
-judged_some : (cs : List Clause) (f : Bits) → is_allowed (judged cs f) ≡ false → (why : Reason) × (judged cs f ≡ NotAllowed why)
+judged_some : (cs : List Clause) (f : Bits) → is_allowed (judged cs f) ≡ false → (why : Reason) × (judged cs f ≡ Err (NotAllowed why))
 judged_some [] f e = clash refl e
 judged_some ((t else why) ∷ cs) f e =
     split (holds t f)
@@ -97,20 +97,17 @@ module _ (i : Instruction) (r : ℕ) where
   unfolding verdict_of
   well_judged w = rw w
 
-  reason_well : (why : Reason) → verdict_of i r ≡ NotAllowed why → well_formed i ≡ true
+  reason_well : (why : Reason) → verdict_of i r ≡ Err (NotAllowed why) → well_formed i ≡ true
   unfolding verdict_of
-  reason_well why e = split (well_formed i) (λ w. w) (λ w. absurd (reasoned (sym (ap (λ (b : Bool). cond b (judged (clauses i) (bit r)) IllFormed) w) ∙ e)))
+  reason_well why e = split (well_formed i) (λ w. w) (λ w. absurd (true≢false (sym (ap is_reason (sym (ap (λ (b : Bool). cond b (judged (clauses i) (bit r)) (Err IllFormed)) w) ∙ e)))))
     where
       is_reason : Verdict → Bool
-      is_reason Allowed = false
-      is_reason (NotAllowed why) = true
-      is_reason IllFormed = false
-
-      reasoned : IllFormed ≡ NotAllowed why → ⊥
-      reasoned e = true≢false (sym (ap is_reason e))
+      is_reason (Ok done) = false
+      is_reason (Err (NotAllowed why)) = true
+      is_reason (Err IllFormed) = false
 
 -- a well-formed instruction that isn't allowed is refused for some reason
-pub refused_why : (i : Instruction) (r : ℕ) → well_formed i ≡ true → allowed i (bit r) ≡ false → (why : Reason) × (verdict_of i r ≡ NotAllowed why)
+pub refused_why : (i : Instruction) (r : ℕ) → well_formed i ≡ true → allowed i (bit r) ≡ false → (why : Reason) × (verdict_of i r ≡ Err (NotAllowed why))
 refused_why i r w a =
     let p = well_judged i r w in
     let (why, q) = judged_some (clauses i) (bit r) (ap is_allowed (sym p) ∙ allows_is i r ∙ a) in

@@ -2,14 +2,15 @@
 use Rattle.std.specs.Prelude.{Bool, false, cond, not, ◌&&◌, ℕ, ◌+◌, ◌-◌, eqb}
 use Rattle.bits.specs.Bits.{bit}
 use Rattle.floor.specs.declared.Belt.{Belt}
-use Rattle.floor.specs.declared.Belt.TheVariants.{On, NoCell}
+use Rattle.std.specs.declared.option.Option.{Option}
+use Rattle.std.specs.declared.option.Option.TheVariants.{Some, None}
 use Rattle.floor.specs.Floor.{belt_of}
 use Rattle.rules.specs.Named.{higher}
 
 -- the belt is in the row, and the mask names it
-abbrev pub belt_named : ℕ → ℕ → Belt → Bool
-belt_named row mask (On on number) = eqb on row && bit mask number
-belt_named row mask NoCell = false
+abbrev pub belt_named : ℕ → ℕ → Option Belt → Bool
+belt_named row mask (Some b) = eqb b.row row && bit mask b.number
+belt_named row mask None = false
 
 -- the cell is on such a belt
 abbrev pub cell_named : ℕ → ℕ → ℕ → Bool

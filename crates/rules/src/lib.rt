@@ -2,12 +2,14 @@
 #![tactic(auto)]
 
 ghost use Rattle.std.specs.Prelude.{◌≡◌, cond};
+ghost use Rattle.std.specs.declared.option.Option.TheVariants.{None};
 ghost use Rattle.rules.specs.Rules.{well_formed};
 ghost use Rattle.rules.specs.Codes.{code_of, well_formed_only, read_code, read_bytes, read_event};
 ghost use Rattle.rules.specs.Verdicts.{answer_for};
 
 use answers::{Answer, Reason};
 
+// Kept: numbers, no enums, here and in areas and engine: a message carries any byte, and well_formed speaks of all of them.
 // An instruction, by value. The fields hold the numbers that a message carries.
 #[derive(Clone, Copy)]
 pub enum Instruction {
@@ -44,13 +46,6 @@ pub struct Code {
     pub d: u8,
 }
 
-// What five bytes say: a well-formed instruction, or none.
-#[derive(Clone, Copy)]
-pub enum Reading {
-    Good(Instruction),
-    Bad,
-}
-
 // A driver begins to bring a car into the lift, or to take one out; the drive that is under way ends, and is done or not.
 #[derive(Clone, Copy)]
 pub enum Event {
@@ -60,45 +55,22 @@ pub enum Event {
     EndNotDone,
 }
 
-// What an event's byte says.
+// Why an instruction changes no record: one of its conditions fails on it, or the instruction is not well formed.
 #[derive(Clone, Copy)]
-pub enum EventReading {
-    Good(Event),
-    Bad,
-}
-
-// What is said of an instruction on a record.
-#[derive(Clone, Copy)]
-pub enum Verdict {
-    Allowed,
+pub enum Refusal {
     NotAllowed(Reason),
     IllFormed,
 }
 
-// The record after an instruction, where it is allowed.
+// Why a car event changes no record: it does not come in turn, is impossible, or would fill a place that is kept open.
 #[derive(Clone, Copy)]
-pub enum Moved {
-    Record(u64),
-    NotAllowed(Reason),
-    IllFormed,
-}
-
-// The record after a car event, where it comes in turn, is possible and fills none of the places that are kept open.
-#[derive(Clone, Copy)]
-pub enum Driven {
-    Record(u64),
+pub enum Undriven {
     OutOfTurn,
     Impossible,
     KeptOpen,
 }
 
-// An instruction's area, as a mask of the record's bits.
-#[derive(Clone, Copy)]
-pub enum Area {
-    Mask(u64),
-    IllFormed,
-}
-
+// Kept: no Option of a bool: sharing_of names the three, each is answered by its own (sharing_said), and a bool would name none.
 // Whether two instructions may stand in one set.
 #[derive(Clone, Copy)]
 pub enum Sharing {
@@ -107,18 +79,16 @@ pub enum Sharing {
     IllFormed,
 }
 
-// ---- what a verdict says further
+// ---- what is answered
 
-impl Verdict {
-    // What is answered for it, on the instruction at this place.
-    pub fn answer(self, place: u8) -> Answer
-        ensures { result ≡ answer_for self place }
-    {
-        match self {
-            Verdict::Allowed => Answer::Taken,
-            Verdict::NotAllowed(why) => Answer::NotAllowed(why, place),
-            Verdict::IllFormed => Answer::BadField(place),
-        }
+// What is answered for a verdict on the instruction at this place: taken, or why it is refused.
+pub fn answer_for(verdict: Result<(), Refusal>, place: u8) -> Answer
+    ensures { result ≡ answer_for verdict place }
+{
+    match verdict {
+        Ok(()) => Answer::Taken,
+        Err(Refusal::NotAllowed(why)) => Answer::NotAllowed(why, place),
+        Err(Refusal::IllFormed) => Answer::BadField(place),
     }
 }
 
@@ -175,6 +145,7 @@ pub fn well_formed(i: Instruction) -> bool
 // ---- the five bytes
 
 // An instruction's five bytes.
+#[tactic(auto, unfolding(crate::specs::Codes::code_of))]
 pub fn code_of(i: Instruction) -> Code
     ensures { result ≡ code_of i }
 {
@@ -231,88 +202,57 @@ pub fn code_of(i: Instruction) -> Code
     }
 }
 
-// An instruction that is well formed is read, where its spare bytes are zero.
-fn kept(zero: bool, i: Instruction) -> Reading
-    ensures { result ≡ cond zero (well_formed_only i) Reading.Bad }
-{
-    if zero {
-        if well_formed(i) {
-            return Reading::Good(i);
-        }
-        return Reading::Bad;
-    }
-    Reading::Bad
-}
-
-// What five bytes say.
-pub fn read(x: Code) -> Reading
+// What five bytes say: a well-formed instruction whose spare bytes are zero, or none.
+#[tactic(auto, unfolding(crate::specs::Codes::read_code))]
+pub fn read(x: Code) -> Option<Instruction>
     ensures { result ≡ read_code x }
 {
-    let op = x.op;
-    match op {
-        1 => kept(
-            true,
-            Instruction::Belts {
-                row: x.a,
-                mask: x.b,
-                toward: x.c,
-                size: x.d,
-            },
-        ),
-        2 => kept(
-            true,
-            Instruction::Shuttles {
-                side: x.a,
-                mask: x.b,
-                orientation: x.c,
-                toward: x.d,
-            },
-        ),
-        3 => kept(
-            x.d == 0,
-            Instruction::Tilt {
-                side: x.a,
-                row: x.b,
-                orientation: x.c,
-            },
-        ),
-        4 => kept(
-            (x.b == 0) & (x.c == 0) & (x.d == 0),
-            Instruction::Lift { height: x.a },
-        ),
-        5 => kept(
-            (x.a == 0) & (x.b == 0) & (x.c == 0) & (x.d == 0),
-            Instruction::Rotate,
-        ),
-        _ => Reading::Bad,
-    }
+    let i = match (x.op, x.a, x.b, x.c, x.d) {
+        (1, row, mask, toward, size) => Instruction::Belts {
+            row,
+            mask,
+            toward,
+            size,
+        },
+        (2, side, mask, orientation, toward) => Instruction::Shuttles {
+            side,
+            mask,
+            orientation,
+            toward,
+        },
+        (3, side, row, orientation, 0) => Instruction::Tilt {
+            side,
+            row,
+            orientation,
+        },
+        (4, height, 0, 0, 0) => Instruction::Lift { height },
+        (5, 0, 0, 0, 0) => Instruction::Rotate,
+        _ => return None,
+    };
+    well_formed(i).then_some(i)
 }
 
 // What the first five bytes of a slice say; fewer say nothing.
-pub fn read_bytes(b: &[u8]) -> Reading
+#[tactic(auto, unfolding(crate::specs::Codes::read_bytes))]
+pub fn read_bytes(b: &[u8]) -> Option<Instruction>
     ensures { result ≡ read_bytes b.now }
 {
-    if b.len() < 5 {
-        return Reading::Bad;
-    }
-    read(Code {
-        op: b[0],
-        a: b[1],
-        b: b[2],
-        c: b[3],
-        d: b[4],
-    })
+    let [op, a, b, c, d, ..] = *b else {
+        return None;
+    };
+    read(Code { op, a, b, c, d })
 }
 
 // What an event's byte says.
-pub fn event_of(b: u8) -> EventReading
+#[tactic(auto, unfolding(crate::specs::Codes::read_event))]
+pub fn event_of(b: u8) -> Option<Event>
     ensures { result ≡ read_event b }
 {
     match b {
-        1 => EventReading::Good(Event::BeginIn),
-        2 => EventReading::Good(Event::BeginOut),
-        3 => EventReading::Good(Event::EndDone),
-        4 => EventReading::Good(Event::EndNotDone),
-        _ => EventReading::Bad,
+        1 => Some(Event::BeginIn),
+        2 => Some(Event::BeginOut),
+        3 => Some(Event::EndDone),
+        4 => Some(Event::EndNotDone),
+        _ => None,
     }
 }

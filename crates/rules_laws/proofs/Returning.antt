@@ -1,7 +1,7 @@
 -- Two lists of changes, one made after the other: that the second brings back what the first has changed, and that some tests hold between
 -- the two, is tried at every setting of the few bits that it rests on. Assumes nothing.
 use mathlib.Core.Path.{◌≡◌, refl, ap₂, ◌∙◌}
-use mathlib.Core.Bool.{Bool, true, false, ◌&&◌, beq}
+use mathlib.Core.Bool.{Bool, false, ◌&&◌, beq}
 use mathlib.Core.List.{List, [], ◌∷◌, ◌++◌, map}
 use Prim.Native.Nat.{ℕ}
 use lib.Dec.{T}

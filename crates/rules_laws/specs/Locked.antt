@@ -6,11 +6,11 @@ use Rattle.bits.specs.Places.{elem}
 use Rattle.floor.specs.Floor.{lift, lift_cells, street, raised_car}
 use Rattle.floor.specs.Tests.{set, both, holds, height_is}
 use Rattle.floor.specs.Sound.{total}
-use Rattle.floor.specs.declared.Total.TheVariants.{Cars}
+use Rattle.std.specs.declared.option.Option.TheVariants.{Some}
 use Rattle.rules.specs.declared.Instruction.{Instruction}
 use Rattle.rules.specs.declared.Instruction.TheVariants.{Lift}
 use Rattle.rules.specs.declared.Event.TheVariants.{BeginIn, BeginOut, EndDone}
-use Rattle.rules.specs.declared.Driven.TheVariants.{Record}
+use Rattle.std.specs.declared.result.Result.TheVariants.{Ok}
 use Rattle.rules.specs.Rules.{allowed}
 use Rattle.rules.specs.Events.{possible}
 use Rattle.rules.specs.Verdicts.{driven_of}
@@ -32,10 +32,10 @@ locked = 0x00103FC0F03F660F
 -- can leave
 pub record DriveInLocks : Type 0 where
   -- the begin of a drive-in is accepted, and so is its done end
-  pub fourteen : total unlocked ≡ Cars 14
-  pub begins : driven_of BeginIn unlocked ≡ Record locking
-  pub ends : driven_of EndDone locking ≡ Record locked
-  pub fifteen : total locked ≡ Cars 15
+  pub fourteen : total unlocked ≡ Some 14
+  pub begins : driven_of BeginIn unlocked ≡ Ok locking
+  pub ends : driven_of EndDone locking ≡ Ok locked
+  pub fifteen : total locked ≡ Some 15
   -- before it some car could be fetched: moves lead to a record with the lift at street and a car on it
   pub fetchable : (g : Bits) × Reaches (bit unlocked) g × (holds (both (height_is street) (set (raised_car ∷ []))) g ≡ true)
   -- after it, whatever is moved, only lift runs are allowed, and no place has changed but the lift and its two cells

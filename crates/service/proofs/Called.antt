@@ -2,13 +2,12 @@
 -- Assumes nothing.
 use mathlib.Core.Path.{◌≡◌, refl, sym, ap, ◌∙◌}
 use mathlib.Core.Bool.{Bool, true, false, not, ◌&&◌}
-use mathlib.Core.List.{List, ◌++◌}
-use Prim.Native.Nat.{ℕ, ◌*◌, ◌-◌}
+use mathlib.Core.List.{List}
+use Prim.Native.Nat.{ℕ}
 use lib.Dec.{eqb}
-use lib.ListN.{take, replicate}
 use borrow.Author.Tests.{not-true, not-false}
 use Rattle.bits.proofs.Cases.{split, clash, both}
-use Rattle.answers.specs.declared.Answer.TheVariants.{Taken, Unfit, UnknownKind}
+use Rattle.answers.specs.declared.Answer.TheVariants.{Unfit, UnknownKind}
 use Rattle.answers.specs.Answers.{number_of}
 use Rattle.station.specs.declared.Station.{Station}
 use Rattle.station.specs.declared.Outcome.{Outcome}
@@ -16,7 +15,7 @@ use Rattle.station.specs.declared.Turn.{Turn}
 use Rattle.station.specs.Station.{fit}
 use Rattle.station.specs.Calls.{refused, request, event, result, take_image, ask}
 use Rattle.station.specs.Turns.{turn_of}
-use Rattle.station.proofs.Turns.{Kept, kept_refused, kept_requested, kept_evented, kept_resulted, kept_imaged}
+use Rattle.station.proofs.Turns.{Kept, kept_refused}
 use Rattle.station_laws.specs.Runs as run
 use Rattle.station_laws.specs.Runs.{Call}
 use Rattle.station_laws.proofs.Demands.{fit_stays}

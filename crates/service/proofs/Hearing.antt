@@ -1,6 +1,6 @@
 -- A message whose bytes are exactly m as a call: where it is a request and where it is none; the set that it leaves; and that the reply to
 -- the first message of some bytes is the reply to its call. Assumes nothing.
-use mathlib.Core.Path.{◌≡◌, refl, sym, ap, ap₂, subst, ◌∙◌}
+use mathlib.Core.Path.{◌≡◌, refl, sym, ap, ap₂, ◌∙◌}
 use mathlib.Core.Bool.{Bool, true, false, cond, not, ◌&&◌, and-false}
 use mathlib.Core.List.{List, [], ◌∷◌, ◌++◌}
 use Prim.Native.Nat.{ℕ, zero, suc, ◌+◌, ◌*◌, ◌-◌, ◌<◌, ◌≤◌}
@@ -10,10 +10,11 @@ use lib.Dec.{eqb, ltb}
 use lib.ListN.{get_or, length, take, drop, replicate, length-drop, drop_of_length-le}
 use lib.Seq.{length-take-le, take_all, take_at}
 use Rattle.bits.specs.Search.{least}
-use Rattle.bits.proofs.Cases.{split, clash}
+use Rattle.bits.proofs.Cases.{split}
 use Rattle.codec.specs.Bytes.{from_little_endian}
-use Rattle.rules.specs.declared.Reading.{Reading}
-use Rattle.rules.specs.declared.Reading.TheVariants.{Good, Bad}
+use Rattle.std.specs.declared.option.Option.{Option}
+use Rattle.std.specs.declared.option.Option.TheVariants.{Some, None}
+use Rattle.rules.specs.declared.Instruction.{Instruction}
 use Rattle.rules.specs.Codes.{read_code, read_bytes}
 use Rattle.rules.specs.Verdicts.{on_code}
 use Rattle.answers.specs.declared.Answer.{Answer}
@@ -30,16 +31,17 @@ use Rattle.station.proofs.Padding.{padded_code}
 use Rattle.station.proofs.Turns.{Kept, rebuilt, kept_refused, kept_requested, kept_evented, kept_resulted, kept_imaged}
 use Rattle.wire.specs.declared.What.{What}
 use Rattle.wire.specs.declared.What.TheVariants.{Request, Event, Result, Image, Ask, Held}
-use Rattle.wire.specs.declared.Said.{Said}
+use Rattle.wire.specs.declared.Parsed.{Parsed}
+use Rattle.std.specs.declared.result.Result as kept
+use Rattle.std.specs.declared.result.Result.TheVariants.{Ok, Err}
 use Rattle.wire.specs.declared.Message.{Message}
-use Rattle.wire.specs.declared.Received.{Received}
+use Rattle.wire.specs.Reads.{Received}
 use Rattle.wire.specs.declared.Frame.TheVariants.{Cut, Wrong, Whole}
 use Rattle.wire.specs.Kinds.{SizedKind, event_kind, result_kind, image_kind, kinds_asked, in_range, plain, set_of}
-use Rattle.wire.specs.Reads.{kind_at, frame_of, is_bad, bad_in, sized, read_request, read_among, read_whole, read_asked, said_in}
+use Rattle.wire.specs.Reads.{kind_at, frame_of, is_bad, bad_in, sized, read_request, read_among, read_whole, read_asked, as_parsed, said_in}
 use Rattle.wire.proofs.Parts.{from_on, set_short}
-use Rattle.wire.proofs.Reading.{read_too_many, read_bad_length, read_bad_one, read_all_good}
-use Rattle.service.specs.declared.Reply.{Reply}
-use Rattle.service.specs.Service.{answer_message, reply_message, reply_of, respond, on_known, called_known, respond_known}
+use Rattle.wire.proofs.Reading.{read_too_many, read_bad_length, read_bad_one, read_all_good, parsed_ok, parsed_err, said_ok, said_err}
+use Rattle.service.specs.Service.{answer_message, reply_of, respond, on_known, called_known, respond_known}
 use Rattle.service.specs.Private.{is_result, called_as, message_call, reply_said, message_reply}
 use Rattle.service.proofs.Readings.{ways}
 use Rattle.service.proofs.Called.{known_reply, kept_on_known}
@@ -61,22 +63,20 @@ among_plain [] m = record { plainly = refl }
 among_plain (k ∷ ks) m =
     ways Plain (eqb (kind_at m) k.number) (λ _. sized_plain m (4 + k.size) (k.says m)) (λ _. among_plain ks m)
 
-module _ (known : Bool) (s : Station) (m : List ℕ) (k : kind_at m ≡ 1 → ⊥) {x : Said} (e : x ≡ said_in (read_among kinds_asked m)) where
+module _ (known : Bool) (s : Station) (m : List ℕ) (k : kind_at m ≡ 1 → ⊥) {x : kept.Result What Answer} (e : x ≡ said_in (read_among kinds_asked m)) where
   among : message_call known s m ≡ called_as known s (read_among kinds_asked m)
   unfolding message_call read_whole
   among = ap (λ (t : Bool). called_as known s (cond t (read_request m) (read_among kinds_asked m))) (ne_eqb (kind_at m) 1 k)
 
-  pub said_refused : (number_of x.answer ≡ 0 → ⊥) → refused s x.answer ≡ message_call known s m
+  pub said_refused : {a : Answer} → x ≡ Err a → refused s a ≡ message_call known s m
   said_refused z =
-      let r = read_among kinds_asked m in
-      let n = ne_eqb (number_of r.answer) 0 (rw e at z) in
-      ap (λ (y : Said). refused s y.answer) e ∙ sym (among ∙ rw n)
+      let (n, why) = said_err (read_among kinds_asked m) e z in
+      ap (refused s) (sym why) ∙ sym (among ∙ rw n)
 
-  pub said_called : number_of x.answer ≡ 0 → called_known known x.what s 0 (replicate 40 0) ≡ message_call known s m
+  pub said_called : {w : What} → x ≡ Ok w → called_known known w s 0 (replicate 40 0) ≡ message_call known s m
   said_called z =
-      let r = read_among kinds_asked m in
-      let n = eq-eqb (number_of r.answer) 0 (rw e at z) in
-      ap (λ (y : Said). called_known known y.what s 0 (replicate 40 0)) e
+      let (n, what) = said_ok (read_among kinds_asked m) e z in
+      ap (λ (w : What). called_known known w s 0 (replicate 40 0)) (sym what)
       ∙ sym (among ∙ rw n (ap (λ (y : Message). called_known known y.what s y.count y.set) (among_plain kinds_asked m).plainly))
 
 -- ---- a result
@@ -92,10 +92,10 @@ module _ (m : List ℕ) where
       (λ _. ways Other (in_range w) (λ _. record { other = e }) (λ _. record { other = refl }))
       (λ _. record { other = refl })
 
-  pub no_result : (kind_at m ≡ 3 → ⊥) → {x : Said} → x ≡ said_in (read_among kinds_asked m) → is_result x.what ≡ false
-  no_result k e =
+  pub no_result : (kind_at m ≡ 3 → ⊥) → {x : kept.Result What Answer} → x ≡ said_in (read_among kinds_asked m) → {w : What} → x ≡ Ok w → is_result w ≡ false
+  no_result k e z =
       let k₀ = kind_at m in
-      ap (λ (y : Said). is_result y.what) e ∙ (ways Other (eqb k₀ 2) (λ _. sized_other 5 (event_kind.says m) refl)
+      ap is_result (sym (said_ok (read_among kinds_asked m) e z).1) ∙ (ways Other (eqb k₀ 2) (λ _. sized_other 5 (event_kind.says m) refl)
       (λ _. ways Other (eqb k₀ 3) (λ t. absurd (k (eqb-true k₀ 3 t)))
       (λ _. ways Other (eqb k₀ 4) (λ _. sized_other 20 (image_kind.says m) refl)
       (λ _. ways Other (eqb k₀ 5) (λ _. sized_other 4 Ask refl)
@@ -126,16 +126,16 @@ same_least (suc n) p q h =
     rw (h 0 (omega arith), same_least n (λ j. p (suc j)) (λ j. q (suc j)) (λ j l. h (suc j) (omega arith)))
 
 -- an instruction is bad to the reader as it is to the station
-reads_bad : (y : Reading) → not (on_code (λ i. true) false y) ≡ is_bad y
-reads_bad (Good i) = refl
-reads_bad Bad = refl
+reads_bad : (y : (Option Instruction)) → not (on_code (λ i. true) false y) ≡ is_bad y
+reads_bad (Some i) = refl
+reads_bad None = refl
 
 same_bad : (l : List ℕ) (n k : ℕ) → length l ≡ 5 * n → (i : ℕ) → i < n → bad (l ++ replicate k 0) i ≡ bad_in l i
 unfolding is_good read_bytes code_at
 same_bad l n k e i h =
     ap (λ (f : ℕ → _). not (on_code (λ i. true) false (read_code (f i)))) (padded_code l k)
     ∙ reads_bad (read_code (code_at l i))
-    ∙ sym (ap (λ (t : Bool). is_bad (cond t Bad (read_code (code_at l i)))) (le-ltb (length (drop (5 * i) l)) 5 (rw (length-drop (5 * i) l) (omega arith))))
+    ∙ sym (ap (λ (t : Bool). is_bad (cond t None (read_code (code_at l i)))) (le-ltb (length (drop (5 * i) l)) 5 (rw (length-drop (5 * i) l) (omega arith))))
 
 -- what was read is a request
 record Requests (r : Received) : Type 0 where
@@ -181,14 +181,20 @@ module _ (s : Station) (m : List ℕ) (k : kind_at m ≡ 1) where
         sym (asking true ∙ ap (called_as true s) (sym (read_all_good m e h l refl a
         (g ∙ ap (λ (q : List ℕ). q ++ replicate (40 - length q) 0) (sym (from_on m 5)))))))
 
-  module _ {r : Received} (e : r ≡ read_request m) where
-    pub request_refused : (known : Bool) → (number_of r.answer ≡ 0 → ⊥) → refused s r.answer ≡ message_call known s m
-    request_refused known z = sym (asking known ∙ rw (← e, ne_eqb (number_of r.answer) 0 z))
+  module _ {x : Parsed} (e : x ≡ as_parsed (read_request m)) where
+    abbrev r : Received
+    r = read_request m
 
-    read : (known : Bool) → number_of r.answer ≡ 0 → called_known known Request s r.message.count r.message.set ≡ message_call known s m
+    pub request_refused : (known : Bool) {a : Answer} → x.says ≡ Err a → refused s a ≡ message_call known s m
+    request_refused known z =
+        let (n, why) = parsed_err r e z in
+        ap (refused s) (sym why) ∙ sym (asking known ∙ rw n)
+
+    read : (known : Bool) {y : Message} → x.says ≡ Ok y → called_known known Request s r.message.count r.message.set ≡ message_call known s m
     read known z =
-        let w : r.message.what ≡ Request = (subst Requests (sym e) (read_is m)).requests z in
-        sym (asking known ∙ rw (← e, eq-eqb (number_of r.answer) 0 z, w))
+        let (n, all) = parsed_ok r e z in
+        let w : r.message.what ≡ Request = (read_is m).requests (eqb-true (number_of r.answer) 0 n) in
+        sym (asking known ∙ rw (n, w))
 
     beside : (n : ℕ) (set : List ℕ) → (s.count ≡ 0 → ⊥) → requested s n set ≡ refused s SetOutstanding
     unfolding requested
@@ -197,11 +203,11 @@ module _ (s : Station) (m : List ℕ) (k : kind_at m ≡ 1) where
         positive : (k : ℕ) → (k ≡ 0 → ⊥) → 0 < k
         positive k c = omega arith
 
-    pub request_beside : {known : Bool} → number_of r.answer ≡ 0 → known ≡ true → known && eqb s.count 0 ≡ false → refused s SetOutstanding ≡ message_call known s m
+    pub request_beside : {known : Bool} {y : Message} → x.says ≡ Ok y → known ≡ true → known && eqb s.count 0 ≡ false → refused s SetOutstanding ≡ message_call known s m
     request_beside {known} z q f =
         rw q (sym (beside r.message.count r.message.set (eqb-false s.count 0 (rw q at f))) ∙ read true z)
 
-    pub request_unfit : {known : Bool} → number_of r.answer ≡ 0 → known ≡ false → refused s Unfit ≡ message_call known s m
+    pub request_unfit : {known : Bool} {y : Message} → x.says ≡ Ok y → known ≡ false → refused s Unfit ≡ message_call known s m
     request_unfit {known} z q = rw q (read false z)
 
 -- ---- the set that is left

@@ -14,7 +14,7 @@ use Rattle.answers.specs.declared.Answer.{Answer}
 use Rattle.answers.specs.declared.Answer.TheVariants.{BadField}
 use Rattle.answers.specs.Answers.{number_of}
 use Rattle.wire.specs.declared.What.{What}
-use Rattle.wire.specs.declared.Received.{Received}
+use Rattle.wire.specs.Reads.{Received}
 use Rattle.wire.specs.declared.Frame.{Frame}
 use Rattle.wire.specs.declared.Frame.TheVariants.{Cut, Wrong, Whole}
 use Rattle.wire.specs.Kinds.{SizedKind, in_range, kinds_asked, requesting}

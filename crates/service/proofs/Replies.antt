@@ -14,13 +14,15 @@ use Rattle.bits.specs.Search.{least}
 use Rattle.bits.proofs.Cases.{alike}
 use Rattle.codec.specs.Bytes.{little_endian}
 use Rattle.answers.specs.declared.Answer.{Answer}
-use Rattle.answers.specs.declared.Answer.TheVariants.{Taken, TooFewBytes, NoRoom}
+use Rattle.answers.specs.declared.Answer.TheVariants.{TooFewBytes, NoRoom}
 use Rattle.answers.specs.Answers.{number_of, place_of, issue_of}
 use Rattle.wire.specs.contracts.What as what
 use Rattle.wire.specs.declared.What.{What}
 use Rattle.wire.specs.declared.What.TheVariants.{Request, Event, Result, Image, Ask, Held}
 use Rattle.wire.specs.Kinds.{in_range, plain}
-use Rattle.wire.specs.declared.Written.{Written}
+use Rattle.std.specs.declared.result.Result.TheVariants.{Ok}
+use Rattle.wire.specs.Writes.{Written}
+use Rattle.wire.proofs.Results.{size_said}
 use Rattle.wire.specs.Writes.{Writing, LeavesMessage, nothing_written, put, writing_message}
 use Rattle.wire.proofs.Room.{ranged}
 use Rattle.service.specs.Service.{answer_message, answer_bytes}
@@ -103,7 +105,7 @@ fits_by_fifth n room =
 
 -- ---- the end of the input
 
-pub nothing_left : (held room : List ℕ) → length held ≡ 0 → LeavesMessage (finishing held room) (record { answer = Taken; size = 0 }) room
+pub nothing_left : (held room : List ℕ) → length held ≡ 0 → LeavesMessage (finishing held room) (Ok 0) room
 nothing_left [] room e = simp (le-ltb (length room) 0 (omega arith)) (refl, refl)
 nothing_left (b ∷ bs) room e = absurd (omega arith)
 
@@ -115,11 +117,11 @@ something_left (b ∷ bs) room {w} {r} {last} h e f =
     (f.0 ∙ ap (λ (x : Writing). x.says) p, f.1 ∙ ap (λ (x : Writing). x.leaves) p)
 
 -- what was put stands within the room
-pub put_within : (bytes room : List ℕ) {r : Written} {last : List ℕ} → LeavesMessage (put bytes room) r last → r.size ≤ length last
+pub put_within : (bytes room : List ℕ) {r : Written} {last : List ℕ} → LeavesMessage (put bytes room) r last → size_said r ≤ length last
 put_within bytes room (e, l) = rw (e, l) (within (ltb (length room) (length bytes)))
   where
     within : (t : Bool) → let w = cond t (nothing_written NoRoom room)
-        (record { says = record { answer = Taken; size = length bytes }; leaves = bytes ++ drop (length bytes) room }) in
-        w.says.size ≤ length w.leaves
+        (record { says = Ok (length bytes); leaves = bytes ++ drop (length bytes) room }) in
+        size_said w.says ≤ length w.leaves
     within true = omega arith
     within false = rw length-append (omega arith)

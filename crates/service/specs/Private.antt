@@ -1,5 +1,5 @@
 -- What the contracts of private functions cite; no public one rests on it. Assumes nothing.
-use Rattle.std.specs.Prelude.{Bool, true, false, cond, ◌&&◌, List, ℕ, eqb}
+use Rattle.std.specs.Prelude.{◌≡◌, Bool, true, false, cond, ◌&&◌, List, ◌++◌, ℕ, eqb, length, drop}
 use Rattle.answers.specs.Answers.{number_of}
 use Rattle.station.specs.declared.Station.{Station}
 use Rattle.station.specs.declared.Outcome.{Outcome}
@@ -8,7 +8,7 @@ use Rattle.station.specs.Calls.{refused}
 use Rattle.station.specs.Turns.{turn_of}
 use Rattle.wire.specs.declared.What.{What}
 use Rattle.wire.specs.declared.What.TheVariants.{Request, Event, Result, Image, Ask, Answer, Held}
-use Rattle.wire.specs.declared.Received.{Received}
+use Rattle.wire.specs.Reads.{Received}
 use Rattle.wire.specs.Kinds.{ask_kind, kinds_asked}
 use Rattle.wire.specs.Reads.{read_whole}
 use Rattle.service.specs.declared.Reply.{Reply}
@@ -48,6 +48,10 @@ message_call known s m = called_as known s (read_whole kinds_asked m)
 -- what a message of this kind is told after its turn: an ask that was taken, the image
 abbrev pub reply_said : ℕ → Turn → What
 reply_said kind t = cond (eqb kind ask_kind.number && eqb (number_of t.answer) 0) (Held t.bits t.apart) (answer_message t.answer)
+
+-- these bytes put at the start of a room: how many they are is said, and past them stands what was there
+abbrev pub Puts : List ℕ → List ℕ → ℕ → List ℕ → Type 0
+Puts bytes before n after = (n ≡ length bytes) × (after ≡ bytes ++ drop (length bytes) before)
 
 -- the reply to it
 abbrev pub message_reply : ℕ → Outcome → Reply

@@ -11,12 +11,12 @@ ghost use Rattle.wire.specs.Kinds.{first_instruction, request_kind, result_kind,
 ghost use Rattle.wire.specs.Reads.{kind_at};
 ghost use Rattle.wire.specs.Writes.{LeavesMessage};
 ghost use Rattle.service.specs.Service.{answer_message, respond, called_known, respond_known, answer_bytes};
-ghost use Rattle.service.specs.Private.{makes_call, is_result, message_call, reply_said, message_reply};
+ghost use Rattle.service.specs.Private.{makes_call, is_result, message_call, reply_said, message_reply, Puts};
 ghost use Rattle.service.specs.Runs.{Serves, run, enough, served, serving, finishing};
 
 use answers::{Answer, NOWHERE};
 use station::{Picture, Report, Station, Turn};
-use wire::{Frame, What, Written};
+use wire::{Frame, What};
 
 pub mod buffer;
 
@@ -29,6 +29,7 @@ pub struct Reply {
 
 // What a run of messages leaves: Taken, or NoRoom and nothing done; the next station, how many bytes of the input were taken and of the
 // room written, and whether nothing more is to be read.
+// Kept: no Result, since callers go on from the station and the zeros where nothing is done (`turning`, `messages_taken`).
 #[derive(Clone, Copy)]
 pub struct Served {
     pub answer: Answer,
@@ -45,16 +46,12 @@ fn makes_call(what: What) -> bool
     ensures { result ≡ makes_call what }
 {
     match what {
-        What::Answer {
-            number: _,
-            place: _,
-            issue: _,
-        } => false,
-        What::Held { bits: _, apart: _ } => false,
+        What::Answer { .. } | What::Held { .. } => false,
         _ => true,
     }
 }
 
+// Kept: beside Station::unmoved: of each a wrong version is named, and has to be refused in its own proof (must-fail/).
 // The station as it was, and the answer.
 fn unmoved(s: Station, answer: Answer) -> Turn
     ensures { result ≡ turn_of (refused s answer) }
@@ -71,6 +68,7 @@ fn unmoved(s: Station, answer: Answer) -> Turn
 
 // A result past the test of fitness. It is sure that a station is fit where that was tested, and not where a caller says so: then a success
 // is not judged.
+// Kept: `known` and `sure` are two bools: definitions take `known` alone, and each contract would open an enum of both again.
 fn resulted(sure: bool, s: Station, report: Report) -> Turn
     requires { sure ≡ true → fit s ≡ true }
     ensures { result ≡ turn_of (resulted s report) }
@@ -97,19 +95,11 @@ fn turn(known: bool, what: What, s: Station) -> Turn
             unmoved(s, Answer::EmptySet)
         }
         What::Event { way } => s.evented(way),
-        What::Result {
-            issue: _,
-            number: _,
-            ending: _,
-        } => unmoved(s, Answer::UnknownKind),
         What::Image { bits, apart } => s.imaged(Picture { bits, apart }),
         What::Ask => unmoved(s, Answer::Taken),
-        What::Answer {
-            number: _,
-            place: _,
-            issue: _,
-        } => unmoved(s, Answer::UnknownKind),
-        What::Held { bits: _, apart: _ } => unmoved(s, Answer::UnknownKind),
+        What::Result { .. } => unmoved(s, Answer::UnknownKind),
+        What::Answer { .. } => unmoved(s, Answer::UnknownKind),
+        What::Held { .. } => unmoved(s, Answer::UnknownKind),
     }
 }
 
@@ -147,15 +137,15 @@ fn asked(known: bool, s: Station, m: &[u8]) -> Turn
     if known & (s.count == 0) {
         return opening(s, m);
     }
-    let r = wire::request_in(m);
-    let answer = r.answer;
-    if answer.number() != 0 {
-        return unmoved(s, answer);
+    match wire::request_in(m).says {
+        Err(answer) => unmoved(s, answer),
+        Ok(_) => {
+            if known {
+                return unmoved(s, Answer::SetOutstanding);
+            }
+            unmoved(s, Answer::Unfit)
+        }
     }
-    if known {
-        return unmoved(s, Answer::SetOutstanding);
-    }
-    unmoved(s, Answer::Unfit)
 }
 
 // A result, read as it stands: most messages are results.
@@ -198,13 +188,10 @@ fn heard(known: bool, sure: bool, s: Station, m: &[u8]) -> Turn
     if kind == 3 {
         return reported(known, sure, s, m);
     }
-    let r = wire::saying(m);
-    let answer = r.answer;
-    if answer.number() != 0 {
-        return unmoved(s, answer);
+    match wire::saying(m) {
+        Ok(what) => turn(known, what, s),
+        Err(answer) => unmoved(s, answer),
     }
-    let what = r.what;
-    turn(known, what, s)
 }
 
 // An answer as a message.
@@ -222,14 +209,13 @@ fn answer_message(answer: Answer) -> What
 fn told(kind: u16, t: Turn) -> What
     ensures { result ≡ reply_said kind t }
 {
-    let answer = t.answer;
-    if (kind == 5) & (answer.number() == 0) {
+    if (kind == 5) & (t.answer.number() == 0) {
         return What::Held {
             bits: t.bits,
             apart: t.apart,
         };
     }
-    answer_message(answer)
+    answer_message(t.answer)
 }
 
 // The station that a turn leaves where its set changes.
@@ -237,13 +223,9 @@ fn left(s: Station, t: Turn, m: &[u8]) -> Station
     ensures { result ≡ (after_turn s t (set_of (drop first_instruction m.now))).station }
 {
     if s.count < t.count {
-        let set = fresh(m);
-        let o = s.after(t, set);
-        return o.station;
+        return s.after(t, fresh(m)).station;
     }
-    let set = s.set;
-    let o = s.after(t, set);
-    o.station
+    s.after(t, s.set).station
 }
 
 // The reply to a message whose bytes are exactly m.
@@ -270,8 +252,7 @@ fn replied(known: bool, sure: bool, s: Station, m: &[u8]) -> Reply
     requires { sure ≡ true → fit s ≡ true }
     ensures { result ≡ respond_known known s m.now }
 {
-    let frame = wire::framed(m);
-    match frame {
+    match wire::framed(m) {
         Frame::Cut => unread(s, Answer::TooFewBytes),
         Frame::Wrong => unread(s, Answer::BadLength),
         Frame::Whole(n) => answered(known, sure, s, &m[..n]),
@@ -298,7 +279,7 @@ pub fn respond(s: Station, m: &[u8]) -> Reply
 // Puts the image at the start of out, in its twenty bytes, and says how many they are.
 fn show(bits: u64, apart: u64, out: &mut [u8]) -> usize
     requires { length (answer_bytes (Held bits apart)) ≤ length out.old }
-    ensures { (result ≡ length (answer_bytes (Held bits apart))) × (out.new ≡ answer_bytes (Held bits apart) ++ drop (length (answer_bytes (Held bits apart))) out.old) }
+    ensures { Puts (answer_bytes (Held bits apart)) out.old result out.new }
 {
     let b = wire::image_bytes(bits);
     let a = wire::image_bytes(apart);
@@ -315,13 +296,11 @@ fn show(bits: u64, apart: u64, out: &mut [u8]) -> usize
 // Puts an answer at the start of out, in its eight bytes, and says how many they are.
 fn put(answer: Answer, out: &mut [u8]) -> usize
     requires { length (answer_bytes (answer_message answer)) ≤ length out.old }
-    ensures { (result ≡ length (answer_bytes (answer_message answer))) × (out.new ≡ answer_bytes (answer_message answer) ++ drop (length (answer_bytes (answer_message answer))) out.old) }
+    ensures { Puts (answer_bytes (answer_message answer)) out.old result out.new }
 {
     let number = answer.number();
     let place = answer.place();
-    let issue = answer.issue();
-    let low = (issue % 256) as u8;
-    let high = (issue / 256 % 256) as u8;
+    let [low, high] = u16::to_le_bytes(answer.issue());
     codec::copy(&[6, 0, 128, 0, number, place, low, high], out);
     8
 }
@@ -329,7 +308,7 @@ fn put(answer: Answer, out: &mut [u8]) -> usize
 // What most messages are told.
 fn done(out: &mut [u8]) -> usize
     requires { length (answer_bytes (answer_message Taken)) ≤ length out.old }
-    ensures { (result ≡ length (answer_bytes (answer_message Taken))) × (out.new ≡ answer_bytes (answer_message Taken) ++ drop (length (answer_bytes (answer_message Taken))) out.old) }
+    ensures { Puts (answer_bytes (answer_message Taken)) out.old result out.new }
 {
     codec::copy(&[6, 0, 128, 0, 0, 255, 0, 0], out);
     8
@@ -338,15 +317,14 @@ fn done(out: &mut [u8]) -> usize
 // The same of what a message of this kind is told after its turn.
 fn tell(kind: u16, t: Turn, out: &mut [u8]) -> usize
     requires { length (answer_bytes (reply_said kind t)) ≤ length out.old }
-    ensures { (result ≡ length (answer_bytes (reply_said kind t))) × (out.new ≡ answer_bytes (reply_said kind t) ++ drop (length (answer_bytes (reply_said kind t))) out.old) }
+    ensures { Puts (answer_bytes (reply_said kind t)) out.old result out.new }
 {
-    let answer = t.answer;
-    if (kind == 5) & (answer.number() == 0) {
+    if (kind == 5) & (t.answer.number() == 0) {
         return show(t.bits, t.apart, out);
     }
-    match answer {
+    match t.answer {
         Answer::Taken => done(out),
-        _ => put(answer, out),
+        _ => put(t.answer, out),
     }
 }
 
@@ -362,8 +340,7 @@ fn answer_all(s: Station, input: &[u8], out: &mut [u8]) -> Served
     let mut made: usize = 0;
     loop {
         let rest = &input[at..];
-        let frame = wire::framed(rest);
-        match frame {
+        match wire::framed(rest) {
             Frame::Cut => {
                 return Served {
                     answer: Answer::Taken,
@@ -426,15 +403,11 @@ pub fn serve(s: Station, input: &[u8], out: &mut [u8]) -> Served
 }
 
 // The end of the input: where bytes of a message that was cut short are left over, they are answered with 1.
-pub fn finish(held: &[u8], out: &mut [u8]) -> Written
+pub fn finish(held: &[u8], out: &mut [u8]) -> Result<usize, Answer>
     ensures { LeavesMessage (finishing held.now out.old) result out.new }
 {
     if held.len() == 0 {
-        return Written {
-            answer: Answer::Taken,
-            size: 0,
-        };
+        return Ok(0);
     }
-    let answer = answer_message(Answer::TooFewBytes);
-    wire::writing::write_plain(answer, out)
+    wire::writing::write_plain(answer_message(Answer::TooFewBytes), out)
 }

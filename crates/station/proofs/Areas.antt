@@ -13,8 +13,8 @@ use Rattle.bits.proofs.Meeting.{meet}
 use Rattle.floor.specs.Floor.{lift}
 use Rattle.rules.specs.declared.Code.{Code}
 use Rattle.rules.specs.declared.Instruction.{Instruction}
-use Rattle.rules.specs.declared.Reading.{Reading}
-use Rattle.rules.specs.declared.Reading.TheVariants.{Good, Bad}
+use Rattle.std.specs.declared.option.Option.{Option}
+use Rattle.std.specs.declared.option.Option.TheVariants.{Some, None}
 use Rattle.rules.specs.Rules.{area_of}
 use Rattle.rules.specs.Codes.{read_code}
 use Rattle.rules.specs.Verdicts.{on_code}
@@ -31,9 +31,9 @@ pub held_small : (x : Code) → Small (held_area x)
 unfolding held_area
 held_small x = read (read_code x) refl
   where
-    read : (g : Reading) → read_code x ≡ g → Small (on_code area_of [] g)
-    read (Good i) e = area_small i (one_form_lem x i e).1
-    read Bad e = λ k m. clash m refl
+    read : (g : (Option Instruction)) → read_code x ≡ g → Small (on_code area_of [] g)
+    read (Some i) e = area_small i (one_form_lem x i e).1
+    read None e = λ k m. clash m refl
 
 -- ---- several areas as one
 
@@ -118,15 +118,15 @@ every_lifts : T (everywhere lifts_right)
 unfolding everywhere every lifts_right
 every_lifts = tt
 
-pub held_lifts : (x : Code) (i : Instruction) {b : Bool} → b ≡ lifts_in i → read_code x ≡ Good i → b ≡ share (held_area x) lift
+pub held_lifts : (x : Code) (i : Instruction) {b : Bool} → b ≡ lifts_in i → read_code x ≡ Some i → b ≡ share (held_area x) lift
 unfolding held_area lifts_right
 held_lifts x i e g =
     e ∙ sym (same_as (lifts_in i) (share (area_of i) lift) (T→true (lifts_right i) (each lifts_right every_lifts i (true→T (one_form_lem x i g).1))))
-    ∙ ap (λ (y : Reading). share (on_code area_of [] y) lift) (sym g)
+    ∙ ap (λ (y : (Option Instruction)). share (on_code area_of [] y) lift) (sym g)
 
-pub none_lifts : (x : Code) → read_code x ≡ Bad → false ≡ share (held_area x) lift
+pub none_lifts : (x : Code) → read_code x ≡ None → false ≡ share (held_area x) lift
 unfolding held_area
-none_lifts x g = ap (λ (y : Reading). share (on_code area_of [] y) lift) (sym g)
+none_lifts x g = ap (λ (y : (Option Instruction)). share (on_code area_of [] y) lift) (sym g)
 
 -- one of a set has it: none so far, this one, or not this one either
 pub lift_none : (set : List ℕ) → lift_in set 0 ≡ false
@@ -155,9 +155,9 @@ pub held_upper : (x : Code) (j : ℕ) → j < 12 → elem (52 + j) (held_area x)
 unfolding held_area
 held_upper x j h = read (read_code x) refl
   where
-    read : (g : Reading) → read_code x ≡ g → elem (52 + j) (on_code area_of [] g) ≡ ltb j 3 && share (on_code area_of [] g) lift
-    read (Good i) e = same_as _ _ (every_at 12 _ (T→true _ (each whole_or_none every_whole i (true→T (one_form_lem x i e).1))) j h)
-    read Bad e = sym (and-false (ltb j 3))
+    read : (g : (Option Instruction)) → read_code x ≡ g → elem (52 + j) (on_code area_of [] g) ≡ ltb j 3 && share (on_code area_of [] g) lift
+    read (Some i) e = same_as _ _ (every_at 12 _ (T→true _ (each whole_or_none every_whole i (true→T (one_form_lem x i e).1))) j h)
+    read None e = sym (and-false (ltb j 3))
 
 -- the bits 0 to 52
 abbrev pub parts_mask : ℕ

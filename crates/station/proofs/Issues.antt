@@ -1,12 +1,12 @@
 -- How far an issue is behind the present one: none exactly if it is that one; else it is late up to 32767, and was not issued from there on.
 -- Assumes nothing.
-use Rattle.std.proofs.Common.{◌≡◌, ℕ, ◌+◌, ◌%◌, ◌<◌, ◌≤◌, true, false, ◌&&◌, eqb, leb, refl, arith, eq-eqb, ne_eqb, le-leb}
+use Rattle.std.proofs.Common.{◌≡◌, ◌<◌, ◌≤◌, arith, eq-eqb, ne_eqb, le-leb}
 use borrow.Author.Tests.{lt-leb}
 use Rattle.bits.proofs.Cases.{and_intro}
 use Rattle.answers.specs.declared.Answer.TheVariants.{Late, NotIssued}
 use Rattle.station.specs.declared.Station.{Station}
 use Rattle.station.specs.declared.Report.{Report}
-use Rattle.station.specs.Station.{present_issue, behind, late}
+use Rattle.station.specs.Station.{present_issue, behind}
 use Rattle.station.specs.Calls.{refused, numbered, timely}
 
 module _ (s : Station) (r : Report) (small : r.issue < 65536) where

@@ -7,18 +7,18 @@ use Rattle.bits.specs.Places.{elem}
 use Rattle.bits.proofs.Cases.{split, both}
 use Rattle.floor.specs.Tests.{holds, all_hold}
 use Rattle.rules.specs.declared.Code.{Code}
-use Rattle.rules.specs.declared.Area.{Area}
-use Rattle.rules.specs.declared.Verdict.{Verdict}
+use Rattle.std.specs.declared.option.Option.{Option}
+use Rattle.rules.specs.declared.Refusal.{Refusal}
+use Rattle.rules.specs.declared.Undriven.{Undriven}
+use Rattle.std.specs.declared.result.Result.{Result}
+use Rattle.std.specs.declared.result.Result.TheVariants.{Ok, Err}
+use Rattle.rules.specs.declared.Instruction.{Instruction}
 use Rattle.rules.specs.declared.Event.{Event}
-use Rattle.rules.specs.declared.EventReading.{EventReading}
-use Rattle.rules.specs.declared.Moved.{Moved}
-use Rattle.rules.specs.declared.Driven.{Driven}
-use Rattle.rules.specs.declared.Reading.{Reading}
-use Rattle.rules.specs.declared.Reading.TheVariants.{Good, Bad}
+use Rattle.std.specs.declared.option.Option.TheVariants.{Some, None}
 use Rattle.rules.specs.Rules.{well_formed, area_of, area, Clause, ◌else◌, clauses, conditions, allowed, next_record}
 use Rattle.rules.specs.Events.{in_turn, possible, places_open}
 use Rattle.rules.specs.Codes.{read_code, read_event}
-use Rattle.rules.specs.Verdicts.{judged, on_code, mask_of, code_mask, verdict_of, code_verdict, is_allowed, moved_by, moved_of, code_moved, driven_of}
+use Rattle.rules.specs.Verdicts.{Verdict, judged, on_code, mask_of, code_mask, verdict_of, code_verdict, is_allowed, moved_by, moved_of, code_moved, driven_of}
 use Rattle.rules.proofs.CodeLaws.{one_form_lem}
 use Rattle.rules.proofs.Reasons.{allows_is}
 use Rattle.answers.specs.declared.Answer.TheVariants.{BadField, EventImpossible, OutOfTurn, SetApart, KeptOpen}
@@ -38,22 +38,22 @@ use Rattle.station.specs.Private.{held_mask, mask_in}
 -- ---- areas and verdicts
 
 -- bad bytes have an empty area
-pub held_area_lem : (x : Code) {a : Area} → a ≡ code_mask x → mask_in a ≡ held_mask x
+pub held_area_lem : (x : Code) {a : (Option ℕ)} → a ≡ code_mask x → mask_in a ≡ held_mask x
 unfolding held_mask held_area code_mask mask_of area packed
 held_area_lem x e = ap mask_in e ∙ read (read_code x) refl
   where
-    read : (g : Reading) → read_code x ≡ g → mask_in (on_code mask_of Area.IllFormed g) ≡ image (λ k. elem k (on_code area_of [] g))
-    read (Good i) d = rw (one_form_lem x i d).1
-    read Bad d = refl
+    read : (g : (Option Instruction)) → read_code x ≡ g → mask_in (on_code mask_of Option.None g) ≡ image (λ k. elem k (on_code area_of [] g))
+    read (Some i) d = rw (one_form_lem x i d).1
+    read None d = refl
 
 -- and are never allowed
 pub held_verdict : (x : Code) (r : ℕ) {v : Verdict} → v ≡ code_verdict x r → is_allowed v ≡ held_allowed x (bit r)
 unfolding held_allowed code_verdict
 held_verdict x r e = ap is_allowed e ∙ read (read_code x)
   where
-    read : (g : Reading) → is_allowed (on_code (λ i. verdict_of i r) Verdict.IllFormed g) ≡ on_code (λ i. allowed i (bit r)) false g
-    read (Good i) = allows_is i r
-    read Bad = refl
+    read : (g : (Option Instruction)) → is_allowed (on_code (λ i. verdict_of i r) (Err Refusal.IllFormed) g) ≡ on_code (λ i. allowed i (bit r)) false g
+    read (Some i) = allows_is i r
+    read None = refl
 
 -- ---- one judgement
 
@@ -61,7 +61,7 @@ conditions_read : (cs : List Clause) (f : Bits) → is_read (judged cs f) ≡ tr
 conditions_read [] f = refl
 conditions_read ((t else why) ∷ cs) f = go (holds t f) (conditions_read cs f)
   where
-    go : (b : Bool) → is_read (judged cs f) ≡ true → is_read (cond b (judged cs f) (Verdict.NotAllowed why)) ≡ true
+    go : (b : Bool) → is_read (judged cs f) ≡ true → is_read (cond b (judged cs f) (Err (Refusal.NotAllowed why))) ≡ true
     go true e = e
     go false e = refl
 
@@ -69,9 +69,9 @@ held_read : (x : Code) (r : ℕ) → is_read (code_verdict x r) ≡ is_good x
 unfolding is_good code_verdict verdict_of
 held_read x r = read (read_code x) refl
   where
-    read : (g : Reading) → read_code x ≡ g → is_read (on_code (λ i. cond (well_formed i) (judged (clauses i) (bit r)) Verdict.IllFormed) Verdict.IllFormed g) ≡ on_code (λ i. true) false g
-    read (Good i) d = rw (one_form_lem x i d).1 (conditions_read (clauses i) (bit r))
-    read Bad d = refl
+    read : (g : (Option Instruction)) → read_code x ≡ g → is_read (on_code (λ i. cond (well_formed i) (judged (clauses i) (bit r)) (Err Refusal.IllFormed)) (Err Refusal.IllFormed) g) ≡ on_code (λ i. true) false g
+    read (Some i) d = rw (one_form_lem x i d).1 (conditions_read (clauses i) (bit r))
+    read None d = refl
 
 -- what the engine says of five bytes
 pub one_judgement : (x : Code) (r : ℕ) {j : Judged} → j ≡ judge x r → (j.good ≡ is_good x) × (j.area ≡ held_mask x) × (j.allowed ≡ held_allowed x (bit r))
@@ -79,32 +79,30 @@ unfolding judge held_mask held_area area packed
 one_judgement x r {j} e =
     (ap (λ (j : Judged). j.good) e ∙ held_read x r, ap (λ (j : Judged). j.area) e ∙ read (read_code x), ap (λ (j : Judged). j.allowed) e ∙ held_verdict x r refl)
   where
-    read : (g : Reading) → on_code (λ i. image (λ k. elem k (area_of i))) 0 g ≡ image (λ k. elem k (on_code area_of [] g))
-    read (Good i) = refl
-    read Bad = refl
+    read : (g : (Option Instruction)) → on_code (λ i. image (λ k. elem k (area_of i))) 0 g ≡ image (λ k. elem k (on_code area_of [] g))
+    read (Some i) = refl
+    read None = refl
 
 -- what is allowed is an instruction
 pub allowed_good : (x : Code) (f : Bits) → held_allowed x f ≡ true → is_good x ≡ true
 unfolding held_allowed is_good
 allowed_good x f h = read (read_code x) h
   where
-    read : (g : Reading) → on_code (λ i. allowed i f) false g ≡ true → on_code (λ i. true) false g ≡ true
-    read (Good i) a = refl
-    read Bad a = a
+    read : (g : (Option Instruction)) → on_code (λ i. allowed i f) false g ≡ true → on_code (λ i. true) false g ≡ true
+    read (Some i) a = refl
+    read None a = a
 
 -- ---- moves
 
 -- one answer where the move is made, another where it isn't
-abbrev pub on_moved : {A : Type 0} → (ℕ → A) → A → Moved → A
-on_moved made unmade (Moved.Record r) = made r
-on_moved made unmade (Moved.NotAllowed why) = unmade
-on_moved made unmade Moved.IllFormed = unmade
+abbrev pub on_moved : {A : Type 0} → (ℕ → A) → A → Result ℕ Refusal → A
+on_moved made unmade (Ok r) = made r
+on_moved made unmade (Err refusal) = unmade
 
 -- it is made where the verdict allows it
 made_allowed : {A : Type 0} (made : ℕ → A) (unmade : A) (v : Verdict) (x : ℕ) → on_moved made unmade (moved_by v x) ≡ cond (is_allowed v) (made x) unmade
-made_allowed made unmade Verdict.Allowed x = refl
-made_allowed made unmade (Verdict.NotAllowed why) x = refl
-made_allowed made unmade Verdict.IllFormed x = refl
+made_allowed made unmade (Ok done) x = refl
+made_allowed made unmade (Err refusal) x = refl
 
 -- an instruction's move is made exactly where it is allowed
 held_moved : {A : Type 0} (made : ℕ → A) (unmade : A) (x : Code) (r : ℕ)
@@ -112,15 +110,15 @@ held_moved : {A : Type 0} (made : ℕ → A) (unmade : A) (x : Code) (r : ℕ)
 unfolding held_allowed held_next code_moved moved_of
 held_moved {A} made unmade x r = read (read_code x)
   where
-    read : (g : Reading) → on_moved made unmade (on_code (λ i. moved_of i r) Moved.IllFormed g)
+    read : (g : (Option Instruction)) → on_moved made unmade (on_code (λ i. moved_of i r) (Err Refusal.IllFormed) g)
         ≡ cond (on_code (λ i. allowed i (bit r)) false g) (made (image (on_code (λ i. next_record i (bit r)) (bit r) g))) unmade
-    read (Good i) =
+    read (Some i) =
         made_allowed made unmade (verdict_of i r) (image (next_record i (bit r)))
         ∙ ap (λ (b : Bool). cond {A = A} b (made (image (next_record i (bit r)))) unmade) (allows_is i r)
-    read Bad = refl
+    read None = refl
 
 -- the record after it
-pub held_after_lem : (x : Code) (r : ℕ) {m : Moved} → m ≡ code_moved x r → on_moved (λ n. n) r m ≡ held_after x r
+pub held_after_lem : (x : Code) (r : ℕ) {m : Result ℕ Refusal} → m ≡ code_moved x r → on_moved (λ n. n) r m ≡ held_after x r
 unfolding held_after
 held_after_lem x r e = ap (on_moved (λ n. n) r) e ∙ held_moved (λ n. n) r x r
 
@@ -129,12 +127,12 @@ pub held_done : (x : Code) (r : ℕ) → held_allowed x (bit r) ≡ true → cod
 unfolding code_next held_after held_allowed held_next allowed
 held_done x r h = read (read_code x) h
   where
-    read : (g : Reading) → on_code (λ i. allowed i (bit r)) false g ≡ true
+    read : (g : (Option Instruction)) → on_code (λ i. allowed i (bit r)) false g ≡ true
         → on_code (λ i. cond (unbroken i) (image (next_record i (bit r))) r) r g
         ≡ cond (on_code (λ i. allowed i (bit r)) false g) (image (on_code (λ i. next_record i (bit r)) (bit r) g)) r
-    read (Good i) a =
+    read (Some i) a =
         ap (λ (b : Bool). cond b (image (next_record i (bit r))) r) (allowed_unbroken i (bit r) (both (well_formed i) (all_hold (conditions i) (bit r)) a).1 ∙ sym a)
-    read Bad a = refl
+    read None a = refl
 
 -- an outcome, unless a part of the lift is set apart
 abbrev pub unless_apart : Station → Outcome → Outcome
@@ -146,14 +144,14 @@ pub unless_apart_lem : (s : Station) (o : Outcome) {x t : Turn} → x ≡ cond (
 unless_apart_lem s o e d = e ∙ rw d (split (lift_apart s.apart) (λ t. rw t) (λ t. rw t))
 
 -- one answer where a car event takes place, others where it doesn't come in turn, isn't possible, and where places are kept open
-abbrev pub on_driven : {A : Type 0} → (ℕ → A) → A → A → A → Driven → A
-on_driven made untimely unmade closed (Driven.Record r) = made r
-on_driven made untimely unmade closed Driven.OutOfTurn = untimely
-on_driven made untimely unmade closed Driven.Impossible = unmade
-on_driven made untimely unmade closed Driven.KeptOpen = closed
+abbrev pub on_driven : {A : Type 0} → (ℕ → A) → A → A → A → Result ℕ Undriven → A
+on_driven made untimely unmade closed (Ok r) = made r
+on_driven made untimely unmade closed (Err Undriven.OutOfTurn) = untimely
+on_driven made untimely unmade closed (Err Undriven.Impossible) = unmade
+on_driven made untimely unmade closed (Err Undriven.KeptOpen) = closed
 
 -- a car event
-pub moved_event : (s : Station) (e : Event) {d : Driven} → d ≡ driven_of e s.bits
+pub moved_event : (s : Station) (e : Event) {d : Result ℕ Undriven} → d ≡ driven_of e s.bits
     → on_driven (λ r. unless_apart s (taken (holding s r))) (refused s OutOfTurn) (unless_apart s (refused s EventImpossible)) (unless_apart s (refused s KeptOpen)) d
     ≡ occurred s e
 unfolding driven_of occurred
@@ -176,12 +174,12 @@ image_passes apart e t = rw (← e) (not-false _ t)
 -- ---- an event's byte
 
 -- one answer for the event that it says, another where it says none
-abbrev pub on_event : {A : Type 0} → (Event → A) → A → EventReading → A
-on_event known bad (EventReading.Good e) = known e
-on_event known bad EventReading.Bad = bad
+abbrev pub on_event : {A : Type 0} → (Event → A) → A → (Option Event) → A
+on_event known bad (Option.Some e) = known e
+on_event known bad Option.None = bad
 
 -- an event
-pub event_read : (s : Station) (b : ℕ) {g : EventReading} → g ≡ read_event b → on_event (driven s) (refused s (BadField nowhere)) g ≡ evented s b
+pub event_read : (s : Station) (b : ℕ) {g : (Option Event)} → g ≡ read_event b → on_event (driven s) (refused s (BadField nowhere)) g ≡ evented s b
 unfolding evented read_event
 event_read s b d =
     rw d (split (eqb b 1) (λ t. rw t)

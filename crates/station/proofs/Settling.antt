@@ -14,7 +14,7 @@ use Rattle.station.specs.declared.Station.{Station}
 use Rattle.station.specs.declared.Outcome.{Outcome}
 use Rattle.station.specs.declared.Report.{Report}
 use Rattle.station.specs.declared.Turn.{Turn}
-use Rattle.station.specs.Held.{code_at, held_allowed, held_after}
+use Rattle.station.specs.Held.{code_at, held_after}
 use Rattle.station.specs.Station.{in_set, marked, present_issue, late, fit, answering, apart_with}
 use Rattle.station.specs.Calls.{refused, taken, ended, numbered, timely, resulted}
 use Rattle.station.specs.Turns.{turn_of, with_record, unjudged, settled}

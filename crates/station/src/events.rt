@@ -9,7 +9,7 @@ ghost use Rattle.station.specs.Turns.{turn_of};
 use super::{Outcome, Station, Turn, refused, sets};
 use answers::{Answer, NOWHERE};
 use floor::masks::RAISED;
-use rules::{Driven, Event, EventReading};
+use rules::{Event, Undriven};
 
 impl Station {
     // What an event in its turn comes to, unless a part of the lift is set apart.
@@ -28,10 +28,10 @@ impl Station {
         ensures { result ≡ turn_of (occurred self e) }
     {
         match engine::driven(e, self.bits) {
-            Driven::Record(r) => self.unless_apart(self.holding(r, self.apart)),
-            Driven::OutOfTurn => self.unmoved(Answer::OutOfTurn),
-            Driven::Impossible => self.unless_apart(self.unmoved(Answer::EventImpossible)),
-            Driven::KeptOpen => self.unless_apart(self.unmoved(Answer::KeptOpen)),
+            Ok(r) => self.unless_apart(self.holding(r, self.apart)),
+            Err(Undriven::OutOfTurn) => self.unmoved(Answer::OutOfTurn),
+            Err(Undriven::Impossible) => self.unless_apart(self.unmoved(Answer::EventImpossible)),
+            Err(Undriven::KeptOpen) => self.unless_apart(self.unmoved(Answer::KeptOpen)),
         }
     }
 
@@ -39,8 +39,7 @@ impl Station {
     fn driven(self, e: Event) -> Turn
         ensures { result ≡ turn_of (driven self e) }
     {
-        let set = self.set;
-        if sets::lift_in(&set, self.count) {
+        if sets::lift_in(&self.set, self.count) {
             return self.unmoved(Answer::SetOutstanding);
         }
         self.occurred(e)
@@ -51,8 +50,8 @@ impl Station {
         ensures { result ≡ turn_of (evented self e) }
     {
         match rules::event_of(e) {
-            EventReading::Good(known) => self.driven(known),
-            EventReading::Bad => self.unmoved(Answer::BadField(NOWHERE)),
+            Some(known) => self.driven(known),
+            None => self.unmoved(Answer::BadField(NOWHERE)),
         }
     }
 
@@ -64,7 +63,6 @@ impl Station {
             return refused(self, Answer::Unfit);
         }
         let t = self.evented(e);
-        let held = self.set;
-        self.after(t, held)
+        self.after(t, self.set)
     }
 }

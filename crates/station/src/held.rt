@@ -5,15 +5,16 @@ ghost use Rattle.floor.specs.Floor.{lift};
 ghost use Rattle.station.specs.Held.{held_area, held_after, held_parts};
 ghost use Rattle.station.specs.Private.{held_mask, mask_in, lifts_in};
 
-use rules::{Area, Code, Instruction, Moved, Reading};
+use rules::{Code, Instruction, Refusal};
 
 // The mask that an answer gives, or none.
-fn mask_in(a: Area) -> u64
+// Kept: an arm for each case here and in `after`: each has a wrong program of its own (must-fail/wrong_programs.edit).
+fn mask_in(a: Option<u64>) -> u64
     ensures { result ≡ mask_in a }
 {
     match a {
-        Area::Mask(m) => m,
-        Area::IllFormed => 0,
+        Some(m) => m,
+        None => 0,
     }
 }
 
@@ -29,25 +30,9 @@ fn lifts(i: Instruction) -> bool
     ensures { result ≡ lifts_in i }
 {
     match i {
-        Instruction::Belts {
-            row,
-            mask,
-            toward: _,
-            size: _,
-        } => (row == 1) & (mask / 4 % 2 == 1),
-        Instruction::Shuttles {
-            side: _,
-            mask: _,
-            orientation: _,
-            toward: _,
-        } => false,
-        Instruction::Tilt {
-            side: _,
-            row: _,
-            orientation: _,
-        } => false,
-        Instruction::Lift { height: _ } => true,
-        Instruction::Rotate => true,
+        Instruction::Belts { row, mask, .. } => (row == 1) & (mask / 4 % 2 == 1),
+        Instruction::Shuttles { .. } | Instruction::Tilt { .. } => false,
+        Instruction::Lift { .. } | Instruction::Rotate => true,
     }
 }
 
@@ -55,10 +40,9 @@ fn lifts(i: Instruction) -> bool
 pub fn has_lift(x: Code) -> bool
     ensures { result ≡ share (held_area x) lift }
 {
-    let reading = rules::read(x);
-    match reading {
-        Reading::Good(i) => lifts(i),
-        Reading::Bad => false,
+    match rules::read(x) {
+        Some(i) => lifts(i),
+        None => false,
     }
 }
 
@@ -79,8 +63,8 @@ pub fn after(x: Code, r: u64) -> u64
     ensures { result ≡ held_after x r }
 {
     match engine::code_moved(x, r) {
-        Moved::Record(n) => n,
-        Moved::NotAllowed(_) => r,
-        Moved::IllFormed => r,
+        Ok(n) => n,
+        Err(Refusal::NotAllowed(_)) => r,
+        Err(Refusal::IllFormed) => r,
     }
 }

@@ -19,6 +19,7 @@ mod requests;
 mod results;
 mod sets;
 
+// Kept: count beside set, here and in all calls of this crate: request s n set and the fields are in theorems (AnswersRight); no heap.
 // The station: its record, how many instructions the outstanding set has, a mark for each that is answered, the instructions as the
 // request's own five bytes each, unused places zero, the issue that the next set will have, and what is set apart: bits 0 to 51 as in the
 // record, bit 52 for the lift.
@@ -33,6 +34,7 @@ pub struct Station {
 }
 
 // What a result says: the issue of its set, the instruction's number from 0, and 0 failed, 1 done or 2 stuck.
+// Kept: any byte may come as the ending; `settled` refuses those above 2, and the definitions and theorems of results name the number.
 #[derive(Clone, Copy)]
 pub struct Report {
     pub issue: u16,
@@ -47,6 +49,7 @@ pub struct Picture {
     pub apart: u64,
 }
 
+// Kept: a station beside an answer, here and in Turn, no Result: a refused call hands its station back (refused, Runs.call).
 // What a call hands back.
 #[derive(Clone, Copy)]
 pub struct Outcome {
@@ -131,23 +134,23 @@ impl Station {
     {
         let n = self.count;
         let marks = self.answered;
-        let set = self.set;
         if Station::MOST < n {
             return false;
         }
         let all = all_marks(n);
-        let found = sets::search(&set, n, marks, self.bits, 0);
+        let found = sets::search(&self.set, n, marks, self.bits, 0);
         floor::sound(self.bits)
-            & (found.bad == n)
+            & found.bad.is_none()
             & (marks <= all)
-            & sets::rest_zero(set, n)
+            & sets::rest_zero(&self.set, n)
             & ((n == 0) | (marks & all != all))
             & !(floor::under_way(self.bits) & found.lift)
-            & (found.overlap == n)
-            & (found.barred == n)
+            & found.overlap.is_none()
+            & found.barred.is_none()
             & (self.apart < PARTS_END)
     }
 
+    // Kept: beside service's own: of each a wrong version is named, and has to be refused in its own proof (must-fail/).
     // The station as it was, and the answer.
     fn unmoved(self, answer: Answer) -> Turn
         ensures { result ≡ turn_of (refused self answer) }
@@ -167,12 +170,9 @@ impl Station {
         ensures { result ≡ turn_of (taken (noting self self.answered r apart)) }
     {
         Turn {
-            answer: Answer::Taken,
             bits: r,
-            count: self.count,
-            answered: self.answered,
-            next: self.next,
             apart,
+            ..self.unmoved(Answer::Taken)
         }
     }
 
@@ -180,18 +180,18 @@ impl Station {
     pub fn after(self, t: Turn, fresh: [u8; 40]) -> Outcome
         ensures { result ≡ after_turn self t fresh }
     {
-        let held = self.set;
-        let set = sets::kept(held, self.count, t.count, fresh);
-        let station = Station {
-            bits: t.bits,
-            count: t.count,
-            answered: t.answered,
-            set,
-            next: t.next,
-            apart: t.apart,
-        };
-        let answer = t.answer;
-        Outcome { station, answer }
+        let set = sets::kept(self.set, self.count, t.count, fresh);
+        Outcome {
+            station: Station {
+                bits: t.bits,
+                count: t.count,
+                answered: t.answered,
+                set,
+                next: t.next,
+                apart: t.apart,
+            },
+            answer: t.answer,
+        }
     }
 
     // An image, which becomes the record with nothing set apart, past the test of fitness.
@@ -208,6 +208,7 @@ impl Station {
     }
 
     // An image.
+    // Kept: each call tests fitness itself, here and in its module: each has a wrong program at its own refusal (must-fail/wrong_programs.edit).
     pub fn image(self, picture: Picture) -> Outcome
         ensures { result ≡ take_image self picture }
     {
@@ -215,8 +216,7 @@ impl Station {
             return refused(self, Answer::Unfit);
         }
         let t = self.imaged(picture);
-        let held = self.set;
-        self.after(t, held)
+        self.after(t, self.set)
     }
 
     // The record is asked for.

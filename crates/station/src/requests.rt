@@ -1,53 +1,49 @@
 // A request: a set of instructions, taken if no set is outstanding, none moves the lift under a driver or touches a part that is set apart,
 // no two overlap and each is allowed.
 ghost use Rattle.std.specs.Prelude.{◌≡◌};
-ghost use Rattle.bits.specs.Search.{least};
-ghost use Rattle.station.specs.Held.{touches, overlaps_earlier, barred, lift_in};
 ghost use Rattle.station.specs.Calls.{accepted, spared, cleared, requested, request};
 ghost use Rattle.station.specs.Turns.{turn_of};
+ghost use Rattle.station.specs.Private.{FaultsOf};
 
 use super::sets::Faults;
 use super::{Outcome, Station, Turn, refused, sets};
 use answers::Answer;
-use std::num::wrapping_add_u16;
 
 impl Station {
     // The end of a request, by what a search of its set has found: no overlap, each instruction allowed.
     fn accepted(self, count: u8, set: [u8; 40], found: Faults) -> Turn
-        requires { (found.overlap ≡ least count (overlaps_earlier set)) × (found.barred ≡ least count (barred set self.bits)) }
+        requires { FaultsOf self count set found }
         ensures { result ≡ turn_of (accepted self count set) }
     {
-        if found.overlap < count {
-            return self.unmoved(Answer::Overlap(found.overlap));
+        if let Some(i) = found.overlap {
+            return self.unmoved(Answer::Overlap(i));
         }
-        if found.barred < count {
-            let verdict = engine::code_verdict(sets::code_at(&set, found.barred), self.bits);
-            return self.unmoved(verdict.answer(found.barred));
+        if let Some(i) = found.barred {
+            let verdict = engine::code_verdict(sets::code_at(&set, i), self.bits);
+            return self.unmoved(rules::answer_for(verdict, i));
         }
         Turn {
-            answer: Answer::Opened(self.next),
-            bits: self.bits,
             count,
             answered: 0,
-            next: wrapping_add_u16(self.next, 1),
-            apart: self.apart,
+            next: self.next.wrapping_add(1),
+            ..self.unmoved(Answer::Opened(self.next))
         }
     }
 
     // Before it: none touches a part that is set apart.
     fn spared(self, count: u8, set: [u8; 40], found: Faults) -> Turn
-        requires { (found.touching ≡ least count (touches set self.apart)) × (found.overlap ≡ least count (overlaps_earlier set)) × (found.barred ≡ least count (barred set self.bits)) }
+        requires { FaultsOf self count set found }
         ensures { result ≡ turn_of (spared self count set) }
     {
-        if found.touching < count {
-            return self.unmoved(Answer::SetApart(found.touching));
+        if let Some(i) = found.touching {
+            return self.unmoved(Answer::SetApart(i));
         }
         self.accepted(count, set, found)
     }
 
     // A request of well-formed instructions: while a drive is under way, none has the lift in its area.
     fn cleared(self, count: u8, set: [u8; 40], found: Faults) -> Turn
-        requires { (found.touching ≡ least count (touches set self.apart)) × (found.overlap ≡ least count (overlaps_earlier set)) × (found.barred ≡ least count (barred set self.bits)) × (found.lift ≡ lift_in set count) }
+        requires { FaultsOf self count set found }
         ensures { result ≡ turn_of (cleared self count set) }
     {
         if floor::under_way(self.bits) & found.lift {
@@ -70,8 +66,8 @@ impl Station {
             return self.unmoved(Answer::EmptySet);
         }
         let found = sets::search(&set, count, 0, self.bits, self.apart);
-        if found.bad < count {
-            return self.unmoved(Answer::BadField(found.bad));
+        if let Some(i) = found.bad {
+            return self.unmoved(Answer::BadField(i));
         }
         self.cleared(count, set, found)
     }

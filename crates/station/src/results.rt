@@ -6,7 +6,6 @@ ghost use Rattle.station.specs.Turns.{turn_of, unjudged, settled};
 
 use super::{Outcome, Report, Station, Turn, all_marks, held, refused, sets};
 use answers::{Answer, NOWHERE};
-use std::num::wrapping_sub_u16;
 
 impl Station {
     // Instruction i answered, the record now r, and this set apart.
@@ -18,21 +17,14 @@ impl Station {
         let all = all_marks(self.count);
         if marks & all == all {
             return Turn {
-                answer: Answer::Taken,
-                bits: r,
                 count: 0,
                 answered: 0,
-                next: self.next,
-                apart,
+                ..self.holding(r, apart)
             };
         }
         Turn {
-            answer: Answer::Taken,
-            bits: r,
-            count: self.count,
             answered: marks,
-            next: self.next,
-            apart,
+            ..self.holding(r, apart)
         }
     }
 
@@ -41,8 +33,7 @@ impl Station {
         requires { (self.count ≤ 8) × (i < self.count) }
         ensures { result ≡ unjudged self i ending (ended self i ending) }
     {
-        let set = self.set;
-        let x = sets::code_at(&set, i);
+        let x = sets::code_at(&self.set, i);
         if ending == 1 {
             return self.answering(i, engine::code_next(x, self.bits), self.apart);
         }
@@ -76,7 +67,7 @@ impl Station {
     fn behind(self, issue: u16) -> u16
         ensures { result ≡ behind self issue }
     {
-        wrapping_sub_u16(wrapping_sub_u16(self.next, 1), issue)
+        self.next.wrapping_sub(1).wrapping_sub(issue)
     }
 
     // A result by the issue of its set.
@@ -108,17 +99,11 @@ impl Station {
         ensures { result ≡ turn_of (resulted self report) }
     {
         let told = self.settled(report);
-        let answer = told.answer;
-        if (report.ending == 1) & (answer.number() == 0) {
-            let set = self.set;
-            let bits = held::after(sets::code_at(&set, report.number), self.bits);
+        if (report.ending == 1) & (told.answer.number() == 0) {
+            let x = sets::code_at(&self.set, report.number);
             return Turn {
-                answer,
-                bits,
-                count: told.count,
-                answered: told.answered,
-                next: told.next,
-                apart: told.apart,
+                bits: held::after(x, self.bits),
+                ..told
             };
         }
         told
@@ -132,7 +117,6 @@ impl Station {
             return refused(self, Answer::Unfit);
         }
         let t = self.settled(report);
-        let held = self.set;
-        self.after(t, held)
+        self.after(t, self.set)
     }
 }

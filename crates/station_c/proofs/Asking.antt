@@ -14,7 +14,8 @@ use Rattle.station.specs.declared.Outcome.{Outcome}
 use Rattle.rules.specs.Codes.{code_from}
 use Rattle.station.specs.Held.{crosses}
 use Rattle.station.specs.Calls.{ask}
-use Rattle.rules.specs.declared.Moved.{Moved}
+use Rattle.rules.specs.declared.Refusal.{Refusal}
+use Rattle.std.specs.declared.result.Result.{Result}
 use Rattle.rooms.specs.Rooms.{lent_station, image_bytes, returned, LeavesRoom, writes, telling}
 use Rattle.rooms.specs.Questions.{moved, answer_to, request_answer, record_in, nexting}
 use Rattle.rooms.proofs.Rooms.{as_writes, lent_there}
@@ -56,7 +57,7 @@ unfolding nexting writes
 hindered x five room h l c e = rw (le-ltb _ _ h, crossed_says x five l c) (e, refl)
 
 -- or it is there
-pub followed : (x : ℕ) (five room : List ℕ) {m : Moved} {a : Answer} {y : ℕ} {b : List ℕ} {n r : ℕ} {last : List ℕ} → 8 ≤ length room → 5 ≤ length five
+pub followed : (x : ℕ) (five room : List ℕ) {m : Result ℕ Refusal} {a : Answer} {y : ℕ} {b : List ℕ} {n r : ℕ} {last : List ℕ} → 8 ≤ length room → 5 ≤ length five
     → crosses (code_from five) x ≡ false → m ≡ moved x five → a ≡ answer_to m → y ≡ record_in m → b ≡ little_endian 8 y → n ≡ returned a
     → LeavesRoom (telling n b room) r last → LeavesRoom (nexting x five room) r last
 unfolding nexting

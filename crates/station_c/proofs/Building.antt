@@ -8,8 +8,8 @@ use lib.ListN.{length}
 use Rattle.codec.specs.Bytes.{little_endian}
 use Rattle.answers.specs.declared.Answer.{Answer}
 use Rattle.answers.specs.declared.Answer.TheVariants.{TooFewBytes, BadField, NoRoom}
-use Rattle.rules.specs.declared.Area.{Area}
-use Rattle.rules.specs.declared.Reading.{Reading}
+use Rattle.rules.specs.declared.Instruction.{Instruction}
+use Rattle.std.specs.declared.option.Option.{Option}
 use Rattle.rules.specs.Codes.{read_bytes}
 use Rattle.rules.specs.Verdicts.{on_code, sharing_of}
 use Rattle.rooms.specs.Rooms.{returned, LeavesRoom, writes, telling}
@@ -30,7 +30,7 @@ module _ (five room : List ℕ) where
   area_few h l e = rw (le-ltb _ _ h, lt-ltb _ _ l) (e, refl)
 
   -- else it is written, or there is none
-  pub area_told : {m : Area} {a : Answer} {x : ℕ} {b : List ℕ} {n r : ℕ} {last : List ℕ} → 8 ≤ length room → 5 ≤ length five → m ≡ area_in five
+  pub area_told : {m : (Option ℕ)} {a : Answer} {x : ℕ} {b : List ℕ} {n r : ℕ} {last : List ℕ} → 8 ≤ length room → 5 ≤ length five → m ≡ area_in five
       → a ≡ area_said m → x ≡ area_bits m → b ≡ little_endian 8 x → n ≡ returned a → LeavesRoom (telling n b room) r last → LeavesRoom (area_into five room) r last
   unfolding area_into area_answer
   area_told {m} {a} {x} {b} h l e f g k q w =
@@ -51,7 +51,7 @@ module _ (one other : List ℕ) where
   pair_few_2 h k w = rw (le-ltb _ _ h, lt-ltb _ _ k) w
 
   -- else by what they say
-  pub pair_read : {first second : Reading} {x : ℕ} → 5 ≤ length one → 5 ≤ length other → first ≡ read_bytes one → second ≡ read_bytes other
+  pub pair_read : {first second : (Option Instruction)} {x : ℕ} → 5 ≤ length one → 5 ≤ length other → first ≡ read_bytes one → second ≡ read_bytes other
       → x ≡ returned (on_code (λ i. on_code (λ j. sharing_said (sharing_of i j)) (BadField 1) second) (BadField 0) first)
       → x ≡ returned (pair_answer one other)
   unfolding pair_answer

@@ -14,10 +14,13 @@ use Rattle.bits.proofs.Cases.{split, off}
 use Rattle.answers.specs.declared.Answer.TheVariants.{Taken, NoRoom}
 use Rattle.answers.specs.Answers.{number_of}
 use Rattle.station.specs.declared.Station.{Station}
+use Rattle.std.specs.declared.result.Result.TheVariants.{Ok, Err}
+use Rattle.answers.specs.declared.Answer as answer
+use Rattle.wire.proofs.Results.{no_both, same_err}
 use Rattle.wire.specs.contracts.What as what
 use Rattle.wire.specs.declared.What.{What}
 use Rattle.wire.specs.declared.What.TheVariants.{Request, Event, Result, Image, Ask, Held}
-use Rattle.wire.specs.declared.Written.{Written}
+use Rattle.wire.specs.Writes.{Written}
 use Rattle.wire.specs.Kinds.{plain}
 use Rattle.wire.specs.Writes as writes
 use Rattle.wire.specs.Writes.{Writing, writing_message}
@@ -54,30 +57,30 @@ module _ (room message reply : List ℕ) where
     written = plain_written o.answer reply (rw f (replies_in_range s message))
 
     -- then nothing was written
-    not_wrote : short ≡ true → (w.answer ≡ NoRoom) × (last ≡ reply)
+    not_wrote : short ≡ true → (w ≡ Err NoRoom) × (last ≡ reply)
     unfolding short
     not_wrote t =
         let q : writing_message (plain o.answer) reply ≡ writes.nothing_written NoRoom reply = written ∙ rw t in
-        (ap (λ (x : Written). x.answer) (g.0 ∙ ap (λ (x : Writing). x.says) q), g.1 ∙ ap (λ (x : Writing). x.leaves) q)
+        (g.0 ∙ ap (λ (x : Writing). x.says) q, g.1 ∙ ap (λ (x : Writing). x.leaves) q)
 
     -- else all of it was
-    wrote : short ≡ false → (w.answer ≡ Taken) × (last ≡ service.answer_bytes o.answer ++ drop (length (service.answer_bytes o.answer)) reply)
+    wrote : short ≡ false → (w ≡ Ok (length (service.answer_bytes o.answer))) × (last ≡ service.answer_bytes o.answer ++ drop (length (service.answer_bytes o.answer)) reply)
     unfolding short
     wrote t =
         let b = service.answer_bytes o.answer in
-        let q : writing_message (plain o.answer) reply ≡ record { says = record { answer = Taken; size = length b }; leaves = b ++ drop (length b) reply } = written ∙ rw t in
-        (ap (λ (x : Written). x.answer) (g.0 ∙ ap (λ (x : Writing). x.says) q), g.1 ∙ ap (λ (x : Writing). x.leaves) q)
+        let q : writing_message (plain o.answer) reply ≡ record { says = Ok (length b); leaves = b ++ drop (length b) reply } = written ∙ rw t in
+        (g.0 ∙ ap (λ (x : Writing). x.says) q, g.1 ∙ ap (λ (x : Writing). x.leaves) q)
 
-    pub short_reply : {n r : ℕ} → n ≡ number_of w.answer → (n ≡ 0 → ⊥) → r ≡ returned w.answer → Exchanges (exchange room message reply) r room last
+    pub short_reply : {a : answer.Answer} {r : ℕ} → w ≡ Err a → r ≡ returned a → Exchanges (exchange room message reply) r room last
     unfolding exchange short
-    short_reply k z a = split short
-        (λ t. let p = not_wrote t in rw (le-ltb _ _ h, ← e, ← f, t) (a ∙ ap returned p.0, refl, p.1))
-        (λ t. absurd (z (k ∙ ap number_of (wrote t).0)))
+    short_reply k a = split short
+        (λ t. let p = not_wrote t in rw (le-ltb _ _ h, ← e, ← f, t) (a ∙ ap returned (same_err (sym k ∙ p.0)), refl, p.1))
+        (λ t. no_both (sym (wrote t).0 ∙ k))
 
     -- the reply was written
-    module _ {n : ℕ} (k : n ≡ number_of w.answer) (z : n ≡ 0) where
+    module _ {n : ℕ} (k : w ≡ Ok n) where
       fits : short ≡ false
-      fits = off short (λ t. let q : 0 ≡ 17 = sym z ∙ k ∙ ap number_of (not_wrote t).0 in omega arith)
+      fits = off short (λ t. no_both (sym k ∙ (not_wrote t).0))
 
       -- it refuses: the station stays
       pub told_why : {r : ℕ} → r ≡ returned_of o.answer → (r % 256 ≡ 0 → ⊥) → Exchanges (exchange room message reply) r room last

@@ -17,10 +17,8 @@ use Rattle.answers.specs.declared.Answer.{Answer}
 use Rattle.answers.specs.declared.Answer.TheVariants.{Taken, TooFewBytes, BadField, Overlap}
 use Rattle.answers.specs.Answers.{number_of}
 use Rattle.rules.specs.declared.Instruction.{Instruction}
-use Rattle.rules.specs.declared.Area.{Area}
-use Rattle.rules.specs.declared.Area.TheVariants.{Mask}
-use Rattle.rules.specs.declared.Reading.{Reading}
-use Rattle.rules.specs.declared.Reading.TheVariants.{Good, Bad}
+use Rattle.std.specs.declared.option.Option.{Option}
+use Rattle.std.specs.declared.option.Option.TheVariants.{Some, None}
 use Rattle.rules.specs.declared.Sharing.{Sharing}
 use Rattle.rules.specs.declared.Sharing.TheVariants.{Apart}
 use Rattle.rules.specs.Rules.{well_formed, area_of, area, overlap}
@@ -51,18 +49,18 @@ sharing_either i j =
     (share_either (area_of i) (area_of j))
 
 -- what is answered of two, by whether each has too few bytes and by what it says
-abbrev told : Bool → Bool → Reading → Reading → Answer
+abbrev told : Bool → Bool → (Option Instruction) → (Option Instruction) → Answer
 told few fewer one other =
     cond (few || fewer) TooFewBytes (on_code (λ i. on_code (λ j. sharing_said (sharing_of i j)) (BadField 1) other) (BadField 0) one)
 
-told_either : (few fewer : Bool) (one other : Reading) → number_of (told few fewer one other) ≡ number_of (told fewer few other one)
+told_either : (few fewer : Bool) (one other : (Option Instruction)) → number_of (told few fewer one other) ≡ number_of (told fewer few other one)
 told_either true true one other = refl
 told_either true false one other = refl
 told_either false true one other = refl
-told_either false false (Good i) (Good j) = ap (λ (s : Sharing). number_of (sharing_said s)) (sharing_either i j)
-told_either false false (Good i) Bad = refl
-told_either false false Bad (Good j) = refl
-told_either false false Bad Bad = refl
+told_either false false (Some i) (Some j) = ap (λ (s : Sharing). number_of (sharing_said s)) (sharing_either i j)
+told_either false false (Some i) None = refl
+told_either false false None (Some j) = refl
+told_either false false None None = refl
 
 pub pair_either_way : PairEitherWay
 unfolding pair_answer
@@ -71,27 +69,27 @@ pair_either_way one other = told_either (ltb (length one) 5) (ltb (length other)
 -- ---- by the areas
 
 -- the area of a well-formed instruction; what enough bytes say
-mask_of_lem : (i : Instruction) → well_formed i ≡ true → mask_of i ≡ Mask (image (area i))
+mask_of_lem : (i : Instruction) → well_formed i ≡ true → mask_of i ≡ Some (image (area i))
 unfolding mask_of
-mask_of_lem i w = ap (λ (b : Bool). cond b (Mask (image (area i))) Area.IllFormed) w
+mask_of_lem i w = ap (λ (b : Bool). cond b (Some (image (area i))) Option.None) w
 
-read_code_lem : (five : List ℕ) {g : Reading} → ltb (length five) 5 ≡ false → read_bytes five ≡ g → read_code (code_from five) ≡ g
+read_code_lem : (five : List ℕ) {g : (Option Instruction)} → ltb (length five) 5 ≡ false → read_bytes five ≡ g → read_code (code_from five) ≡ g
 unfolding read_bytes
-read_code_lem five u e = sym (ap (λ (b : Bool). cond b Bad (read_code (code_from five))) u) ∙ e
+read_code_lem five u e = sym (ap (λ (b : Bool). cond b None (read_code (code_from five))) u) ∙ e
 
 -- what bytes say whose area is written
 record Written (five room : List ℕ) : Type 0 where
   one : Instruction
   enough : ltb (length five) 5 ≡ false
-  says : read_bytes five ≡ Good one
+  says : read_bytes five ≡ Some one
   formed : well_formed one ≡ true
   number : read_area (area_into five room).leaves ≡ image (area one)
 
 module _ (five room : List ℕ) (h : (area_into five room).says % 256 ≡ 0) where
-  by_reading : ltb (length room) 8 ≡ false → ltb (length five) 5 ≡ false → (g : Reading) → read_bytes five ≡ g → Written five room
+  by_reading : ltb (length room) 8 ≡ false → ltb (length five) 5 ≡ false → (g : (Option Instruction)) → read_bytes five ≡ g → Written five room
   unfolding area_into area_answer area_in writes
-  by_reading t u Bad e = absurd (let z = rw (t, u, e) at h in omega arith)
-  by_reading t u (Good i) e =
+  by_reading t u None e = absurd (let z = rw (t, u, e) at h in omega arith)
+  by_reading t u (Some i) e =
       let w : well_formed i ≡ true = (one_form_lem (code_from five) i (read_code_lem five u e)).1 in
       record {
         one = i;
@@ -135,9 +133,9 @@ below m apart h =
     ap (bit_and m) (and_mask apart 53 ∙ low)
 
 -- the mask that the station has of an instruction is its area
-held_so : (five : List ℕ) (i : Instruction) → read_code (code_from five) ≡ Good i → image (area i) ≡ held_mask (code_from five)
+held_so : (five : List ℕ) (i : Instruction) → read_code (code_from five) ≡ Some i → image (area i) ≡ held_mask (code_from five)
 unfolding held_mask held_area area
-held_so five i e = ap (λ (g : Reading). image (λ k. elem k (on_code area_of [] g))) (sym e)
+held_so five i e = ap (λ (g : (Option Instruction)). image (λ k. elem k (on_code area_of [] g))) (sym e)
 
 pub touches_by_area : TouchesByArea
 unfolding code_at

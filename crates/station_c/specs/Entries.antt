@@ -1,8 +1,8 @@
 -- What the entries for a planner in C or Rust answer, and what they leave in the room that is lent to them: here an ask, a message and the
 -- number of cars. The calls and the questions on a record, which other entries have too, stand in rooms. Assumes nothing.
 use Rattle.std.specs.Prelude.{◌≡◌, cond, ◌||◌, List, ◌++◌, ℕ, ◌+◌, ◌*◌, ◌%◌, eqb, ltb, length, drop}
-use Rattle.floor.specs.declared.Total.{Total}
-use Rattle.floor.specs.declared.Total.TheVariants.{Cars, Unsound}
+use Rattle.std.specs.declared.option.Option.{Option}
+use Rattle.std.specs.declared.option.Option.TheVariants.{Some, None}
 use Rattle.answers.specs.declared.Answer.TheVariants.{Taken, NoRoom}
 use Rattle.station.specs.Calls.{ask}
 use Rattle.wire.specs.declared.What.{What}
@@ -57,6 +57,6 @@ exchange room message reply =
 -- ---- cars
 
 -- the number of cars: 255 where the record isn't sound, which is no sound record's number, as a layout has at most 30 cars
-abbrev pub cars_or255 : Total → ℕ
-cars_or255 (Cars n) = n
-cars_or255 Unsound = 255
+abbrev pub cars_or255 : Option ℕ → ℕ
+cars_or255 (Some n) = n
+cars_or255 None = 255

@@ -2,8 +2,8 @@
 -- record: areas are the same on each. Assumes nothing.
 use Rattle.std.specs.Prelude.{cond, ◌||◌, List, ℕ, ltb, length}
 use Rattle.codec.specs.Bytes.{little_endian}
-use Rattle.rules.specs.declared.Area.{Area}
-use Rattle.rules.specs.declared.Area.TheVariants.{Mask}
+use Rattle.std.specs.declared.option.Option.{Option}
+use Rattle.std.specs.declared.option.Option.TheVariants.{Some}
 use Rattle.rules.specs.declared.Sharing.{Sharing}
 use Rattle.rules.specs.declared.Sharing.TheVariants.{Apart}
 use Rattle.rules.specs.Codes.{read_bytes}
@@ -16,18 +16,18 @@ use Rattle.rooms.specs.Rooms.{Entry, no_room, writes}
 -- ---- an instruction's area
 
 -- the area of the instruction that five bytes say, in the record's own bits
-unfoldable pub area_in : List ℕ → Area
-area_in five = on_code mask_of Area.IllFormed (read_bytes five)
+unfoldable pub area_in : List ℕ → Option ℕ
+area_in five = on_code mask_of Option.None (read_bytes five)
 
 -- what is answered with it: 4 where the bytes say no instruction
-abbrev pub area_said : Area → Answer
-area_said (Mask x) = Taken
-area_said Area.IllFormed = BadField nowhere
+abbrev pub area_said : (Option ℕ) → Answer
+area_said (Some x) = Taken
+area_said Option.None = BadField nowhere
 
 -- its bits as a number
-abbrev pub area_bits : Area → ℕ
-area_bits (Mask x) = x
-area_bits Area.IllFormed = 0
+abbrev pub area_bits : (Option ℕ) → ℕ
+area_bits (Some x) = x
+area_bits Option.None = 0
 
 -- what is answered of five bytes: 1 where they are fewer, else as above
 unfoldable pub area_answer : List ℕ → Answer

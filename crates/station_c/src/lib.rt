@@ -11,14 +11,15 @@ ghost use Rattle.station.specs.Held.{crosses};
 ghost use Rattle.station.specs.Station.{start_of};
 ghost use Rattle.station.specs.Calls.{taken, event, result as result_call, take_image};
 ghost use Rattle.version.specs.Version.{version};
-ghost use Rattle.rooms.specs.Rooms.{returned, LeavesRoom, writes, entry, request_of};
+ghost use Rattle.station.specs.declared.Station.{Station};
+ghost use Rattle.station.specs.declared.Outcome.{Outcome};
+ghost use Rattle.rooms.specs.Rooms.{station_of, returned, LeavesRoom, writes, entry, request_of};
 ghost use Rattle.rooms.specs.Questions.{moved, answer_to, request_answer, record_in, nexting};
 ghost use Rattle.station_c.specs.Entries.{asking, returned_of, Exchanges, exchange, cars_or255};
 
 use answers::{Answer, NOWHERE};
-use floor::Total;
 use rooms::{bytes_asked, image_in, keep, say, station_bytes, station_of, tell};
-use rules::{Code, Instruction, Moved, Reading};
+use rules::{Code, Instruction, Refusal};
 use station::{Outcome, Picture, Report, Station};
 use wire::What;
 
@@ -35,19 +36,26 @@ const CODE: usize = 5;
 
 // ---- the calls on a lent station
 
-// Writes the start station.
-pub fn station_start(room: &mut [u8]) -> u32
-    ensures { LeavesRoom (entry (λ s. taken start_of) room.old) result room.new }
+// A call on the lent station, and its outcome told; 17 where the room is too short for a station.
+fn on_lent<F: FnOnce(Station) -> Outcome>(room: &mut [u8], call: F) -> u32
+    requires { F.IsAlwaysCallable call }
+    ensures { (f : Station → Outcome) → ((o : Outcome) → F.post call (station_of room.old) o → o ≡ f (station_of room.old)) → LeavesRoom (entry f room.old) result room.new }
 {
     if room.len() < STATION {
         return say(Answer::NoRoom);
     }
-    let start = Station::start();
-    let o = Outcome {
-        station: start,
+    keep(call(station_of(room)), room)
+}
+
+// Writes the start station.
+pub fn station_start(room: &mut [u8]) -> u32
+    ensures { LeavesRoom (entry (λ s. taken start_of) room.old) result room.new }
+{
+    let start = Outcome {
+        station: Station::start(),
         answer: Answer::Taken,
     };
-    keep(o, room)
+    on_lent(room, |_| start)
 }
 
 // A request on a station, its set as a run of bytes.
@@ -69,52 +77,33 @@ fn requested(s: Station, count: u8, set: &[u8]) -> Outcome
 pub fn station_request(room: &mut [u8], count: u8, set: &[u8]) -> u32
     ensures { LeavesRoom (entry (request_of count set.now) room.old) result room.new }
 {
-    if room.len() < STATION {
-        return say(Answer::NoRoom);
-    }
-    let s = station_of(room);
-    let o = requested(s, count, set);
-    keep(o, room)
+    on_lent(room, |s| requested(s, count, set))
 }
 
 // A car event: a drive begins, 1 in, 2 out; the one under way ends, 3 done, 4 not done.
 pub fn station_event(room: &mut [u8], way: u8) -> u32
     ensures { LeavesRoom (entry (λ s. event s way) room.old) result room.new }
 {
-    if room.len() < STATION {
-        return say(Answer::NoRoom);
-    }
-    let s = station_of(room);
-    let o = s.event(way);
-    keep(o, room)
+    on_lent(room, |s| s.event(way))
 }
 
 // The result of an instruction, by the issue of its set and its number from 0: 0 failed, 1 done, 2 stuck.
 pub fn station_result(room: &mut [u8], issue: u16, number: u8, ending: u8) -> u32
     ensures { LeavesRoom (entry (λ s. result_call s (record { issue = issue; number = number; ending = ending })) room.old) result room.new }
 {
-    if room.len() < STATION {
-        return say(Answer::NoRoom);
-    }
-    let s = station_of(room);
-    let o = s.result(Report {
+    let report = Report {
         issue,
         number,
         ending,
-    });
-    keep(o, room)
+    };
+    on_lent(room, |s| s.result(report))
 }
 
 // An image, which becomes the record with nothing set apart.
 pub fn station_image(room: &mut [u8], image: u64, apart: u64) -> u32
     ensures { LeavesRoom (entry (λ s. take_image s (record { bits = image; apart = apart })) room.old) result room.new }
 {
-    if room.len() < STATION {
-        return say(Answer::NoRoom);
-    }
-    let s = station_of(room);
-    let o = s.image(Picture { bits: image, apart });
-    keep(o, room)
+    on_lent(room, |s| s.image(Picture { bits: image, apart }))
 }
 
 // The record's eight bytes and then those of what is set apart, to a room of their own.
@@ -159,19 +148,15 @@ pub fn station_message(room: &mut [u8], message: &[u8], reply: &mut [u8]) -> u32
     }
     let o = service::respond(station_of(room), message);
     let what = o.answer;
-    let w = wire::writing::write_plain(what, reply);
-    let a = w.answer;
-    let refused = a.number();
-    if refused != 0 {
-        return say(a);
+    match wire::writing::write_plain(what, reply) {
+        Ok(_) => {}
+        Err(answer) => return say(answer),
     }
     let r = returned_of(what);
     if r % 256 != 0 {
         return r;
     }
-    let s = o.station;
-    let b = station_bytes(s);
-    codec::copy(&b, room);
+    codec::copy(&station_bytes(o.station), room);
     r
 }
 
@@ -193,55 +178,49 @@ pub fn garage_sound(image: u64) -> bool
     floor::sound(image)
 }
 
+// Kept: an arm for each case, since each has a wrong program of its own (must-fail/wrong_programs.edit).
 // The number of cars, 255 if the record isn't sound.
 pub fn garage_cars(image: u64) -> u32
     ensures { result ≡ cars_or255 (total image) }
 {
-    let t = floor::cars(image);
-    match t {
-        Total::Cars(n) => n as u32,
-        Total::Unsound => 255,
+    match floor::cars(image) {
+        Some(n) => n as u32,
+        None => 255,
     }
 }
 
 // The record after an instruction, given by its five bytes, where it is allowed.
-fn moved(image: u64, five: &[u8]) -> Moved
+fn moved(image: u64, five: &[u8]) -> Result<u64, Refusal>
     ensures { result ≡ moved image five.now }
 {
-    let one = rules::read_bytes(five);
-    match one {
-        Reading::Good(i) => engine::moved(i, image),
-        Reading::Bad => Moved::IllFormed,
+    match rules::read_bytes(five) {
+        Some(i) => engine::moved(i, image),
+        None => Err(Refusal::IllFormed),
     }
 }
 
 // What is answered with a next record, or none.
-fn answer_to(m: Moved) -> Answer
+fn answer_to(m: Result<u64, Refusal>) -> Answer
     ensures { result ≡ answer_to m }
 {
     match m {
-        Moved::Record(_) => Answer::Taken,
-        Moved::NotAllowed(why) => Answer::NotAllowed(why, NOWHERE),
-        Moved::IllFormed => Answer::BadField(NOWHERE),
+        Ok(_) => Answer::Taken,
+        Err(Refusal::NotAllowed(why)) => Answer::NotAllowed(why, NOWHERE),
+        Err(Refusal::IllFormed) => Answer::BadField(NOWHERE),
     }
 }
 
-fn record_in(m: Moved) -> u64
+fn record_in(m: Result<u64, Refusal>) -> u64
     ensures { result ≡ record_in m }
 {
-    match m {
-        Moved::Record(r) => r,
-        Moved::NotAllowed(_) => 0,
-        Moved::IllFormed => 0,
-    }
+    m.unwrap_or(0)
 }
 
 // What is answered of an instruction, by its verdict: the next record isn't asked for.
 fn judged(i: Instruction, image: u64) -> Answer
     ensures { result ≡ answer_to (moved_of i image) }
 {
-    let verdict = engine::verdict(i, image);
-    verdict.answer(NOWHERE)
+    rules::answer_for(engine::verdict(i, image), NOWHERE)
 }
 
 // A drive is under way on the record, and the instruction that five bytes say has the lift in its area.
@@ -259,6 +238,7 @@ fn crossing(image: u64, five: &[u8]) -> bool
     station::crosses(x, image)
 }
 
+// Kept: garage_allowed and garage_next test the bytes each by itself, since the gate wants five bytes that are too few refused in each.
 // What a request of the instruction that five bytes say is told on a record.
 pub fn garage_allowed(image: u64, five: &[u8]) -> u32
     ensures { result ≡ returned (request_answer image five.now) }
@@ -269,13 +249,9 @@ pub fn garage_allowed(image: u64, five: &[u8]) -> u32
     if crossing(image, five) {
         return say(Answer::OutOfTurn);
     }
-    let one = rules::read_bytes(five);
-    match one {
-        Reading::Good(i) => {
-            let a = judged(i, image);
-            say(a)
-        }
-        Reading::Bad => say(Answer::BadField(NOWHERE)),
+    match rules::read_bytes(five) {
+        Some(i) => say(judged(i, image)),
+        None => say(Answer::BadField(NOWHERE)),
     }
 }
 
@@ -293,8 +269,5 @@ pub fn garage_next(image: u64, five: &[u8], next: &mut [u8]) -> u32
         return say(Answer::OutOfTurn);
     }
     let m = moved(image, five);
-    let a = answer_to(m);
-    let r = record_in(m);
-    let b = wire::image_bytes(r);
-    tell(say(a), &b, next)
+    tell(say(answer_to(m)), &wire::image_bytes(record_in(m)), next)
 }

@@ -6,39 +6,32 @@ ghost use Rattle.station_c.specs.Sets.{area_in, area_said, area_bits, area_into,
 
 use super::{CODE, RECORD, say, tell};
 use answers::{Answer, NOWHERE};
-use rules::{Area, Reading, Sharing};
+use rules::{Instruction, Sharing};
 
 // ---- an instruction's area
 
 // The area of the instruction that five bytes say.
-fn area_in(five: &[u8]) -> Area
+fn area_in(five: &[u8]) -> Option<u64>
     ensures { result ≡ area_in five.now }
 {
-    let one = rules::read_bytes(five);
-    match one {
-        Reading::Good(i) => areas::area(i),
-        Reading::Bad => Area::IllFormed,
-    }
+    rules::read_bytes(five).and_then(|i| areas::area(i))
 }
 
 // What is answered with it.
-fn area_said(a: Area) -> Answer
+fn area_said(a: Option<u64>) -> Answer
     ensures { result ≡ area_said a }
 {
     match a {
-        Area::Mask(_) => Answer::Taken,
-        Area::IllFormed => Answer::BadField(NOWHERE),
+        Some(_) => Answer::Taken,
+        None => Answer::BadField(NOWHERE),
     }
 }
 
 // Its bits.
-fn area_bits(a: Area) -> u64
+fn area_bits(a: Option<u64>) -> u64
     ensures { result ≡ area_bits a }
 {
-    match a {
-        Area::Mask(x) => x,
-        Area::IllFormed => 0,
-    }
+    a.unwrap_or(0)
 }
 
 // The eight bytes of an instruction's area, to a room of their own.
@@ -52,10 +45,7 @@ pub fn garage_area(five: &[u8], area: &mut [u8]) -> u32
         return say(Answer::TooFewBytes);
     }
     let m = area_in(five);
-    let a = area_said(m);
-    let x = area_bits(m);
-    let b = wire::image_bytes(x);
-    tell(say(a), &b, area)
+    tell(say(area_said(m)), &wire::image_bytes(area_bits(m)), area)
 }
 
 // ---- whether two may stand in one set
@@ -81,15 +71,11 @@ pub fn garage_overlap(one: &[u8], other: &[u8]) -> u32
     if other.len() < CODE {
         return say(Answer::TooFewBytes);
     }
-    let first = rules::read_bytes(one);
-    let Reading::Good(i) = first else {
+    let Some(i) = rules::read_bytes(one) else {
         return say(Answer::BadField(0));
     };
-    let second = rules::read_bytes(other);
-    let Reading::Good(j) = second else {
+    let Some(j) = rules::read_bytes(other) else {
         return say(Answer::BadField(1));
     };
-    let s = areas::overlap(i, j);
-    let a = sharing_said(s);
-    say(a)
+    say(sharing_said(areas::overlap(i, j)))
 }

@@ -13,8 +13,9 @@ use Rattle.bits.proofs.Cases.{split}
 use Rattle.bits.proofs.Digits.{packed_lt}
 use Rattle.floor.specs.Cars.{cars}
 use Rattle.floor.specs.Sound.{sound}
-use Rattle.rules.specs.declared.EventReading.{EventReading}
-use Rattle.rules.specs.declared.EventReading.TheVariants.{Good as Told, Bad as Untold}
+use Rattle.rules.specs.declared.Event.{Event}
+use Rattle.std.specs.declared.option.Option.{Option}
+use Rattle.std.specs.declared.option.Option.TheVariants.{Some, None}
 use Rattle.rules.specs.declared.Code.{Code}
 use Rattle.rules.specs.Codes.{read_event}
 use Rattle.station.specs.declared.Station.{Station}
@@ -111,9 +112,9 @@ still_allowed s b l i h m = waits_allowed (calls s l) i (fit_always l s (begins_
 abbrev pub Small : Station → Type 0
 Small s = s.bits < 2 ^ 64
 
-after_small : (v : EventReading) (r : ℕ) → r < 2 ^ 64 → after_as v r < 2 ^ 64
-after_small (Told e) r h = packed_lt 64 0 _
-after_small Untold r h = h
+after_small : (v : (Option Event)) (r : ℕ) → r < 2 ^ 64 → after_as v r < 2 ^ 64
+after_small (Some e) r h = packed_lt 64 0 _
+after_small None r h = h
 
 pub small_step : (s t : Station) (c : Call) → Step s c t → Small s → Small t
 small_step s t c (refuses n) h = h

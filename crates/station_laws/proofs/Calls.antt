@@ -16,8 +16,8 @@ use Rattle.bits.proofs.Least.{least_none, least_below}
 use Rattle.floor.specs.Tests.{holds, all_hold}
 use Rattle.floor.specs.Sound.{sound}
 use Rattle.rules.specs.declared.Event.{Event}
-use Rattle.rules.specs.declared.EventReading.{EventReading}
-use Rattle.rules.specs.declared.EventReading.TheVariants.{Good as Told, Bad as Untold}
+use Rattle.std.specs.declared.option.Option.{Option}
+use Rattle.std.specs.declared.option.Option.TheVariants.{Some, None}
 use Rattle.rules.specs.Events.{turn, begin_conditions, in_turn, possible, places_open, after_event}
 use Rattle.rules.specs.Codes.{read_event, most_in_set}
 use Rattle.answers.specs.declared.Answer.{Answer}
@@ -284,7 +284,7 @@ possible_turn e f p = (both (holds (turn e) f) (all_hold (begin_conditions e) f)
 
 module _ (s : Station) where
   -- what the station makes of it
-  abbrev pub driven_as : EventReading → Outcome
+  abbrev pub driven_as : (Option Event) → Outcome
   driven_as v = on_fit s (on_event (station.driven s) (refused s (BadField nowhere)) v)
 
   pub event_as : (e : ℕ) → station.event s e ≡ driven_as (read_event e)
@@ -296,14 +296,14 @@ module _ (s : Station) where
       (λ v. rw v (split (eqb e 4) (λ w. rw w) (λ w. rw w)))))))
 
   -- what a car event must have
-  abbrev pub Drivable : EventReading → Type 0
+  abbrev pub Drivable : (Option Event) → Type 0
   Drivable v =
       (fit s ≡ true) × (lift_in s.set s.count ≡ false) × (lift_apart s.apart ≡ false) × (possible_as v s.bits ≡ true)
       × (open_as v s.bits ≡ true)
 
-  driven_has : (v : EventReading) → Zero (driven_as v) → Drivable v
+  driven_has : (v : (Option Event)) → Zero (driven_as v) → Drivable v
   unfolding station.driven station.occurred
-  driven_has (Told e) z =
+  driven_has (Some e) z =
       let (a, z₁) = met (fit s) s Unfit (station.driven s e) (λ z. omega arith) z in
       let (b, z₂) = passed (lift_in s.set s.count) s SetOutstanding _ (λ z. omega arith) z₁ in
       let (t, z₃) = met (in_turn e (bit s.bits)) s OutOfTurn _ (λ z. omega arith) z₂ in
@@ -311,22 +311,22 @@ module _ (s : Station) where
       let (c, z₅) = met (possible e (bit s.bits)) s EventImpossible _ (λ z. omega arith) z₄ in
       let (o, z₆) = met (places_open e (bit s.bits)) s KeptOpen (taken (holding s (image (after_event e (bit s.bits))))) (λ z. omega arith) z₅ in
       (a, b, l, c, o)
-  driven_has Untold z = let (a, z₁) = met (fit s) s Unfit (refused s (BadField nowhere)) (λ z. omega arith) z in absurd (omega arith)
+  driven_has None z = let (a, z₁) = met (fit s) s Unfit (refused s (BadField nowhere)) (λ z. omega arith) z in absurd (omega arith)
 
-  driven_is : (v : EventReading) → Drivable v → driven_as v ≡ taken (holding s (after_as v s.bits))
+  driven_is : (v : (Option Event)) → Drivable v → driven_as v ≡ taken (holding s (after_as v s.bits))
   unfolding station.driven station.occurred
-  driven_is (Told e) d = rw (d.0, d.1, possible_turn e (bit s.bits) d.3, d.2, d.3, d.4)
-  driven_is Untold d = clash d.3 refl
+  driven_is (Some e) d = rw (d.0, d.1, possible_turn e (bit s.bits) d.3, d.2, d.3, d.4)
+  driven_is None d = clash d.3 refl
 
-  driven_number : (v : EventReading) → fit s ≡ true → number_of (driven_as v).answer ≡ cond (lift_in s.set s.count) (held_as v) (reply_as v (lift_apart s.apart) s.bits)
+  driven_number : (v : (Option Event)) → fit s ≡ true → number_of (driven_as v).answer ≡ cond (lift_in s.set s.count) (held_as v) (reply_as v (lift_apart s.apart) s.bits)
   unfolding station.driven station.occurred
-  driven_number (Told e) f =
+  driven_number (Some e) f =
       rw f (split (lift_in s.set s.count) (λ t. rw t)
       (λ t. rw t (split (in_turn e (bit s.bits))
       (λ v. rw v (split (lift_apart s.apart) (λ l. rw l) (λ l. rw l (split (possible e (bit s.bits))
       (λ u. rw u (split (places_open e (bit s.bits)) (λ o. rw o) (λ o. rw o))) (λ u. rw u)))))
       (λ v. rw v))))
-  driven_number Untold f = rw f (split (lift_in s.set s.count) (λ t. rw t) (λ t. rw t))
+  driven_number None f = rw f (split (lift_in s.set s.count) (λ t. rw t) (λ t. rw t))
 
   module _ (e : ℕ) where
     pub event_has : answer_number s (run.event e) ≡ 0 → Drivable (read_event e)

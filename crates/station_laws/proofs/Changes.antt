@@ -8,8 +8,9 @@ use lib.Dec.{eqb}
 use borrow.Author.Tests.{eqb-true, eqb-false}
 use Rattle.bits.proofs.Cases.{split, clash}
 use Rattle.rules.specs.declared.Event.TheVariants.{BeginIn, BeginOut, EndDone, EndNotDone}
-use Rattle.rules.specs.declared.EventReading.{EventReading}
-use Rattle.rules.specs.declared.EventReading.TheVariants.{Good as Told, Bad as Untold}
+use Rattle.rules.specs.declared.Event.{Event}
+use Rattle.std.specs.declared.option.Option.{Option}
+use Rattle.std.specs.declared.option.Option.TheVariants.{Some, None}
 use Rattle.rules.specs.Codes.{read_event}
 use Rattle.rules.proofs.CodeLaws.{event_one_form}
 use Rattle.station.specs.declared.Station.{Station}
@@ -31,12 +32,12 @@ result_taken s k i (suc (suc (suc n))) e = absurd (omega (arith, ending_has s (r
 pub event_taken : EventTaken
 event_taken s e z = go (read_event e) refl (event_has s e z).3
   where
-    go : (v : EventReading) → read_event e ≡ v → possible_as v s.bits ≡ true → (1 ≤ e) × (e ≤ 4)
-    go (Told BeginIn) p t = rw (event_one_form e BeginIn p) (omega arith)
-    go (Told BeginOut) p t = rw (event_one_form e BeginOut p) (omega arith)
-    go (Told EndDone) p t = rw (event_one_form e EndDone p) (omega arith)
-    go (Told EndNotDone) p t = rw (event_one_form e EndNotDone p) (omega arith)
-    go Untold p t = clash t refl
+    go : (v : (Option Event)) → read_event e ≡ v → possible_as v s.bits ≡ true → (1 ≤ e) × (e ≤ 4)
+    go (Some BeginIn) p t = rw (event_one_form e BeginIn p) (omega arith)
+    go (Some BeginOut) p t = rw (event_one_form e BeginOut p) (omega arith)
+    go (Some EndDone) p t = rw (event_one_form e EndDone p) (omega arith)
+    go (Some EndNotDone) p t = rw (event_one_form e EndNotDone p) (omega arith)
+    go None p t = clash t refl
 
 -- ---- the record
 

@@ -19,8 +19,8 @@ use Rattle.floor.specs.Floor.{lift, drive_in, drive_out, drives as drivePlaces}
 use Rattle.floor.specs.Tests.{holds, under_way}
 use Rattle.rules.specs.declared.Event.{Event}
 use Rattle.rules.specs.declared.Event.TheVariants.{BeginIn, BeginOut, EndDone, EndNotDone}
-use Rattle.rules.specs.declared.EventReading.{EventReading}
-use Rattle.rules.specs.declared.EventReading.TheVariants.{Good as Told, Bad as Untold}
+use Rattle.std.specs.declared.option.Option.{Option}
+use Rattle.std.specs.declared.option.Option.TheVariants.{Some, None}
 use Rattle.rules.specs.Events.{in_turn, possible, places_open, after_event}
 use Rattle.rules.specs.Codes.{read_event, event_code, most_in_set}
 use Rattle.rules.proofs.CodeLaws.{event_reads_back, event_one_form}
@@ -57,7 +57,7 @@ pub event_record : EventRecord
 event_record s e =
     let r = event_reads_back e in (
       (λ z. subst (Drivable s) r (event_has s (event_code e) z), λ d. ap number (event_is s (event_code e) (rw r d))),
-      λ z. ap rest (event_is s (event_code e) (event_has s (event_code e) z)) ∙ ap (λ (v : EventReading). holding s (after_as v s.bits)) r,
+      λ z. ap rest (event_is s (event_code e) (event_has s (event_code e) z)) ∙ ap (λ (v : (Option Event)). holding s (after_as v s.bits)) r,
     )
 
 -- ---- events that are refused
@@ -120,7 +120,7 @@ module _ (s : Station) (e : Event) where
   room = places_open e (bit s.bits)
 
   event_told : fit s ≡ true → answer_number s (run.event (event_code e)) ≡ reply blocked due lost can room
-  event_told f = event_number s (event_code e) f ∙ ap (λ (v : EventReading). cond blocked (held_as v) (reply_as v lost s.bits)) (event_reads_back e)
+  event_told f = event_number s (event_code e) f ∙ ap (λ (v : (Option Event)). cond blocked (held_as v) (reply_as v lost s.bits)) (event_reads_back e)
 
   -- an answer with this number is a fit station's
   told_so : (k : ℕ) → answer_number s (run.event (event_code e)) ≡ k → (k ≡ 16 → ⊥) → (fit s ≡ true) × (reply blocked due lost can room ≡ k)
@@ -322,12 +322,12 @@ module _ (before : Station) (along : holds under_way (bit before.bits) ≡ true)
       zero = rw (event_is s e d)
 
       -- a begin does not come in turn, an end is one that was ruled out
-      unending : (v : EventReading) → read_event e ≡ v → possible_as v s.bits ≡ true → ⊥
-      unending (Told BeginIn) p t = clash (possible_turn BeginIn (bit s.bits) t) (rw (still_under_way S))
-      unending (Told BeginOut) p t = clash (possible_turn BeginOut (bit s.bits) t) (rw (still_under_way S))
-      unending (Told EndDone) p t = q (inl (ap run.event (event_one_form e EndDone p))) zero
-      unending (Told EndNotDone) p t = q (inr (ap run.event (event_one_form e EndNotDone p))) zero
-      unending Untold p t = clash t refl
+      unending : (v : (Option Event)) → read_event e ≡ v → possible_as v s.bits ≡ true → ⊥
+      unending (Some BeginIn) p t = clash (possible_turn BeginIn (bit s.bits) t) (rw (still_under_way S))
+      unending (Some BeginOut) p t = clash (possible_turn BeginOut (bit s.bits) t) (rw (still_under_way S))
+      unending (Some EndDone) p t = q (inl (ap run.event (event_one_form e EndDone p))) zero
+      unending (Some EndNotDone) p t = q (inr (ap run.event (event_one_form e EndNotDone p))) zero
+      unending None p t = clash t refl
   still_step s t c tells q S = S
 
   still_along : (l : List Call) (s : Station) → NoImages l → Unended s l → Still s.bits → Still (calls s l).bits

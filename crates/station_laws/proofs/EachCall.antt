@@ -9,8 +9,9 @@ use Rattle.bits.specs.Bits.{bit}
 use Rattle.bits.specs.Search.{least}
 use Rattle.bits.proofs.Cases.{clash}
 use Rattle.floor.specs.Sound.{sound}
-use Rattle.rules.specs.declared.EventReading.{EventReading}
-use Rattle.rules.specs.declared.EventReading.TheVariants.{Good as Told, Bad as Untold}
+use Rattle.rules.specs.declared.Event.{Event}
+use Rattle.std.specs.declared.option.Option.{Option}
+use Rattle.std.specs.declared.option.Option.TheVariants.{Some, None}
 use Rattle.rules.specs.Events.{in_turn, possible, places_open}
 use Rattle.rules.specs.Codes.{read_event, most_in_set}
 use Rattle.answers.specs.declared.Answer.{Answer}
@@ -68,9 +69,9 @@ module _ (P : Outcome → Type 0) (s : Station) (unfit : fit s ≡ false → P (
   unfolding station.resulted
   resulting r = unless (ltb 2 r.ending) (BadField nowhere) (omega arith) (λ a. unless (eqb s.count 0) NoSet (omega arith) (λ b. timing r))
 
-  driving : (v : EventReading) → P (driven_as s v)
+  driving : (v : (Option Event)) → P (driven_as s v)
   unfolding station.driven station.occurred
-  driving (Told e) =
+  driving (Some e) =
       fitting (λ f. unless (lift_in s.set s.count) SetOutstanding (omega arith)
       (λ a. either P (in_turn e (bit s.bits))
       (λ t. unless (lift_apart s.apart) (SetApart nowhere) (omega arith)
@@ -78,7 +79,7 @@ module _ (P : Outcome → Type 0) (s : Station) (unfit : fit s ≡ false → P (
       (λ b. either P (places_open e (bit s.bits)) (λ o. done _) (λ o. no KeptOpen (omega arith)))
       (λ b. no EventImpossible (omega arith))))
       (λ t. no OutOfTurn (omega arith))))
-  driving Untold = fitting (λ f. no (BadField nowhere) (omega arith))
+  driving None = fitting (λ f. no (BadField nowhere) (omega arith))
 
   pub each_call : (c : Call) → P (call s c)
   unfolding station.request station.result station.take_image station.imaged station.ask

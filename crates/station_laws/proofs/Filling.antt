@@ -20,8 +20,8 @@ use Rattle.floor.proofs.Reading.{nth_holds}
 use Rattle.floor.proofs.Standing.{or_else}
 use Rattle.rules.specs.declared.Event.{Event}
 use Rattle.rules.specs.declared.Event.TheVariants.{BeginIn, BeginOut, EndDone, EndNotDone}
-use Rattle.rules.specs.declared.EventReading.{EventReading}
-use Rattle.rules.specs.declared.EventReading.TheVariants.{Good as Told, Bad as Untold}
+use Rattle.std.specs.declared.option.Option.{Option}
+use Rattle.std.specs.declared.option.Option.TheVariants.{Some, None}
 use Rattle.rules.specs.Events.{possible, filled, places_open, after_event}
 use Rattle.rules.specs.declared.Code.{Code}
 use Rattle.rules.specs.Codes.{read_event, event_code}
@@ -67,7 +67,7 @@ told_kept : (s : Station) (e : Event) (n : ℕ) → n ≡ event_code e → answe
 told_kept s e n i z = ((event_refused s e).3.0 (rw i at z)).4
 
 -- a number that is no event's is told otherwise
-untold : (s : Station) (n : ℕ) → read_event n ≡ Untold → answer_number s (run.event n) ≡ 33 → ⊥
+untold : (s : Station) (n : ℕ) → read_event n ≡ None → answer_number s (run.event n) ≡ 33 → ⊥
 untold s n i z = split (fit s)
     (λ f. split (lift_in s.set s.count)
     (λ b. let k : answer_number s (run.event n) ≡ 4 = event_number s n f ∙ rw (i, b) in omega arith)
@@ -78,12 +78,12 @@ pub ends_untested : EndsUntested
 unfolding places_open
 ends_untested s n z = go (read_event n) refl
   where
-    go : (v : EventReading) → read_event n ≡ v → n ≡ 1
-    go (Told BeginIn) i = event_one_form n BeginIn i
-    go (Told BeginOut) i = clash refl (told_kept s BeginOut n (event_one_form n BeginOut i) z)
-    go (Told EndDone) i = clash refl (told_kept s EndDone n (event_one_form n EndDone i) z)
-    go (Told EndNotDone) i = clash refl (told_kept s EndNotDone n (event_one_form n EndNotDone i) z)
-    go Untold i = absurd (untold s n i z)
+    go : (v : (Option Event)) → read_event n ≡ v → n ≡ 1
+    go (Some BeginIn) i = event_one_form n BeginIn i
+    go (Some BeginOut) i = clash refl (told_kept s BeginOut n (event_one_form n BeginOut i) z)
+    go (Some EndDone) i = clash refl (told_kept s EndDone n (event_one_form n EndDone i) z)
+    go (Some EndNotDone) i = clash refl (told_kept s EndNotDone n (event_one_form n EndNotDone i) z)
+    go None i = absurd (untold s n i z)
 
 -- ---- no thirtieth
 
@@ -155,9 +155,9 @@ after_coming EndNotDone r s t o h = omega (arith, h, event_image_cars EndNotDone
 abbrev Open : Station → Type 0
 Open s = coming s.bits ≤ 27
 
-open_event : (v : EventReading) (r : ℕ) → sound r ≡ true → possible_as v r ≡ true → open_as v r ≡ true → coming r ≤ 27 → coming (after_as v r) ≤ 27
-open_event (Told e) r s t o h = after_coming e r s t o h
-open_event Untold r s t o h = h
+open_event : (v : (Option Event)) (r : ℕ) → sound r ≡ true → possible_as v r ≡ true → open_as v r ≡ true → coming r ≤ 27 → coming (after_as v r) ≤ 27
+open_event (Some e) r s t o h = after_coming e r s t o h
+open_event None r s t o h = h
 
 open_step : (s t : Station) (c : Call) → Step s c t → Open s → Open t
 open_step s t c (refuses n) h = h

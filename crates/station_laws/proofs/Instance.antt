@@ -22,12 +22,10 @@ use Rattle.floor.specs.Sound.{sound}
 use Rattle.rules.specs.declared.Code.{Code}
 use Rattle.rules.specs.declared.Instruction.{Instruction}
 use Rattle.rules.specs.declared.Instruction.TheVariants.{Belts, Shuttles, Tilt, Lift, Rotate}
-use Rattle.rules.specs.declared.Reading.{Reading}
-use Rattle.rules.specs.declared.Reading.TheVariants.{Good, Bad}
+use Rattle.std.specs.declared.option.Option.{Option}
+use Rattle.std.specs.declared.option.Option.TheVariants.{Some, None}
 use Rattle.rules.specs.declared.Event.{Event}
 use Rattle.rules.specs.declared.Event.TheVariants.{BeginIn, BeginOut, EndDone, EndNotDone}
-use Rattle.rules.specs.declared.EventReading.{EventReading}
-use Rattle.rules.specs.declared.EventReading.TheVariants.{Good as Told, Bad as Untold}
 use Rattle.rules.specs.Rules.{well_formed, area_of, area, overlap, seen, allowed, next_record}
 use Rattle.floor.proofs.Reading.{holds_agree}
 use Rattle.rules.specs.Events.{in_turn, possible, filled, places_open, after_event}
@@ -41,29 +39,29 @@ use Rattle.station.specs.Held.{held_area, held_allowed, held_next, crosses}
 use Rattle.station_laws.proofs.Reach.{reach, in_area_lem, in_drives, outside_area, held_outside}
 
 -- what an event's number says, and what is said of a number that is no event's
-abbrev pub on_event : {A : Type 0} → (Event → A) → A → EventReading → A
-on_event f none (Told e) = f e
-on_event f none Untold = none
+abbrev pub on_event : {A : Type 0} → (Event → A) → A → (Option Event) → A
+on_event f none (Some e) = f e
+on_event f none None = none
 
 -- whether such an event is possible, whether it leaves the places open that are kept so, and the record after it
-abbrev pub possible_as : EventReading → ℕ → Bool
+abbrev pub possible_as : (Option Event) → ℕ → Bool
 possible_as v r = on_event (λ e. possible e (bit r)) false v
 
-abbrev pub open_as : EventReading → ℕ → Bool
+abbrev pub open_as : (Option Event) → ℕ → Bool
 open_as v r = on_event (λ e. places_open e (bit r)) false v
 
-abbrev pub after_as : EventReading → ℕ → ℕ
+abbrev pub after_as : (Option Event) → ℕ → ℕ
 after_as v r = on_event (λ e. image (after_event e (bit r))) r v
 
 -- the number that a fit station answers: while an outstanding set has the lift in an area, and else, by whether a part of it is set apart
-abbrev pub held_as : EventReading → ℕ
+abbrev pub held_as : (Option Event) → ℕ
 held_as v = on_event (λ e. 6) 4 v
 
-abbrev pub reply_as : EventReading → Bool → ℕ → ℕ
+abbrev pub reply_as : (Option Event) → Bool → ℕ → ℕ
 reply_as v lost r = on_event (λ e. cond (in_turn e (bit r)) (cond lost 32 (cond (possible e (bit r)) (cond (places_open e (bit r)) 0 33) 10)) 31) 4 v
 
 -- what five bytes see of a record outside their area
-abbrev pub seen_as : Reading → ℕ → List Bool
+abbrev pub seen_as : (Option Instruction) → ℕ → List Bool
 seen_as v r = on_code (λ i. seen i (bit r)) [] v
 
 abbrev pub seen_of : Code → ℕ → List Bool
@@ -100,7 +98,7 @@ lift_small = are_small (lift ++ drives) tt
 
 -- what five bytes say is well formed
 module _ (x : Code) where
-  well : (i : Instruction) → read_code x ≡ Good i → well_formed i ≡ true
+  well : (i : Instruction) → read_code x ≡ Some i → well_formed i ≡ true
   well i e = (one_form_lem x i e).1
 
 -- ---- an instruction, on two records that agree on its reach
@@ -119,10 +117,10 @@ module _ (x : Code) (f g : ℕ) (e : Agree 64 bit (λ k. elem k (reach x)) f g) 
   unfolding held_area held_allowed area
   allowed_same = read (read_code x) (well x) (λ k h m. e k h (in_area_lem x k m))
     where
-      read : (v : Reading) → ((i : Instruction) → v ≡ Good i → well_formed i ≡ true) → Agree 64 bit (λ k. elem k (on_code area_of [] v)) f g
+      read : (v : (Option Instruction)) → ((i : Instruction) → v ≡ Some i → well_formed i ≡ true) → Agree 64 bit (λ k. elem k (on_code area_of [] v)) f g
           → seen_as v f ≡ seen_as v g → on_code (λ i. allowed i (bit f)) false v ≡ on_code (λ i. allowed i (bit g)) false v
-      read (Good i) w a v = same_verdict_lem i (bit f) (bit g) (λ k m. a k (area_small i (w i refl) k m) m) v
-      read Bad w a v = refl
+      read (Some i) w a v = same_verdict_lem i (bit f) (bit g) (λ k m. a k (area_small i (w i refl) k m) m) v
+      read None w a v = refl
 
   -- and makes the same there
   bits_same : (k : ℕ) → k < 64 → elem k (reach x) ≡ true → held_next x (bit f) k ≡ held_next x (bit g) k
@@ -131,23 +129,23 @@ module _ (x : Code) (f g : ℕ) (e : Agree 64 bit (λ k. elem k (reach x)) f g) 
       (read (read_code x) (well x) (λ j l n. e j l (in_area_lem x j n)))
       (λ o. held_outside x f k o ∙ e k h m ∙ sym (held_outside x g k o))
     where
-      read : (v : Reading) → ((i : Instruction) → v ≡ Good i → well_formed i ≡ true) → Agree 64 bit (λ k. elem k (on_code area_of [] v)) f g
+      read : (v : (Option Instruction)) → ((i : Instruction) → v ≡ Some i → well_formed i ≡ true) → Agree 64 bit (λ k. elem k (on_code area_of [] v)) f g
           → elem k (on_code area_of [] v) ≡ true → on_code (λ i. next_record i (bit f)) (bit f) v k ≡ on_code (λ i. next_record i (bit g)) (bit g) v k
-      read (Good i) w a n = same_bits_lem i (w i refl) (bit f) (bit g) (λ j l. a j (area_small i (w i refl) j l) l) k n
-      read Bad w a n = clash n refl
+      read (Some i) w a n = same_bits_lem i (w i refl) (bit f) (bit g) (λ j l. a j (area_small i (w i refl) j l) l) k n
+      read None w a n = clash n refl
 
 -- ---- an event
 
 turn_local : (e : Event) (f g : ℕ) → Agree 64 bit (λ k. elem k (lift ++ drives)) f g → in_turn e (bit f) ≡ in_turn e (bit g)
 turn_local e f g a = events_local.same_turn e (bit f) (bit g) (λ k m. a k (lift_small k m) m)
 
-event_local : (v : EventReading) → Local 64 bit (λ k. elem k (lift ++ drives)) (possible_as v) (after_as v)
-event_local (Told e) = record {
+event_local : (v : (Option Event)) → Local 64 bit (λ k. elem k (lift ++ drives)) (possible_as v) (after_as v)
+event_local (Some e) = record {
   reads = λ f g a. events_local.same_verdict e (bit f) (bit g) (λ k m. a k (lift_small k m) m);
   writes = λ f g a t k h m. bit_image (after_event e (bit f)) k h ∙ events_local.same_bits e (bit f) (bit g) (λ j n. a j (lift_small j n) n) k m ∙ sym (bit_image (after_event e (bit g)) k h);
   keeps = λ f t k h o. bit_image (after_event e (bit f)) k h ∙ events_local.kept_outside e (bit f) k o;
 }
-event_local Untold = record { reads = λ f g e. refl; writes = λ f g e t. clash t refl; keeps = λ f t. clash t refl }
+event_local None = record { reads = λ f g e. refl; writes = λ f g e t. clash t refl; keeps = λ f t. clash t refl }
 
 -- with as many cars, a place that is kept open would be filled on both or on neither
 places_same : (e : Event) (f g : Bits) → cars f ≡ cars g → places_open e f ≡ places_open e g
@@ -157,16 +155,16 @@ places_same BeginOut f g c = refl
 places_same EndDone f g c = refl
 places_same EndNotDone f g c = refl
 
-open_same : (v : EventReading) (f g : ℕ) → cars (bit f) ≡ cars (bit g) → open_as v f ≡ open_as v g
-open_same (Told e) f g c = places_same e (bit f) (bit g) c
-open_same Untold f g c = refl
+open_same : (v : (Option Event)) (f g : ℕ) → cars (bit f) ≡ cars (bit g) → open_as v f ≡ open_as v g
+open_same (Some e) f g c = places_same e (bit f) (bit g) c
+open_same None f g c = refl
 
-reply_local : (v : EventReading) (lost : Bool) (f g : ℕ) → Agree 64 bit (λ k. elem k (lift ++ drives)) f g → cars (bit f) ≡ cars (bit g)
+reply_local : (v : (Option Event)) (lost : Bool) (f g : ℕ) → Agree 64 bit (λ k. elem k (lift ++ drives)) f g → cars (bit f) ≡ cars (bit g)
     → reply_as v lost f ≡ reply_as v lost g
-reply_local (Told e) lost f g a c =
-    ap₂ (λ (t n : Bool). cond {A = ℕ} t (cond lost 32 (cond n (cond (places_open e (bit f)) 0 33) 10)) 31) (turn_local e f g a) ((event_local (Told e)).reads f g a)
-    ∙ ap (λ (o : Bool). cond {A = ℕ} (in_turn e (bit g)) (cond lost 32 (cond (possible e (bit g)) (cond o 0 33) 10)) 31) (open_same (Told e) f g c)
-reply_local Untold lost f g a c = refl
+reply_local (Some e) lost f g a c =
+    ap₂ (λ (t n : Bool). cond {A = ℕ} t (cond lost 32 (cond n (cond (places_open e (bit f)) 0 33) 10)) 31) (turn_local e f g a) ((event_local (Some e)).reads f g a)
+    ∙ ap (λ (o : Bool). cond {A = ℕ} (in_turn e (bit g)) (cond lost 32 (cond (possible e (bit g)) (cond o 0 33) 10)) 31) (open_same (Some e) f g c)
+reply_local None lost f g a c = refl
 
 -- ---- each keeps records sound
 
@@ -174,14 +172,14 @@ pub next_sound : (x : Code) (r : ℕ) → sound r ≡ true → held_allowed x (b
 unfolding held_allowed held_next held_area crosses
 next_sound x r s = go (read_code x)
   where
-    go : (v : Reading) → on_code (λ i. allowed i (bit r)) false v ≡ true → holds under_way (bit r) && share (on_code area_of [] v) lift ≡ false
+    go : (v : (Option Instruction)) → on_code (λ i. allowed i (bit r)) false v ≡ true → holds under_way (bit r) && share (on_code area_of [] v) lift ≡ false
         → sound (image (on_code (λ i. next_record i (bit r)) (bit r) v)) ≡ true
-    go (Good i) t c = image_sound i r s (split (holds under_way (bit r)) (λ u. inr (rw u at c)) inl) t
-    go Bad t c = clash t refl
+    go (Some i) t c = image_sound i r s (split (holds under_way (bit r)) (λ u. inr (rw u at c)) inl) t
+    go None t c = clash t refl
 
-pub after_sound : (v : EventReading) (r : ℕ) → sound r ≡ true → possible_as v r ≡ true → sound (after_as v r) ≡ true
-after_sound (Told e) r s t = event_image_sound e r s t
-after_sound Untold r s t = clash t refl
+pub after_sound : (v : (Option Event)) (r : ℕ) → sound r ≡ true → possible_as v r ≡ true → sound (after_as v r) ≡ true
+after_sound (Some e) r s t = event_image_sound e r s t
+after_sound None r s t = clash t refl
 
 -- what the rules allow is allowed, and crosses no drive
 pub allowed_has : (x : Code) (r : ℕ) → rules.allowed x r ≡ true → (held_allowed x (bit r) ≡ true) × (crosses x r ≡ false)
@@ -203,28 +201,28 @@ seen_next : (x y : Code) → Clear 64 (λ k. elem k (reach x)) (λ k. elem k (re
 unfolding held_area held_allowed held_next
 seen_next x y c f s t = read (read_code x) (read_code y) (λ k h m. outside_area y k (c k h (in_area_lem x k m))) (allowed_has y f t).0
   where
-    read : (v w : Reading) → Clear 64 (λ k. elem k (on_code area_of [] v)) (λ k. elem k (on_code area_of [] w)) → on_code (λ i. allowed i (bit f)) false w ≡ true
+    read : (v w : (Option Instruction)) → Clear 64 (λ k. elem k (on_code area_of [] v)) (λ k. elem k (on_code area_of [] w)) → on_code (λ i. allowed i (bit f)) false w ≡ true
         → seen_as v (image (on_code (λ i. next_record i (bit f)) (bit f) w)) ≡ seen_as v f
-    read (Good (Lift height)) (Good i) c a = image_sides i height (apart i height c) f s a
-    read (Good (Lift height)) Bad c a = clash a refl
-    read (Good (Belts row mask toward size)) w c a = refl
-    read (Good (Shuttles side mask orientation toward)) w c a = refl
-    read (Good (Tilt side row orientation)) w c a = refl
-    read (Good Rotate) w c a = refl
-    read Bad w c a = refl
+    read (Some (Lift height)) (Some i) c a = image_sides i height (apart i height c) f s a
+    read (Some (Lift height)) None c a = clash a refl
+    read (Some (Belts row mask toward size)) w c a = refl
+    read (Some (Shuttles side mask orientation toward)) w c a = refl
+    read (Some (Tilt side row orientation)) w c a = refl
+    read (Some Rotate) w c a = refl
+    read None w c a = refl
 
 -- an event is in the reach of what sees anything
 seen_after : (x : Code) (e : ℕ) → Clear 64 (λ k. elem k (reach x)) rules.lift → Quiet sound (seen_of x) (rules.possible e) (rules.after e)
 unfolding held_area
 seen_after x e c f s t = read (read_code x) (λ k h m. c k h (in_area_lem x k m))
   where
-    read : (v : Reading) → Clear 64 (λ k. elem k (on_code area_of [] v)) rules.lift → seen_as v (rules.after e f) ≡ seen_as v f
-    read (Good (Lift height)) c = clash refl (c raised_car (lit< tt) refl)
-    read (Good (Belts row mask toward size)) c = refl
-    read (Good (Shuttles side mask orientation toward)) c = refl
-    read (Good (Tilt side row orientation)) c = refl
-    read (Good Rotate) c = refl
-    read Bad c = refl
+    read : (v : (Option Instruction)) → Clear 64 (λ k. elem k (on_code area_of [] v)) rules.lift → seen_as v (rules.after e f) ≡ seen_as v f
+    read (Some (Lift height)) c = clash refl (c raised_car (lit< tt) refl)
+    read (Some (Belts row mask toward size)) c = refl
+    read (Some (Shuttles side mask orientation toward)) c = refl
+    read (Some (Tilt side row orientation)) c = refl
+    read (Some Rotate) c = refl
+    read None c = refl
 
 -- ---- an instruction keeps the number of cars, and an event changes it by those driven in and out
 
@@ -232,17 +230,17 @@ pub next_cars : (x : Code) (r : ℕ) → sound r ≡ true → held_allowed x (bi
 unfolding held_allowed held_next
 next_cars x r s = go (read_code x)
   where
-    go : (v : Reading) → on_code (λ i. allowed i (bit r)) false v ≡ true → cars (bit (image (on_code (λ i. next_record i (bit r)) (bit r) v))) ≡ cars (bit r)
-    go (Good i) t = image_cars i r s t
-    go Bad t = clash t refl
+    go : (v : (Option Instruction)) → on_code (λ i. allowed i (bit r)) false v ≡ true → cars (bit (image (on_code (λ i. next_record i (bit r)) (bit r) v))) ≡ cars (bit r)
+    go (Some i) t = image_cars i r s t
+    go None t = clash t refl
 
-pub event_counted : (e r : ℕ) (v : EventReading) → read_event e ≡ v → sound r ≡ true → possible_as v r ≡ true
+pub event_counted : (e r : ℕ) (v : (Option Event)) → read_event e ≡ v → sound r ≡ true → possible_as v r ≡ true
     → cars (bit (after_as v r)) + digit (eqb e 3 && bit r drive_out) ≡ cars (bit r) + digit (eqb e 3 && bit r drive_in)
-event_counted e r (Told BeginIn) p s t = rw (event_one_form e BeginIn p) (ap (λ (n : ℕ). n + 0) (event_image_cars BeginIn r s t))
-event_counted e r (Told BeginOut) p s t = rw (event_one_form e BeginOut p) (ap (λ (n : ℕ). n + 0) (event_image_cars BeginOut r s t))
-event_counted e r (Told EndDone) p s t = rw (event_one_form e EndDone p) (event_image_cars EndDone r s t)
-event_counted e r (Told EndNotDone) p s t = rw (event_one_form e EndNotDone p) (ap (λ (n : ℕ). n + 0) (event_image_cars EndNotDone r s t))
-event_counted e r Untold p s t = clash t refl
+event_counted e r (Some BeginIn) p s t = rw (event_one_form e BeginIn p) (ap (λ (n : ℕ). n + 0) (event_image_cars BeginIn r s t))
+event_counted e r (Some BeginOut) p s t = rw (event_one_form e BeginOut p) (ap (λ (n : ℕ). n + 0) (event_image_cars BeginOut r s t))
+event_counted e r (Some EndDone) p s t = rw (event_one_form e EndDone p) (event_image_cars EndDone r s t)
+event_counted e r (Some EndNotDone) p s t = rw (event_one_form e EndNotDone p) (ap (λ (n : ℕ). n + 0) (event_image_cars EndNotDone r s t))
+event_counted e r None p s t = clash t refl
 
 -- ---- so the rules are framed
 

@@ -10,8 +10,9 @@ use borrow.Author.Tests.{ltb-true, ltb-false, not-false}
 use Rattle.bits.specs.Bits.{bit}
 use Rattle.bits.specs.Search.{least, IsLeast}
 use Rattle.floor.specs.Sound.{sound}
-use Rattle.rules.specs.declared.EventReading.{EventReading}
-use Rattle.rules.specs.declared.EventReading.TheVariants.{Good as Told, Bad as Untold}
+use Rattle.rules.specs.declared.Event.{Event}
+use Rattle.std.specs.declared.option.Option.{Option}
+use Rattle.std.specs.declared.option.Option.TheVariants.{Some, None}
 use Rattle.rules.specs.Events.{in_turn, possible, places_open}
 use Rattle.rules.specs.Codes.{read_event, most_in_set}
 use Rattle.answers.specs.declared.Reason.{Reason}
@@ -194,13 +195,13 @@ module _ (s : Station) where
   unfolding station.result
   result_flat r = fork (fit s) (resulted_flat r) (flatly refl)
 
-  driven_flat : (v : EventReading) → Flat (driven_as s v)
+  driven_flat : (v : (Option Event)) → Flat (driven_as s v)
   unfolding station.driven station.occurred
-  driven_flat (Told e) =
+  driven_flat (Some e) =
       fork (fit s) (fork (lift_in s.set s.count) (flatly refl)
       (fork (in_turn e (bit s.bits)) (fork (lift_apart s.apart) (flatly refl)
       (fork (possible e (bit s.bits)) (fork (places_open e (bit s.bits)) (flatly refl) (flatly refl)) (flatly refl))) (flatly refl))) (flatly refl)
-  driven_flat Untold = fork (fit s) (flatly refl) (flatly refl)
+  driven_flat None = fork (fit s) (flatly refl) (flatly refl)
 
   image_flat : (p : Picture) → Flat (station.take_image s p)
   unfolding station.take_image station.imaged

@@ -20,8 +20,8 @@ use Rattle.floor.specs.Tests.{holds, under_way}
 use Rattle.floor.proofs.Reading.{holds_agree}
 use Rattle.rules.specs.declared.Code.{Code}
 use Rattle.rules.specs.declared.Instruction.{Instruction}
-use Rattle.rules.specs.declared.Reading.{Reading}
-use Rattle.rules.specs.declared.Reading.TheVariants.{Good, Bad}
+use Rattle.std.specs.declared.option.Option.{Option}
+use Rattle.std.specs.declared.option.Option.TheVariants.{Some, None}
 use Rattle.rules.specs.Rules.{area_of, area, next_record}
 use Rattle.rules.specs.Codes.{read_code}
 use Rattle.rules.specs.Verdicts.{on_code}
@@ -47,9 +47,9 @@ module _ (x : Code) where
   unfolding held_area
   of_code P good bad = read (read_code x) refl
     where
-      read : (g : Reading) → read_code x ≡ g → P (on_code area_of [] g)
-      read (Good i) e = good i (each lift_whole every_lift i (true→T (one_form_lem x i e).1))
-      read Bad e = bad
+      read : (g : (Option Instruction)) → read_code x ≡ g → P (on_code area_of [] g)
+      read (Some i) e = good i (each lift_whole every_lift i (true→T (one_form_lem x i e).1))
+      read None e = bad
 
   held_drives : share (held_area x) drives ≡ false
   held_drives = of_code (λ a. share a drives ≡ false)
@@ -71,9 +71,9 @@ module _ (x : Code) where
   unfolding held_area held_next area
   held_outside r k = read (read_code x) refl
     where
-      read : (g : Reading) → read_code x ≡ g → elem k (on_code area_of [] g) ≡ false → on_code (λ i. next_record i (bit r)) (bit r) g k ≡ bit r k
-      read (Good i) e o = kept_outside_lem i (one_form_lem x i e).1 (bit r) k o
-      read Bad e o = refl
+      read : (g : (Option Instruction)) → read_code x ≡ g → elem k (on_code area_of [] g) ≡ false → on_code (λ i. next_record i (bit r)) (bit r) g k ≡ bit r k
+      read (Some i) e o = kept_outside_lem i (one_form_lem x i e).1 (bit r) k o
+      read None e o = refl
 
   -- so no instruction begins or ends a drive
   pub under_way_kept : (r : ℕ) → holds under_way (bit (image (held_next x (bit r)))) ≡ holds under_way (bit r)

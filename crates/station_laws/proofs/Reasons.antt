@@ -15,11 +15,12 @@ use Rattle.answers.specs.declared.Answer.TheVariants.{BadField, NotAllowed}
 use Rattle.answers.specs.Answers.{number_of}
 use Rattle.answers.proofs.Promises.{reason_from, reason_to}
 use Rattle.rules.specs.declared.Instruction.{Instruction}
-use Rattle.rules.specs.declared.Verdict.{Verdict}
-use Rattle.rules.specs.declared.Reading.{Reading}
-use Rattle.rules.specs.declared.Reading.TheVariants.{Good, Bad}
+use Rattle.rules.specs.declared.Refusal.{Refusal}
+use Rattle.std.specs.declared.result.Result.TheVariants.{Err}
+use Rattle.std.specs.declared.option.Option.{Option}
+use Rattle.std.specs.declared.option.Option.TheVariants.{Some, None}
 use Rattle.rules.specs.Codes.{read_code}
-use Rattle.rules.specs.Verdicts.{verdict_of, code_verdict, answer_for, on_code}
+use Rattle.rules.specs.Verdicts.{Verdict, verdict_of, code_verdict, answer_for, on_code}
 use Rattle.rules.proofs.CodeLaws.{one_form_lem}
 use Rattle.rules.proofs.Reasons.{refused_why}
 use Rattle.station.specs.Held.{code_at, is_good, held_allowed, barred, why_not}
@@ -33,23 +34,23 @@ module _ (set : List ℕ) (r i : ℕ) where
   pub record Refused : Type 0 where
     pub why : Reason
     pub instruction : Instruction
-    pub says : read_code (code_at set i) ≡ Good instruction
-    pub verdict : verdict_of instruction r ≡ Verdict.NotAllowed why
+    pub says : read_code (code_at set i) ≡ Some instruction
+    pub verdict : verdict_of instruction r ≡ Err (Refusal.NotAllowed why)
     pub told : why_not set r i ≡ NotAllowed why i
 
   -- what is answered for the instruction that they say
-  pub told_by : (j : Instruction) → read_code (code_at set i) ≡ Good j → why_not set r i ≡ answer_for (verdict_of j r) i
+  pub told_by : (j : Instruction) → read_code (code_at set i) ≡ Some j → why_not set r i ≡ answer_for (verdict_of j r) i
   unfolding code_verdict
-  told_by j e = ap (λ (g : Reading). answer_for (on_code (λ j. verdict_of j r) Verdict.IllFormed g) i) e
+  told_by j e = ap (λ (g : (Option Instruction)). answer_for (on_code (λ j. verdict_of j r) (Err Refusal.IllFormed) g) i) e
 
   module _ (no : barred set r i ≡ true) where
     barred_says : ((is_good (code_at set i) ≡ false) × (why_not set r i ≡ BadField i)) ⊎ Refused
     unfolding is_good held_allowed code_verdict
     barred_says = read (read_code (code_at set i)) refl
       where
-        read : (g : Reading) → read_code (code_at set i) ≡ g → ((is_good (code_at set i) ≡ false) × (why_not set r i ≡ BadField i)) ⊎ Refused
-        read Bad e = inl (rw e, rw e)
-        read (Good j) e =
+        read : (g : (Option Instruction)) → read_code (code_at set i) ≡ g → ((is_good (code_at set i) ≡ false) × (why_not set r i ≡ BadField i)) ⊎ Refused
+        read None e = inl (rw e, rw e)
+        read (Some j) e =
             let (why, v) = refused_why j r (one_form_lem (code_at set i) j e).1 (sym (rw e) ∙ not-true (held_allowed (code_at set i) (bit r)) no) in
             inr record { why = why; instruction = j; says = e; verdict = v; told = told_by j e ∙ ap (λ (v : Verdict). answer_for v i) v }
 

@@ -10,9 +10,10 @@ use borrow.Author.Tests.{lt-ltb}
 use Rattle.bits.specs.Bits.{bit}
 use Rattle.bits.specs.Search.{least, IsLeast}
 use Rattle.bits.proofs.Least.{least_is}
-use Rattle.rules.specs.declared.Verdict.{Verdict}
+use Rattle.rules.specs.declared.Refusal.{Refusal}
+use Rattle.std.specs.declared.result.Result.TheVariants.{Err}
 use Rattle.rules.specs.Codes.{most_in_set}
-use Rattle.rules.specs.Verdicts.{answer_for}
+use Rattle.rules.specs.Verdicts.{Verdict, answer_for}
 use Rattle.rules.proofs.CodeLaws.{one_form_lem}
 use Rattle.rules.proofs.Reasons.{reason_first}
 use Rattle.answers.specs.declared.Reason.{Reason}
@@ -58,7 +59,7 @@ module _ (s : Station) (n : ℕ) (set : List ℕ) (why : Reason) (p : ℕ) where
               orderly = O;
               first = subst (IsLeast n (barred set s.bits)) at L;
               reason = subst (λ (k : ℕ). ReasonAt set k (bit s.bits) why) at
-                  (R.instruction, R.says, ((reason_first R.instruction s.bits why).0 (R.verdict ∙ ap Verdict.NotAllowed same)).1);
+                  (R.instruction, R.says, ((reason_first R.instruction s.bits why).0 (R.verdict ∙ ap (λ (why : Reason). Err (Refusal.NotAllowed why)) same)).1);
             };
       }
 

@@ -16,11 +16,12 @@ use Rattle.bits.proofs.Least.{found_least, least_below}
 use Rattle.floor.specs.Sound.{sound}
 use Rattle.rules.specs.declared.Event.{Event}
 use Rattle.rules.specs.declared.Event.TheVariants.{BeginIn, BeginOut, EndDone, EndNotDone}
-use Rattle.rules.specs.declared.EventReading.{EventReading}
-use Rattle.rules.specs.declared.EventReading.TheVariants.{Good as Told, Bad as Untold}
-use Rattle.rules.specs.declared.Verdict.{Verdict}
+use Rattle.std.specs.declared.option.Option.{Option}
+use Rattle.std.specs.declared.option.Option.TheVariants.{Some, None}
+use Rattle.rules.specs.declared.Refusal.{Refusal}
+use Rattle.std.specs.declared.result.Result.TheVariants.{Err}
 use Rattle.rules.specs.Events.{in_turn, possible, places_open}
-use Rattle.rules.specs.Verdicts.{code_verdict}
+use Rattle.rules.specs.Verdicts.{Verdict, code_verdict}
 use Rattle.rules.specs.Codes.{read_event, event_code, most_in_set}
 use Rattle.rules.proofs.CodeLaws.{event_one_form}
 use Rattle.answers.specs.declared.Reason.{Reason}
@@ -187,7 +188,7 @@ least_line n fault s a h = line_as (ltb (least n fault) n) (some n fault) (found
 
 module _ (s : Station) (n : ℕ) (set : List ℕ) where
   -- the lines of the reasons: the first that holds is that of the verdict
-  by_reason : (why : Reason) (b : Bool) (v : Verdict) (p : ℕ) (last : Answer) → b ≡ true → v ≡ Verdict.NotAllowed why
+  by_reason : (why : Reason) (b : Bool) (v : Verdict) (p : ℕ) (last : Answer) → b ≡ true → v ≡ Err (Refusal.NotAllowed why)
       → first (map (λ w. NotAllowed w p if (b && is_for w v)) reasons) last ≡ NotAllowed why p
   unfolding first
   by_reason NothingNamed b v p last t e = rw (t, e)
@@ -227,7 +228,7 @@ module _ (s : Station) (n : ℕ) (set : List ℕ) where
       let u = found_some n lacking ∙ t in
       let L = least_fault n lacking u in
       let R = good_refused set s.bits (least n lacking) L.passes (not-false _ (none_at n (bad set) good _ L.within)) in
-      let v : verdict ≡ Verdict.NotAllowed R.why = rw R.says R.verdict in
+      let v : verdict ≡ Err (Refusal.NotAllowed R.why) = rw R.says R.verdict in
       record { so = judged_as u ∙ R.told ∙ sym (by_reason R.why (some n lacking) verdict _ (Opened s.next) t v) })
       (λ t. record { so = judged_as (found_some n lacking ∙ t) ∙ sym (by_none (some n lacking) verdict _ (Opened s.next) t) })
 
@@ -251,7 +252,7 @@ request_exactly s n set = goes_by (request_table s n set) refl s (run.request n 
 -- ---- a car event
 
 -- a byte that is neither 0 nor above 4 says an event
-unknown : (e : ℕ) → read_event e ≡ Untold → eqb e 0 || ltb 4 e ≡ true
+unknown : (e : ℕ) → read_event e ≡ None → eqb e 0 || ltb 4 e ≡ true
 unfolding read_event
 unknown e p = split (eqb e 0 || ltb 4 e) (λ t. t) (λ t.
     let (a, b) = neither (eqb e 0) (ltb 4 e) t in
@@ -263,7 +264,7 @@ unknown e p = split (eqb e 0 || ltb 4 e) (λ t. t) (λ t.
     (λ w. split (eqb e 4) (λ x. absurd (told_apart (rw (u, v, w, x) at p)))
     (λ x. absurd (omega (arith, eqb-false e 1 u, eqb-false e 2 v, eqb-false e 3 w, eqb-false e 4 x)))))))
   where
-    told_apart : {x : Event} → Told x ≡ Untold → ⊥
+    told_apart : {x : Event} → Some x ≡ None → ⊥
     told_apart q = clash refl (ap (says (λ x. true)) q)
 
 -- and an event's byte is such a one
@@ -275,7 +276,7 @@ known EndNotDone = refl
 
 module _ (s : Station) where
   -- the table by what the byte says, and whether it is out of range
-  abbrev table_by : EventReading → Bool → List Line
+  abbrev table_by : (Option Event) → Bool → List Line
   table_by v out =
       Unfit if not (fit s)
       ∷ BadField nowhere if out
@@ -286,7 +287,7 @@ module _ (s : Station) where
       ∷ KeptOpen if says (λ x. not (places_open x (bit s.bits))) v
       ∷ []
 
-  event_known : (x : Event) → Answers (driven_as s (Told x)) (table_by (Told x) false) Taken
+  event_known : (x : Event) → Answers (driven_as s (Some x)) (table_by (Some x) false) Taken
   unfolding station.driven station.occurred
   event_known x =
       held (fit s) s Unfit (λ a.
@@ -297,12 +298,12 @@ module _ (s : Station) where
       held (places_open x (bit s.bits)) s KeptOpen (λ g.
       ends refl)))))))
 
-  event_unknown : Answers (driven_as s Untold) (table_by Untold true) Taken
+  event_unknown : Answers (driven_as s None) (table_by None true) Taken
   event_unknown = held (fit s) s Unfit (λ a. refused_by s (BadField nowhere))
 
-  event_answers : (e : ℕ) (v : EventReading) → read_event e ≡ v → Answers (driven_as s v) (table_by v (eqb e 0 || ltb 4 e)) Taken
-  event_answers e (Told x) p = rw (event_one_form e x p, known x) (event_known x)
-  event_answers e Untold p = rw (unknown e p) event_unknown
+  event_answers : (e : ℕ) (v : (Option Event)) → read_event e ≡ v → Answers (driven_as s v) (table_by v (eqb e 0 || ltb 4 e)) Taken
+  event_answers e (Some x) p = rw (event_one_form e x p, known x) (event_known x)
+  event_answers e None p = rw (unknown e p) event_unknown
 
 pub event_exactly : EventExactly
 unfolding distinct every

@@ -8,7 +8,7 @@ use Rattle.floor.specs.Floor.{lift, drives}
 use Rattle.floor.specs.Tests.{holds, under_way}
 use Rattle.floor.specs.Sound.{Sound}
 use Rattle.rules.specs.declared.Instruction.{Instruction}
-use Rattle.rules.specs.declared.Reading.TheVariants.{Good}
+use Rattle.std.specs.declared.option.Option.TheVariants.{Some}
 use Rattle.rules.specs.declared.Event.{Event}
 use Rattle.rules.specs.declared.Event.TheVariants.{EndDone, EndNotDone}
 use Rattle.rules.specs.Events.{in_turn, possible, places_open, after_event}
@@ -58,7 +58,7 @@ AcceptedExactly =
 
 -- of the conditions of the instruction at p the first that fails has this reason
 abbrev pub ReasonAt : List ℕ → ℕ → Bits → Reason → Type 0
-ReasonAt set p f why = (i : Instruction) × (read_code (code_at set p) ≡ Good i) × FirstFails (clauses i) f why
+ReasonAt set p f why = (i : Instruction) × (read_code (code_at set p) ≡ Some i) × FirstFails (clauses i) f why
 
 -- a request is refused with a reason and a place exactly if it is orderly, the place is the least not allowed, and the reason belongs to
 -- the first condition that fails there

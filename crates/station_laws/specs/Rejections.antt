@@ -6,10 +6,11 @@ use Rattle.bits.specs.Bits.{bit}
 use Rattle.bits.specs.Search.{some, least, IsLeast}
 use Rattle.floor.specs.Sound.{sound}
 use Rattle.rules.specs.declared.Event.{Event}
-use Rattle.rules.specs.declared.EventReading.{EventReading}
-use Rattle.rules.specs.declared.Verdict.{Verdict}
+use Rattle.std.specs.declared.option.Option.{Option}
+use Rattle.rules.specs.declared.Refusal.{Refusal}
+use Rattle.std.specs.declared.result.Result.TheVariants.{Ok, Err}
 use Rattle.rules.specs.Events.{in_turn, possible, places_open}
-use Rattle.rules.specs.Verdicts.{code_verdict}
+use Rattle.rules.specs.Verdicts.{Verdict, code_verdict}
 use Rattle.rules.specs.Codes.{read_event, most_in_set}
 use Rattle.answers.specs.declared.Reason.{Reason}
 use Rattle.answers.specs.declared.Reason.TheVariants.{NothingNamed, Gap, NotAvailable, NotFree, OddCount, HalfMove, SameHeight, NotAtRotation, CellsNotFree}
@@ -64,9 +65,9 @@ reasons = NothingNamed ∷ Gap ∷ NotAvailable ∷ NotFree ∷ OddCount ∷ Hal
 
 -- a verdict is "not allowed" for this reason: that of the first condition that fails
 abbrev pub is_for : Reason → Verdict → Bool
-is_for why Verdict.Allowed = false
-is_for why (Verdict.NotAllowed first) = eqb (reason_number first) (reason_number why)
-is_for why Verdict.IllFormed = false
+is_for why (Ok done) = false
+is_for why (Err (Refusal.NotAllowed first)) = eqb (reason_number first) (reason_number why)
+is_for why (Err Refusal.IllFormed) = false
 
 -- some instruction is not allowed on the present record, and the least such one is not for this reason
 abbrev pub not_allowed_for : Station → ℕ → List ℕ → Reason → Line
@@ -102,9 +103,9 @@ RequestExactly = (s : Station) (n : ℕ) (set : List ℕ) → GoesBy (request_ta
 -- ---- a car event
 
 -- a byte says an event of which this holds
-abbrev pub says : (Event → Bool) → EventReading → Bool
-says p (EventReading.Good e) = p e
-says p EventReading.Bad = false
+abbrev pub says : (Event → Bool) → (Option Event) → Bool
+says p (Option.Some e) = p e
+says p Option.None = false
 
 abbrev pub event_table : Station → ℕ → List Line
 event_table s e =

@@ -12,9 +12,9 @@ use Rattle.bits.proofs.Cases.{neither}
 use Rattle.station.specs.declared.Station.{Station}
 use Rattle.service.specs.declared.Served.{Served}
 use Rattle.service.specs.Runs.{Serving, Serves, run, served, serving, enough}
-use Rattle.streams.specs.declared.Input.{Input}
-use Rattle.streams.specs.declared.Input.TheVariants.{Bytes}
-use Rattle.streams.specs.Input.{Fills}
+use Rattle.std.specs.declared.option.Option.TheVariants.{Some}
+use Rattle.std.specs.declared.result.Result.TheVariants.{Ok}
+use Rattle.streams.specs.Input.{Input, Fills}
 use Rattle.service.specs.Turns.{Holding, Holds, holding_front, turning}
 use Rattle.service.proofs.TurnStatements.{rest_is_short}
 use Rattle.journal.specs.Journal.{Follows}
@@ -31,8 +31,8 @@ all_served s buf end room h =
     rw (le-leb (enough (length (take end buf))) (length room) (omega arith))
 
 -- a read fills no more than the buffer
-pub filled : (before after : List ℕ) (have end : ℕ) (r : Input) → Fills before have r after → r ≡ Bytes end → end ≤ length before
-filled before after have end r f e = let g : Fills before have (Bytes end) after = subst (λ (x : Input). Fills before have x after) e f in g.1
+pub filled : (before after : List ℕ) (have end : ℕ) (r : Input) → Fills before have r after → r ≡ Ok (Some end) → end ≤ length before
+filled before after have end r f e = let g : Fills before have (Ok (Some end)) after = subst (λ (x : Input). Fills before have x after) e f in g.1
 
 module _ (s : Station) (buf : List ℕ) (end : ℕ) (room : List ℕ) (w : Served) (fits : enough (length buf) ≤ length room)
     (says : w ≡ (serving s (take end buf) room).says) where
@@ -89,7 +89,7 @@ as_turn s buf end room w out n after station other (says, leaves) (holds, front)
 
 -- what a turn over the bytes of a read leaves
 pub turned_over : (s : Station) (have : ℕ) (before room read : List ℕ) (end : ℕ) (r : Input) {t : Between} {buf out : List ℕ}
-    → Fills before have r read → r ≡ Bytes end → AsTurn (turning s read end room) t buf out → TurnedOver s have before room t buf out
+    → Fills before have r read → r ≡ Ok (Some end) → AsTurn (turning s read end room) t buf out → TurnedOver s have before room t buf out
 turned_over s have before room read end r f e a =
     record { end = end; read = read; fills = subst (λ (x : Input). Fills before have x read) e f; turned = a }
 

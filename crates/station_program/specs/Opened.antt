@@ -14,6 +14,6 @@ pub record Opened (t room asked buf : List ℕ) (j : Journal) : Type 0 where
   pub cardless : found.cards ≡ false
   pub makes : BuffersLent t room → StationMakes j
 
--- where one is kept and safe
-abbrev pub OpenedIfSafe : List ℕ → List ℕ → List ℕ → List ℕ → Journal → Type 0
-OpenedIfSafe t room asked buf j = j.safe ≡ true → j.kept ≡ true → Opened t room asked buf j
+-- where one is kept
+abbrev pub OpenedIfKept : List ℕ → List ℕ → List ℕ → List ℕ → Journal → Type 0
+OpenedIfKept t room asked buf j = j.kept ≡ true → Opened t room asked buf j

@@ -1,11 +1,11 @@
 // The journal that the program's arguments ask for: none, FILE, --garage NAME FILE, or --new FILE --garage NAME.
-ghost use Rattle.std.specs.Prelude.{◌≡◌, ◌≤◌, false, [], length};
-ghost use Rattle.station_program.specs.Opened.{OpenedIfSafe};
+ghost use Rattle.std.specs.Prelude.{◌≡◌, ◌≤◌, [], length, IfOk};
+ghost use Rattle.station_program.specs.Opened.{OpenedIfKept};
 ghost use Rattle.station_program.specs.Words.{is_new, is_garage_word, is_name};
 
-use journal_keeper::{Journal, lost, unkept};
+use journal_keeper::{Journal, unkept};
 use std::fs::File;
-use std::io::Error;
+use streams::Told;
 
 // Whether a word is --new.
 fn is_new(word: &[u8]) -> bool
@@ -46,145 +46,123 @@ fn asks_garage(rt: &HostRuntime, i: usize) -> bool {
 }
 
 // Tells how the program is used.
-fn wrong(rt: &HostRuntime) -> Journal
-    ensures { result.safe ≡ false }
-{
+fn wrong(rt: &HostRuntime) -> Told {
     streams::tell(
         rt,
         b"station: usage: station, station FILE, station --garage NAME FILE or station --new FILE --garage NAME\n",
-    );
-    lost()
+    )
 }
 
 // Tells what a garage's name is.
-fn misnamed(rt: &HostRuntime) -> Journal
-    ensures { result.safe ≡ false }
-{
+fn misnamed(rt: &HostRuntime) -> Told {
     streams::tell(
         rt,
         b"station: usage: the NAME of a garage has 1 to 40 bytes, and no spaces among them\n",
-    );
-    lost()
+    )
 }
 
-// Tells that a journal can't be opened, since its name can't be had.
-fn nameless(rt: &HostRuntime, error: Error) -> Journal
-    ensures { result.safe ≡ false }
+// The garage that argument i names, filled up with zeros.
+fn garage_name(rt: &HostRuntime, i: usize) -> streams::Result<[u8; 40]> {
+    let mut garage = [0u8; 40];
+    let n = commands::whole_word(rt, i, &mut garage).map_err(|_| misnamed(rt))?;
+    if !journal_file::is_garage(&garage[..n]) {
+        return Err(misnamed(rt));
+    }
+    Ok(garage)
+}
+
+// The file that argument i names: its name is put at the front of the room, and has so many bytes.
+fn file_name(rt: &HostRuntime, i: usize, name: &mut [u8]) -> streams::Result<usize>
+    ensures { IfOk result (λ n. n ≤ length name.new) }
 {
-    streams::fail(rt, b"station: the journal can't be opened", error);
-    lost()
+    let n = commands::whole_word(rt, i, name).map_err(|e| streams::fail(
+        rt,
+        b"station: the journal can't be opened",
+        e,
+    ))?;
+    if !is_name(&name[..n]) {
+        return Err(wrong(rt));
+    }
+    Ok(n)
 }
 
-// The journal of a name of n bytes, made before if it is to be new; where a garage is asked for, it must be its. One with cards is a desk's:
-// here its cars would move, and the cards would stay.
+// The journal of a name of n bytes; where a garage is asked for, it must be its. One with cards is a desk's: here its cars would move, and
+// the cards would stay.
 fn of_name(
     rt: &HostRuntime,
     t: &[u32],
-    opened: &mut Option<File>,
     name: &mut [u8],
     n: usize,
-    new: bool,
     garage: &[u8],
     buf: &mut [u8],
     room: &mut [u8],
-) -> Journal
+) -> streams::Result<(Option<File>, Journal)>
     requires { n ≤ length name.old }
-    ensures { OpenedIfSafe t.now room.old garage.now buf.new result }
+    ensures { IfOk result (λ k. OpenedIfKept t.now room.old garage.now buf.new k.1) }
 {
-    if !is_name(&name[..n]) {
-        return wrong(rt);
-    }
-    if new {
-        if !journal_keeper::opening::make(rt, t, &name[..n], garage) {
-            return lost();
-        }
-    }
-    let found = journal_keeper::opening::find(rt, t, opened, &name[..n], garage, buf, room);
-    let q = found.reading;
-    if !q.well {
-        return lost();
-    }
+    let (read, found) = journal_keeper::opening::find(rt, t, &name[..n], garage, buf, room)?;
     if found.cards {
-        journal_files::tell(
+        return Err(journal_files::tell(
             rt,
             b"station: the journal has cards: bin/desk starts with it\n",
-        );
-        return lost();
+        ));
     }
-    journal_keeper::opening::go_on(rt, opened, found, buf, name, n)
+    let (file, journal) = journal_keeper::opening::go_on(rt, &Some(read), found, buf, name, n)?;
+    Ok((Some(file), journal))
 }
 
 // The journal that argument i names.
 fn named(
     rt: &HostRuntime,
     t: &[u32],
-    opened: &mut Option<File>,
     i: usize,
-    new: bool,
     garage: &[u8],
     buf: &mut [u8],
     room: &mut [u8],
-) -> Journal
-    ensures { OpenedIfSafe t.now room.old garage.now buf.new result }
+) -> streams::Result<(Option<File>, Journal)>
+    ensures { IfOk result (λ k. OpenedIfKept t.now room.old garage.now buf.new k.1) }
 {
     let mut name = io::buffer();
-    match commands::whole_word(rt, i, &mut name) {
-        Ok(n) => of_name(rt, t, opened, &mut name, n, new, garage, buf, room),
-        Err(e) => nameless(rt, e),
-    }
+    let n = file_name(rt, i, &mut name)?;
+    of_name(rt, t, &mut name, n, garage, buf, room)
 }
 
-// The journal that argument i names, of the garage that argument g names.
-fn of_garage(
+// The journal that argument 2 names, made anew for this garage.
+fn made(
     rt: &HostRuntime,
     t: &[u32],
-    opened: &mut Option<File>,
-    i: usize,
-    new: bool,
-    g: usize,
+    garage: &[u8],
     buf: &mut [u8],
     room: &mut [u8],
-) -> Journal
-    ensures { OpenedIfSafe t.now room.old [] buf.new result }
+) -> streams::Result<(Option<File>, Journal)>
+    ensures { IfOk result (λ k. OpenedIfKept t.now room.old garage.now buf.new k.1) }
 {
-    let mut garage = [0u8; 40];
-    match commands::whole_word(rt, g, &mut garage) {
-        Ok(n) => {
-            if !journal_file::is_garage(&garage[..n]) {
-                return misnamed(rt);
-            }
-            named(rt, t, opened, i, new, &garage, buf, room)
-        }
-        Err(_) => misnamed(rt),
-    }
+    let mut name = io::buffer();
+    let n = file_name(rt, 2, &mut name)?;
+    journal_keeper::opening::make(rt, t, &name[..n], garage)?;
+    of_name(rt, t, &mut name, n, garage, buf, room)
 }
 
-// The journal that is asked for; where one is kept its file is open.
+// The journal that is asked for, and its file where one is kept.
 pub fn asked(
     rt: &HostRuntime,
     t: &[u32],
-    opened: &mut Option<File>,
     buf: &mut [u8],
     room: &mut [u8],
-) -> Journal
-    ensures { OpenedIfSafe t.now room.old [] buf.new result }
+) -> streams::Result<(Option<File>, Journal)>
+    ensures { IfOk result (λ k. OpenedIfKept t.now room.old [] buf.new k.1) }
 {
-    let count = commands::word_count(rt);
-    if count < 2 {
-        return unkept();
-    }
-    if count == 2 {
-        return named(rt, t, opened, 1, false, &[], buf, room);
-    }
-    if count == 4 {
-        if asks_garage(rt, 1) {
-            return of_garage(rt, t, opened, 3, false, 2, buf, room);
+    match commands::word_count(rt) {
+        0 | 1 => Ok((None, unkept())),
+        2 => named(rt, t, 1, &[], buf, room),
+        4 if asks_garage(rt, 1) => {
+            let garage = garage_name(rt, 2)?;
+            named(rt, t, 3, &garage, buf, room)
         }
-    }
-    if count == 5 {
-        if asks_new(rt, 1) & asks_garage(rt, 3) {
-            return of_garage(rt, t, opened, 2, true, 4, buf, room);
+        5 if asks_new(rt, 1) & asks_garage(rt, 3) => {
+            let garage = garage_name(rt, 4)?;
+            made(rt, t, &garage, buf, room)
         }
+        _ => Err(wrong(rt)),
     }
-    wrong(rt)
 }

@@ -3,19 +3,21 @@
 // say.
 #![tactic(auto)]
 
-ghost use Rattle.std.specs.Prelude.{◌≡◌, ◌≤◌, ◌<◌, min, length};
-ghost use Rattle.streams.specs.declared.Input.TheVariants.{Failed};
+ghost use Rattle.std.specs.Prelude.{◌≤◌, length, IfOk};
 ghost use Rattle.streams.specs.Input.{Fills};
 
-use std::io::{Cursor, Error, ErrorKind, Read, Write};
+use std::io::{self, Cursor, Error, ErrorKind, Read, Write};
 use std::time::{Clock, Duration};
 
-// What a read brought: bytes, up to this place of the buffer; the end of the input; nothing, since it failed and that is told; nothing,
-// since the buffer has no room.
-#[derive(Clone, Copy)]
-pub enum Input {
-    Bytes(usize),
-    Ended,
+// It can't be gone on, and why was told on standard error, where it can come about at all.
+#[derive(Clone, Copy, Debug, PartialEq, Eq)]
+pub struct Told;
+
+pub type Result<T, E = Told> = std::result::Result<T, E>;
+
+// Why a read was no good: it failed, and that was told; or the buffer has no room.
+#[derive(Clone, Copy, Debug, PartialEq, Eq)]
+pub enum Unread {
     Failed,
     Full,
 }
@@ -23,8 +25,9 @@ pub enum Input {
 // ---- what is told
 
 // Writes something on standard error; where that fails there is no place left to tell it.
-pub fn tell(rt: &HostRuntime, text: &[u8]) {
+pub fn tell(rt: &HostRuntime, text: &[u8]) -> Told {
     let _ = Print::write_all(&rt.stderr(), text);
+    Told
 }
 
 // Where the system's own text ends in an error's: std puts the error's number in brackets behind it.
@@ -40,7 +43,7 @@ fn system_text(text: &[u8]) -> usize
 }
 
 // Tells in a line on standard error what failed, as the caller names it, and why, in the system's words.
-pub fn fail(rt: &HostRuntime, name: &[u8], error: Error) {
+pub fn fail(rt: &HostRuntime, name: &[u8], error: Error) -> Told {
     let mut room = Cursor::new([0u8; 320]);
     let _ = write!(room, "{error}");
     let n = (room.position() as usize).min(320);
@@ -53,95 +56,74 @@ pub fn fail(rt: &HostRuntime, name: &[u8], error: Error) {
     tell(rt, name);
     tell(rt, b": ");
     tell(rt, &all[..end]);
-    tell(rt, b"\n");
+    tell(rt, b"\n")
 }
 
-// ---- what comes in
+// Whether a call that failed so may do better.
+fn may_pass(error: Error) -> bool {
+    matches!(error.kind(), ErrorKind::Interrupted | ErrorKind::WouldBlock)
+}
 
 // Waits for a millisecond.
 fn pause(rt: &HostRuntime) {
     rt.sleep(Duration::from_millis(1));
 }
 
-// After a call that failed: whether it may do better, which is waited for.
-fn again(rt: &HostRuntime, error: Error) -> bool {
-    match error.kind() {
-        ErrorKind::Interrupted | ErrorKind::WouldBlock => {
-            pause(rt);
-            true
-        }
-        _ => false,
-    }
-}
+// ---- what comes in
 
-// Tells that a read failed.
-fn failed(rt: &HostRuntime, name: &[u8], error: Error) -> Input
-    ensures { result ≡ Failed }
+// Reads once.
+fn read_some<R: Read>(rt: &HostRuntime, from: &mut R, buf: &mut [u8]) -> io::Result<usize>
+    ensures { IfOk result (λ n. n ≤ length buf.new) }
 {
-    fail(rt, name, error);
-    Input::Failed
+    for _ in 1..u64::MAX {
+        match from.read(buf) {
+            Err(error) if may_pass(error) => pause(rt),
+            outcome => return outcome,
+        }
+    }
+    from.read(buf)
 }
 
-// Reads once into buf past the first `have` bytes, which stay as they were.
+// Kept: have beside the buffer: main lends that whole, and Fills says that what is held stays (no heap, fixed memory).
+// Reads once into buf past the first `have` bytes, which stay as they were, and says how many there are then; none where the input has
+// ended.
 pub fn fill<R: Read>(
     rt: &HostRuntime,
     from: &mut R,
     buf: &mut [u8],
     have: usize,
     name: &[u8],
-) -> Input
+) -> Result<Option<usize>, Unread>
     ensures { Fills buf.old have result buf.new }
 {
     if buf.len() <= have {
-        return Input::Full;
+        return Err(Unread::Full);
     }
-    let mut last = Error::from(ErrorKind::Interrupted);
-    for _ in 0..u64::MAX {
-        match from.read(&mut buf[have..]) {
-            Ok(0) => {
-                return Input::Ended;
-            }
-            Ok(came) => {
-                return Input::Bytes(have + came);
-            }
-            Err(error) => {
-                if !again(rt, error) {
-                    return failed(rt, name, error);
-                }
-                last = error;
-            }
+    match read_some(rt, from, &mut buf[have..]) {
+        Ok(0) => Ok(None),
+        Ok(came) => Ok(Some(have + came)),
+        Err(error) => {
+            fail(rt, name, error);
+            Err(Unread::Failed)
         }
     }
-    failed(rt, name, last)
 }
 
-// What came of a whole input: so many bytes at the front of the buffer; or a read failed, and that is told.
-#[derive(Clone, Copy)]
-pub struct Came {
-    pub have: usize,
-    pub failed: bool,
-}
-
-// Reads to the end of the input, or until the buffer is full.
-pub fn read_all<R: Read>(rt: &HostRuntime, from: &mut R, buf: &mut [u8], name: &[u8]) -> Came
-    ensures { result.have ≤ length buf.new }
+// Reads to the end of the input, or until the buffer is full, and says how many bytes came.
+pub fn read_all<R: Read>(
+    rt: &HostRuntime,
+    from: &mut R,
+    buf: &mut [u8],
+    name: &[u8],
+) -> Result<usize>
+    ensures { IfOk result (λ n. n ≤ length buf.new) }
 {
     let mut have: usize = 0;
     loop {
-        let input = fill(rt, from, buf, have, name);
-        match input {
-            Input::Bytes(end) => {
-                have = end;
-            }
-            Input::Failed => {
-                return Came { have, failed: true };
-            }
-            _ => {
-                return Came {
-                    have,
-                    failed: false,
-                };
-            }
+        match fill(rt, from, buf, have, name) {
+            Ok(Some(end)) => have = end,
+            Ok(None) | Err(Unread::Full) => return Ok(have),
+            Err(Unread::Failed) => return Err(Told),
         }
     }
 }
@@ -151,81 +133,48 @@ pub fn lines_end(bytes: &[u8], lines: u8) -> usize
     ensures { result ≤ length bytes.now }
 {
     let mut left = lines;
-    let mut i: usize = 0;
-    while i < bytes.len() {
-        let b = bytes[i];
-        i += 1;
-        if b != b'\n' {
+    for (i, b) in bytes.iter().enumerate() {
+        if *b != b'\n' {
             continue;
         }
         if left <= 1 {
-            return i;
+            return i + 1;
         }
         left -= 1;
     }
-    i
+    bytes.len()
 }
 
 // ---- what goes out
 
-fn least(a: usize, b: usize) -> usize
-    ensures { result ≡ min a b }
+// Writes some of the bytes, and says how many.
+fn write_some<W: Write>(rt: &HostRuntime, out: &mut W, bytes: &[u8]) -> io::Result<usize>
+    ensures { IfOk result (λ n. n ≤ length bytes.now) }
 {
-    if a < b { a } else { b }
+    for _ in 1..u64::MAX {
+        match out.write(bytes) {
+            Err(error) if may_pass(error) => pause(rt),
+            outcome => return outcome,
+        }
+    }
+    out.write(bytes)
 }
 
-// Tells that a write failed at this place.
-fn stuck(rt: &HostRuntime, name: &[u8], error: Error, at: usize) -> usize
-    ensures { result ≡ at }
-{
-    fail(rt, name, error);
-    at
-}
-
-// Writes some of the bytes from `from` up to `to`, and says where it got: no further if that failed.
-fn write_some<W: Write>(
+// Writes the first n bytes, or all where there are fewer, each once and in order. After the first failure it writes nothing more.
+pub fn send<W: Write>(
     rt: &HostRuntime,
     out: &mut W,
     bytes: &[u8],
-    from: usize,
-    to: usize,
+    n: usize,
     name: &[u8],
-) -> usize
-    requires { (from < to) × (to ≤ length bytes.now) }
-    ensures { (from ≤ result) × (result ≤ to) }
-{
-    let part = &bytes[from..to];
-    let mut last = Error::from(ErrorKind::Interrupted);
-    for _ in 0..u64::MAX {
-        match out.write(part) {
-            Ok(0) => {
-                return stuck(rt, name, Error::from(ErrorKind::WriteZero), from);
-            }
-            Ok(took) => {
-                return from + took;
-            }
-            Err(error) => {
-                if !again(rt, error) {
-                    return stuck(rt, name, error, from);
-                }
-                last = error;
-            }
+) -> Result<()> {
+    let mut rest = &bytes[..n.min(bytes.len())];
+    while !rest.is_empty() {
+        match write_some(rt, out, rest) {
+            Ok(0) => return Err(fail(rt, name, Error::from(ErrorKind::WriteZero))),
+            Ok(took) => rest = &rest[took..],
+            Err(error) => return Err(fail(rt, name, error)),
         }
     }
-    stuck(rt, name, last, from)
-}
-
-// Writes the first n bytes, or all where there are fewer, each once and in order, and says whether all were taken. After the first failure
-// it writes nothing more.
-pub fn send<W: Write>(rt: &HostRuntime, out: &mut W, bytes: &[u8], n: usize, name: &[u8]) -> bool {
-    let to = least(n, bytes.len());
-    let mut from: usize = 0;
-    while from < to {
-        let next = write_some(rt, out, bytes, from, to, name);
-        if next == from {
-            return false;
-        }
-        from = next;
-    }
-    true
+    Ok(())
 }

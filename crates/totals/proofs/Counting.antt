@@ -15,10 +15,14 @@ use Rattle.bits.specs.Search.{every, least}
 use Rattle.bits.proofs.Cases.{split, both}
 use Rattle.bits.proofs.Search.{lt_or_ge, each}
 use Rattle.bits.proofs.Least.{least_is, least_none}
+use Rattle.std.specs.declared.option.Option.{Option}
+use Rattle.std.specs.declared.option.Option.TheVariants.{Some, None}
+use Rattle.std.specs.Prelude.{is_none}
 use Rattle.totals.specs.declared.Mark.{Mark}
 use Rattle.totals.specs.declared.Happened.{Happened}
-use Rattle.totals.specs.Totals.{Name, order, name_at, counts, next_total, nexts, most_counted, none_full, full, counted_in, totals_of}
-use Rattle.totals.specs.Totals.Name.{Kind, Number, Done, Failed, CarsIn, CarsOut, MostCars}
+use Rattle.totals.specs.declared.Name.{Name}
+use Rattle.totals.specs.Totals.{order, name_at, counts, next_total, nexts, most_counted, full, counted_in, totals_of}
+use Rattle.totals.specs.declared.Name.TheVariants.{Kind, Number, Done, Failed, CarsIn, CarsOut, MostCars}
 use Rattle.totals.specs.Private.{count_marks, fills, full_among, raised, with_cars, raised_all}
 use Rattle.totals.proofs.Order.{most_cars_at, nexts_length, after_at, after_beyond}
 use Rattle.totals.proofs.Placing.{hits, misses, in_kinds, in_answers, in_results, results_low, results_high, in_drives, marks_within, hit, counts_hit}
@@ -219,13 +223,14 @@ first_of p k a r d false false false true ka ar rd d52 e =
 first_of p k a r d false false false false ka ar rd d52 e = least_none 52 p (λ j l. e j l ∙ simp and-false)
 
 -- the place that is told of them, and what goes with it
-told_of : {A : Type 0} (k a r d : ℕ) (x y z w : Bool) (stay : ℕ → A) (go : A) → k < 52 → a < 52 → r < 52 → d < 52
-    → cond (ltb (cond x k (cond y a (cond z r (cond w d 52)))) 52) (stay (cond x k (cond y a (cond z r (cond w d 52))))) go
-    ≡ cond (eqb (cond x k (cond y a (cond z r (cond w d 255)))) 255) go (stay (cond x k (cond y a (cond z r (cond w d 255)))))
-told_of k a r d true y z w stay go lk la lr ld = rw (lt-ltb k 52 lk, ne_eqb k 255 (λ e. omega arith)) refl
-told_of k a r d false true z w stay go lk la lr ld = rw (lt-ltb a 52 la, ne_eqb a 255 (λ e. omega arith)) refl
-told_of k a r d false false true w stay go lk la lr ld = rw (lt-ltb r 52 lr, ne_eqb r 255 (λ e. omega arith)) refl
-told_of k a r d false false false true stay go lk la lr ld = rw (lt-ltb d 52 ld, ne_eqb d 255 (λ e. omega arith)) refl
+told_of : {A : Type 0} (k a r d : ℕ) (x y z w : Bool) (stay : Option ℕ → A) (go : A) → k < 52 → a < 52 → r < 52 → d < 52
+    → cond (ltb (cond x k (cond y a (cond z r (cond w d 52)))) 52) (stay (Some (cond x k (cond y a (cond z r (cond w d 52)))))) go
+    ≡ cond (is_none (cond x (Some k) (cond y (Some a) (cond z (Some r) (cond w (Some d) None)))))
+    go (stay (cond x (Some k) (cond y (Some a) (cond z (Some r) (cond w (Some d) None)))))
+told_of k a r d true y z w stay go lk la lr ld = rw (lt-ltb k 52 lk) refl
+told_of k a r d false true z w stay go lk la lr ld = rw (lt-ltb a 52 la) refl
+told_of k a r d false false true w stay go lk la lr ld = rw (lt-ltb r 52 lr) refl
+told_of k a r d false false false true stay go lk la lr ld = rw (lt-ltb d 52 ld) refl
 told_of k a r d false false false false stay go lk la lr ld = refl
 
 spread : (x y z w b : Bool) → (x || (y || (z || w))) && b ≡ (x && b || (y && b || (z && b || w && b)))
@@ -248,8 +253,8 @@ module _ (c : List ℕ) (h : Happened) where
       (filled_at (count_marks h).drive j)))
 
   -- the first place that is told, and the totals with it
-  pub counted_is : counted_in (totals_of c) h ≡ cond (eqb (full_among c (count_marks h)) none_full)
-      (record { totals = totals_of (raised_all c h); full = none_full }) (record { totals = totals_of c; full = full_among c (count_marks h) })
+  pub counted_is : counted_in (totals_of c) h ≡ cond (is_none (full_among c (count_marks h)))
+      (record { totals = totals_of (raised_all c h); full = None }) (record { totals = totals_of c; full = full_among c (count_marks h) })
   unfolding counted_in full_among
   counted_is =
       rw (
@@ -261,5 +266,5 @@ module _ (c : List ℕ) (h : Happened) where
       )
       (told_of (count_marks h).kind.at (count_marks h).answer.at (count_marks h).result.at (count_marks h).drive.at
       (fills c (count_marks h).kind) (fills c (count_marks h).answer) (fills c (count_marks h).result) (fills c (count_marks h).drive)
-      (λ p. record { totals = totals_of c; full = p }) (record { totals = totals_of (nexts order h c); full = none_full })
+      (λ p. record { totals = totals_of c; full = p }) (record { totals = totals_of (nexts order h c); full = None })
       (marks_within h).kind (marks_within h).answer (marks_within h).result (marks_within h).drive)

@@ -6,8 +6,9 @@ use native.Mathlib.Omega.{arith}
 use lib.ListN.{length, get_or}
 use Rattle.bits.specs.Places.{from}
 use Rattle.totals.specs.declared.Happened.{Happened}
-use Rattle.totals.specs.Totals.{Name, order, name_at, next_total, nexts}
-use Rattle.totals.specs.Totals.Name.{Kind, Number, Done, Failed, CarsIn, CarsOut, MostCars}
+use Rattle.totals.specs.declared.Name.{Name}
+use Rattle.totals.specs.Totals.{order, name_at, next_total, nexts}
+use Rattle.totals.specs.declared.Name.TheVariants.{Kind, Number, Done, Failed, CarsIn, CarsOut, MostCars}
 
 -- a run of names, and what stands after it
 within : (f : ℕ → Name) (a n i : ℕ) (rest : List Name) → i < n → get_or (map f (from a n) ++ rest) i MostCars ≡ f (a + i)

@@ -7,20 +7,23 @@ use Prim.Native.Nat.{ℕ, ◌+◌, ◌≤◌, ◌<◌, max}
 use native.Mathlib.Omega.{arith}
 use lib.Dec.{leb, ltb}
 use lib.ListN.{length, get_or, get_or-replicate}
-use borrow.Author.Tests.{ne_eqb, ltb-true, ltb-false, lt-ltb, le-ltb, leb-true, leb-false}
+use borrow.Author.Tests.{ltb-true, ltb-false, lt-ltb, le-ltb, leb-true, leb-false}
 use Rattle.bits.specs.Bits.{digit}
 use Rattle.bits.specs.Search.{IsLeast}
 use Rattle.bits.proofs.Cases.{split}
 use Rattle.bits.proofs.Search.{lt_or_ge}
 use Rattle.bits.proofs.Least.{least_le, least_below, found_least}
+use Rattle.std.specs.declared.option.Option.TheVariants.{Some, None}
 use Rattle.totals.specs.declared.Totals.{Totals}
 use Rattle.totals.specs.declared.Happened.{Happened}
 use Rattle.totals.specs.declared.Tally.{Tally}
-use Rattle.totals.specs.Totals.{Name, order, size, name_at, counts, next_total, nexts, most_counted, none_full, full, first_full, counted_in, totals_of, blank, counted_all}
-use Rattle.totals.specs.Totals.Name.{MostCars}
+use Rattle.totals.specs.declared.Name.{Name}
+use Rattle.totals.specs.Totals.{order, size, name_at, counts, next_total, nexts, most_counted, full, first_full, counted_in, totals_of, blank, counted_all}
+use Rattle.totals.specs.declared.Name.TheVariants.{MostCars}
 use Rattle.totals.specs.Promises.{OrderWhole, tally, largest, TotalsRight, MostCarsRight, NoneFullExactly, Stops, FullStops}
 use Rattle.totals.proofs.Order.{order_length, most_cars_at, nexts_length, after_at}
 use Rattle.totals.proofs.Counting.{next_count}
+use Rattle.totals.proofs.Steps.{some_none}
 
 tally_append : (x : Name) (gs hs : List Happened) → tally x (gs ++ hs) ≡ tally x gs + tally x hs
 unfolding tally
@@ -107,19 +110,20 @@ module _ (hs : List Happened) (t : Totals) (r : Right hs t) (h : Happened) where
 
 -- how a run of happenings ends, after others: with all counted, or at one that makes a total full
 data Ends (gs : List Happened) (t : Totals) (hs : List Happened) (c : Tally) : Type 0 where
-  counted : c.full ≡ none_full → Right (gs ++ hs) c.totals → Ends gs t hs c
+  counted : c.full ≡ None → Right (gs ++ hs) c.totals → Ends gs t hs c
   stopped : (before : List Happened) (last : Happened) (rest : List Happened) → hs ≡ before ++ last ∷ rest
-      → counted_all t before ≡ record { totals = c.totals; full = none_full }
-      → IsLeast size (λ p. ltb most_counted (tally (name_at p) ((gs ++ before) ++ last ∷ []))) c.full → Ends gs t hs c
+      → counted_all t before ≡ record { totals = c.totals; full = None }
+      → (place : ℕ) → c.full ≡ Some place
+      → IsLeast size (λ p. ltb most_counted (tally (name_at p) ((gs ++ before) ++ last ∷ []))) place → Ends gs t hs c
 
 module _ (t : Totals) (h : Happened) (hs : List Happened) where
   goes_on : ltb (first_full t h) size ≡ false → counted_all t (h ∷ hs) ≡ counted_all (totals_of (nexts order h t.counts)) hs
   unfolding counted_all counted_in
   goes_on e = simp e
 
-  stops_here : ltb (first_full t h) size ≡ true → counted_all t (h ∷ hs) ≡ record { totals = t; full = first_full t h }
+  stops_here : ltb (first_full t h) size ≡ true → counted_all t (h ∷ hs) ≡ record { totals = t; full = Some (first_full t h) }
   unfolding counted_all counted_in
-  stops_here e = simp (e, ne_eqb (first_full t h) none_full (λ q. let z = ltb-true (first_full t h) size e in omega arith))
+  stops_here e = simp e
 
 ends : (gs hs : List Happened) (t : Totals) → Right gs t → Ends gs t hs (counted_all t hs)
 unfolding counted_all
@@ -132,24 +136,24 @@ ends gs (h ∷ hs) t r =
     none e = let z = ltb-false (first_full t h) size e in omega (arith, least_le size (full t h))
 
     stop : ltb (first_full t h) size ≡ true → Ends gs t (h ∷ hs) (counted_all t (h ∷ hs))
-    stop e = rw (stops_here t h hs e) (stopped [] h hs refl refl (rw append-nil (first_full_lem gs t r h (ltb-true (first_full t h) size e))))
+    stop e = rw (stops_here t h hs e) (stopped [] h hs refl refl (first_full t h) refl (rw append-nil (first_full_lem gs t r h (ltb-true (first_full t h) size e))))
 
     go : ltb (first_full t h) size ≡ false → Ends (gs ++ h ∷ []) (totals_of (nexts order h t.counts)) hs
         (counted_all (totals_of (nexts order h t.counts)) hs)
         → Ends gs t (h ∷ hs) (counted_all t (h ∷ hs))
     go e (counted f q) = rw (goes_on t h hs e) (counted f (rw append_assoc at q))
-    go e (stopped before last rest a b l) =
-        rw (goes_on t h hs e) (stopped (h ∷ before) last rest (ap (λ k. h ∷ k) a) (goes_on t h before e ∙ b)
+    go e (stopped before last rest a b p told l) =
+        rw (goes_on t h hs e) (stopped (h ∷ before) last rest (ap (λ k. h ∷ k) a) (goes_on t h before e ∙ b) p told
         (rw (append_assoc gs (h ∷ []) before) at l))
 
 -- ---- the promises
 
-right_end : (hs : List Happened) → (counted_all blank hs).full ≡ none_full → Right hs (counted_all blank hs).totals
+right_end : (hs : List Happened) → (counted_all blank hs).full ≡ None → Right hs (counted_all blank hs).totals
 right_end hs e = go (ends [] hs blank right_start)
   where
     go : Ends [] blank hs (counted_all blank hs) → Right hs (counted_all blank hs).totals
     go (counted f r) = r
-    go (stopped before last rest a b l) = absurd (omega (arith, l.within))
+    go (stopped before last rest a b p told l) = absurd (some_none p (sym told ∙ e))
 
 pub order_whole : OrderWhole
 order_whole = order_length
@@ -163,10 +167,9 @@ most_cars_right hs e = (right_end hs e).cars
 pub none_full_exactly : NoneFullExactly
 none_full_exactly hs = (λ e. (right_end hs e).low, λ low. go low (ends [] hs blank right_start))
   where
-    go : ((p : ℕ) → p < size → tally (name_at p) hs ≤ most_counted) → Ends [] blank hs (counted_all blank hs) → (counted_all blank hs).full ≡ none_full
+    go : ((p : ℕ) → p < size → tally (name_at p) hs ≤ most_counted) → Ends [] blank hs (counted_all blank hs) → (counted_all blank hs).full ≡ None
     go low (counted f r) = f
-    go low (stopped before last rest a b l) =
-        let p = (counted_all blank hs).full in
+    go low (stopped before last rest a b p told l) =
         let n = name_at p in
         let passed = ltb-true most_counted (tally n (before ++ last ∷ [])) l.passes in
         let whole : tally n hs ≡ tally n (before ++ last ∷ []) + tally n rest = ap (tally n) (a ∙ sym (append_assoc before (last ∷ []) rest))
@@ -178,12 +181,14 @@ full_stops hs e = go (ends [] hs blank right_start)
   where
     go : Ends [] blank hs (counted_all blank hs) → Stops hs (counted_all blank hs)
     go (counted f r) = absurd (e f)
-    go (stopped before last rest a b l) = record {
+    go (stopped before last rest a b p told l) = record {
       before = before;
       last = last;
       rest = rest;
       all = a;
       none = ap (λ (c : Tally). c.full) b;
       totals = sym (ap (λ (c : Tally). c.totals) b);
+      place = p;
+      told = told;
       first = l;
     }

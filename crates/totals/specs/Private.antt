@@ -1,9 +1,11 @@
 -- What the private functions work out: the places at which a message counts, and what becomes of the totals there. Assumes nothing.
 use Rattle.std.specs.Prelude.{Bool, cond, ◌&&◌, List, ℕ, ◌+◌, ◌-◌, ◌<◌, max, eqb, leb, ltb, get_or, set}
+use Rattle.std.specs.declared.option.Option.{Option}
+use Rattle.std.specs.declared.option.Option.TheVariants.{Some, None}
 use Rattle.totals.specs.declared.Happened.{Happened}
 use Rattle.totals.specs.declared.Mark.{Mark}
 use Rattle.totals.specs.declared.Marks.{Marks}
-use Rattle.totals.specs.Totals.{most_counted, none_full}
+use Rattle.totals.specs.Totals.{most_counted}
 
 -- one more at the place of x, where x is one of the n numbers from a on, whose totals stand from place p on; else none more
 unfoldable pub count_mark : ℕ → ℕ → ℕ → ℕ → Mark
@@ -37,11 +39,11 @@ about_full n more = eqb more 1 && leb most_counted n
 abbrev pub fills : List ℕ → Mark → Bool
 fills c m = about_full (get_or c m.at 0) m.more
 
--- the first mark's place at which one is
-unfoldable pub full_among : List ℕ → Marks → ℕ
+-- the first mark's place at which one is, or none
+unfoldable pub full_among : List ℕ → Marks → Option ℕ
 full_among c m =
-    cond (fills c m.kind) m.kind.at (cond (fills c m.answer) m.answer.at
-    (cond (fills c m.result) m.result.at (cond (fills c m.drive) m.drive.at none_full)))
+    cond (fills c m.kind) (Some m.kind.at) (cond (fills c m.answer) (Some m.answer.at)
+    (cond (fills c m.result) (Some m.result.at) (cond (fills c m.drive) (Some m.drive.at) None)))
 
 -- the totals with what a mark adds
 unfoldable pub raised : List ℕ → Mark → List ℕ

@@ -1,22 +1,16 @@
 -- The report's totals: their names in the report's order, which messages count under each, and the totals after one message and after
 -- many. Assumes nothing.
-use Rattle.std.specs.Prelude.{◌≡◌, Bool, false, cond, not, ◌&&◌, List, [], ◌∷◌, ◌++◌, map, ℕ, ◌+◌, max, eqb, leb, ltb, get_or, replicate}
+use Rattle.std.specs.Prelude.{◌≡◌, Bool, false, cond, not, ◌&&◌, List, [], ◌∷◌, ◌++◌, map, ℕ, ◌+◌, max, eqb, leb, ltb, get_or, replicate, is_none}
 use Rattle.bits.specs.Bits.{digit}
 use Rattle.bits.specs.Places.{from}
 use Rattle.bits.specs.Search.{least}
+use Rattle.std.specs.declared.option.Option.{Option}
+use Rattle.std.specs.declared.option.Option.TheVariants.{Some, None}
+use Rattle.totals.specs.declared.Name.{Name}
+use Rattle.totals.specs.declared.Name.TheVariants.{Kind, Number, Done, Failed, CarsIn, CarsOut, MostCars}
 use Rattle.totals.specs.declared.Totals.{Totals}
 use Rattle.totals.specs.declared.Happened.{Happened}
 use Rattle.totals.specs.declared.Tally.{Tally}
-
--- a total: messages of a kind, answers with a number, results taken by op (stuck ones as failed), drives done, and the most cars
-pub data Name : Type 0 where
-  Kind : ℕ → Name
-  Number : ℕ → Name
-  Done : ℕ → Name
-  Failed : ℕ → Name
-  CarsIn : Name
-  CarsOut : Name
-  MostCars : Name
 
 -- the report's order; a number has its place whether or not it is in force
 unfoldable pub order : List Name
@@ -64,10 +58,6 @@ totals_of c = record { counts = c }
 abbrev pub most_counted : ℕ
 most_counted = 4294967295
 
--- the place where no total is full
-abbrev pub none_full : ℕ
-none_full = 255
-
 -- whether the total at a place is about to pass the most
 abbrev pub full : Totals → Happened → ℕ → Bool
 full t h p = counts (name_at p) h && leb most_counted (get_or t.counts p 0)
@@ -80,16 +70,16 @@ first_full t h = least size (full t h)
 unfoldable pub counted_in : Totals → Happened → Tally
 counted_in t h =
     cond (ltb (first_full t h) size)
-    (record { totals = t; full = first_full t h })
-    (record { totals = totals_of (nexts order h t.counts); full = none_full })
+    (record { totals = t; full = Some (first_full t h) })
+    (record { totals = totals_of (nexts order h t.counts); full = None })
 
 -- what a call that counts in lent totals leaves: the place that it tells, and the totals
-pub record LeavesTotals (c : Tally) (place : ℕ) (after : Totals) : Type 0 where
+pub record LeavesTotals (c : Tally) (place : Option ℕ) (after : Totals) : Type 0 where
   pub full : place ≡ c.full
   pub totals : after ≡ c.totals
 
 -- the same where the numbers alone are lent
-pub record LeavesCounts (c : Tally) (place : ℕ) (after : List ℕ) : Type 0 where
+pub record LeavesCounts (c : Tally) (place : Option ℕ) (after : List ℕ) : Type 0 where
   pub full : place ≡ c.full
   pub counts : after ≡ c.totals.counts
 
@@ -99,7 +89,7 @@ blank = totals_of (replicate size 0)
 
 -- all that happened counted, one after another, up to the first at which a total is full
 unfoldable pub counted_all : Totals → List Happened → Tally
-counted_all t [] = record { totals = t; full = none_full }
+counted_all t [] = record { totals = t; full = None }
 counted_all t (h ∷ hs) =
     let c = counted_in t h in
-    cond (eqb c.full none_full) (counted_all c.totals hs) c
+    cond (is_none c.full) (counted_all c.totals hs) c

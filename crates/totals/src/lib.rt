@@ -1,15 +1,25 @@
 // The week in numbers: running totals of what happened, message by message. What counts under which name stands in specs/.
 #![tactic(auto)]
 
-ghost use Rattle.std.specs.Prelude.{◌≡◌, false, ◌+◌, ◌<◌, ◌≤◌, max, replicate};
-ghost use Rattle.totals.specs.Totals.{counted_in, none_full, totals_of, blank, LeavesTotals, LeavesCounts};
-ghost use Rattle.totals.specs.Private.{count_mark, results_from, count_marks, MarksWithin, about_full, fills, full_among, raised, with_cars, raised_all};
+ghost use Rattle.std.specs.Prelude.{◌≡◌, false, ◌+◌, ◌<◌, ◌≤◌, replicate};
+ghost use Rattle.std.specs.declared.option.Option.TheVariants.{None};
+ghost use Rattle.totals.specs.Totals.{counted_in, totals_of, blank, LeavesTotals, LeavesCounts};
+ghost use Rattle.totals.specs.Private.{count_mark, results_from, count_marks, MarksWithin, fills, full_among, raised, with_cars, raised_all};
 
 // The most that a total holds.
 pub const MOST: u32 = 4294967295;
 
-// The place that is told where no total is full.
-pub const NOTHING: u8 = 255;
+// A total: messages of a kind, answers with a number, results taken by op (stuck ones as failed), drives done, and the most cars.
+#[derive(Clone, Copy)]
+pub enum Name {
+    Kind(u8),
+    Number(u8),
+    Done(u8),
+    Failed(u8),
+    CarsIn,
+    CarsOut,
+    MostCars,
+}
 
 // The totals in the report's order: kinds 1 to 5, the answers 0 to 33 by number, done 1 to 5, failed 1 to 5, cars in, cars out, most cars.
 #[derive(Clone, Copy)]
@@ -18,6 +28,7 @@ pub struct Totals {
 }
 
 // What is counted of one message.
+// Kept: its numbers are those of the formats, and callers hand them to `count` as bytes; a narrower type would ask more of them.
 #[derive(Clone, Copy)]
 pub struct Happened {
     // its kind, 1 to 5; 0 where none was read that is known
@@ -34,11 +45,11 @@ pub struct Happened {
     pub cars: u8,
 }
 
-// The totals after a message and NOTHING; or as they were, and the place of the first that is full.
+// The totals after a message; or as they were, and the place of the first that is full.
 #[derive(Clone, Copy)]
 pub struct Tally {
     pub totals: Totals,
-    pub full: u8,
+    pub full: Option<u8>,
 }
 
 // The numbers before anything is counted.
@@ -66,6 +77,7 @@ struct Mark {
 }
 
 // The places at which a message counts.
+// Kept: four fields and no [Mark; 4]: each mark has a part of the totals of its own, and that no two meet is said of them by name.
 #[derive(Clone, Copy)]
 struct Marks {
     kind: Mark,
@@ -115,87 +127,64 @@ fn fills_at(counts: &[u32; 52], m: Mark) -> bool
     requires { m.at < 52 }
     ensures { result ≡ fills counts.now m }
 {
-    let at = m.at;
-    (m.more == 1) & (MOST <= counts[at])
+    (m.more == 1) & (MOST <= counts[m.at])
 }
 
 // The first place at which one is. That none is, is told first and by one test.
-fn first_full(counts: &[u32; 52], m: Marks) -> u8
+fn first_full(counts: &[u32; 52], m: Marks) -> Option<u8>
     requires { MarksWithin m }
     ensures { result ≡ full_among counts.now m }
 {
-    let kind = m.kind;
-    let answer = m.answer;
-    let result = m.result;
-    let drive = m.drive;
-    let by_kind = fills_at(counts, kind);
-    let by_answer = fills_at(counts, answer);
-    let by_result = fills_at(counts, result);
-    let by_drive = fills_at(counts, drive);
+    let by_kind = fills_at(counts, m.kind);
+    let by_answer = fills_at(counts, m.answer);
+    let by_result = fills_at(counts, m.result);
+    let by_drive = fills_at(counts, m.drive);
     if !(by_kind | by_answer | by_result | by_drive) {
-        return NOTHING;
+        return None;
     }
     if by_kind {
-        return kind.at as u8;
+        return Some(m.kind.at as u8);
     }
     if by_answer {
-        return answer.at as u8;
+        return Some(m.answer.at as u8);
     }
     if by_result {
-        return result.at as u8;
+        return Some(m.result.at as u8);
     }
-    drive.at as u8
-}
-
-fn plus(n: u32, more: u32) -> u32
-    requires { (more ≤ 1) × (about_full n more ≡ false) }
-    ensures { result ≡ n + more }
-{
-    n + more
+    Some(m.drive.at as u8)
 }
 
 fn raise(counts: &mut [u32; 52], m: Mark)
     requires { (m.at < 52) × (m.more ≤ 1) × (fills counts.old m ≡ false) }
     ensures { counts.new ≡ raised counts.old m }
 {
-    let at = m.at;
-    counts[at] = plus(counts[at], m.more);
-}
-
-fn larger(a: u32, b: u32) -> u32
-    ensures { result ≡ max a b }
-{
-    if a < b { b } else { a }
+    counts[m.at] += m.more;
 }
 
 fn raise_cars(counts: &mut [u32; 52], cars: u8)
     ensures { counts.new ≡ with_cars counts.old cars }
 {
-    counts[51] = larger(counts[51], cars as u32);
+    counts[51] = counts[51].max(cars as u32);
 }
 
 fn raise_all(counts: &mut [u32; 52], m: Marks, h: Happened)
-    requires { (m ≡ count_marks h) × (full_among counts.old m ≡ none_full) }
+    requires { (m ≡ count_marks h) × (full_among counts.old m ≡ None) }
     ensures { counts.new ≡ raised_all counts.old h }
 {
-    let kind = m.kind;
-    let answer = m.answer;
-    let result = m.result;
-    let drive = m.drive;
-    raise(counts, kind);
-    raise(counts, answer);
-    raise(counts, result);
-    raise(counts, drive);
+    raise(counts, m.kind);
+    raise(counts, m.answer);
+    raise(counts, m.result);
+    raise(counts, m.drive);
     raise_cars(counts, h.cars);
 }
 
-// What happened counted where the totals stand, and NOTHING; or the place of the first that is full, and all stay as they were.
-pub fn count_at(counts: &mut [u32; 52], h: Happened) -> u8
+// What happened counted where the totals stand; or the place of the first that is full, and all stay as they were.
+pub fn count_at(counts: &mut [u32; 52], h: Happened) -> Option<u8>
     ensures { LeavesCounts (counted_in (totals_of counts.old) h) result counts.new }
 {
     let m = marks_of(h);
     let full = first_full(counts, m);
-    if full == NOTHING {
+    if full.is_none() {
         raise_all(counts, m, h);
     }
     full
@@ -211,8 +200,8 @@ pub fn counted(t: Totals, h: Happened) -> Tally
     Tally { totals, full }
 }
 
-// What happened counted in totals that are lent, and NOTHING; or the place of the first that is full, and all stay as they were.
-pub fn count(t: &mut Totals, h: Happened) -> u8
+// What happened counted in totals that are lent; or the place of the first that is full, and all stay as they were.
+pub fn count(t: &mut Totals, h: Happened) -> Option<u8>
     ensures { LeavesTotals (counted_in t.old h) result t.new }
 {
     let c = counted(*t, h);

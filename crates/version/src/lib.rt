@@ -11,6 +11,7 @@ pub const SECOND: u32 = 0;
 
 pub const THIRD: u32 = 0;
 
+// Kept: a sum, as definition version and STATION_VERSION in include/station.h have it.
 // The three as one number.
 pub fn number() -> u32
     ensures { result ≡ version }

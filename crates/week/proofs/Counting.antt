@@ -6,10 +6,11 @@ use mathlib.Core.List.{List, [], ◌∷◌}
 use Prim.Native.Nat.{ℕ, zero, suc, ◌+◌, ◌≤◌}
 use native.Mathlib.Nat.{add_assoc, add-zero, zero-add}
 use native.Mathlib.Omega.{arith}
-use borrow.Author.Tests.{eq-eqb, ne_eqb}
-use lib.Dec.{eqb}
 use lib.ListN.{length, drop, length-drop}
 use lib.Seq.{drop-drop}
+use Rattle.std.specs.declared.option.Option.{Option}
+use Rattle.std.specs.declared.option.Option.TheVariants.{None}
+use Rattle.std.specs.Prelude.{is_none}
 use Rattle.station.specs.declared.Station.{Station}
 use Rattle.wire.specs.declared.Frame.{Frame}
 use Rattle.wire.specs.declared.Frame.TheVariants.{Cut, Wrong, Whole}
@@ -20,18 +21,18 @@ use Rattle.service.proofs.Running.{none_cut, shorter}
 use Rattle.totals.specs.declared.Happened.{Happened}
 use Rattle.totals.specs.declared.Totals.{Totals}
 use Rattle.totals.specs.declared.Tally.{Tally}
-use Rattle.totals.specs.Totals.{LeavesCounts, totals_of, none_full, counted_in}
+use Rattle.totals.specs.Totals.{LeavesCounts, totals_of, counted_in}
 use Rattle.week.specs.Weeks.{happened}
 use Rattle.week.specs.Counts.{uncounted, Counting, Counts, count_ends, count_further, count_after, count_for, count_on, count_end}
 
 -- ---- the end of the input
 
-pub none_left : (c : List ℕ) (s : Station) (held : List ℕ) → length held ≡ 0 → LeavesCounts (count_end (totals_of c) s held) none_full c
+pub none_left : (c : List ℕ) (s : Station) (held : List ℕ) → length held ≡ 0 → LeavesCounts (count_end (totals_of c) s held) None c
 unfolding count_end
 none_left c s [] e = record { full = refl; counts = refl }
 none_left c s (b ∷ bs) e = absurd (omega arith)
 
-pub some_left : (c : List ℕ) (s : Station) (held : List ℕ) {p : ℕ} {after : List ℕ} → (length held ≡ 0 → ⊥)
+pub some_left : (c : List ℕ) (s : Station) (held : List ℕ) {p : Option ℕ} {after : List ℕ} → (length held ≡ 0 → ⊥)
     → LeavesCounts (counted_in (totals_of c) (happened s held)) p after → LeavesCounts (count_end (totals_of c) s held) p after
 unfolding count_end
 some_left c s [] e h = absurd (e refl)
@@ -46,7 +47,7 @@ same_after Cut go ho t s input e h = refl
 same_after Wrong go ho t s input e h = refl
 same_after (Whole n) go ho t s input e h =
     let c = counted_in t (happened s input) in
-    ap (λ (w : Counting). cond (eqb c.full none_full) (count_further n w) (count_ends s c true))
+    ap (λ (w : Counting). cond (is_none c.full) (count_further n w) (count_ends s c true))
     (h c.totals (respond s input).station (drop n input) (shorter input n e))
 
 -- more turns than bytes change nothing
@@ -71,11 +72,11 @@ turn_wrong : (t : Totals) (s : Station) (input : List ℕ) → frame_of input �
 turn_wrong t s input e = unrolled t s input ∙ rw e
 
 turn_full : (t : Totals) (s : Station) (input : List ℕ) (n : ℕ) → frame_of input ≡ Whole n
-    → eqb (counted_in t (happened s input)).full none_full ≡ false → count_on t s input ≡ count_ends s (counted_in t (happened s input)) true
+    → is_none (counted_in t (happened s input)).full ≡ false → count_on t s input ≡ count_ends s (counted_in t (happened s input)) true
 turn_full t s input n e q = unrolled t s input ∙ rw (e, q)
 
 turn_whole : (t : Totals) (s : Station) (input : List ℕ) (n : ℕ) → frame_of input ≡ Whole n
-    → eqb (counted_in t (happened s input)).full none_full ≡ true
+    → is_none (counted_in t (happened s input)).full ≡ true
     → count_on t s input ≡ count_further n (count_on (counted_in t (happened s input)).totals (respond s input).station (drop n input))
 turn_whole t s input n e q =
     let l = shorter input n e in
@@ -93,7 +94,7 @@ further_more a b w = rw add_assoc
 -- ---- the loop
 
 -- the same counted
-pub same_held : (c : List ℕ) {h g : Happened} {p : ℕ} {last : List ℕ} → h ≡ g
+pub same_held : (c : List ℕ) {h g : Happened} {p : Option ℕ} {last : List ℕ} → h ≡ g
     → LeavesCounts (counted_in (totals_of c) h) p last → LeavesCounts (counted_in (totals_of c) g) p last
 same_held c e held = rw (← e) held
 
@@ -113,26 +114,26 @@ started input before s = record { within = omega arith; rest = further_none _ }
 
 module _ {input before : List ℕ} {s₀ : Station} {counts : List ℕ} {s : Station} {at : ℕ} (m : Midway input before s₀ counts s at) where
   -- the count ends here
-  ended : (c : Tally) (stop : Bool) {p : ℕ} {last : List ℕ} → count_on (totals_of counts) s (drop at input) ≡ count_ends s c stop → LeavesCounts c p last
+  ended : (c : Tally) (stop : Bool) {p : Option ℕ} {last : List ℕ} → count_on (totals_of counts) s (drop at input) ≡ count_ends s c stop → LeavesCounts c p last
       → Counts (count_on (totals_of before) s₀ input) (record { station = s; used = at; stop = stop; full = p }) last
   ended c stop e h = rw (m.rest ∙ ap (count_further at) e, add-zero, h.full, h.counts) (refl, refl)
 
   pub cut_short_lem : frame_of (drop at input) ≡ Cut
-      → Counts (count_on (totals_of before) s₀ input) (record { station = s; used = at; stop = false; full = none_full }) counts
+      → Counts (count_on (totals_of before) s₀ input) (record { station = s; used = at; stop = false; full = None }) counts
   cut_short_lem e = ended (uncounted (totals_of counts)) false (turn_cut (totals_of counts) s (drop at input) e) (record { full = refl; counts = refl })
 
   -- the message that stands here is counted
-  module _ {p : ℕ} {last : List ℕ} (held : LeavesCounts (counted_in (totals_of counts) (happened s (drop at input))) p last) where
+  module _ {p : Option ℕ} {last : List ℕ} (held : LeavesCounts (counted_in (totals_of counts) (happened s (drop at input))) p last) where
     pub wrong_length : frame_of (drop at input) ≡ Wrong
         → Counts (count_on (totals_of before) s₀ input) (record { station = s; used = at; stop = true; full = p }) last
     wrong_length e = ended _ true (turn_wrong (totals_of counts) s (drop at input) e) held
 
-    pub one_full : (n : ℕ) → frame_of (drop at input) ≡ Whole n → (p ≡ none_full → ⊥)
+    pub one_full : (n : ℕ) → frame_of (drop at input) ≡ Whole n → is_none p ≡ false
         → Counts (count_on (totals_of before) s₀ input) (record { station = s; used = at; stop = true; full = p }) last
     one_full n e q =
-        ended _ true (turn_full (totals_of counts) s (drop at input) n e (ne_eqb _ none_full (λ z. q (held.full ∙ z)))) held
+        ended _ true (turn_full (totals_of counts) s (drop at input) n e (ap is_none (sym held.full) ∙ q)) held
 
-    pub counted_on : (n : ℕ) {x : Station} → x ≡ (respond s (drop at input)).station → frame_of (drop at input) ≡ Whole n → p ≡ none_full
+    pub counted_on : (n : ℕ) {x : Station} → x ≡ (respond s (drop at input)).station → frame_of (drop at input) ≡ Whole n → is_none p ≡ true
         → Midway input before s₀ last x (at + n)
     counted_on n next e q =
         let f = whole_frame (drop at input) n e in
@@ -141,7 +142,7 @@ module _ {input before : List ℕ} {s₀ : Station} {counts : List ℕ} {s : Sta
           within = omega arith;
           rest =
               m.rest
-              ∙ ap (count_further at) (turn_whole (totals_of counts) s (drop at input) n e (eq-eqb _ none_full (sym held.full ∙ q)))
+              ∙ ap (count_further at) (turn_whole (totals_of counts) s (drop at input) n e (ap is_none (sym held.full) ∙ q))
               ∙ further_more at n _
               ∙ rw (← next, held.counts, drop-drop n at input);
         }

@@ -5,10 +5,10 @@ use mathlib.Core.Bool.{Bool, true, false, cond}
 use mathlib.Core.List.{List, [], ◌∷◌, ◌++◌, append_assoc, append-nil}
 use Prim.Native.Nat.{ℕ, zero, suc, ◌+◌, ◌≤◌}
 use native.Mathlib.Omega.{arith}
-use borrow.Author.Tests.{eqb-true}
-use lib.Dec.{eqb}
 use lib.ListN.{length, drop, get_or-append}
 use lib.Seq.{drop-append-le, drop-drop}
+use Rattle.std.specs.declared.option.Option.{Option}
+use Rattle.std.specs.Prelude.{is_none}
 use Rattle.bits.specs.Places.{join}
 use Rattle.bits.proofs.Cases.{split}
 use Rattle.station.specs.declared.Station.{Station}
@@ -22,7 +22,8 @@ use Rattle.service.proofs.Pieces.{whole_more, wrong_more, reading_more, reading_
 use Rattle.totals.specs.declared.Happened.{Happened}
 use Rattle.totals.specs.declared.Totals.{Totals}
 use Rattle.totals.specs.declared.Tally.{Tally}
-use Rattle.totals.specs.Totals.{none_full, counted_in, counted_all}
+use Rattle.totals.specs.Totals.{counted_in, counted_all}
+use Rattle.totals.proofs.Steps.{none_told}
 use Rattle.week.specs.Weeks.{kind_read, happened, happenings_for, happenings}
 use Rattle.week.specs.Counts.{Counting, tally_in, count_ends, count_further, count_after, count_for, count_on, count_end, count_fed}
 use Rattle.week.specs.Promises.{WeekCutAnywhere}
@@ -87,8 +88,8 @@ counted_one : (t : Totals) (h : Happened) → counted_all t (h ∷ []) ≡ count
 unfolding counted_all
 counted_one t h =
     let c = counted_in t h in
-    split (eqb c.full none_full)
-    (λ q. rw q (ap (λ (p : ℕ). record { totals = c.totals; full = p }) (sym (eqb-true c.full none_full q))))
+    split (is_none c.full)
+    (λ q. rw q (ap (λ (p : Option ℕ). record { totals = c.totals; full = p }) (sym (none_told c.full q))))
     (λ q. rw q)
 
 -- the end of the input
@@ -128,7 +129,7 @@ turned (Whole n) go t s a u e rec =
     let c = counted_in t (happened s a) in
     let w = go c.totals x (drop n a) in
     ap (counted_all t) (happenings_more s a u n e)
-    ∙ going_on (eqb c.full none_full) (count_further n w) c s a u
+    ∙ going_on (is_none c.full) (count_further n w) c s a u
     (rec c.totals x (drop n a) (shorter a n e) ∙ rw (drop-drop w.says.used n a))
 
 in_pieces : (k : ℕ) (t : Totals) (s : Station) (a u : List ℕ) → length a ≤ k → counted_all t (happenings s (a ++ u)) ≡ onwards (count_for k t s a) a u
@@ -151,7 +152,7 @@ left (Whole n) go t s a e rec q =
     let x = (respond s a).station in
     let c = counted_in t (happened s a) in
     let w = go c.totals x (drop n a) in
-    stopped_or (eqb c.full none_full) (count_further n w) c s a
+    stopped_or (is_none c.full) (count_further n w) c s a
     (λ p. rw (← drop-drop w.says.used n a) (rec c.totals x (drop n a) (shorter a n e) p)) q
 
 pub left_cut : (k : ℕ) (t : Totals) (s : Station) (a : List ℕ) → length a ≤ k → (count_for k t s a).says.stop ≡ false

@@ -1,6 +1,6 @@
 -- A result on a fit station where nothing is judged: the reply to its message, and that its bytes say it. Assumes nothing.
 use mathlib.Core.Path.{◌≡◌, refl, sym, ap, ap₂, ◌∙◌}
-use mathlib.Core.Bool.{Bool, true, false, cond, ◌&&◌}
+use mathlib.Core.Bool.{true, cond, ◌&&◌}
 use mathlib.Core.List.{List}
 use Prim.Native.Nat.{ℕ, ◌≤◌}
 use native.Mathlib.Omega.{arith}
@@ -21,7 +21,7 @@ use Rattle.station.specs.Turns.{turn_of, settled, after_turn}
 use Rattle.station.proofs.Turns.{rebuilt, kept_resulted}
 use Rattle.station.proofs.Settling.{settled_fit}
 use Rattle.wire.specs.declared.Frame.TheVariants.{Whole}
-use Rattle.wire.specs.declared.Received.{Received}
+use Rattle.wire.specs.Reads.{Received}
 use Rattle.wire.specs.Kinds.{result_kind, kinds_asked}
 use Rattle.wire.specs.Reads.{length_at, kind_at, frame_of, sized, read_whole, read_asked}
 use Rattle.service.specs.declared.Reply.{Reply}

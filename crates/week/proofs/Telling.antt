@@ -14,8 +14,8 @@ use Rattle.bits.specs.Bits.{bit}
 use Rattle.bits.specs.Search.{least}
 use Rattle.bits.proofs.Cases.{split}
 use Rattle.answers.specs.Answers.{number_of}
-use Rattle.floor.specs.declared.Total.{Total}
-use Rattle.floor.specs.declared.Total.TheVariants.{Cars}
+use Rattle.std.specs.declared.option.Option.{Option}
+use Rattle.std.specs.declared.option.Option.TheVariants.{Some}
 use Rattle.floor.specs.Cars.{cars}
 use Rattle.floor.specs.Sound.{sound, total, cars_in}
 use Rattle.floor.proofs.Few.{few_cars}
@@ -25,7 +25,7 @@ use Rattle.station.specs.Held.{code_at}
 use Rattle.wire.specs.contracts.What as what
 use Rattle.wire.specs.declared.What.{What}
 use Rattle.wire.specs.declared.What.TheVariants.{Request, Event, Result, Image, Ask, Answer, Held}
-use Rattle.wire.specs.declared.Received.{Received}
+use Rattle.wire.specs.Reads.{Received}
 use Rattle.wire.specs.declared.Frame.{Frame}
 use Rattle.wire.specs.declared.Frame.TheVariants.{Cut, Wrong, Whole}
 use Rattle.wire.specs.Kinds.{event_kind, result_kind, image_kind, kinds_asked, in_range}
@@ -44,20 +44,20 @@ one_set false e = e
 
 -- ---- cars
 
-total_sound : (r : ℕ) → sound r ≡ true → total r ≡ Cars (cars (bit r))
+total_sound : (r : ℕ) → sound r ≡ true → total r ≡ Some (cars (bit r))
 unfolding total
 total_sound r e = rw e
 
 pub sound_cars : (r : ℕ) → sound r ≡ true → cars_in (total r) ≡ cars (bit r)
 sound_cars r e = rw (total_sound r e)
 
-pub few_told : (r n : ℕ) → total r ≡ Cars n → n < 256
+pub few_told : (r n : ℕ) → total r ≡ Some n → n < 256
 few_told r n e = let h = few_cars r n e in omega arith
 
 pub few_sound : (r n : ℕ) → sound r ≡ true → n ≡ cars (bit r) → n < 256
 few_sound r n e h = let k = few_told r (cars (bit r)) (total_sound r e) in omega arith
 
-pub cars_told : (r : ℕ) {t : Total} → total r ≡ t → cars_in t ≡ cars_in (total r)
+pub cars_told : (r : ℕ) {t : Option ℕ} → total r ≡ t → cars_in t ≡ cars_in (total r)
 cars_told r e = sym (ap cars_in e)
 
 -- ---- the number of an answer

@@ -1,6 +1,7 @@
 -- The count by buffers: all whole messages of some bytes counted one after another, the end of the input, and an input that comes in
 -- pieces. Assumes nothing.
-use Rattle.std.specs.Prelude.{◌≡◌, Bool, true, false, cond, List, [], ◌∷◌, ◌++◌, ℕ, zero, suc, ◌+◌, eqb, length, drop}
+use Rattle.std.specs.Prelude.{◌≡◌, Bool, true, false, cond, List, [], ◌∷◌, ◌++◌, ℕ, zero, suc, ◌+◌, length, drop, is_none}
+use Rattle.std.specs.declared.option.Option.TheVariants.{None}
 use Rattle.station.specs.declared.Station.{Station}
 use Rattle.wire.specs.declared.Frame.{Frame}
 use Rattle.wire.specs.declared.Frame.TheVariants.{Cut, Wrong, Whole}
@@ -8,13 +9,13 @@ use Rattle.wire.specs.Reads.{frame_of}
 use Rattle.service.specs.Service.{respond, no_bytes}
 use Rattle.totals.specs.declared.Totals.{Totals}
 use Rattle.totals.specs.declared.Tally.{Tally}
-use Rattle.totals.specs.Totals.{none_full, counted_in}
+use Rattle.totals.specs.Totals.{counted_in}
 use Rattle.week.specs.declared.Counted.{Counted}
 use Rattle.week.specs.Weeks.{happened}
 
 -- nothing is counted
 abbrev pub uncounted : Totals → Tally
-uncounted t = record { totals = t; full = none_full }
+uncounted t = record { totals = t; full = None }
 
 -- what a count says, and the totals that it leaves
 pub record Counting : Type 0 where
@@ -25,7 +26,7 @@ pub record Counting : Type 0 where
 abbrev pub Counts : Counting → Counted → List ℕ → Type 0
 Counts w r counts = (r ≡ w.says) × (counts ≡ w.leaves.counts)
 
--- the totals and the place that it tells
+-- the totals and the place that it tells, if it tells one
 abbrev pub tally_in : Counting → Tally
 tally_in w = record { totals = w.leaves; full = w.says.full }
 
@@ -48,7 +49,7 @@ count_after Cut go t s input = count_ends s (uncounted t) false
 count_after Wrong go t s input = count_ends s (counted_in t (happened s input)) true
 count_after (Whole n) go t s input =
     let c = counted_in t (happened s input) in
-    cond (eqb c.full none_full) (count_further n (go c.totals (respond s input).station (drop n input))) (count_ends s c true)
+    cond (is_none c.full) (count_further n (go c.totals (respond s input).station (drop n input))) (count_ends s c true)
 
 -- at most so many messages
 unfoldable pub count_for : ℕ → Totals → Station → List ℕ → Counting

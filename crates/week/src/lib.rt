@@ -11,20 +11,20 @@ ghost use Rattle.week.specs.Weeks.{kind_read, number_answered, drive_on, happene
 ghost use Rattle.week.specs.Counts.{Counts, count_on, count_end};
 ghost use Rattle.week.specs.Private.{told_by, brings_result, message_step};
 
-use floor::Total;
 use floor::masks::{DRIVE_IN, DRIVE_OUT};
 use station::{Report, Station};
-use totals::{Happened, NOTHING, Tally, Totals};
+use totals::{Happened, Tally, Totals};
 use wire::{Frame, What};
 
+// Kept: stop beside full: a wrong length stops the count where no total is full, so that an Option alone cannot say it.
 // What a count of a buffer's messages leaves: the next station, how many bytes were taken, whether nothing more is to be read, and the
-// place of the first total that is full, or NOTHING.
+// place of the first total that is full.
 #[derive(Clone, Copy)]
 pub struct Counted {
     pub station: Station,
     pub used: usize,
     pub stop: bool,
-    pub full: u8,
+    pub full: Option<u8>,
 }
 
 // What a message that is taken tells of an instruction and of a drive.
@@ -43,6 +43,7 @@ struct Step {
 }
 
 // ---- one message
+// Kept: 0 and 255 stand for none in what is told of a message, as in `Happened`, whose bytes callers hand to totals::count.
 
 // The kind of the first message of m, once it is read and known; else 0.
 fn kind_read(m: &[u8]) -> u8
@@ -70,18 +71,14 @@ fn number_in(what: What) -> u8
     ensures { result ≡ number_answered what }
 {
     match what {
-        What::Answer {
-            number,
-            place: _,
-            issue: _,
-        } => number,
+        What::Answer { number, .. } => number,
         _ => 255,
     }
 }
 
 // The op of instruction i of a set; past the eighth there is none.
-fn op_at(set: [u8; 40], i: u8) -> u8
-    ensures { result ≡ (code_at set i).op }
+fn op_at(set: &[u8; 40], i: u8) -> u8
+    ensures { result ≡ (code_at set.now i).op }
 {
     if 8 <= i {
         return 0;
@@ -116,9 +113,8 @@ fn told(s: Station, kind: u8, m: &[u8]) -> Tells
         };
     }
     if kind == 3 {
-        let set = s.set;
         return Tells {
-            op: op_at(set, wire::byte(m, 6)),
+            op: op_at(&s.set, wire::byte(m, 6)),
             done: wire::byte(m, 7) == 1,
             drive: 0,
         };
@@ -139,8 +135,8 @@ fn cars_now(known: bool, r: u64) -> u8
         return floor::cars_in(r) as u8;
     }
     match floor::cars(r) {
-        Total::Cars(n) => n as u8,
-        Total::Unsound => 0,
+        Some(n) => n as u8,
+        None => 0,
     }
 }
 
@@ -168,6 +164,7 @@ fn brings_result(m: &[u8]) -> bool
 }
 
 // What it does on a fit station: what waits is allowed, and a success is not judged.
+// Kept: known, cars and s are handed on one by one: `happened` and `count_all` each have wrong programs (must-fail/) at what they hand on.
 fn settled(cars: u8, s: Station, m: &[u8]) -> Step
     requires { (fit s ≡ true) × (cars ≡ cars_in (total s.bits)) × (brings_result m.now ≡ true) }
     ensures { result ≡ message_step s m.now }
@@ -180,25 +177,10 @@ fn settled(cars: u8, s: Station, m: &[u8]) -> Step
         number,
         ending,
     });
-    let set = s.set;
-    let o = s.after(t, set);
-    let station = o.station;
-    let said = t.answer;
-    let answer = said.number();
+    let station = s.after(t, s.set).station;
+    let answer = t.answer.number();
     let cars = cars_after(true, cars, s.bits, station.bits);
-    if answer == 0 {
-        let op = op_at(set, number);
-        let happened = Happened {
-            kind: 3,
-            answer,
-            op,
-            done: ending == 1,
-            drive: 0,
-            cars,
-        };
-        return Step { happened, station };
-    }
-    let happened = Happened {
+    let refused = Happened {
         kind: 3,
         answer,
         op: 0,
@@ -206,7 +188,18 @@ fn settled(cars: u8, s: Station, m: &[u8]) -> Step
         drive: 0,
         cars,
     };
-    Step { happened, station }
+    if answer == 0 {
+        let happened = Happened {
+            op: op_at(&s.set, number),
+            done: ending == 1,
+            ..refused
+        };
+        return Step { happened, station };
+    }
+    Step {
+        happened: refused,
+        station,
+    }
 }
 
 // What the first message of m does on a station of which it is known whether it is fit, and how many cars it has.
@@ -219,23 +212,10 @@ fn seen(known: bool, cars: u8, s: Station, m: &[u8]) -> Step
     }
     let r = service::respond_known(known, s, m);
     let station = r.station;
-    let reply = r.answer;
     let kind = kind_read(m);
-    let answer = number_in(reply);
+    let answer = number_in(r.answer);
     let cars = cars_after(known, cars, s.bits, station.bits);
-    if answer == 0 {
-        let t = told(s, kind, m);
-        let happened = Happened {
-            kind,
-            answer,
-            op: t.op,
-            done: t.done,
-            drive: t.drive,
-            cars,
-        };
-        return Step { happened, station };
-    }
-    let happened = Happened {
+    let refused = Happened {
         kind,
         answer,
         op: 0,
@@ -243,7 +223,20 @@ fn seen(known: bool, cars: u8, s: Station, m: &[u8]) -> Step
         drive: 0,
         cars,
     };
-    Step { happened, station }
+    if answer == 0 {
+        let t = told(s, kind, m);
+        let happened = Happened {
+            op: t.op,
+            done: t.done,
+            drive: t.drive,
+            ..refused
+        };
+        return Step { happened, station };
+    }
+    Step {
+        happened: refused,
+        station,
+    }
 }
 
 // What the first message of m does on a station.
@@ -264,16 +257,15 @@ fn brought_up(t: Totals, h: Happened) -> Tally
     Tally { totals, full }
 }
 
-// Counts the first message of m, as it is before the station answers it. NOTHING is told; or the place of the first total that is full, and
-// all stay as they were.
-pub fn count_message(counts: &mut [u32; 52], s: Station, m: &[u8]) -> u8
+// Counts the first message of m, as it is before the station answers it; or tells the place of the first total that is full, and all stay as
+// they were.
+pub fn count_message(counts: &mut [u32; 52], s: Station, m: &[u8]) -> Option<u8>
     ensures { LeavesCounts (counted_in (totals_of counts.old) (happened s m.now)) result counts.new }
 {
+    // Kept: the borrow checker does not cover a field that is an array where it is stored straight, so each is a variable first.
     let before = *counts;
-    let t = Totals { counts: before };
-    let c = brought_up(t, happened(s, m));
-    let totals = c.totals;
-    let after = totals.counts;
+    let c = brought_up(Totals { counts: before }, happened(s, m));
+    let after = c.totals.counts;
     *counts = after;
     c.full
 }
@@ -290,14 +282,13 @@ pub fn count_all(counts: &mut [u32; 52], s: Station, input: &[u8]) -> Counted
     let mut at: usize = 0;
     loop {
         let rest = &input[at..];
-        let frame = wire::framed(rest);
-        match frame {
+        match wire::framed(rest) {
             Frame::Cut => {
                 return Counted {
                     station: s,
                     used: at,
                     stop: false,
-                    full: NOTHING,
+                    full: None,
                 };
             }
             Frame::Wrong => {
@@ -313,7 +304,7 @@ pub fn count_all(counts: &mut [u32; 52], s: Station, input: &[u8]) -> Counted
                 let x = seen(known, cars, s, rest);
                 let happened = x.happened;
                 let full = totals::count_at(counts, happened);
-                if full != NOTHING {
+                if full.is_some() {
                     return Counted {
                         station: s,
                         used: at,
@@ -330,11 +321,11 @@ pub fn count_all(counts: &mut [u32; 52], s: Station, input: &[u8]) -> Counted
 }
 
 // The end of the input: bytes of a message that was cut short count as its answer does.
-pub fn count_end(counts: &mut [u32; 52], s: Station, held: &[u8]) -> u8
+pub fn count_end(counts: &mut [u32; 52], s: Station, held: &[u8]) -> Option<u8>
     ensures { LeavesCounts (count_end (totals_of counts.old) s held.now) result counts.new }
 {
-    if held.len() == 0 {
-        return NOTHING;
+    if held.is_empty() {
+        return None;
     }
     count_message(counts, s, held)
 }

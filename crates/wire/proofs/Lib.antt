@@ -3,3 +3,4 @@ pub mod Frames
 pub mod Room
 pub mod Reading
 pub mod Determined
+pub mod Results

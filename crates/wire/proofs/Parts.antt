@@ -1,13 +1,14 @@
 -- Parts of a run of bytes, as code refers to them. Assumes nothing.
 use mathlib.Core.Path.{◌≡◌, sym, ap, ◌∙◌}
 use mathlib.Core.List.{List, [], ◌∷◌, ◌++◌, append-nil}
-use Prim.Native.Nat.{ℕ, zero, suc, ◌+◌, ◌*◌, ◌-◌, ◌/◌, ◌%◌, ◌^◌, ◌≤◌, ◌<◌}
+use Prim.Native.Nat.{ℕ, zero, suc, ◌+◌, ◌*◌, ◌-◌, ◌≤◌, ◌<◌}
 use native.Mathlib.Omega.{arith}
 use lib.ListN.{get_or, length, take, drop, replicate, length-drop}
 use lib.Seq.{take_all, take-length, length-take-le, drop-drop}
-use lib.Pow.{shr-shr}
-use native.Mathlib.Nat.{sub-zero, zero-sub, suc-sub-suc, div-one}
-use Rattle.codec.specs.Bytes.{little_endian, from_little_endian}
+use native.Mathlib.Nat.{sub-zero, zero-sub, suc-sub-suc}
+use Rattle.std.specs.Int.{w64, from_le_bytes}
+use Rattle.codec.specs.Bytes.{from_little_endian}
+use Rattle.codec.proofs.LittleEndian.{eight_said}
 use Rattle.wire.specs.Kinds.{set_of}
 
 -- what `&m[at..]` refers to
@@ -23,25 +24,21 @@ module _ (s : List ℕ) (i : ℕ) where
   pub two_at : {a b : ℕ} → a ≡ get_or s i 0 → b ≡ get_or s (i + 1) 0 → from_little_endian 2 0 (a ∷ b ∷ []) ≡ from_little_endian 2 i s
   two_at e f = let next : i + 1 ≡ suc i = omega arith in rw (e, f, next)
 
-  -- the two that stand k past place i
-  abbrev pub pair : ℕ → ℕ
-  pair k = from_little_endian 2 (i + k) s
+  -- what stands k past place i
+  abbrev pub past : ℕ → ℕ
+  past k = get_or s (i + k) 0
 
-  pub eight_at : {a b c d : ℕ} → a ≡ from_little_endian 2 i s → b ≡ pair 2 → c ≡ pair 4 → d ≡ pair 6
-      → a + 65536 * (b + 65536 * (c + 65536 * d)) ≡ from_little_endian 8 i s
-  eight_at ea eb ec ed =
+  pub eight_at : {a b c d e f g h : ℕ} → a ≡ get_or s i 0 → b ≡ past 1 → c ≡ past 2 → d ≡ past 3 → e ≡ past 4 → f ≡ past 5 → g ≡ past 6 → h ≡ past 7
+      → from_le_bytes w64 (a ∷ b ∷ c ∷ d ∷ e ∷ f ∷ g ∷ h ∷ []) ≡ from_little_endian 8 i s
+  eight_at {a} {b} {c} {d} {e} {f} {g} {h} ea eb ec ed ee ef eg eh =
+      let one : i + 1 ≡ suc i = omega arith in
       let two : i + 2 ≡ suc (suc i) = omega arith in
+      let three : i + 3 ≡ suc (suc (suc i)) = omega arith in
       let four : i + 4 ≡ suc (suc (suc (suc i))) = omega arith in
+      let five : i + 5 ≡ suc (suc (suc (suc (suc i)))) = omega arith in
       let six : i + 6 ≡ suc (suc (suc (suc (suc (suc i))))) = omega arith in
-      rw (ea, eb, ec, ed, two, four, six) (omega arith)
-
--- byte k of the n that say a number
-pub byte_at : (n x k : ℕ) → k < n → x / 2 ^ (8 * k) % 256 ≡ get_or (little_endian n x) k 0
-byte_at zero x k h = absurd (omega arith)
-byte_at (suc n) x zero h = ap (λ (y : ℕ). y % 256) (div-one x)
-byte_at (suc n) x (suc k) h =
-    let eight : 8 * suc k ≡ 8 + 8 * k = omega arith in
-    ap (λ (j : ℕ). x / 2 ^ j % 256) eight ∙ ap (λ (y : ℕ). y % 256) (sym (shr-shr x 8 (8 * k))) ∙ byte_at n (x / 256) k (omega arith)
+      let seven : i + 7 ≡ suc (suc (suc (suc (suc (suc (suc i)))))) = omega arith in
+      eight_said a b c d e f g h ∙ rw (ea, eb, ec, ed, ee, ef, eg, eh, one, two, three, four, five, six, seven)
 
 -- past its first n places an array of zeros holds zeros
 pub zeros_past : (n k : ℕ) → drop {A = ℕ} n (replicate k 0) ≡ replicate (k - n) 0

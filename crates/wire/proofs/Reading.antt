@@ -1,19 +1,27 @@
 -- What reading a message answers: a kind of one size by its fields, and a request case by case of its chain of refusals. Assumes nothing.
-use mathlib.Core.Path.{◌≡◌, refl, ◌∙◌, ap, ap₂}
+use mathlib.Core.Path.{◌≡◌, refl, sym, ◌∙◌, ap, ap₂}
 use mathlib.Core.Bool.{Bool, true, false, cond}
 use mathlib.Core.List.{List, ◌++◌}
 use Prim.Native.Nat.{ℕ, ◌+◌, ◌*◌, ◌-◌, ◌≤◌, ◌<◌}
 use native.Mathlib.Omega.{arith}
 use borrow.Author.Tests.{lt-ltb, le-ltb, ltb-true, ltb-false, ne_eqb, eq-eqb}
-use lib.Dec.{ltb}
+use lib.Dec.{ltb, eqb}
 use lib.ListN.{get_or, length, take, drop, replicate, get_or-eq_default}
 use Rattle.bits.specs.Search.{least}
 use Rattle.bits.proofs.Cases.{split}
 use Rattle.codec.specs.Bytes.{from_little_endian}
+use Rattle.std.specs.declared.result.Result as kept
+use Rattle.std.specs.declared.result.Result.TheVariants.{Ok, Err}
+use Rattle.answers.specs.declared.Answer as answer
 use Rattle.answers.specs.declared.Answer.TheVariants.{BadLength, BadField, TooMany}
+use Rattle.answers.specs.Answers.{number_of}
+use Rattle.wire.specs.declared.What.{What}
+use Rattle.wire.specs.declared.Message.{Message}
+use Rattle.wire.specs.declared.Parsed.{Parsed}
 use Rattle.wire.specs.declared.What.TheVariants.{Request, Event, Result, Image, Answer, Held}
 use Rattle.wire.specs.Kinds.{event_kind, result_kind, image_kind, answer_kind, held_kind}
-use Rattle.wire.specs.Reads.{message_refused, message_taken, sized, bad_in, read_request}
+use Rattle.wire.specs.Reads.{Received, as_parsed, said_in, message_refused, message_taken, sized, bad_in, read_request}
+use Rattle.wire.proofs.Results.{chose_ok, chose_err}
 use Rattle.wire.proofs.Parts.{from_on, set_of_lem}
 
 -- ---- fields
@@ -82,3 +90,24 @@ module _ (m : List ℕ) {n : ℕ} (e : n ≡ get_or m 4 0) where
         let s : set ≡ take (5 * n) (drop 5 m) ++ replicate (40 - 5 * n) 0 =
         g ∙ ap (λ (r : List ℕ). r ++ replicate (40 - length r) 0) (from_on m 5) ∙ set_of_lem m n k in
         rw (← e, ← f, le-ltb (length m) 5 l, le-ltb 8 n h, eq-eqb (length m) (5 + 5 * n) k, le-ltb bad n b, s)
+
+-- ---- as code holds it
+
+pub parsed_ok : (r : Received) {x : Parsed} {y : Message} → x ≡ as_parsed r → x.says ≡ Ok y → (eqb (number_of r.answer) 0 ≡ true) × (r.message ≡ y)
+parsed_ok r e f = chose_ok (eqb (number_of r.answer) 0) r.message r.answer (sym (ap (λ (x : Parsed). x.says) e) ∙ f)
+
+pub parsed_err : (r : Received) {x : Parsed} {a : answer.Answer} → x ≡ as_parsed r → x.says ≡ Err a → (eqb (number_of r.answer) 0 ≡ false) × (r.answer ≡ a)
+parsed_err r e f = chose_err (eqb (number_of r.answer) 0) r.message r.answer (sym (ap (λ (x : Parsed). x.says) e) ∙ f)
+
+pub said_ok : (r : Received) {x : kept.Result What answer.Answer} {w : What} → x ≡ said_in r → x ≡ Ok w → (eqb (number_of r.answer) 0 ≡ true) × (r.message.what ≡ w)
+said_ok r e f = chose_ok (eqb (number_of r.answer) 0) r.message.what r.answer (sym e ∙ f)
+
+pub said_err : (r : Received) {x : kept.Result What answer.Answer} {a : answer.Answer} → x ≡ said_in r → x ≡ Err a → (eqb (number_of r.answer) 0 ≡ false) × (r.answer ≡ a)
+said_err r e f = chose_err (eqb (number_of r.answer) 0) r.message.what r.answer (sym e ∙ f)
+
+-- without the places of a set
+pub what_said : (r : Received) {x : Parsed} {y : Message} → x ≡ as_parsed r → x.says ≡ Ok y → Ok y.what ≡ said_in r
+what_said r e f = let p = parsed_ok r e f in ap (λ (y : Message). Ok y.what) (sym p.1) ∙ rw p.0
+
+pub why_said : (r : Received) {x : Parsed} {a : answer.Answer} → x ≡ as_parsed r → x.says ≡ Err a → Err a ≡ said_in r
+why_said r e f = let p = parsed_err r e f in ap Err (sym p.1) ∙ rw p.0

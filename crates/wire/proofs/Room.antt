@@ -14,17 +14,20 @@ use Rattle.bits.specs.Search.{least}
 use Rattle.bits.proofs.Cases.{clash}
 use Rattle.answers.specs.declared.Answer.TheVariants.{BadField, TooMany, NoRoom}
 use Rattle.answers.specs.Answers.{nowhere}
+use Rattle.std.specs.declared.result.Result.TheVariants.{Ok}
 use Rattle.wire.specs.declared.What.{What}
 use Rattle.wire.specs.declared.What.TheVariants.{Request, Event, Result, Image, Ask, Answer, Held}
 use Rattle.wire.specs.declared.Message.{Message}
 use Rattle.wire.specs.Kinds.{kind_of, in_range, request_kind, plain}
 use Rattle.wire.specs.Reads.{bad_in}
-use Rattle.wire.specs.declared.Written.{Written}
-use Rattle.wire.specs.Writes.{message_bytes, Writing, LeavesMessage, nothing_written, put, writing_message}
+use Rattle.wire.specs.Writes.{message_bytes, Written, Writing, LeavesMessage, nothing_written, put, writing_message}
 use Rattle.wire.specs.contracts.What as what
 
 pub put_short : (src room : List ℕ) → length room < length src → put src room ≡ nothing_written NoRoom room
 put_short src room h = simp (lt-ltb _ _ h)
+
+pub put_says : (src room : List ℕ) {n : ℕ} → length src ≤ length room → n ≡ length src → Ok n ≡ (put src room).says
+put_says src room h e = ap Ok e ∙ rw (le-ltb _ _ h)
 
 pub put_all : (src room last : List ℕ) → length src ≤ length room → last ≡ take (length src) src ++ drop (length src) room → last ≡ (put src room).leaves
 put_all src room last h e = e ∙ rw (take-length, le-ltb _ _ h)

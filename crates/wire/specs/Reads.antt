@@ -2,17 +2,19 @@
 use Rattle.std.specs.Prelude.{Bool, true, false, cond, List, [], ◌∷◌, ℕ, ◌+◌, ◌*◌, ltb, eqb, get_or, length, take, drop}
 use Rattle.bits.specs.Search.{least}
 use Rattle.codec.specs.Bytes.{from_little_endian}
-use Rattle.rules.specs.declared.Reading.{Reading}
-use Rattle.rules.specs.declared.Reading.TheVariants.{Good, Bad}
+use Rattle.std.specs.declared.option.Option.{Option}
+use Rattle.std.specs.declared.option.Option.TheVariants.{Some, None}
+use Rattle.std.specs.declared.result.Result.{Result}
+use Rattle.std.specs.declared.result.Result.TheVariants.{Ok, Err}
+use Rattle.rules.specs.declared.Instruction.{Instruction}
 use Rattle.rules.specs.Codes.{read_bytes, most_in_set}
 use Rattle.answers.specs.declared.Answer.{Answer}
 use Rattle.answers.specs.declared.Answer.TheVariants.{Taken, TooFewBytes, BadLength, UnknownKind, BadField, TooMany}
-use Rattle.answers.specs.Answers.{nowhere}
+use Rattle.answers.specs.Answers.{number_of, nowhere}
 use Rattle.wire.specs.declared.What.{What}
 use Rattle.wire.specs.declared.What.TheVariants.{Ask}
 use Rattle.wire.specs.declared.Message.{Message}
-use Rattle.wire.specs.declared.Received.{Received}
-use Rattle.wire.specs.declared.Said.{Said}
+use Rattle.wire.specs.declared.Parsed.{Parsed}
 use Rattle.wire.specs.declared.Frame.{Frame}
 use Rattle.wire.specs.declared.Frame.TheVariants.{Cut, Wrong, Whole}
 use Rattle.wire.specs.Kinds.{first_instruction, SizedKind, request_kind, kinds_asked, kinds_known, in_range, plain, requesting}
@@ -33,6 +35,12 @@ frame_of s =
     (cond (ltb 43 (length_at s)) Wrong
     (cond (ltb (length s) (length_at s + 2)) Cut (Whole (length_at s + 2)))))
 
+-- what reading answers: how many bytes the message took, none where they can't be told, and what it says, a blank one if refused
+pub record Received : Type 0 where
+  pub answer : Answer
+  pub used : ℕ
+  pub message : Message
+
 -- refused, with a blank message; n says how many bytes the message took
 abbrev pub message_refused : Answer → ℕ → Received
 message_refused a n = record { answer = a; used = n; message = plain Ask }
@@ -49,9 +57,9 @@ sized m n w =
     (message_refused BadLength (length m))
 
 -- five bytes that say no instruction
-abbrev pub is_bad : Reading → Bool
-is_bad (Good i) = false
-is_bad Bad = true
+abbrev pub is_bad : (Option Instruction) → Bool
+is_bad (Some i) = false
+is_bad None = true
 
 -- instruction i of a run of them, read from its own five bytes, is bad
 abbrev pub bad_in : List ℕ → ℕ → Bool
@@ -73,9 +81,13 @@ abbrev pub read_among : List SizedKind → List ℕ → Received
 read_among [] m = message_refused UnknownKind (length m)
 read_among (k ∷ ks) m = cond (eqb (kind_at m) k.number) (sized m (4 + k.size) (k.says m)) (read_among ks m)
 
--- what a message says, without the places of a set
-abbrev pub said_in : Received → Said
-said_in r = record { answer = r.answer; what = r.message.what }
+-- as code holds it: the message, or why it is refused
+abbrev pub as_parsed : Received → Parsed
+as_parsed r = record { used = r.used; says = cond (eqb (number_of r.answer) 0) (Ok r.message) (Err r.answer) }
+
+-- what a message says, without the places of a set, or why it is refused
+abbrev pub said_in : Received → Result What Answer
+said_in r = cond (eqb (number_of r.answer) 0) (Ok r.message.what) (Err r.answer)
 
 -- a message whose bytes are exactly m: a request, or one of these kinds
 unfoldable pub read_whole : List SizedKind → List ℕ → Received

@@ -4,10 +4,11 @@ use Rattle.bits.specs.Search.{least}
 use Rattle.codec.specs.Bytes.{little_endian}
 use Rattle.rules.specs.Codes.{most_in_set}
 use Rattle.answers.specs.declared.Answer.{Answer}
-use Rattle.answers.specs.declared.Answer.TheVariants.{Taken, BadField, TooMany, NoRoom}
+use Rattle.answers.specs.declared.Answer.TheVariants.{BadField, TooMany, NoRoom}
 use Rattle.answers.specs.Answers.{nowhere}
 use Rattle.wire.specs.declared.Message.{Message}
-use Rattle.wire.specs.declared.Written.{Written}
+use Rattle.std.specs.declared.result.Result.{Result}
+use Rattle.std.specs.declared.result.Result.TheVariants.{Ok, Err}
 use Rattle.wire.specs.Kinds.{request_kind, kind_of, body_of, in_range, plain, requesting}
 use Rattle.wire.specs.Reads.{bad_in}
 
@@ -17,7 +18,11 @@ message_bytes m =
     let body = body_of m.what m.count m.set in
     little_endian 2 (2 + length body) ++ (little_endian 2 (kind_of m.what) ++ body)
 
--- what a call that writes says, and what it leaves in the room
+-- what a call that writes says: how many bytes it wrote, or why it wrote none
+abbrev pub Written : Type 0
+Written = Result ℕ Answer
+
+-- what it says, and what it leaves in the room
 pub record Writing : Type 0 where
   pub says : Written
   pub leaves : List ℕ
@@ -28,13 +33,13 @@ LeavesMessage w r room = (r ≡ w.says) × (room ≡ w.leaves)
 
 -- refused: nothing is written
 abbrev pub nothing_written : Answer → List ℕ → Writing
-nothing_written a room = record { says = record { answer = a; size = 0 }; leaves = room }
+nothing_written a room = record { says = Err a; leaves = room }
 
 -- 17 exactly if the room is shorter than the bytes; else the bytes, and past them what was there
 abbrev pub put : List ℕ → List ℕ → Writing
 put bytes room =
     cond (ltb (length room) (length bytes)) (nothing_written NoRoom room)
-    (record { says = record { answer = Taken; size = length bytes }; leaves = bytes ++ drop (length bytes) room })
+    (record { says = Ok (length bytes); leaves = bytes ++ drop (length bytes) room })
 
 -- whether a message is a request
 abbrev pub is_request : Message → Bool

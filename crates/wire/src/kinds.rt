@@ -2,11 +2,11 @@
 ghost use Rattle.std.specs.Prelude.{◌≡◌, ◌≤◌, ◌+◌, ◌*◌, length, drop};
 ghost use Rattle.bits.specs.Search.{least};
 ghost use Rattle.wire.specs.Kinds.{first_instruction, kinds_known, kinds_asked, in_range};
-ghost use Rattle.wire.specs.Reads.{sized, is_bad, bad_in, read_request, read_among, read_whole};
+ghost use Rattle.wire.specs.Reads.{as_parsed, sized, is_bad, bad_in, read_request, read_among, read_whole};
 
-use super::{Message, Received, What, byte, held, image_at, plain, refused, word_at};
+use super::{Message, Parsed, What, byte, held, image_at, plain, refused, word_at};
 use answers::Answer;
-use rules::Reading;
+use rules::Instruction;
 
 // Whether the fields of a message are in their ranges, a request's instructions aside.
 pub fn in_range(what: What) -> bool
@@ -14,23 +14,16 @@ pub fn in_range(what: What) -> bool
 {
     match what {
         What::Event { way } => (1 <= way) & (way <= 4),
-        What::Result {
-            issue: _,
-            number: _,
-            ending,
-        } => ending <= 2,
-        What::Answer {
-            number,
-            place,
-            issue: _,
-        } => answers::in_table(number) & ((place <= 7) | (place == answers::NOWHERE)),
+        What::Result { ending, .. } => ending <= 2,
+        What::Answer { number, place, .. } => answers::in_table(number)
+            & ((place <= 7) | (place == answers::NOWHERE)),
         _ => true,
     }
 }
 
 // A message of a kind whose body has one size: taken if it is n bytes long and its fields are in their ranges.
-fn sized(m: &[u8], n: usize, what: What) -> Received
-    ensures { result ≡ sized m.now n what }
+fn sized(m: &[u8], n: usize, what: What) -> Parsed
+    ensures { result ≡ as_parsed (sized m.now n what) }
 {
     let used = m.len();
     if used != n {
@@ -38,22 +31,18 @@ fn sized(m: &[u8], n: usize, what: What) -> Received
     }
     if in_range(what) {
         let message = plain(what);
-        return Received {
-            answer: Answer::Taken,
+        return Parsed {
             used,
-            message,
+            says: Ok(message),
         };
     }
     refused(Answer::BadField(answers::NOWHERE), used)
 }
 
-fn is_bad(one: Reading) -> bool
+fn is_bad(one: Option<Instruction>) -> bool
     ensures { result ≡ is_bad one }
 {
-    match one {
-        Reading::Good(_) => false,
-        Reading::Bad => true,
-    }
+    one.is_none()
 }
 
 // The least bad instruction of a request of n, or n where none is: each is read from its own five bytes.
@@ -61,21 +50,19 @@ pub fn least_bad(m: &[u8], n: u8) -> u8
     requires { (n ≤ 8) × (5 + 5 * n ≤ length m.now) }
     ensures { result ≡ least n (bad_in (drop first_instruction m.now)) }
 {
-    let mut i: u8 = 0;
-    while i < n {
+    for i in 0..n {
         let at = 5 + 5 * (i as usize);
         let one = rules::read_bytes(&m[at..]);
         if is_bad(one) {
             return i;
         }
-        i += 1;
     }
     n
 }
 
 // A request whose bytes are exactly m.
-pub fn read_request(m: &[u8]) -> Received
-    ensures { result ≡ read_request m.now }
+pub fn read_request(m: &[u8]) -> Parsed
+    ensures { result ≡ as_parsed (read_request m.now) }
 {
     let used = m.len();
     let count = byte(m, 4);
@@ -95,16 +82,15 @@ pub fn read_request(m: &[u8]) -> Received
         count,
         set,
     };
-    Received {
-        answer: Answer::Taken,
+    Parsed {
         used,
-        message,
+        says: Ok(message),
     }
 }
 
 // A message whose bytes are exactly m, of a kind besides requests that a station reads.
-pub fn among(m: &[u8]) -> Received
-    ensures { result ≡ read_among kinds_asked m.now }
+pub fn among(m: &[u8]) -> Parsed
+    ensures { result ≡ as_parsed (read_among kinds_asked m.now) }
 {
     let kind = word_at(m, 2);
     match kind {
@@ -129,8 +115,8 @@ pub fn among(m: &[u8]) -> Received
 }
 
 // The same with requests.
-pub fn whole_asked(m: &[u8]) -> Received
-    ensures { result ≡ read_whole kinds_asked m.now }
+pub fn whole_asked(m: &[u8]) -> Parsed
+    ensures { result ≡ as_parsed (read_whole kinds_asked m.now) }
 {
     let kind = word_at(m, 2);
     if kind == 1 {
@@ -140,8 +126,8 @@ pub fn whole_asked(m: &[u8]) -> Received
 }
 
 // The same for any kind.
-pub fn whole(m: &[u8]) -> Received
-    ensures { result ≡ read_whole kinds_known m.now }
+pub fn whole(m: &[u8]) -> Parsed
+    ensures { result ≡ as_parsed (read_whole kinds_known m.now) }
 {
     let kind = word_at(m, 2);
     match kind {

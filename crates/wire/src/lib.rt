@@ -2,10 +2,11 @@
 // mean stands in specs/.
 #![tactic(auto)]
 
-ghost use Rattle.std.specs.Prelude.{◌≡◌, [], ◌∷◌, ◌++◌, ◌≤◌, ◌<◌, ◌-◌, ◌*◌, get_or, length, replicate};
+ghost use Rattle.std.specs.Prelude.{◌≡◌, [], ◌∷◌, ◌++◌, ◌≤◌, ◌<◌, ◌-◌, get_or, length, replicate};
+ghost use Rattle.std.specs.declared.result.Result.TheVariants.{Err};
 ghost use Rattle.codec.specs.Bytes.{little_endian, from_little_endian};
 ghost use Rattle.wire.specs.Kinds.{kinds_asked, plain, set_of};
-ghost use Rattle.wire.specs.Reads.{kind_at, frame_of, message_refused, said_in, read_request, read_among, read_message, read_asked};
+ghost use Rattle.wire.specs.Reads.{kind_at, frame_of, as_parsed, said_in, read_request, read_among, read_message, read_asked};
 
 use answers::Answer;
 
@@ -25,6 +26,7 @@ pub enum What {
 }
 
 // A message: a request's instructions are held as their own five bytes each, the unused places zero.
+// Kept: the count beside its array, as theorem InstructionsOneForm names them; there is no heap.
 #[derive(Clone, Copy)]
 pub struct Message {
     pub what: What,
@@ -32,29 +34,15 @@ pub struct Message {
     pub set: [u8; 40],
 }
 
-// What a reader answers: how many bytes the message took, none where they can't be told, and what it says, a blank one if refused.
+// What a reader answers: how many bytes the message took, none where they can't be told, and the message, or why it is refused.
 #[derive(Clone, Copy)]
-pub struct Received {
-    pub answer: Answer,
+pub struct Parsed {
     pub used: usize,
-    pub message: Message,
-}
-
-// What a message that is no request says: Taken and what it asks or tells, or why it is refused.
-#[derive(Clone, Copy)]
-pub struct Said {
-    pub answer: Answer,
-    pub what: What,
-}
-
-// What a call that writes answers, and how many bytes it wrote.
-#[derive(Clone, Copy)]
-pub struct Written {
-    pub answer: Answer,
-    pub size: usize,
+    pub says: Result<Message, Answer>,
 }
 
 // How far the first message of some bytes goes, by its length alone: cut short, of a wrong length, or so many bytes.
+// Kept: no Result, since neither of the others is its one error: a run waits for the rest of the one and ends at the other.
 #[derive(Clone, Copy)]
 pub enum Frame {
     Cut,
@@ -74,18 +62,11 @@ pub fn byte(s: &[u8], i: usize) -> u8
     0
 }
 
-// What the higher of two bytes counts.
-fn higher(b: u8) -> u16
-    ensures { result ≡ 256 * b }
-{
-    256 * (b as u16)
-}
-
 // Two bytes as a number, the lower first.
 pub fn word(low: u8, high: u8) -> u16
     ensures { result ≡ from_little_endian 2 0 (low ∷ high ∷ []) }
 {
-    low as u16 + higher(high)
+    u16::from_le_bytes([low, high])
 }
 
 // The number that two bytes say from place i on, the lower first; bytes that are not there count as zero.
@@ -103,11 +84,16 @@ fn image_at(s: &[u8], i: usize) -> u64
     requires { i < 39 }
     ensures { result ≡ from_little_endian 8 i s.now }
 {
-    let a = word_at(s, i) as u64;
-    let b = word_at(s, i + 2) as u64;
-    let c = word_at(s, i + 4) as u64;
-    let d = word_at(s, i + 6) as u64;
-    a + 65536 * (b + 65536 * (c + 65536 * d))
+    u64::from_le_bytes([
+        byte(s, i),
+        byte(s, i + 1),
+        byte(s, i + 2),
+        byte(s, i + 3),
+        byte(s, i + 4),
+        byte(s, i + 5),
+        byte(s, i + 6),
+        byte(s, i + 7),
+    ])
 }
 
 // The same of the first eight.
@@ -117,28 +103,11 @@ pub fn image_of(s: &[u8]) -> u64
     image_at(s, 0)
 }
 
-// Byte k of a number, the lowest first.
-fn byte_in(x: u64, k: u64) -> u8
-    requires { k < 8 }
-    ensures { result ≡ get_or (little_endian 8 x) k 0 }
-{
-    ((x >> (8 * k)) % 256) as u8
-}
-
 // The eight bytes that say a number, the lowest first.
 pub fn image_bytes(x: u64) -> [u8; 8]
     ensures { result ≡ little_endian 8 x }
 {
-    [
-        byte_in(x, 0),
-        byte_in(x, 1),
-        byte_in(x, 2),
-        byte_in(x, 3),
-        byte_in(x, 4),
-        byte_in(x, 5),
-        byte_in(x, 6),
-        byte_in(x, 7),
-    ]
+    u64::to_le_bytes(x)
 }
 
 // At most forty bytes as the places of a set, the unused ones zero.
@@ -202,14 +171,12 @@ pub fn plain(what: What) -> Message
     }
 }
 
-fn refused(answer: Answer, used: usize) -> Received
-    ensures { result ≡ message_refused answer used }
+fn refused(answer: Answer, used: usize) -> Parsed
+    ensures { result ≡ record { used = used; says = Err answer } }
 {
-    let message = plain(What::Ask);
-    Received {
-        answer,
+    Parsed {
         used,
-        message,
+        says: Err(answer),
     }
 }
 
@@ -221,29 +188,27 @@ pub fn kind_at(m: &[u8]) -> u16
 }
 
 // A request whose bytes are exactly m.
-pub fn request_in(m: &[u8]) -> Received
-    ensures { result ≡ read_request m.now }
+pub fn request_in(m: &[u8]) -> Parsed
+    ensures { result ≡ as_parsed (read_request m.now) }
 {
     kinds::read_request(m)
 }
 
 // What a message whose bytes are exactly m says to a station, if it is no request: no set is filled in.
-pub fn saying(m: &[u8]) -> Said
+pub fn saying(m: &[u8]) -> Result<What, Answer>
     ensures { result ≡ said_in (read_among kinds_asked m.now) }
 {
-    let r = kinds::among(m);
-    let answer = r.answer;
-    let message = r.message;
-    let what = message.what;
-    Said { answer, what }
+    match kinds::among(m).says {
+        Ok(message) => Ok(message.what),
+        Err(answer) => Err(answer),
+    }
 }
 
 // The first message of s, of any kind; what stands after it is not looked at.
-pub fn read(s: &[u8]) -> Received
-    ensures { result ≡ read_message s.now }
+pub fn read(s: &[u8]) -> Parsed
+    ensures { result ≡ as_parsed (read_message s.now) }
 {
-    let frame = framed(s);
-    match frame {
+    match framed(s) {
         Frame::Cut => refused(Answer::TooFewBytes, 0),
         Frame::Wrong => refused(Answer::BadLength, 0),
         Frame::Whole(n) => kinds::whole(&s[..n]),
@@ -251,11 +216,10 @@ pub fn read(s: &[u8]) -> Received
 }
 
 // The same for a station, to which kinds 128 and 129 are unknown.
-pub fn read_asked(s: &[u8]) -> Received
-    ensures { result ≡ read_asked s.now }
+pub fn read_asked(s: &[u8]) -> Parsed
+    ensures { result ≡ as_parsed (read_asked s.now) }
 {
-    let frame = framed(s);
-    match frame {
+    match framed(s) {
         Frame::Cut => refused(Answer::TooFewBytes, 0),
         Frame::Wrong => refused(Answer::BadLength, 0),
         Frame::Whole(n) => kinds::whole_asked(&s[..n]),

@@ -14,13 +14,15 @@ use Rattle.codec.specs.Bytes.{little_endian, from_little_endian}
 use Rattle.answers.specs.declared.Answer.{Answer}
 use Rattle.answers.specs.declared.Answer.TheVariants.{Taken, TooMany, BadField, NoRoom}
 use Rattle.answers.specs.Answers.{number_of, nowhere}
+use Rattle.std.specs.declared.result.Result.TheVariants.{Ok}
 use Rattle.wire.specs.declared.What.{What}
 use Rattle.wire.specs.declared.What.TheVariants.{Request, Event, Result, Image, Ask, Answer as AnswerOf, Held}
 use Rattle.wire.specs.declared.Message.{Message}
-use Rattle.wire.specs.declared.Received.{Received}
+use Rattle.wire.specs.Reads.{Received}
 use Rattle.wire.specs.Kinds.{kind_of, request_kind, in_range, plain, requesting}
 use Rattle.wire.specs.Reads.{bad_in, message_taken, read_request, read_whole, read_message}
 use Rattle.wire.specs.Writes.{Writing, message_bytes, nothing_written, is_request, writing_message, one_form}
+use Rattle.wire.proofs.Results.{number_said, size_said}
 use Rattle.wire.proofs.Room.{asking}
 use Rattle.wire_laws.specs.Statements.{MessageTyped, ReadsBack}
 use Rattle.codec.proofs.Numbers.{number_back, two_back, two_bytes}
@@ -38,10 +40,10 @@ pub record Good (m : Message) : Type 0 where
 -- and it was: all of it stands at the start of the room
 pub record Wrote (m : Message) (room : List ℕ) : Type 0 where
   pub good : Good m
-  pub all : writing_message m room ≡ record { says = record { answer = Taken; size = length (message_bytes m) }; leaves = message_bytes m ++ drop (length (message_bytes m)) room }
+  pub all : writing_message m room ≡ record { says = Ok (length (message_bytes m)); leaves = message_bytes m ++ drop (length (message_bytes m)) room }
 
 abbrev number_of_lem : Writing → ℕ
-number_of_lem w = number_of w.says.answer
+number_of_lem w = number_said w.says
 
 -- the way of a chain of refusals to its end
 passed : {G : Type 0} (a : Answer) (room : List ℕ) → 0 < number_of a → number_of_lem (nothing_written a room) ≡ 0 → G
@@ -51,10 +53,10 @@ branch : {G : Type 0} (t : Bool) (x y : Writing) → number_of_lem (cond t x y) 
 branch true x y e f g = f refl e
 branch false x y e f g = g refl e
 
-pub wrote : (m : Message) (room : List ℕ) → (writing_message m room).says.answer ≡ Taken → Wrote m room
+pub wrote : (m : Message) (room : List ℕ) (n : ℕ) → (writing_message m room).says ≡ Ok n → Wrote m room
 unfolding writing_message
-wrote m room e =
-    branch (is_request m && ltb 8 m.count) (nothing_written TooMany room) _ (ap number_of e) (λ _ z. passed TooMany room (omega arith) z)
+wrote m room n e =
+    branch (is_request m && ltb 8 m.count) (nothing_written TooMany room) _ (ap number_said e) (λ _ z. passed TooMany room (omega arith) z)
     (λ a z. branch (is_request m && ltb (least m.count (bad_in m.set)) m.count) _ _ z (λ _ z. passed (BadField 0) room (omega arith) z)
     (λ b z. branch (in_range m.what) _ _ z
     (λ c z. branch (ltb (length room) (length (message_bytes m))) _ _ z (λ _ z. passed NoRoom room (omega arith) z)
@@ -148,6 +150,7 @@ bytes_back m t p g = split (is_request m)
     (λ r. plain_back m.what m.count m.set t p g r ∙ ap (λ (a : Message). message_taken a (length (message_bytes m))) (sym (plain_form m r)))
 
 pub reads_back : ReadsBack
-reads_back m room p e =
-    let w = wrote m room e in
-    rw w.all (bytes_back m (drop (length (message_bytes m)) room) p w.good)
+reads_back m room n p e =
+    let w = wrote m room n e in
+    let size : length (message_bytes m) ≡ n = ap size_said (sym (ap (λ (x : Writing). x.says) w.all) ∙ e) in
+    rw w.all (bytes_back m (drop (length (message_bytes m)) room) p w.good ∙ ap (message_taken (one_form m)) size)

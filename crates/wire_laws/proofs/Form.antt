@@ -12,6 +12,7 @@ use Rattle.bits.specs.Search.{least}
 use Rattle.codec.specs.Bytes.{little_endian, from_little_endian, Bytes}
 use Rattle.answers.specs.declared.Answer.TheVariants.{Taken, BadLength, BadField, TooMany, UnknownKind}
 use Rattle.answers.specs.Answers.{nowhere}
+use Rattle.std.specs.declared.result.Result.TheVariants.{Ok}
 use Rattle.wire.specs.declared.What.TheVariants.{Request}
 use Rattle.wire.specs.declared.Message.{Message}
 use Rattle.wire.specs.Kinds.{SizedKind, kinds_known, kind_of, body_of, request_kind, in_range, plain, requesting}
@@ -168,8 +169,8 @@ request_meant m msg n kind e =
 
 -- bytes put where they stand
 pub put_over : (s bytes : List ℕ) (n : ℕ) → take n s ≡ bytes → n ≤ length s → length bytes ≡ n
-    → put bytes s ≡ record { says = record { answer = Taken; size = n }; leaves = s }
-put_over s bytes n e h l = rw (l, le-ltb (length s) n h) (ap (λ (r : List ℕ). record { says = record { answer = Taken; size = n }; leaves = r }) (ap (λ (x : List ℕ). x ++ drop n s) (sym e) ∙ take-append-drop n s))
+    → put bytes s ≡ record { says = Ok n; leaves = s }
+put_over s bytes n e h l = rw (l, le-ltb (length s) n h) (ap (λ (r : List ℕ). record { says = Ok n; leaves = r }) (ap (λ (x : List ℕ). x ++ drop n s) (sym e) ∙ take-append-drop n s))
 
 pub whole_meant : (m : List ℕ) (msg : Message) (n : ℕ) → Bytes m → read_whole kinds_known m ≡ message_taken msg n → Meant m msg n
 unfolding read_whole

@@ -11,7 +11,7 @@ use Rattle.answers.specs.declared.Answer.{Answer}
 use Rattle.answers.specs.declared.Answer.TheVariants.{TooFewBytes, BadLength}
 use Rattle.answers.specs.Answers.{number_of}
 use Rattle.wire.specs.declared.Message.{Message}
-use Rattle.wire.specs.declared.Received.{Received}
+use Rattle.wire.specs.Reads.{Received}
 use Rattle.wire.specs.declared.Frame.{Frame}
 use Rattle.wire.specs.declared.Frame.TheVariants.{Cut, Wrong, Whole}
 use Rattle.wire.specs.Kinds.{kinds_known}

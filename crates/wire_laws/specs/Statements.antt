@@ -6,15 +6,16 @@ use Rattle.std.specs.Prelude.{◌≡◌, true, List, ℕ, ◌≤◌, ◌*◌, �
 use Rattle.bits.specs.Search.{IsLeast}
 use Rattle.codec.specs.Bytes.{Bytes}
 use Rattle.rules.specs.declared.Instruction.{Instruction}
-use Rattle.rules.specs.declared.Reading.TheVariants.{Good}
+use Rattle.std.specs.declared.option.Option.TheVariants.{Some}
 use Rattle.rules.specs.Rules.{well_formed}
 use Rattle.rules.specs.Codes.{bytes_of, code_from, read_code}
 use Rattle.answers.specs.declared.Answer.TheVariants.{Taken, UnknownKind, BadField}
 use Rattle.answers.specs.Answers.{nowhere}
+use Rattle.std.specs.declared.result.Result.TheVariants.{Ok}
 use Rattle.wire.specs.declared.What.{What}
 use Rattle.wire.specs.declared.What.TheVariants.{Request, Event, Result, Image, Ask, Answer, Held}
 use Rattle.wire.specs.declared.Message.{Message}
-use Rattle.wire.specs.declared.Received.{Received}
+use Rattle.wire.specs.Reads.{Received}
 use Rattle.wire.specs.declared.Frame.TheVariants.{Whole}
 use Rattle.wire.specs.Kinds.{first_instruction, request_kind}
 use Rattle.wire.specs.Reads.{frame_of, kind_at, message_refused, message_taken, bad_in, read_message, read_asked}
@@ -59,14 +60,14 @@ pub record MessageTyped (m : Message) : Type 0 where
 
 -- a message that was written reads back as what was meant, whatever stands after it in the room
 abbrev pub ReadsBack : Type 0
-ReadsBack = (m : Message) (room : List ℕ) → MessageTyped m → (writing_message m room).says.answer ≡ Taken
-    → read_message (writing_message m room).leaves ≡ message_taken (one_form m) (writing_message m room).says.size
+ReadsBack = (m : Message) (room : List ℕ) (n : ℕ) → MessageTyped m → (writing_message m room).says ≡ Ok n
+    → read_message (writing_message m room).leaves ≡ message_taken (one_form m) n
 
 -- a message that was read: its bytes are those of its meaning, its unused places are zero, and writing it over them changes nothing
 pub record Form (s : List ℕ) (m : Message) (n : ℕ) : Type 0 where
   pub bytes : take n s ≡ message_bytes m
   pub unused : one_form m ≡ m
-  pub written : writing_message m s ≡ record { says = record { answer = Taken; size = n }; leaves = s }
+  pub written : writing_message m s ≡ record { says = Ok n; leaves = s }
 
 -- bytes that read as a meaning are exactly the bytes that writing it gives
 abbrev pub OneForm : Type 0
@@ -80,7 +81,7 @@ five_of m i = take 5 (drop (5 * i) m.set)
 abbrev pub InstructionsOneForm : Type 0
 InstructionsOneForm = (s : List ℕ) (m : Message) (n : ℕ) → Bytes s → read_message s ≡ message_taken m n → is_request m ≡ true
     → (i : ℕ) → i < m.count
-    → (j : Instruction) × (read_code (code_from (drop (5 * i) m.set)) ≡ Good j) × (well_formed j ≡ true) × (five_of m i ≡ bytes_of j)
+    → (j : Instruction) × (read_code (code_from (drop (5 * i) m.set)) ≡ Some j) × (well_formed j ≡ true) × (five_of m i ≡ bytes_of j)
 
 -- the place of a reader's 4: in a request the least bad of the instructions after the count, in any other message nowhere
 abbrev pub Placed : (List ℕ → Received) → Type 0

@@ -2,11 +2,10 @@
 use Rattle.cards.proofs.Listing.{fill_starts, fills, fill_ends, element, all_new, no_new}
 use mathlib.Core.Path.{ap, ap₂, ◌∙◌}
 use mathlib.Core.Bool.{Bool}
-use Prim.Native.Nat.{ℕ, ◌-◌}
+use Prim.Native.Nat.{ℕ}
 use native.Mathlib.Omega.{arith}
 use Rattle.bits.proofs.Cases.{passed, failed}
-use Rattle.cards.specs.Private.{source_of}
-use Rattle.cards.specs.Following.{number_at}
+use Rattle.cards.specs.Private.{number_from, source_of}
 use Rattle.cards.specs.Held.{numbers_in}
 use Rattle.cards.proofs.numbers_after.Goals as goal
 
@@ -23,7 +22,7 @@ loop-j-preserved c =
     let from =
     c.source.ensures
     ∙ ap₂ (λ (b : Bool) (k : ℕ). source_of a.i b k) c.low-at.ensures c.place_of.ensures in
-    let at_source = c.number_at.ensures ∙ ap (number_at (numbers_in a.n)) from in
+    let at_source = c.number_at.ensures ∙ ap (number_from (numbers_in a.n)) from in
     (fills c.loop-j.invariant.0 (omega arith) (at_source ∙ element a.i a.r a.n c.loop-j.j (omega arith) well), (omega arith))
 
 pub returns : goal.returns

@@ -1,6 +1,5 @@
 -- `cards::numbers_given` meets its contract: the loop fills the array by element (proofs/Giving.antt). Assumes nothing.
 use native.Mathlib.Omega.{arith}
-use Prim.Native.Nat.{◌-◌}
 use Rattle.cards.proofs.Giving.{giving_starts, gives_turn, giving_ends}
 use Rattle.cards.proofs.numbers_given.Goals as goal
 

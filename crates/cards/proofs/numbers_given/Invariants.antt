@@ -1,10 +1,6 @@
-use Prim.Native.Nat.{◌-◌}
 use Rattle.bits.specs.Bits.{bit}
 use Rattle.cards.proofs.Giving.{Giving}
 use Rattle.cards.proofs.numbers_given.Given as goal
 
 abbrev pub invariant-loop-j : goal.invariant-loop-j
 invariant-loop-j l = Giving (bit l.r) l.ns l.new l.t l.j
-
-abbrev pub decreases-loop-j : goal.decreases-loop-j
-decreases-loop-j l = 42 - l.j

@@ -1,9 +1,7 @@
 -- `cards::one_repeats` meets its contract: each element in turn (proofs/Seeking.antt). Assumes nothing.
 use native.Mathlib.Omega.{arith}
 use mathlib.Core.Path.{sym, ◌∙◌}
-use Prim.Native.Nat.{◌-◌}
 use Rattle.bits.proofs.Least.{start, turn}
-use Rattle.cards.specs.Private.{repeats}
 use Rattle.cards.proofs.Seeking.{one_does, none_does}
 use Rattle.cards.proofs.one_repeats.Goals as goal
 

@@ -1,6 +1,5 @@
 -- `cards::stand_right` meets its contract: each element in turn (proofs/Seeking.antt). Assumes nothing.
 use native.Mathlib.Omega.{arith}
-use Prim.Native.Nat.{◌-◌}
 use Rattle.bits.proofs.Least.{start, turn}
 use Rattle.cards.proofs.Seeking.{stands_wrong, stands_right, stand_all}
 use Rattle.cards.proofs.stand_right.Goals as goal

@@ -1,6 +1,5 @@
 -- `checksum::tables` meets its contract: entry after entry (proofs/Running.antt). Assumes nothing.
-use mathlib.Core.Path.{◌∙◌}
-use Prim.Native.Nat.{◌-◌}
+use mathlib.Core.Path.{◌≡◌, ◌∙◌}
 use native.Mathlib.Omega.{arith}
 use Rattle.checksum.proofs.Running.{made_none, made_more, made_all, entry_first, entry_next}
 use Rattle.checksum.proofs.tables.Goals as goal
@@ -15,7 +14,7 @@ pub loop-p-preserved : goal.loop-p-preserved
 loop-p-preserved c = (made_more c.loop-p.invariant.0 (omega arith) (c.eight.ensures ∙ entry_first c.loop-p.p (omega arith)), (omega arith))
 
 pub loop-p-2-init : goal.loop-p-2-init
-loop-p-2-init c = (c.loop-p.invariant.0, (omega arith), (omega arith))
+loop-p-2-init c = let e : c.loop-p.p ≡ 256 = omega arith in (rw e at c.loop-p.invariant.0, (omega arith), (omega arith))
 
 pub bounds-t-p-in-loop-p-2 : goal.bounds-t-p-in-loop-p-2
 bounds-t-p-in-loop-p-2 c = omega (arith, c.loop-p-2.invariant.0.long)

@@ -10,4 +10,4 @@ pub returns-then-image-lt-IMAGE : goal.returns-then-image-lt-IMAGE
 returns-then-image-lt-IMAGE c = image_short _ _ (omega (arith, c.if-room-lt-DESK.false)) c.if-image-lt-IMAGE.true c.say-then-image-lt-IMAGE.ensures
 
 pub returns : goal.returns
-returns c = asked _ _ (omega (arith, c.if-room-lt-DESK.false)) (omega (arith, c.if-image-lt-IMAGE.false)) c.load-d.ensures c.ask-o.ensures c.image_in-b.ensures c.told.ensures c.tell.ensures
+returns c = asked _ _ (omega (arith, c.if-room-lt-DESK.false)) (omega (arith, c.if-image-lt-IMAGE.false)) c.load-d.ensures c.ask.ensures c.image_in-b.ensures c.told.ensures c.tell.ensures

@@ -7,4 +7,4 @@ pub returns-then-room-lt-DESK : goal.returns-then-room-lt-DESK
 returns-then-room-lt-DESK c = short _ _ c.if-room-lt-DESK.true c.say.ensures
 
 pub returns : goal.returns
-returns c = entered _ _ (omega (arith, c.if-room-lt-DESK.false)) c.load-d.ensures c.event-o.ensures c.keep.ensures
+returns c = entered _ _ (omega (arith, c.if-room-lt-DESK.false)) c.load.ensures c.event-o.ensures c.keep.ensures

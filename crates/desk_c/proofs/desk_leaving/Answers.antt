@@ -1,6 +1,5 @@
 -- `desk_c::desk_leaving` meets its contract: either room too short, or the card that is leaving. Assumes nothing.
-use Rattle.desk.specs.declared.Leaving.TheVariants.{Card, Nobody}
-use Rattle.desk_c.proofs.Rooms.{leaving_short, out_short, parted, unfit_parted}
+use Rattle.desk_c.proofs.Rooms.{leaving_short, out_short, card_parted, unfit_parted}
 use native.Mathlib.Omega.{arith}
 use Rattle.desk_c.proofs.desk_leaving.Goals as goal
 
@@ -10,11 +9,12 @@ returns-then-room-lt-DESK c = leaving_short _ _ c.if-room-lt-DESK.true c.say.ens
 pub returns-then-card-lt-CARD : goal.returns-then-card-lt-CARD
 returns-then-card-lt-CARD c = out_short _ _ (omega (arith, c.if-room-lt-DESK.false)) c.if-card-lt-CARD.true c.say-then-card-lt-CARD.ensures
 
-pub returns-in-Card : goal.returns-in-Card
-returns-in-Card c = parted _ _ (omega (arith, c.if-room-lt-DESK.false)) (omega (arith, c.if-card-lt-CARD.false)) c.load-d.ensures c.leaving.ensures (Card _) c.in-Card.is c.put_card.ensures
+pub returns : goal.returns
+returns c =
+    card_parted _ _ (omega (arith, c.if-room-lt-DESK.false)) (omega (arith, c.if-card-lt-CARD.false)) c.load.ensures c.leaving.ensures c.in-Ok.is
+    c.unwrap_or.ensures c.put_card.ensures
 
-pub returns-in-Nobody : goal.returns-in-Nobody
-returns-in-Nobody c = parted _ _ (omega (arith, c.if-room-lt-DESK.false)) (omega (arith, c.if-card-lt-CARD.false)) c.load-d.ensures c.leaving.ensures Nobody c.in-Nobody.is c.put_card-in-Nobody.ensures
-
-pub returns-in-Unfit : goal.returns-in-Unfit
-returns-in-Unfit c = unfit_parted _ _ (omega (arith, c.if-room-lt-DESK.false)) (omega (arith, c.if-card-lt-CARD.false)) c.load-d.ensures c.leaving.ensures c.in-Unfit.is c.say-in-Unfit.ensures
+pub returns-in_default : goal.returns-in_default
+returns-in_default c =
+    unfit_parted _ _ (omega (arith, c.if-room-lt-DESK.false)) (omega (arith, c.if-card-lt-CARD.false)) c.load.ensures c.leaving.ensures
+    c.in_default.field-0 c.in_default.is c.say-in_default.ensures

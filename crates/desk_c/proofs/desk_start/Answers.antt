@@ -12,4 +12,4 @@ pub returns-then-room-lt-DESK : goal.returns-then-room-lt-DESK
 returns-then-room-lt-DESK c = short _ _ c.if-room-lt-DESK.true c.say.ensures
 
 pub returns : goal.returns
-returns c = entered _ _ (omega (arith, c.if-room-lt-DESK.false)) refl (ap (λ (d : Desk). desk_refused d (Told Taken)) c.start-start.ensures) c.keep.ensures
+returns c = entered _ _ (omega (arith, c.if-room-lt-DESK.false)) refl (ap (λ (d : Desk). desk_refused d (Told Taken)) c.start.ensures) c.keep.ensures

@@ -7,4 +7,4 @@ pub returns-then-room-lt-DESK : goal.returns-then-room-lt-DESK
 returns-then-room-lt-DESK c = where_short _ _ c.if-room-lt-DESK.true c.say.ensures
 
 pub returns : goal.returns
-returns c = where_said_lem _ _ (omega (arith, c.if-room-lt-DESK.false)) c.load-d.ensures c.whereabouts.ensures c.place_told.ensures
+returns c = where_said_lem _ _ (omega (arith, c.if-room-lt-DESK.false)) c.load.ensures c.whereabouts.ensures c.place_told.ensures

@@ -4,4 +4,4 @@ use Rattle.desk_c.proofs.Rooms.{as_shows}
 use Rattle.desk_c.proofs.keep.Goals as goal
 
 pub returns : goal.returns
-returns c = as_shows _ _ _ c.stored-b.ensures (omega arith) c.told.ensures c.tell.ensures
+returns c = as_shows _ _ _ c.stored.ensures (omega arith) c.told.ensures c.tell.ensures

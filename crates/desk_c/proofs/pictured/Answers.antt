@@ -10,8 +10,8 @@ returns-then-run-size c = few_numbers _ _ _ _ _ c.lent-size.ensures c.if-run-siz
 pub slice_bounds-padded-end : goal.slice_bounds-padded-end
 slice_bounds-padded-end c = sym (length-take-le _ _ c.if-run-size.false)
 
-pub padded-b-requires : goal.padded-b-requires
-padded-b-requires c = rw (length-take-le _ _ c.if-run-size.false) (few_lent c.args.count c.lent-size.ensures)
+pub padded-requires : goal.padded-requires
+padded-requires c = rw (length-take-le _ _ c.if-run-size.false) (few_lent c.args.count c.lent-size.ensures)
 
 pub returns : goal.returns
-returns c = all_numbers _ _ _ _ _ c.lent-size.ensures c.if-run-size.false c.padded-b.ensures c.given-numbers.ensures c.image.ensures
+returns c = all_numbers _ _ _ _ _ c.lent-size.ensures c.if-run-size.false c.padded.ensures c.given.ensures c.image.ensures

@@ -4,4 +4,4 @@ use Rattle.rooms.proofs.Rooms.{as_writes}
 use Rattle.desk_c.proofs.put_card.Goals as goal
 
 pub returns : goal.returns
-returns c = as_writes _ _ _ c.four_bytes-four.ensures (omega arith) c.say.ensures c.tell.ensures
+returns c = as_writes _ _ _ c.four_bytes.ensures (omega arith) c.say.ensures c.tell.ensures

@@ -11,4 +11,4 @@ pub slice_bounds-set_of-end : goal.slice_bounds-set_of-end
 slice_bounds-set_of-end c = sym (length-take-le _ _ c.if-set-size.false)
 
 pub returns : goal.returns
-returns c = all_instructions _ _ _ c.lent-size.ensures c.if-set-size.false c.set_of-five_each.ensures c.request.ensures
+returns c = all_instructions _ _ _ c.lent-size.ensures c.if-set-size.false c.set_of.ensures c.request.ensures

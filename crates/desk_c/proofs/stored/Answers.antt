@@ -4,4 +4,4 @@ use borrow.Author.Rules.{rules}
 use Rattle.desk_c.proofs.stored.Goals as goal
 
 pub returns : goal.returns
-returns c = desk_laid c.args.d _ _ _ (search rules) c.station_bytes-s.ensures (c.copy.ensures.all (search rules)).1 c.put_numbers.ensures
+returns c = desk_laid c.args.d _ _ _ (search rules) c.station_bytes.ensures (c.copy.ensures.all (search rules)).1 c.put_numbers.ensures

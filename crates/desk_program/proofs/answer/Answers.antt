@@ -5,4 +5,4 @@ use mathlib.Core.Path.{refl}
 use Rattle.desk_program.proofs.answer.Goals as goal
 
 pub returns : goal.returns
-returns c = (goes c.args.d c.args.buf.now c.args.end c.args.out.now c.args.sent.now c.requires.1.1 c.serve-w.ensures c.hold-have.ensures (not c.say-said.result) refl, as_desk_turn c.args.d c.args.buf.now c.args.end c.args.out.now c.args.sent.now c.requires.1.1 c.serve-w.ensures c.hold-have.ensures (not c.say-said.result) refl)
+returns c = (goes c.args.d c.args.buf.now c.args.end c.args.out.now c.args.sent.now c.requires.1.1 c.serve-w.ensures c.hold-have.ensures (not c.is_ok-said.result) refl, as_desk_turn c.args.d c.args.buf.now c.args.end c.args.out.now c.args.sent.now c.requires.1.1 c.serve-w.ensures c.hold-have.ensures (not c.is_ok-said.result) refl)

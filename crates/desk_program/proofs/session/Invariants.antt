@@ -5,8 +5,5 @@ use mathlib.Core.Bool.{false}
 use mathlib.Core.Path.{◌≡◌}
 use Rattle.desk_program.proofs.session.Given as goal
 
-abbrev pub invariant-loop-turns : goal.invariant-loop-turns
-invariant-loop-turns l = (length l.buf ≡ length l.initial.buf) × (length l.out ≡ length l.initial.out) × (length l.sent ≡ length l.initial.sent) × DeskGoes l.b l.buf × (l.b.stop ≡ false)
-
-abbrev pub decreases-loop-turns : goal.decreases-loop-turns
-decreases-loop-turns l = l.turns
+abbrev pub invariant-loop : goal.invariant-loop
+invariant-loop l = (length l.buf ≡ length l.initial.buf) × (length l.out ≡ length l.initial.out) × (length l.sent ≡ length l.initial.sent) × DeskGoes l.b l.buf × (l.b.stop ≡ false)

@@ -1,4 +1,3 @@
-use Prim.Native.Nat.{◌-◌}
 use lib.ListN.{replicate}
 use Rattle.drawing.specs.Private.{hex_at}
 use Rattle.drawing.proofs.Tables.{Filled}
@@ -6,6 +5,3 @@ use Rattle.drawing.proofs.hex_line.Given as goal
 
 abbrev pub invariant-loop-t : goal.invariant-loop-t
 invariant-loop-t l = Filled (hex_at l.image) (replicate 24 0) 24 l.line l.t
-
-abbrev pub decreases-loop-t : goal.decreases-loop-t
-decreases-loop-t l = 24 - l.t

@@ -18,12 +18,6 @@ loop-k-preserved c = packs c.loop-k.invariant c.loop-k-test.true c.bit_in-b.ensu
 pub loop-k-init : goal.loop-k-init
 loop-k-init c = starts
 
-pub bit_in-b-requires : goal.bit_in-b-requires
-bit_in-b-requires c = tt
-
-pub overflow_cast-b : goal.overflow_cast-b
-overflow_cast-b c = tt
-
 pub overflow_mul-acc : goal.overflow_mul-acc
 overflow_mul-acc c =
     let next = packs c.loop-k.invariant c.loop-k-test.true c.bit_in-b.ensures in

@@ -6,12 +6,6 @@ use Rattle.drawing.proofs.marks_stand.Goals as goal
 pub loop-i-init : goal.loop-i-init
 loop-i-init c = start _ _
 
-pub byte-requires : goal.byte-requires
-byte-requires c = tt
-
-pub is_mark-requires : goal.is_mark-requires
-is_mark-requires c = tt
-
 pub returns-then-not-is_mark : goal.returns-then-not-is_mark
 returns-then-not-is_mark c =
     let x = c.args in
@@ -23,9 +17,6 @@ loop-i-preserved c =
     let x = c.args in
     stands_on (is_mark x.apart) x.text.now x.at x.n _ c.byte.ensures c.is_mark.ensures
     c.loop-i.invariant c.loop-i-test.true c.if-not-is_mark.false-raw
-
-pub byte-requires-2 : goal.byte-requires-2
-byte-requires-2 c = tt
 
 pub returns : goal.returns
 returns c =

@@ -1,4 +1,3 @@
-use Prim.Native.Nat.{◌-◌}
 use Rattle.bits.proofs.Least.{Passed}
 use Rattle.drawing.specs.Reading.{is_mark}
 use Rattle.drawing.proofs.Standing.{fails}
@@ -6,6 +5,3 @@ use Rattle.drawing.proofs.marks_stand.Given as goal
 
 abbrev pub invariant-loop-i : goal.invariant-loop-i
 invariant-loop-i l = Passed (fails (is_mark l.apart) l.text l.at l.n) l.n l.i
-
-abbrev pub decreases-loop-i : goal.decreases-loop-i
-decreases-loop-i l = l.n - l.i

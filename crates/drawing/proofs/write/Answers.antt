@@ -7,7 +7,6 @@ pub returns-then-not-has_drawing : goal.returns-then-not-has_drawing
 returns-then-not-has_drawing c =
     not_sound c.args.apart c.args.image
     c.args.room.now c.has_drawing.ensures c.if-not-has_drawing.true-raw
-    c.unwritten.ensures
 
 pub overflow_add-size : goal.overflow_add-size
 overflow_add-size c = omega (arith, c.last_size-size.ensures, last_short c.args.apart c.last_of-lift.result)
@@ -19,7 +18,6 @@ returns-then-room-size c =
     c.args.room.now
     c.has_drawing.ensures c.if-not-has_drawing.false-raw
     c.last_of-lift.ensures c.last_size-size.ensures c.if-room-size.true
-    c.unwritten-then-room-size.ensures
 
 pub overflow_cast-result : goal.overflow_cast-result
 overflow_cast-result c =

@@ -1,5 +1,5 @@
 -- `engine::stepped` meets its contract, by what the conditions say; tilts and runs of the lift at once. Assumes nothing.
-use Rattle.engine.proofs.Answers.{decided, taken, refused, unread, no_gap}
+use Rattle.engine.proofs.Answers.{decided, refused}
 use Rattle.engine.proofs.Ruling.{tilt_judge, tilt_move_lem}
 use Rattle.rows.specs.Private.{whole}
 use Rattle.rules.specs.Verdicts.{judged}
@@ -7,7 +7,7 @@ use Rattle.rules.specs.Rules.{well_formed, clauses, next_record}
 use Rattle.bits.proofs.Cases.{true→T}
 use Rattle.bits.specs.Bits.{bit, image}
 use mathlib.Core.Path.{sym, ap, ◌∙◌}
-use borrow.Author.Rules.{rules}
+use Rattle.std.proofs.Common.{rules}
 use Rattle.engine.proofs.stepped.Goals as goal
 
 pub lift_next-requires : goal.lift_next-requires
@@ -31,14 +31,5 @@ returns-in-Lift c =
     c.lift_next.result
     (c.lift_next.ensures ∙ ap (λ i. image (next_record i (bit a.r))) (sym c.in-Lift.is))
 
-pub next-requires : goal.next-requires
-next-requires c = (c.requires.0, no_gap c.args.i c.args.r c.requires.0 c.told.result c.told.ensures c.in-Allowed.is, c.requires.1)
-
-pub returns-in-Allowed : goal.returns-in-Allowed
-returns-in-Allowed c = taken c.args.i c.args.r c.requires.0 c.told.result c.told.ensures c.next.result c.in-Allowed.is c.next.ensures
-
-pub returns-in-NotAllowed : goal.returns-in-NotAllowed
-returns-in-NotAllowed c = refused c.args.i c.args.r c.requires.0 c.told.result c.told.ensures _ c.in-NotAllowed.is
-
-pub returns-in-IllFormed : goal.returns-in-IllFormed
-returns-in-IllFormed c = unread c.args.i c.args.r c.requires.0 c.told.result c.told.ensures c.in-IllFormed.is
+pub returns-in_err-told-in_default : goal.returns-in_err-told-in_default
+returns-in_err-told-in_default c = refused c.args.i c.args.r c.requires.0 _ c.told.ensures c.from_residual.result _ c.in_err-told-in_default.was (search rules)

@@ -1,13 +1,13 @@
--- `engine::verdict` meets its contract: an area is a well-formed instruction's. Assumes nothing.
-use Rattle.rules.proofs.Answering.{is_verdict, ill_formed}
+-- `engine::verdict` meets its contract, by the area. Assumes nothing.
+use Rattle.rules.proofs.Answering.{ill_formed, is_verdict}
 use Rattle.engine.proofs.Answers.{masked, unmasked}
 use Rattle.engine.proofs.verdict.Goals as goal
 
+pub returns-in_default : goal.returns-in_default
+returns-in_default c = (ill_formed c.args.i c.args.r (unmasked c.args.i c.area.ensures c.in_default.is)).0
+
 pub told-requires : goal.told-requires
-told-requires c = masked c.args.i c.area.result c.area.ensures _ c.in-Mask.is
+told-requires c = masked c.args.i c.area.ensures _ c.in-Some.is
 
-pub returns-in-Mask : goal.returns-in-Mask
-returns-in-Mask c = is_verdict c.args.i c.args.r (masked c.args.i c.area.result c.area.ensures _ c.in-Mask.is).0 c.told.ensures
-
-pub returns-in-IllFormed : goal.returns-in-IllFormed
-returns-in-IllFormed c = (ill_formed c.args.i c.args.r (unmasked c.args.i c.area.result c.area.ensures c.in-IllFormed.is)).0
+pub returns : goal.returns
+returns c = is_verdict c.args.i c.args.r (masked c.args.i c.area.ensures _ c.in-Some.is).0 c.told.ensures

@@ -10,15 +10,3 @@ gaps-requires c = (belts_in c.args.i c.requires c.in-Belts.is).0
 
 pub returns-in-Belts : goal.returns-in-Belts
 returns-in-Belts c = ap not c.gaps.ensures ∙ ap whole (sym c.in-Belts.is)
-
-pub returns-in-Shuttles : goal.returns-in-Shuttles
-returns-in-Shuttles c = ap whole (sym c.in-Shuttles.is)
-
-pub returns-in-Tilt : goal.returns-in-Tilt
-returns-in-Tilt c = ap whole (sym c.in-Tilt.is)
-
-pub returns-in-Lift : goal.returns-in-Lift
-returns-in-Lift c = ap whole (sym c.in-Lift.is)
-
-pub returns-in-Rotate : goal.returns-in-Rotate
-returns-in-Rotate c = ap whole (sym c.in-Rotate.is)

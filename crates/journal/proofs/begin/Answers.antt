@@ -2,4 +2,4 @@
 use Rattle.journal.proofs.begin.Goals as goal
 
 pub returns : goal.returns
-returns c = rw c.start-station.ensures
+returns c = rw c.start.ensures

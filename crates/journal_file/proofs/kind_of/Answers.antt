@@ -11,17 +11,17 @@ slice_bounds-is_text-end c = sym (length-take-le 20 c.args.m.now (omega arith))
 pub returns-then-not-is_text : goal.returns-then-not-is_text
 returns-then-not-is_text c = no_journal (crc_by c.args.t.now) _ c.is_text.ensures c.if-not-is_text.true-raw
 
-pub returns-then-m-ne2 : goal.returns-then-m-ne2
-returns-then-m-ne2 c = other_format (crc_by c.args.t.now) _ c.is_text.ensures c.if-not-is_text.false-raw c.if-m-ne2.true
+pub returns-then-m-ne-FORMAT : goal.returns-then-m-ne-FORMAT
+returns-then-m-ne-FORMAT c = other_format (crc_by c.args.t.now) _ c.is_text.ensures c.if-not-is_text.false-raw c.if-m-ne-FORMAT.true
 
 pub slice_bounds-continue_by-end : goal.slice_bounds-continue_by-end
 slice_bounds-continue_by-end c = sym (length-take-le 124 c.args.m.now (omega arith))
 
 pub returns-then-four_at-continue_by : goal.returns-then-four_at-continue_by
-returns-then-four_at-continue_by c = damaged (crc_by c.args.t.now) _ c.is_text.ensures c.if-not-is_text.false-raw c.if-m-ne2.false c.four_at.ensures c.continue_by.ensures c.if-four_at-continue_by.true
+returns-then-four_at-continue_by c = damaged (crc_by c.args.t.now) _ c.is_text.ensures c.if-not-is_text.false-raw c.if-m-ne-FORMAT.false c.four_at.ensures c.continue_by.ensures c.if-four_at-continue_by.true
 
 pub returns-then-not-fit : goal.returns-then-not-fit
-returns-then-not-fit c = unfit (crc_by c.args.t.now) _ c.is_text.ensures c.if-not-is_text.false-raw c.if-m-ne2.false c.four_at.ensures c.continue_by.ensures c.if-four_at-continue_by.false c.fit.ensures c.requires.1 c.if-not-fit.true-raw
+returns-then-not-fit c = unfit (crc_by c.args.t.now) _ c.is_text.ensures c.if-not-is_text.false-raw c.if-m-ne-FORMAT.false c.four_at.ensures c.continue_by.ensures c.if-four_at-continue_by.false c.fit.ensures c.requires.1 c.if-not-fit.true-raw
 
 pub returns : goal.returns
-returns c = good (crc_by c.args.t.now) _ c.is_text.ensures c.if-not-is_text.false-raw c.if-m-ne2.false c.four_at.ensures c.continue_by.ensures c.if-four_at-continue_by.false c.fit.ensures c.requires.1 c.if-not-fit.false-raw
+returns c = good (crc_by c.args.t.now) _ c.is_text.ensures c.if-not-is_text.false-raw c.if-m-ne-FORMAT.false c.four_at.ensures c.continue_by.ensures c.if-four_at-continue_by.false c.fit.ensures c.requires.1 c.if-not-fit.false-raw

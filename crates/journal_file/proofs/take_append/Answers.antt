@@ -1,4 +1,4 @@
-use Rattle.journal_file.proofs.Taking.{none_whole, none_behind, a_mark, messages_in, carries_most, carries_within, messages_many}
+use Rattle.journal_file.proofs.Taking.{none_whole, none_behind, a_mark, messages_in, carries_most, carries_within, messages_many, has_messages, has_none}
 use Rattle.checksum.specs.Slices.{crc_by}
 use borrow.Author.Rules.{rules}
 use Rattle.journal_file.proofs.take_append.Goals as goal
@@ -24,14 +24,15 @@ take_messages-requires c = (
   messages_many (crc_by c.args.t.now) _ _ _ c.front_of-f.ensures c.if-not-f.false c.lead_in-from.ensures.1,
 )
 
-pub returns-then-f : goal.returns-then-f
-returns-then-f c =
-    messages_in (crc_by c.args.t.now) _ _ _ _ c.front_of-f.ensures c.if-not-f.false c.if-r.false c.if-f.true c.lead_in-from.ensures.1
+pub returns-in-1 : goal.returns-in-1
+returns-in-1 c =
+    messages_in (crc_by c.args.t.now) _ _ _ _ c.front_of-f.ensures c.if-not-f.false c.if-r.false (has_messages _ c.in-1.is) c.lead_in-from.ensures.1
     c.take_messages.ensures
 
 pub take_mark-requires : goal.take_mark-requires
 take_mark-requires c = carries_most (crc_by c.args.t.now) _ _ _ c.front_of-f.ensures c.if-not-f.false
 
-pub returns : goal.returns
-returns c =
-    a_mark (crc_by c.args.t.now) _ _ _ _ c.front_of-f.ensures c.if-not-f.false c.if-r.false c.if-f.false c.take_mark.ensures
+pub returns-in_default : goal.returns-in_default
+returns-in_default c =
+    a_mark (crc_by c.args.t.now) _ _ _ _ c.front_of-f.ensures c.if-not-f.false c.if-r.false (has_none c.front_of-f.result.kind (search rules))
+    c.take_mark.ensures

@@ -1,16 +1,12 @@
-use native.Mathlib.Omega.{arith}
-use Rattle.journal_file.proofs.Zeros.{all_of, zero_before, written_before, none_written}
+use mathlib.Core.Path.{◌≡◌}
+use Prim.Native.Nat.{◌+◌}
 use borrow.Author.Rules.{rules}
+use Rattle.std.specs.Option.{MatchOption}
+use Rattle.journal_file.proofs.Zeros.{Last, written_by}
 use Rattle.journal_file.proofs.written_of.Goals as goal
 
-pub loop-n-init : goal.loop-n-init
-loop-n-init c = (search rules, all_of c.args.m.now)
-
-pub returns-then-m-n-ne0 : goal.returns-then-m-n-ne0
-returns-then-m-n-ne0 c = written_before c.args.m.now _ (omega arith) c.loop-n.invariant.0 c.loop-n.invariant.1 c.if-m-n-ne0.true
-
-pub loop-n-preserved : goal.loop-n-preserved
-loop-n-preserved c = (search rules, zero_before c.args.m.now _ (omega arith) c.loop-n.invariant.0 c.loop-n.invariant.1 c.if-m-n-ne0.false)
-
 pub returns : goal.returns
-returns c = none_written c.args.m.now _ c.loop-n.invariant.1 c.loop-n-test.false
+returns c =
+    let last : Last c.args.m.now c.rposition.result = search rules in
+    let more : MatchOption c.rposition.result (c.map_or.result ≡ 0) (λ i. c.map_or.result ≡ i + 1) = search rules in
+    written_by c.args.m.now c.rposition.result last more

@@ -3,5 +3,5 @@ use Rattle.checksum.specs.Slices.{crc_by}
 use Rattle.journal_files.proofs.Written.{parts_make}
 use Rattle.journal_files.proofs.write_append.Goals as goal
 
-pub write_parts-well-requires : goal.write_parts-well-requires
-write_parts-well-requires c = parts_make (crc_by c.args.t.now) c.args.was c.args.kind c.args.bytes.now c.opening-opening.ensures c.sum_after-sum.ensures c.closing-closing.ensures
+pub write_parts-requires : goal.write_parts-requires
+write_parts-requires c = parts_make (crc_by c.args.t.now) c.args.was c.args.kind c.args.bytes.now c.opening-opening.ensures c.sum_after-sum.ensures c.closing-closing.ensures

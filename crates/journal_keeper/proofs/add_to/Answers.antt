@@ -4,11 +4,11 @@ use Rattle.journal_keeper.proofs.Adding.{adding}
 use Rattle.journal_keeper.proofs.add_to.Goals as goal
 
 pub returns : goal.returns
-returns c = λ numbers after lent j adds q. (
+returns c = λ numbers after lent j adds. (
   refl,
   refl,
   λ k.
       adding c.args.t.now c.args.j.station c.args.next c.args.was c.args.j.length c.args.kind c.args.bytes.now
       c.ranges.was.fits c.ranges.kind.fits (λ i. omega (arith, c.type_inv.bytes i))
-      c.write_append-a.ensures c.wrapping_add_usize.ensures.value c.wrapping_add_usize-length.ensures.value numbers after lent j adds,
+      c.in_ok-sum.ensures refl refl numbers after lent j adds,
 )

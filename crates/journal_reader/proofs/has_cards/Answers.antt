@@ -4,8 +4,8 @@ use Rattle.journal_reader.proofs.has_cards.Goals as goal
 pub returns-then-last_size-eq0 : goal.returns-then-last_size-eq0
 returns-then-last_size-eq0 c = none_has c.args.q c.args.buf.now c.last_size.ensures c.if-last_size-eq0.true
 
-pub bounds-buf-from : goal.bounds-buf-from
-bounds-buf-from c = first_within c.args.q c.args.buf.now c.last_size.ensures c.if-last_size-eq0.false
+pub bounds-buf-q : goal.bounds-buf-q
+bounds-buf-q c = first_within c.args.q c.args.buf.now c.last_size.ensures c.if-last_size-eq0.false
 
 pub returns : goal.returns
 returns c = has_by c.args.q c.args.buf.now c.last_size.ensures c.if-last_size-eq0.false

@@ -13,8 +13,8 @@ returns c =
     written _ _ _
     c.area-area.ensures
     c.if-f-area.false
-    c.verdict-verdict.ensures
-    c.answer-a.ensures
+    c.verdict.ensures
+    c.answer_for-a.ensures
     c.moved-moved.ensures
     c.image.ensures
     c.image_bytes-b.ensures

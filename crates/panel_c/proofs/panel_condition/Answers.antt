@@ -13,13 +13,13 @@ returns-then-five-lt-CODE c = too_few _ _ _ _ (omega (arith, c.if-room-lt-CONDIT
 
 pub returns-in_default : goal.returns-in_default
 returns-in_default c = says_none _ _ _ _ (omega (arith, c.if-room-lt-CONDITION.false))
-    (omega (arith, c.if-five-lt-CODE.false)) c.read_bytes-one.ensures
+    (omega (arith, c.if-five-lt-CODE.false)) c.read_bytes.ensures
     c.in_default.is c.say-in_default.ensures
 
 pub returns-then-not-sound : goal.returns-then-not-sound
 returns-then-not-sound c = not_sound _ _ _ _ (omega (arith, c.if-room-lt-CONDITION.false))
     (omega (arith, c.if-five-lt-CODE.false))
-    c.read_bytes-one.ensures _ c.in-Good.is
+    c.read_bytes.ensures _ c.in-Some.is
     (failed c.sound.ensures c.if-not-sound.true-raw) c.say-then-not-sound.ensures
 
 pub returns : goal.returns
@@ -27,7 +27,7 @@ returns c =
     told_so _ _ _ _
     (omega (arith, c.if-room-lt-CONDITION.false))
     (omega (arith, c.if-five-lt-CODE.false))
-    c.read_bytes-one.ensures _
-    c.in-Good.is (search rules)
+    c.read_bytes.ensures _
+    c.in-Some.is (search rules)
     (passed c.sound.ensures c.if-not-sound.false-raw)
-    c.of_image-f.ensures c.explain.ensures
+    c.of_image.ensures c.explain.ensures

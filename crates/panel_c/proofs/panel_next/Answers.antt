@@ -20,7 +20,7 @@ pub returns-in_default : goal.returns-in_default
 returns-in_default c = says_none _ _ _ (omega (arith, c.if-next-lt-RECORD.false))
     (omega (arith, c.if-five-lt-CODE.false))
     (passed c.sound.ensures c.if-not-sound.false-raw)
-    c.read_bytes-one.ensures c.in_default.is c.say-in_default.ensures
+    c.read_bytes.ensures c.in_default.is c.say-in_default.ensures
 
 pub returns : goal.returns
 returns c =
@@ -29,6 +29,6 @@ returns c =
     (omega (arith, c.if-five-lt-CODE.false))
     (passed c.sound.ensures
     c.if-not-sound.false-raw)
-    c.read_bytes-one.ensures _
-    c.in-Good.is (search rules)
-    c.of_image-f.ensures c.follow.ensures
+    c.read_bytes.ensures _
+    c.in-Some.is (search rules)
+    c.of_image.ensures c.follow.ensures

@@ -1,12 +1,18 @@
 -- `panel_c::plain_event` meets its contract: as every entry on a lent station. Assumes nothing.
-use Rattle.rooms.proofs.Rooms.{short, entered}
-use native.Mathlib.Omega.{arith}
+use mathlib.Core.Path.{◌≡◌}
+use borrow.Author.Rules.{rules}
+use Rattle.station.specs.declared.Station.{Station}
+use Rattle.station.specs.declared.Outcome.{Outcome}
+use Rattle.station.specs.Calls as calls
+use Rattle.rooms.specs.Rooms.{lent_station}
+use Rattle.panel_c.proofs.Rooms.{lent}
 use Rattle.panel_c.proofs.plain_event.Goals as goal
 
-pub returns-then-room-lt-STATION : goal.returns-then-room-lt-STATION
-returns-then-room-lt-STATION c = short _ _ c.if-room-lt-STATION.true c.say.ensures
-
 pub returns : goal.returns
-returns c = entered _ _ (omega (arith, c.if-room-lt-STATION.false))
-    c.station_of-s.ensures c.event-o.ensures
-    c.keep.ensures
+returns c =
+    let e = c.on_lent.ensures in
+    let room = c.args.room.now in
+    let call : Station → Outcome = λ s. calls.event s c.args.way in
+    lent call room e.short (λ h. let m = e.kept h in
+    let d : m.0 ≡ call (lent_station room) = search rules in
+    (m.0, d, m.2))

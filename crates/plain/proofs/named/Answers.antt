@@ -1,8 +1,8 @@
 -- `plain::named` meets its contract: each variant is one case of the definition. Assumes nothing.
 use Rattle.plain.proofs.named.Goals as goal
 
-pub returns-in-On : goal.returns-in-On
-returns-in-On c = rw (← c.belt_of-belt.ensures, c.in-On.is, c.names.ensures)
+pub returns-in-Some : goal.returns-in-Some
+returns-in-Some c = rw (← c.belt_of-belt.ensures, c.in-Some.is, c.names.ensures)
 
-pub returns-in-NoCell : goal.returns-in-NoCell
-returns-in-NoCell c = rw (← c.belt_of-belt.ensures, c.in-NoCell.is)
+pub returns-in-None : goal.returns-in-None
+returns-in-None c = rw (← c.belt_of-belt.ensures, c.in-None.is)

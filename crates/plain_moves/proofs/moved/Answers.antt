@@ -6,16 +6,16 @@ use Rattle.plain_moves.proofs.moved.Goals as goal
 pub after-requires : goal.after-requires
 after-requires c =
     let a = c.args in
-    sym (told_by a.i a.f c.verdict-v.ensures c.in-Allowed.is)
+    sym (told_by a.i a.f c.verdict.ensures c.in-Ok.is)
 
-pub returns-in-Allowed : goal.returns-in-Allowed
-returns-in-Allowed c =
+pub returns-in-Ok : goal.returns-in-Ok
+returns-in-Ok c =
     let a = c.args in
-    moves_on a.i a.f c.verdict-v.ensures (sym (told_by a.i a.f c.verdict-v.ensures c.in-Allowed.is))
+    moves_on a.i a.f c.verdict.ensures (sym (told_by a.i a.f c.verdict.ensures c.in-Ok.is))
     c.after.ensures
 
-pub returns-in-NotAllowed : goal.returns-in-NotAllowed
-returns-in-NotAllowed c = let a = c.args in stays_put a.i a.f c.verdict-v.ensures c.in-NotAllowed.is refl
+pub returns-in-Err-NotAllowed : goal.returns-in-Err-NotAllowed
+returns-in-Err-NotAllowed c = let a = c.args in stays_put a.i a.f c.verdict.ensures c.in-Err-NotAllowed.is refl
 
-pub returns-in-IllFormed : goal.returns-in-IllFormed
-returns-in-IllFormed c = let a = c.args in stays_put a.i a.f c.verdict-v.ensures c.in-IllFormed.is refl
+pub returns-in-Err-IllFormed : goal.returns-in-Err-IllFormed
+returns-in-Err-IllFormed c = let a = c.args in stays_put a.i a.f c.verdict.ensures c.in-Err-IllFormed.is refl

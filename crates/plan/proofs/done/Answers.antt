@@ -9,4 +9,4 @@ pub returns : goal.returns
 returns c =
     let a = c.args in
     let issue : c.wrapping_sub_u16.result ≡ present_issue a.s = omega (arith, c.wrapping_sub_u16.ensures) in
-    ap (λ (o : Outcome). o.station) (c.after-o.ensures ∙ rebuilt a.s _ c.resulted-t.ensures (kept_resulted a.s _ _)) ∙ rw issue
+    ap (λ (o : Outcome). o.station) (c.after.ensures ∙ rebuilt a.s _ c.resulted-t.ensures (kept_resulted a.s _ _)) ∙ rw issue

@@ -9,7 +9,7 @@ use Rattle.plan.proofs.imaged.Goals as goal
 
 pub returns : goal.returns
 returns c =
-    let s = c.args.plan.now in
+    let s = c.args.plan.bytes.now in
     c.after.ensures ∙ rebuilt _ _ c.imaged-t.ensures (kept_imaged _ _ _)
     ∙ imaged_so s c.start-start.ensures c.image_of.ensures
     (c.image_of-apart.ensures ∙ ap (from_little_endian 8 0) (from_on s 8) ∙ number_at 8 8 s)

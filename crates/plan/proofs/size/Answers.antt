@@ -1,5 +1,5 @@
 -- `plan::size` meets its contract: each turn is one set more. Assumes nothing.
-use Rattle.std.proofs.Common.{◌-◌, arith}
+use Rattle.std.proofs.Common.{arith}
 use Rattle.plan.proofs.Walking.{sized_start, sized_turn, sized_end}
 use Rattle.plan.proofs.size.Goals as goal
 

@@ -9,7 +9,7 @@ use Rattle.plan.proofs.weighed.Goals as goal
 use Rattle.plan.proofs.weighed.Goals.{After-number-number}
 
 -- the number that the image is answered with
-numbered : (c : After-number-number) → c.number-number.result ≡ number_of (imaged_at (plan_in c.args.plan.now)).answer
+numbered : (c : After-number-number) → c.number-number.result ≡ number_of (imaged_at (plan_in c.args.plan.bytes.now)).answer
 numbered c = c.number-number.ensures ∙ ap (λ (o : Outcome). number_of o.answer) c.imaged-o.ensures
 
 pub returns-then-number-ne0 : goal.returns-then-number-ne0
@@ -17,14 +17,14 @@ returns-then-number-ne0 c = c.wholly.ensures ∙ image_refused _ _ (numbered (go
 
 pub returns-then-byte-gt-SETS_MOST : goal.returns-then-byte-gt-SETS_MOST
 returns-then-byte-gt-SETS_MOST c =
-    c.wholly-then-byte-gt-SETS_MOST.ensures ∙ too_many (plan_in c.args.plan.now) _
+    c.wholly-then-byte-gt-SETS_MOST.ensures ∙ too_many (plan_in c.args.plan.bytes.now) _
     (numbered (goal.at.returns-then-byte-gt-SETS_MOST c).After-number-number) c.if-number-ne0.false
-    (omega (arith, c.byte.ensures, c.if-byte-gt-SETS_MOST.true, plan_sets c.args.plan.now))
+    (omega (arith, c.byte.ensures, c.if-byte-gt-SETS_MOST.true, plan_sets c.args.plan.bytes.now))
 
 pub returns : goal.returns
 returns c =
-    let p = plan_in c.args.plan.now in
+    let p = plan_in c.args.plan.bytes.now in
     c.tried.ensures ∙ ap (λ (o : Outcome). tried p.wish 0 o.station p.sets)
     c.imaged-o.ensures ∙ as_tried p _
     (numbered (goal.at.returns c).After-number-number) c.if-number-ne0.false
-    (omega (arith, c.byte.ensures, c.if-byte-gt-SETS_MOST.false, plan_sets c.args.plan.now))
+    (omega (arith, c.byte.ensures, c.if-byte-gt-SETS_MOST.false, plan_sets c.args.plan.bytes.now))

@@ -1,5 +1,5 @@
 use borrow.Author.Rules.{rules}
-use Prim.Native.Nat.{◌*◌, ◌-◌}
+use Prim.Native.Nat.{◌*◌}
 use native.Mathlib.Omega.{arith}
 use Rattle.report_c.specs.Entries.{totals_bytes}
 use Rattle.codec.proofs.Fours.{four_laid, writing_starts, writing_turns, writing_ends}

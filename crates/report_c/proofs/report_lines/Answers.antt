@@ -9,7 +9,7 @@ pub returns-then-totals-lt-TOTALS : goal.returns-then-totals-lt-TOTALS
 returns-then-totals-lt-TOTALS c = lines_short _ _ _ c.known.ensures c.if-not-known.false-raw c.if-totals-lt-TOTALS.true c.say-then-totals-lt-TOTALS.ensures
 
 pub put-requires : goal.put-requires
-put-requires c = text_fits (report_of c.load-t.result c.args.full) _ c.report-text.ensures
+put-requires c = text_fits (report_of c.load-t.result c.full_by.result) _ c.report.ensures
 
 pub returns : goal.returns
-returns c = lines_written _ _ _ c.known.ensures c.if-not-known.false-raw c.if-totals-lt-TOTALS.false c.load-t.ensures c.report-text.ensures c.put.ensures
+returns c = lines_written _ _ _ c.known.ensures c.if-not-known.false-raw c.if-totals-lt-TOTALS.false c.load-t.ensures (rw c.full_by.ensures at c.report.ensures) c.put.ensures

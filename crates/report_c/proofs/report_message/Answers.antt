@@ -8,8 +8,8 @@ returns-then-totals-lt-TOTALS c = count_short _ _ _ c.if-totals-lt-TOTALS.true c
 pub returns-then-station-lt-STATION : goal.returns-then-station-lt-STATION
 returns-then-station-lt-STATION c = station_short _ _ _ c.if-totals-lt-TOTALS.false c.if-station-lt-STATION.true c.say-then-station-lt-STATION.ensures
 
-pub returns-then-full : goal.returns-then-full
-returns-then-full c = count_full _ _ _ c.if-totals-lt-TOTALS.false c.if-station-lt-STATION.false c.station_of-s.ensures c.load-t.ensures c.count_message-full.ensures c.if-full.true refl
+pub returns-in-Some : goal.returns-in-Some
+returns-in-Some c = count_full _ _ _ c.if-totals-lt-TOTALS.false c.if-station-lt-STATION.false c.station_of-s.ensures c.load-t.ensures c.count_message.ensures _ c.in-Some.is refl
 
 pub returns : goal.returns
-returns c = count_written _ _ _ c.if-totals-lt-TOTALS.false c.if-station-lt-STATION.false c.station_of-s.ensures c.load-t.ensures c.count_message-full.ensures c.if-full.false c.say-2.ensures c.keep.ensures
+returns c = count_written _ _ _ c.if-totals-lt-TOTALS.false c.if-station-lt-STATION.false c.station_of-s.ensures c.load-t.ensures c.count_message.ensures c.in_default.is c.say-2.ensures c.keep.ensures

@@ -7,7 +7,7 @@ use Rattle.report_program.proofs.Turning.{nothing_yet, turned_on}
 use Rattle.report_program.proofs.session.Goals as goal
 
 pub loop-reads-init : goal.loop-reads-init
-loop-reads-init c = (search rules, search rules, refl, nothing_yet _ _ _ c.requires.1 c.start-station.ensures refl)
+loop-reads-init c = (search rules, search rules, refl, nothing_yet _ _ _ c.requires.1 c.start.ensures refl)
 
 pub returns-then-t : goal.returns-then-t
 returns-then-t c = (turned_on c.loop-reads.invariant.3 c.one_turn-t.ensures.1).0

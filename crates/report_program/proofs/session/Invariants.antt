@@ -1,9 +1,6 @@
-use Rattle.std.proofs.Common.{◌≡◌, false, ◌-◌, ◌<◌, length}
+use Rattle.std.proofs.Common.{◌≡◌, false, ◌<◌, length}
 use Rattle.report_program.proofs.Turning.{SoFar}
 use Rattle.report_program.proofs.session.Given as goal
 
 abbrev pub invariant-loop-reads : goal.invariant-loop-reads
 invariant-loop-reads l = (length l.buf ≡ length l.initial.buf) × (l.t.have < 45) × (l.t.stop ≡ false) × SoFar l.counts l.t l.buf
-
-abbrev pub decreases-loop-reads : goal.decreases-loop-reads
-decreases-loop-reads l = 18446744073709551615 - l.reads

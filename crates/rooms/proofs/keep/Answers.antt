@@ -4,4 +4,4 @@ use Rattle.rooms.proofs.Rooms.{outcome_kept_lem}
 use Rattle.rooms.proofs.keep.Goals as goal
 
 pub returns : goal.returns
-returns c = outcome_kept_lem _ _ c.station_bytes-b.ensures (omega arith) c.say-said.ensures c.tell.ensures
+returns c = outcome_kept_lem _ _ c.station_bytes.ensures (omega arith) c.say.ensures c.tell.ensures

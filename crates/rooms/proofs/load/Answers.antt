@@ -6,4 +6,4 @@ use Rattle.rooms.proofs.load.Goals as goal
 
 pub returns : goal.returns
 unfolding station_of
-returns c = rw (c.image_of.ensures, set_in c.args.room.now _ c.requires c.set_of-set.ensures, c.image_of-apart.ensures ∙ apart_in c.args.room.now, c.word.ensures)
+returns c = rw (c.image_of.ensures, set_in c.args.room.now _ c.requires c.set_of.ensures, c.image_of-2.ensures ∙ apart_in c.args.room.now, c.word.ensures)

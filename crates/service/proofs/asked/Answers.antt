@@ -15,11 +15,11 @@ opening-requires c = (c.requires, eqb-true _ _ (both c.args.known (eqb c.args.s.
 pub returns-then-known-s : goal.returns-then-known-s
 returns-then-known-s c = c.opening.ensures ∙ ap (λ (b : Bool). turn_of (message_call b c.args.s c.args.m.now)) (sym (both c.args.known (eqb c.args.s.count 0) c.if-known-s.true).0)
 
-pub returns-then-number-ne0 : goal.returns-then-number-ne0
-returns-then-number-ne0 c = c.unmoved.ensures ∙ ap turn_of (request_refused c.args.s c.args.m.now c.requires c.request_in-r.ensures c.args.known (rw c.number.ensures at c.if-number-ne0.true))
+pub returns-in-Err : goal.returns-in-Err
+returns-in-Err c = c.unmoved.ensures ∙ ap turn_of (request_refused c.args.s c.args.m.now c.requires c.request_in.ensures c.args.known c.in-Err.is)
 
 pub returns-then-known : goal.returns-then-known
-returns-then-known c = c.unmoved-then-known.ensures ∙ ap turn_of (request_beside c.args.s c.args.m.now c.requires c.request_in-r.ensures (rw c.number.ensures at c.if-number-ne0.false) c.if-known.true c.if-known-s.false)
+returns-then-known c = c.unmoved-then-known.ensures ∙ ap turn_of (request_beside c.args.s c.args.m.now c.requires c.request_in.ensures c.in-Ok.is c.if-known.true c.if-known-s.false)
 
-pub returns : goal.returns
-returns c = c.unmoved-2.ensures ∙ ap turn_of (request_unfit c.args.s c.args.m.now c.requires c.request_in-r.ensures (rw c.number.ensures at c.if-number-ne0.false) c.if-known.false)
+pub returns-else-known : goal.returns-else-known
+returns-else-known c = c.unmoved-in-Ok.ensures ∙ ap turn_of (request_unfit c.args.s c.args.m.now c.requires c.request_in.ensures c.in-Ok.is c.if-known.false)

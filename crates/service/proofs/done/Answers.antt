@@ -1,5 +1,4 @@
 -- `service::done` meets its contract: the eight bytes of an answer. Assumes nothing.
-use borrow.Author.Rules.{rules}
 use Rattle.answers.specs.declared.Answer.TheVariants.{Taken}
 use Rattle.service.proofs.Replies.{eight_bytes, put_answer}
 use mathlib.Core.Path.{refl}

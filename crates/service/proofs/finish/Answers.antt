@@ -7,4 +7,4 @@ returns-then-held-eq0 c = let a = c.args in nothing_left a.held.now a.out.now c.
 
 pub returns : goal.returns
 returns c = let a = c.args in
-    something_left a.held.now a.out.now c.if-held-eq0.false c.answer_message-answer.ensures c.write_plain.ensures
+    something_left a.held.now a.out.now c.if-held-eq0.false c.answer_message.ensures c.write_plain.ensures

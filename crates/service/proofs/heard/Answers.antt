@@ -10,11 +10,11 @@ reported-requires c = (c.requires, sym c.kind_at-kind.ensures ∙ c.if-kind-eq3.
 pub returns-then-kind-eq3 : goal.returns-then-kind-eq3
 returns-then-kind-eq3 c = c.reported.ensures
 
-pub returns-then-number-ne0 : goal.returns-then-number-ne0
-returns-then-number-ne0 c = let a = c.args in c.unmoved.ensures ∙ ap turn_of (said_refused a.known a.s a.m.now (rw c.kind_at-kind.ensures at c.if-kind-eq1.false) c.saying-r.ensures (rw c.number.ensures at c.if-number-ne0.true))
+pub returns-in-Err : goal.returns-in-Err
+returns-in-Err c = let a = c.args in c.unmoved.ensures ∙ ap turn_of (said_refused a.known a.s a.m.now (rw c.kind_at-kind.ensures at c.if-kind-eq1.false) c.saying.ensures c.in-Err.is)
 
 pub turn-requires : goal.turn-requires
-turn-requires c = no_result c.args.m.now (rw c.kind_at-kind.ensures at c.if-kind-eq3.false) c.saying-r.ensures
+turn-requires c = no_result c.args.m.now (rw c.kind_at-kind.ensures at c.if-kind-eq3.false) c.saying.ensures c.in-Ok.is
 
-pub returns : goal.returns
-returns c = let a = c.args in c.turn.ensures ∙ ap turn_of (said_called a.known a.s a.m.now (rw c.kind_at-kind.ensures at c.if-kind-eq1.false) c.saying-r.ensures (rw c.number.ensures at c.if-number-ne0.false))
+pub returns-in-Ok : goal.returns-in-Ok
+returns-in-Ok c = let a = c.args in c.turn.ensures ∙ ap turn_of (said_called a.known a.s a.m.now (rw c.kind_at-kind.ensures at c.if-kind-eq1.false) c.saying.ensures c.in-Ok.is)

@@ -6,7 +6,7 @@ use mathlib.Core.Path.{ap, ◌∙◌}
 use Rattle.service.proofs.left.Goals as goal
 
 pub returns-then-s-t : goal.returns-then-s-t
-returns-then-s-t c = ap (λ (o : Outcome). o.station) (c.after-o.ensures ∙ ap (after_turn c.args.s c.args.t) c.fresh-set.ensures)
+returns-then-s-t c = ap (λ (o : Outcome). o.station) (c.after.ensures ∙ ap (after_turn c.args.s c.args.t) c.fresh.ensures)
 
 pub returns : goal.returns
-returns c = ap (λ (o : Outcome). o.station) (c.after-o-2.ensures ∙ whichever_set c.args.s c.args.t _ _ c.if-s-t.false)
+returns c = ap (λ (o : Outcome). o.station) (c.after-2.ensures ∙ whichever_set c.args.s c.args.t _ _ c.if-s-t.false)

@@ -4,4 +4,4 @@ use Rattle.service.proofs.Replies.{makes_call_lem}
 use Rattle.service.proofs.makes_call.Goals as goal
 
 pub returns-in_default : goal.returns-in_default
-returns-in_default c = makes_call_lem c.args.what (opened c.in_default.in_default-own.keys3)
+returns-in_default c = makes_call_lem c.args.what (opened c.in_default.in_default-own.keys2)

@@ -1,5 +1,4 @@
 -- `service::show` meets its contract: the twenty bytes of an image. Assumes nothing.
-use borrow.Author.Rules.{rules}
 use Rattle.service.proofs.Replies.{twenty_bytes, put_image}
 use native.Mathlib.Omega.{arith}
 use Rattle.service.proofs.show.Goals as goal

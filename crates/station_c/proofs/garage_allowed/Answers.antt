@@ -11,15 +11,15 @@ returns-then-five-lt-CODE c = too_few _ _ c.if-five-lt-CODE.true c.say.ensures
 pub returns-then-crossing : goal.returns-then-crossing
 returns-then-crossing c = under_driver _ _ (omega (arith, c.if-five-lt-CODE.false)) (sym c.crossing.ensures ∙ c.if-crossing.true) c.say-then-crossing.ensures
 
-pub returns-in-Good : goal.returns-in-Good
-returns-in-Good c =
+pub returns-in-Some : goal.returns-in-Some
+returns-in-Some c =
     by_reading _ _ (omega (arith, c.if-five-lt-CODE.false))
     (sym c.crossing.ensures ∙ c.if-crossing.false)
-    c.read_bytes-one.ensures c.in-Good.is
-    (c.say-in-Good.ensures ∙ ap returned c.judged-a.ensures)
+    c.read_bytes.ensures c.in-Some.is
+    (c.say-in-Some.ensures ∙ ap returned c.judged.ensures)
 
-pub returns-in-Bad : goal.returns-in-Bad
-returns-in-Bad c =
+pub returns-in-None : goal.returns-in-None
+returns-in-None c =
     by_reading _ _ (omega (arith, c.if-five-lt-CODE.false))
     (sym c.crossing.ensures ∙ c.if-crossing.false)
-    c.read_bytes-one.ensures c.in-Bad.is c.say-in-Bad.ensures
+    c.read_bytes.ensures c.in-None.is c.say-in-None.ensures

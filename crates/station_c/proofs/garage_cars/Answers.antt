@@ -5,10 +5,10 @@ use Rattle.floor.proofs.Few.{few_cars}
 use Rattle.station_c.proofs.garage_cars.Goals as goal
 
 pub overflow_cast-result : goal.overflow_cast-result
-overflow_cast-result c = omega (arith, few_cars _ _ (sym c.cars-t.ensures ∙ c.in-Cars.is))
+overflow_cast-result c = omega (arith, few_cars _ _ (sym c.cars.ensures ∙ c.in-Some.is))
 
-pub returns-in-Cars : goal.returns-in-Cars
-returns-in-Cars c = rw (← c.cars-t.ensures, c.in-Cars.is)
+pub returns-in-Some : goal.returns-in-Some
+returns-in-Some c = rw (← c.cars.ensures, c.in-Some.is)
 
-pub returns-in-Unsound : goal.returns-in-Unsound
-returns-in-Unsound c = rw (← c.cars-t.ensures, c.in-Unsound.is)
+pub returns-in-None : goal.returns-in-None
+returns-in-None c = rw (← c.cars.ensures, c.in-None.is)

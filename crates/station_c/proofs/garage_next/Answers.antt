@@ -23,7 +23,7 @@ returns c =
     (sym c.crossing.ensures
     ∙ c.if-crossing.false)
     c.moved-m.ensures
-    c.answer_to-a.ensures
-    c.record_in-r.ensures
-    c.image_bytes-b.ensures c.say-2.ensures
+    c.answer_to.ensures
+    c.record_in.ensures
+    c.image_bytes.ensures c.say-2.ensures
     c.tell.ensures

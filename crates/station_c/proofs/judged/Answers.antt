@@ -4,4 +4,4 @@ use mathlib.Core.Path.{◌∙◌}
 use Rattle.station_c.proofs.judged.Goals as goal
 
 pub returns : goal.returns
-returns c = c.answer.ensures ∙ judged_so c.args.i c.args.image c.verdict-verdict.ensures
+returns c = c.answer_for.ensures ∙ judged_so c.args.i c.args.image c.verdict.ensures

@@ -3,10 +3,10 @@ use mathlib.Core.Path.{◌∙◌}
 use Rattle.rooms.specs.Questions.{moved}
 use Rattle.station_c.proofs.moved.Goals as goal
 
-pub returns-in-Good : goal.returns-in-Good
+pub returns-in-Some : goal.returns-in-Some
 unfolding moved
-returns-in-Good c = c.moved.ensures ∙ rw (← c.read_bytes-one.ensures, c.in-Good.is)
+returns-in-Some c = c.moved.ensures ∙ rw (← c.read_bytes.ensures, c.in-Some.is)
 
-pub returns-in-Bad : goal.returns-in-Bad
+pub returns-in-None : goal.returns-in-None
 unfolding moved
-returns-in-Bad c = rw (← c.read_bytes-one.ensures, c.in-Bad.is)
+returns-in-None c = rw (← c.read_bytes.ensures, c.in-None.is)

@@ -8,14 +8,13 @@ use Rattle.station_c.proofs.station_message.Goals as goal
 pub returns-then-room-lt-STATION : goal.returns-then-room-lt-STATION
 returns-then-room-lt-STATION c = short_room _ _ _ c.if-room-lt-STATION.true c.say.ensures
 
-pub returns-then-refused-ne0 : goal.returns-then-refused-ne0
-returns-then-refused-ne0 c =
+pub returns-in-Err : goal.returns-in-Err
+returns-in-Err c =
     short_reply _ _ _ (omega (arith, c.if-room-lt-STATION.false))
     (lent_there _ (omega (arith, c.if-room-lt-STATION.false))
     c.station_of.ensures)
     c.respond-o.ensures
-    c.write_plain-w.ensures c.number-refused.ensures c.if-refused-ne0.true
-    c.say-then-refused-ne0.ensures
+    c.write_plain.ensures c.in-Err.is c.say-in-Err.ensures
 
 pub returns-then-r-ne0 : goal.returns-then-r-ne0
 returns-then-r-ne0 c =
@@ -23,8 +22,7 @@ returns-then-r-ne0 c =
     (lent_there _ (omega (arith, c.if-room-lt-STATION.false))
     c.station_of.ensures)
     c.respond-o.ensures
-    c.write_plain-w.ensures c.number-refused.ensures
-    c.if-refused-ne0.false c.returned_of-r.ensures c.if-r-ne0.true
+    c.write_plain.ensures c.in-Ok.is c.returned_of-r.ensures c.if-r-ne0.true
 
 pub returns : goal.returns
 returns c =
@@ -33,9 +31,7 @@ returns c =
     (lent_there _ (omega (arith, c.if-room-lt-STATION.false))
     c.station_of.ensures)
     c.respond-o.ensures
-    c.write_plain-w.ensures
-    c.number-refused.ensures
-    c.if-refused-ne0.false
+    c.write_plain.ensures c.in-Ok.is
     c.returned_of-r.ensures
     c.if-r-ne0.false
-    c.station_bytes-b.ensures (omega arith) (c.copy.ensures.all (search rules)).1
+    c.station_bytes.ensures (omega arith) (c.copy.ensures.all (search rules)).1

@@ -1,12 +1,9 @@
 -- `station_program::record` meets its contract: what is appended is what the run took. Assumes nothing.
-use mathlib.Core.Logic.{inr}
-use mathlib.Core.Path.{refl, sym, ◌∙◌}
-use native.Mathlib.Omega.{arith}
-use mathlib.Core.List.{List}
-use Prim.Native.Nat.{ℕ, ◌≤◌}
-use lib.ListN.{length, take, length-take}
+use Rattle.std.proofs.Common.{◌≡◌, ℕ, ◌≤◌, List, length, take, length-take, length-take-le, inr, refl, sym, ◌∙◌, arith}
 use Rattle.journal_file.specs.Cards.{no_numbers}
-use lib.Seq.{length-take-le}
+use Rattle.journal_keeper.specs.declared.Journal.{Journal}
+use Rattle.journal_keeper.specs.Keeping.{JournalMakes}
+use Rattle.journal_keeper.proofs.Adding.{if_ok, of_ok}
 use Rattle.bits.proofs.Cases.{clash}
 use Rattle.station_program.proofs.record.Goals as goal
 
@@ -17,10 +14,11 @@ pub slice_bounds-append-end : goal.slice_bounds-append-end
 slice_bounds-append-end c = sym (length-take-le _ _ (omega (arith, c.requires.0, c.requires.1)))
 
 pub returns-then-stop : goal.returns-then-stop
-returns-then-stop c = λ q.
-    let a = c.append-kept.ensures no_numbers c.requires.3 c.requires.4 c.requires.5 (few c.args.buf.now c.args.used c.requires.2) in
-    let n = c.note.ensures no_numbers c.requires.3 (λ s. (a s).1) (inr refl) q in
-    (n.0 ∙ (a n.1).0, λ u v. n.2 refl v, n.3)
+returns-then-stop c =
+    let a = of_ok (λ (k : Journal). (k.station ≡ c.args.next) × JournalMakes no_numbers k) c.in_ok-kept.was (c.append.ensures no_numbers c.requires.3 c.requires.4 c.requires.5 (few c.args.buf.now c.args.used c.requires.2)) in
+    if_ok c.note.result (c.note.ensures no_numbers c.requires.3 a.1 (inr refl)) (λ k n. (n.0 ∙ a.0, (λ u v. n.1 refl v), n.2))
 
 pub returns : goal.returns
-returns c = λ q. let a = c.append-kept.ensures no_numbers c.requires.3 c.requires.4 c.requires.5 (few c.args.buf.now c.args.used c.requires.2) q in (a.0, λ u. clash u c.if-stop.false, a.1)
+returns c =
+    let a = of_ok (λ (k : Journal). (k.station ≡ c.args.next) × JournalMakes no_numbers k) c.in_ok-kept.was (c.append.ensures no_numbers c.requires.3 c.requires.4 c.requires.5 (few c.args.buf.now c.args.used c.requires.2)) in
+    (a.0, (λ u. clash u c.if-stop.false), a.1)

@@ -1,6 +1,7 @@
+use borrow.Author.Rules.{rules}
 use Rattle.totals.specs.Private.{raised}
 use Rattle.totals.proofs.raise.Goals as goal
 
 pub returns : goal.returns
 unfolding raised
-returns c = rw c.plus.ensures
+returns c = search rules

@@ -3,4 +3,4 @@ use Rattle.totals.proofs.raise_cars.Goals as goal
 
 pub returns : goal.returns
 unfolding with_cars
-returns c = rw c.larger.ensures
+returns c = rw c.max.ensures

@@ -10,11 +10,11 @@ overflow_cast-result c = omega (arith, few_sound _ _ (c.requires c.if-known.true
 pub returns-then-known : goal.returns-then-known
 returns-then-known c = c.cars_in.ensures ∙ sym (sound_cars _ (c.requires c.if-known.true))
 
-pub overflow_cast-result-in-Cars : goal.overflow_cast-result-in-Cars
-overflow_cast-result-in-Cars c = omega (arith, few_told _ _ (sym c.cars.ensures ∙ c.in-Cars.is))
+pub overflow_cast-result-in-Some : goal.overflow_cast-result-in-Some
+overflow_cast-result-in-Some c = omega (arith, few_told _ _ (sym c.cars.ensures ∙ c.in-Some.is))
 
-pub returns-in-Cars : goal.returns-in-Cars
-returns-in-Cars c = cars_told _ (sym c.cars.ensures ∙ c.in-Cars.is)
+pub returns-in-Some : goal.returns-in-Some
+returns-in-Some c = cars_told _ (sym c.cars.ensures ∙ c.in-Some.is)
 
-pub returns-in-Unsound : goal.returns-in-Unsound
-returns-in-Unsound c = cars_told _ (sym c.cars.ensures ∙ c.in-Unsound.is)
+pub returns-in-None : goal.returns-in-None
+returns-in-None c = cars_told _ (sym c.cars.ensures ∙ c.in-None.is)

@@ -6,7 +6,7 @@ use Rattle.station.proofs.Loops.{past_eighth}
 use Rattle.week.proofs.op_at.Goals as goal
 
 pub returns-then-i-ge8 : goal.returns-then-i-ge8
-returns-then-i-ge8 c = ap (λ (x : Code). x.op) (past_eighth _ _ c.well_formed.0.1.0.1 c.if-i-ge8.true)
+returns-then-i-ge8 c = ap (λ (x : Code). x.op) (past_eighth _ _ c.told-set c.if-i-ge8.true)
 
 pub returns : goal.returns
 returns c = sym (ap (λ (x : Code). x.op) (five_at _ _))

@@ -10,20 +10,20 @@ pub cars_after-cars-requires : goal.cars_after-cars-requires
 cars_after-cars-requires c = (
   c.requires.1,
   still_sound c.args.s c.args.m.now (sym c.requires.0)
-      (settled_reply c.args.m.now c.requires.2 c.args.s c.requires.0 (c.word-issue.ensures ∙ two_at c.args.m.now 4 c.byte.ensures c.byte-2.ensures) c.byte-number.ensures c.byte-ending.ensures c.settled-t.ensures c.after-o.ensures),
+      (settled_reply c.args.m.now c.requires.2 c.args.s c.requires.0 (c.word-issue.ensures ∙ two_at c.args.m.now 4 c.byte.ensures c.byte-2.ensures) c.byte-number.ensures c.byte-ending.ensures c.settled-t.ensures c.after.ensures),
 )
 
 pub returns-then-answer-eq0 : goal.returns-then-answer-eq0
 returns-then-answer-eq0 c =
     let a = c.args in
     step_taken a.s a.m.now (sym c.requires.0)
-    (settled_reply c.args.m.now c.requires.2 c.args.s c.requires.0 (c.word-issue.ensures ∙ two_at c.args.m.now 4 c.byte.ensures c.byte-2.ensures) c.byte-number.ensures c.byte-ending.ensures c.settled-t.ensures c.after-o.ensures)
+    (settled_reply c.args.m.now c.requires.2 c.args.s c.requires.0 (c.word-issue.ensures ∙ two_at c.args.m.now 4 c.byte.ensures c.byte-2.ensures) c.byte-number.ensures c.byte-ending.ensures c.settled-t.ensures c.after.ensures)
     _ (result_kind_lem a.m.now c.requires.2) refl c.number-answer.ensures c.cars_after-cars.ensures c.if-answer-eq0.true
-    (told_result a.s a.m.now _ _ _ refl c.op_at-op.ensures c.byte-number.ensures c.byte-ending.ensures)
+    (told_result a.s a.m.now _ _ _ refl c.op_at.ensures c.byte-number.ensures c.byte-ending.ensures)
 
 pub returns : goal.returns
 returns c =
     let a = c.args in
     step_refused a.s a.m.now (sym c.requires.0)
-    (settled_reply c.args.m.now c.requires.2 c.args.s c.requires.0 (c.word-issue.ensures ∙ two_at c.args.m.now 4 c.byte.ensures c.byte-2.ensures) c.byte-number.ensures c.byte-ending.ensures c.settled-t.ensures c.after-o.ensures)
+    (settled_reply c.args.m.now c.requires.2 c.args.s c.requires.0 (c.word-issue.ensures ∙ two_at c.args.m.now 4 c.byte.ensures c.byte-2.ensures) c.byte-number.ensures c.byte-ending.ensures c.settled-t.ensures c.after.ensures)
     _ (result_kind_lem a.m.now c.requires.2) refl c.number-answer.ensures c.cars_after-cars.ensures c.if-answer-eq0.false

@@ -1,15 +1,15 @@
 use Rattle.wire.specs.Reads.{read_message}
-use mathlib.Core.Path.{◌∙◌, sym}
+use mathlib.Core.Path.{◌∙◌}
 use Rattle.wire.proofs.read.Goals as goal
 
 pub returns-in-Cut : goal.returns-in-Cut
 unfolding read_message
-returns-in-Cut c = c.refused.ensures ∙ rw (← c.framed-frame.ensures, c.in-Cut.is)
+returns-in-Cut c = c.refused.ensures ∙ rw (← c.framed.ensures, c.in-Cut.is)
 
 pub returns-in-Wrong : goal.returns-in-Wrong
 unfolding read_message
-returns-in-Wrong c = c.refused-in-Wrong.ensures ∙ rw (← c.framed-frame.ensures, c.in-Wrong.is)
+returns-in-Wrong c = c.refused-in-Wrong.ensures ∙ rw (← c.framed.ensures, c.in-Wrong.is)
 
 pub returns-in-Whole : goal.returns-in-Whole
 unfolding read_message
-returns-in-Whole c = c.whole.ensures ∙ rw (← c.framed-frame.ensures, c.in-Whole.is)
+returns-in-Whole c = c.whole.ensures ∙ rw (← c.framed.ensures, c.in-Whole.is)

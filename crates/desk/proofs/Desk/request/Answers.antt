@@ -15,4 +15,4 @@ unfolding desk_request station.request
 returns c =
     let a = c.args in
     c.following.ensures
-    ∙ through a.self _ (λ (x : Outcome). desk_holding x a.self.numbers) c.request-o.ensures (sym c.numbers_fit.ensures ∙ c.if-not-numbers_fit.false)
+    ∙ through a.self _ (λ (x : Outcome). desk_holding x a.self.numbers) c.request.ensures (sym c.numbers_fit.ensures ∙ c.if-not-numbers_fit.false)

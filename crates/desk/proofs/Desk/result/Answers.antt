@@ -15,5 +15,5 @@ unfolding desk_result station.result
 returns c =
     let a = c.args in
     c.following.ensures
-    ∙ ap (desk_following a.self c.result-o.result) c.followed.ensures
-    ∙ through a.self _ (λ (x : Outcome). desk_holding x (followed a.self a.report)) c.result-o.ensures (sym c.numbers_fit.ensures ∙ c.if-not-numbers_fit.false)
+    ∙ ap (desk_following a.self c.result.result) c.followed.ensures
+    ∙ through a.self _ (λ (x : Outcome). desk_holding x (followed a.self a.report)) c.result.ensures (sym c.numbers_fit.ensures ∙ c.if-not-numbers_fit.false)

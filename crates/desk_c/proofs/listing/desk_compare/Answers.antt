@@ -7,4 +7,4 @@ pub returns-then-room-lt-DESK : goal.returns-then-room-lt-DESK
 returns-then-room-lt-DESK c = compare_short _ _ _ c.if-room-lt-DESK.true c.say.ensures
 
 pub returns : goal.returns
-returns c = was_compared _ _ _ (omega (arith, c.if-room-lt-DESK.false)) c.load-d.ensures c.compared-c.ensures c.count_told.ensures c.tell.ensures
+returns c = was_compared _ _ _ (omega (arith, c.if-room-lt-DESK.false)) c.load.ensures c.compared-c.ensures c.count_told.ensures c.tell.ensures

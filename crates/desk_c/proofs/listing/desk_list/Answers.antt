@@ -10,4 +10,4 @@ pub tell_first-requires : goal.tell_first-requires
 tell_first-requires c = lines_long c.load-d.result c.list-all.result c.list-all.ensures
 
 pub returns : goal.returns
-returns c = listed _ _ (omega (arith, c.if-room-lt-DESK.false)) c.load-d.ensures c.ask-o.ensures c.list-all.ensures c.count_told.ensures c.tell_first.ensures
+returns c = listed _ _ (omega (arith, c.if-room-lt-DESK.false)) c.load-d.ensures c.ask.ensures c.list-all.ensures c.count_told.ensures c.tell_first.ensures

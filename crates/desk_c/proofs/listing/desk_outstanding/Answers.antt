@@ -10,4 +10,4 @@ pub returns-then-set-lt-OPEN : goal.returns-then-set-lt-OPEN
 returns-then-set-lt-OPEN c = open_no_room _ _ (omega (arith, c.if-room-lt-DESK.false)) c.if-set-lt-OPEN.true c.say-then-set-lt-OPEN.ensures
 
 pub returns : goal.returns
-returns c = opened _ _ (omega (arith, c.if-room-lt-DESK.false)) (omega (arith, c.if-set-lt-OPEN.false)) c.load-d.ensures c.ask-o.ensures c.outstanding-s.ensures c.open_bytes-b.ensures (omega arith) c.told.ensures c.tell.ensures
+returns c = opened _ _ (omega (arith, c.if-room-lt-DESK.false)) (omega (arith, c.if-set-lt-OPEN.false)) c.load-d.ensures c.ask.ensures c.outstanding.ensures c.open_bytes-b.ensures (omega arith) c.told.ensures c.tell.ensures

@@ -6,4 +6,4 @@ use borrow.Author.Rules.{rules}
 use Rattle.desk_c.proofs.listing.open_bytes.Goals as goal
 
 pub returns : goal.returns
-returns c = let a = c.args in open_laid (record { issue = a.issue; count = a.count; answered = a.answered; set = a.set }) c.copy.new.room (omega arith) (set_filled a.set c.copy.new.room (search rules) (c.copy.ensures.all (search rules)).1)
+returns c = let o = c.args.o in open_laid o c.copy.new.room (omega arith) (set_filled o.set c.copy.new.room (search rules) (c.copy.ensures.all (search rules)).1)

@@ -5,4 +5,4 @@ use Rattle.desk_service.proofs.kinds.cards_in.Goals as goal
 
 pub returns : goal.returns
 unfolding cards_read
-returns c = c.given.ensures ∙ ap (fours_in 31) c.padded-b.ensures
+returns c = c.given.ensures ∙ ap (fours_in 31) c.padded.ensures

@@ -3,14 +3,14 @@ use Rattle.desk_service.specs.DeskService.{desk_called, brief}
 use mathlib.Core.Path.{◌∙◌, ap, sym}
 use Rattle.desk_service.proofs.kinds.of_station.Goals as goal
 
-pub returns-then-number-ne0 : goal.returns-then-number-ne0
-returns-then-number-ne0 c = ap brief c.unread.ensures ∙ request_refused c.args.d c.args.m.now (sym c.kind_at.ensures ∙ c.if-kind_at-eq1.true) c.request_in-r.ensures (rw c.number.ensures at c.if-number-ne0.true)
+pub returns-in-Ok : goal.returns-in-Ok
+returns-in-Ok c = ap brief (c.called.ensures ∙ ap desk_called c.request.ensures) ∙ request_taken c.args.d c.args.m.now (sym c.kind_at.ensures ∙ c.if-kind_at-eq1.true) c.request_in.ensures c.in-Ok.is
 
-pub returns-then-kind_at-eq1 : goal.returns-then-kind_at-eq1
-returns-then-kind_at-eq1 c = ap brief (c.called.ensures ∙ ap desk_called c.request.ensures) ∙ request_taken c.args.d c.args.m.now (sym c.kind_at.ensures ∙ c.if-kind_at-eq1.true) c.request_in-r.ensures (sym c.number.ensures ∙ c.if-number-ne0.false)
+pub returns-in-Err : goal.returns-in-Err
+returns-in-Err c = ap brief c.unread.ensures ∙ request_refused c.args.d c.args.m.now (sym c.kind_at.ensures ∙ c.if-kind_at-eq1.true) c.request_in.ensures c.in-Err.is
 
-pub returns-then-number-ne0-2 : goal.returns-then-number-ne0-2
-returns-then-number-ne0-2 c = ap brief c.unread-then-number-ne0-2.ensures ∙ said_refused c.args.d c.args.m.now (rw c.kind_at.ensures at c.if-kind_at-eq1.false) c.saying-r.ensures (rw c.number-2.ensures at c.if-number-ne0-2.true)
+pub returns-in-Ok-saying : goal.returns-in-Ok-saying
+returns-in-Ok-saying c = ap brief c.said.ensures ∙ said_taken c.args.d c.args.m.now (rw c.kind_at.ensures at c.if-kind_at-eq1.false) c.saying.ensures c.in-Ok-saying.is
 
-pub returns : goal.returns
-returns c = ap brief c.said.ensures ∙ said_taken c.args.d c.args.m.now (rw c.kind_at.ensures at c.if-kind_at-eq1.false) c.saying-r.ensures (sym c.number-2.ensures ∙ c.if-number-ne0-2.false)
+pub returns-in-Err-saying : goal.returns-in-Err-saying
+returns-in-Err-saying c = ap brief c.unread-in-Err-saying.ensures ∙ said_refused c.args.d c.args.m.now (rw c.kind_at.ensures at c.if-kind_at-eq1.false) c.saying.ensures c.in-Err-saying.is

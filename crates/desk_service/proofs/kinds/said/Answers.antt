@@ -16,9 +16,3 @@ returns-in-Image c = c.called-in-Image.ensures ∙ ap desk_called c.image.ensure
 
 pub returns-in-Ask : goal.returns-in-Ask
 returns-in-Ask c = c.shown.ensures ∙ ap desk_shown c.ask.ensures ∙ rw c.in-Ask.is
-
-pub returns-in-Answer : goal.returns-in-Answer
-returns-in-Answer c = c.unread.ensures ∙ rw c.in-Answer.is
-
-pub returns-in-Held : goal.returns-in-Held
-returns-in-Held c = c.unread-in-Held.ensures ∙ rw c.in-Held.is

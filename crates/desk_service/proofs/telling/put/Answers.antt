@@ -1,6 +1,5 @@
 use borrow.Author.Rules.{rules}
-use Rattle.wire.proofs.Room.{put_short, put_all}
-use borrow.Author.Tests.{le-ltb}
+use Rattle.wire.proofs.Room.{put_short, put_says, put_all}
 use Rattle.desk_service.proofs.telling.put.Goals as goal
 
 pub returns-then-room-src : goal.returns-then-room-src
@@ -11,5 +10,5 @@ returns-then-room-src c = let a = c.args in
 pub returns : goal.returns
 returns c = let a = c.args in
     let h = c.if-room-src.false in
-    let e = c.copy-size.ensures.all (search rules) in
-    (rw e.0 (simp (le-ltb _ _ h)), put_all a.src.now a.room.now _ h e.1)
+    let e = c.copy.ensures.all (search rules) in
+    (put_says a.src.now a.room.now h e.0, put_all a.src.now a.room.now _ h e.1)

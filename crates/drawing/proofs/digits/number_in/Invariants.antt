@@ -2,7 +2,4 @@ use Rattle.drawing.proofs.Sixteen.{Numbering}
 use Rattle.drawing.proofs.digits.number_in.Given as goal
 
 abbrev pub invariant-loop-k : goal.invariant-loop-k
-invariant-loop-k l = Numbering l.first l.bytes l.k l.number
-
-abbrev pub decreases-loop-k : goal.decreases-loop-k
-decreases-loop-k l = l.k
+invariant-loop-k l = Numbering l.first l.held.bytes l.k l.number

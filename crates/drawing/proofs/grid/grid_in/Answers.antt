@@ -1,5 +1,4 @@
 use mathlib.Core.Path.{ap, ◌∙◌}
-use native.Mathlib.Omega.{arith}
 use Rattle.drawing.specs.Private.{mark_in}
 use Rattle.drawing.proofs.Tables.{rows_start, row_starts, row_turns, row_ends, rows_end}
 use Rattle.drawing.proofs.grid.grid_in.Goals as goal
@@ -9,12 +8,6 @@ loop-i-init c = rows_start
 
 pub loop-j-init : goal.loop-j-init
 loop-j-init c = row_starts c.loop-i.invariant c.loop-i-test.true
-
-pub cell-requires : goal.cell-requires
-cell-requires c = (omega arith, omega arith)
-
-pub mark_in-requires : goal.mark_in-requires
-mark_in-requires c = tt
 
 pub loop-j-preserved : goal.loop-j-preserved
 loop-j-preserved c =

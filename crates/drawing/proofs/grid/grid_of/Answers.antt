@@ -1,5 +1,4 @@
 use mathlib.Core.Path.{ap, ◌∙◌}
-use native.Mathlib.Omega.{arith}
 use Rattle.bits.specs.Bits.{bit}
 use Rattle.drawing.specs.Private.{cell_mark}
 use Rattle.drawing.proofs.Tables.{rows_start, row_starts, row_turns, row_ends, rows_end}
@@ -10,12 +9,6 @@ loop-i-init c = rows_start
 
 pub loop-j-init : goal.loop-j-init
 loop-j-init c = row_starts c.loop-i.invariant c.loop-i-test.true
-
-pub cell-requires : goal.cell-requires
-cell-requires c = (omega arith, omega arith)
-
-pub mark-requires : goal.mark-requires
-mark-requires c = tt
 
 pub loop-j-preserved : goal.loop-j-preserved
 loop-j-preserved c =

@@ -9,8 +9,8 @@ use Rattle.journal_program.proofs.following.follow_on.Goals as goal
 zeros : (n : ℕ) → n ≡ length (replicate {A = ℕ} n 0)
 zeros n = sym (length-replicate {A = ℕ} n 0)
 
-pub slice_bounds-follow_in-end-in-Some-2 : goal.slice_bounds-follow_in-end-in-Some-2
-slice_bounds-follow_in-end-in-Some-2 c = zeros 655520
+pub slice_bounds-follow_in-end-3 : goal.slice_bounds-follow_in-end-3
+slice_bounds-follow_in-end-3 c = zeros 655520
 
 pub follow_in-requires : goal.follow_in-requires
 follow_in-requires c = (c.tables-t.ensures, room_twice (zeros 655520))

@@ -3,8 +3,5 @@ use Rattle.std.proofs.Common.{refl}
 use Rattle.bits.proofs.Cases.{clash}
 use Rattle.journal_program.proofs.older.end_of.Goals as goal
 
-pub returns-then-r-closed : goal.returns-then-r-closed
-returns-then-r-closed c = λ q. clash q c.unended.ensures
-
 pub returns : goal.returns
-returns c = λ q. (λ o. clash refl o, λ o. c.requires)
+returns c = (λ o. clash refl o, λ o. c.requires)

@@ -7,7 +7,6 @@ use Rattle.plain.proofs.Floor.condition.Goals as goal
 pub returns-then-not-well_formed : goal.returns-then-not-well_formed
 returns-then-not-well_formed c = of_ill c.args.i c.args.c
     (plain_bits c.args.self) c.well_formed-2.ensures c.if-not-well_formed.true-raw
-    c.none.ensures
 
 pub belts_condition-requires : goal.belts_condition-requires
 belts_condition-requires c = is_well c.in-Belts.is c.well_formed-2.ensures c.if-not-well_formed.false-raw

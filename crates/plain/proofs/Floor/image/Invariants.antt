@@ -4,6 +4,3 @@ use Rattle.plain.proofs.Floor.image.Given as goal
 
 abbrev pub invariant-loop-k : goal.invariant-loop-k
 invariant-loop-k l = Packing (plain_bits l.self) l.k l.r
-
-abbrev pub decreases-loop-k : goal.decreases-loop-k
-decreases-loop-k l = l.k

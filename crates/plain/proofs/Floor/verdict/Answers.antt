@@ -10,17 +10,17 @@ returns-then-not-well_formed c = ill_formed c.args.i (plain_bits c.args.self) c.
 pub loop-c-init : goal.loop-c-init
 loop-c-init c = search_starts c.args.i (plain_bits c.args.self) c.well_formed-2.ensures c.if-not-well_formed.false-raw
 
-pub returns-then-not-x : goal.returns-then-not-x
-returns-then-not-x c = search_stops c.args.i
+pub returns-in-Some : goal.returns-in-Some
+returns-in-Some c = search_stops c.args.i
     (plain_bits c.args.self)
     c.well_formed-2.ensures c.if-not-well_formed.false-raw
-    c.loop-c.invariant c.condition-x.ensures c.if-not-x.true
+    c.loop-c.invariant c.failing.ensures c.in-Some.is
 
 pub loop-c-preserved : goal.loop-c-preserved
 loop-c-preserved c = search_goes_on c.args.i
     (plain_bits c.args.self)
     c.well_formed-2.ensures c.if-not-well_formed.false-raw
-    c.loop-c.invariant c.condition-x.ensures (omega arith) c.if-not-x.false
+    c.loop-c.invariant c.failing.ensures (omega arith) c.in_default.is
 
 pub returns : goal.returns
 returns c = search_ends c.loop-c.invariant (omega arith)

@@ -2,7 +2,7 @@
 use mathlib.Core.Path.{◌∙◌}
 use native.Mathlib.Omega.{arith}
 use Rattle.plain.specs.Plain.{plain_bits}
-use Rattle.plain.proofs.Spans.{counting_starts, counts, counting_ends, takes_one, row_bounds, cell_below, end_count}
+use Rattle.plain.proofs.Spans.{counting_starts, counts, counting_ends, takes_one, cell_below, end_count}
 use Rattle.plain.proofs.belts.at_end.Goals as goal
 
 pub loop-j-init : goal.loop-j-init
@@ -26,9 +26,6 @@ loop-j-preserved c = counts c.loop-j.invariant
 
 pub overflow_sub-left : goal.overflow_sub-left
 overflow_sub-left c = takes_one c.loop-j.left c.named.result
-
-pub overflow_add-j : goal.overflow_add-j
-overflow_add-j c = omega (arith, c.width-width.ensures, row_bounds c.args.row)
 
 pub returns : goal.returns
 returns c = let a = c.args in

@@ -64,4 +64,4 @@ returns-in-5 c = let a = c.args in
     ∙ only_where (eqb a.row 1) (even (cells a.row a.mask)) (plain_bits a.f)) refl
 
 pub returns-in_default : goal.returns-in_default
-returns-in_default c = let a = c.args in past (clauses (Belts a.row a.mask a.toward a.size)) (plain_bits a.f) a.c (omega arith) c.none.ensures
+returns-in_default c = let a = c.args in past (clauses (Belts a.row a.mask a.toward a.size)) (plain_bits a.f) a.c (omega arith)

@@ -1,10 +1,7 @@
-use Prim.Native.Nat.{◌-◌, ◌≤◌}
+use Prim.Native.Nat.{◌≤◌}
 use Rattle.bits.specs.Bits.{bit}
 use Rattle.plain.proofs.Listing.{Filling}
 use Rattle.plain.proofs.images.cells_of.Given as goal
 
 abbrev pub invariant-loop-k : goal.invariant-loop-k
 invariant-loop-k l = Filling (bit l.r) 40 l.cells l.k × (l.k ≤ 40)
-
-abbrev pub decreases-loop-k : goal.decreases-loop-k
-decreases-loop-k l = 40 - l.k

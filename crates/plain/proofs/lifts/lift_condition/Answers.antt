@@ -22,4 +22,4 @@ returns-in-1 c = let a = c.args in
     told (clauses (Lift a.height)) (plain_bits a.f) 1 c.in-1.is _ OddCount c.told-in-1.ensures c.may_leave.ensures refl
 
 pub returns-in_default : goal.returns-in_default
-returns-in_default c = let a = c.args in past (clauses (Lift a.height)) (plain_bits a.f) a.c (omega arith) c.none.ensures
+returns-in_default c = let a = c.args in past (clauses (Lift a.height)) (plain_bits a.f) a.c (omega arith)

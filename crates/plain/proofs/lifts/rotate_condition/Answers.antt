@@ -25,4 +25,4 @@ returns-in-1 c = told (clauses Rotate) (plain_bits c.args.f) 1 c.in-1.is _ Cells
     (count_append (from 8 3) (from 13 3) (plain_bits c.args.f)))) refl
 
 pub returns-in_default : goal.returns-in_default
-returns-in_default c = past (clauses Rotate) (plain_bits c.args.f) c.args.c (omega arith) c.none.ensures
+returns-in_default c = past (clauses Rotate) (plain_bits c.args.f) c.args.c (omega arith)

@@ -47,4 +47,4 @@ returns-in-4 c = let a = c.args in
     c.room_ahead.ensures refl
 
 pub returns-in_default : goal.returns-in_default
-returns-in_default c = let a = c.args in past (clauses (Shuttles a.side a.mask a.orientation a.toward)) (plain_bits a.f) a.c (omega arith) c.none.ensures
+returns-in_default c = let a = c.args in past (clauses (Shuttles a.side a.mask a.orientation a.toward)) (plain_bits a.f) a.c (omega arith)

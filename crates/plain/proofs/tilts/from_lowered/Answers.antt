@@ -21,4 +21,4 @@ returns-in-1 c = let a = c.args in
     (ap (λ (n : ℕ). eqb n 0) c.at_position.ensures) refl
 
 pub returns-in_default : goal.returns-in_default
-returns-in_default c = let a = c.args in past (clauses (Tilt a.side a.row lowered)) (plain_bits a.f) a.c (omega arith) c.none.ensures
+returns-in_default c = let a = c.args in past (clauses (Tilt a.side a.row lowered)) (plain_bits a.f) a.c (omega arith)

@@ -22,4 +22,4 @@ returns-in-1 c = let a = c.args in
     (ap not c.shuttle-in-1.ensures ∙ one_free (plain_bits a.f (slot a.side lowered a.row))) refl
 
 pub returns-in_default : goal.returns-in_default
-returns-in_default c = let a = c.args in past (clauses (Tilt a.side a.row tilted)) (plain_bits a.f) a.c (omega arith) c.none.ensures
+returns-in_default c = let a = c.args in past (clauses (Tilt a.side a.row tilted)) (plain_bits a.f) a.c (omega arith)

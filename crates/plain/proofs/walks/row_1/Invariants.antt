@@ -1,10 +1,6 @@
-use Prim.Native.Nat.{◌-◌}
 use Rattle.plain.specs.Plain.{plain_bits}
 use Rattle.plain.proofs.Walking.{RowWalked}
 use Rattle.plain.proofs.walks.row_1.Given as goal
 
 abbrev pub invariant-loop-k : goal.invariant-loop-k
 invariant-loop-k l = RowWalked (plain_bits l.f) l.w l.half l.k
-
-abbrev pub decreases-loop-k : goal.decreases-loop-k
-decreases-loop-k l = 20 - l.k

@@ -1,10 +1,6 @@
-use Prim.Native.Nat.{◌-◌}
 use Rattle.bits.proofs.Least.{Passed}
 use Rattle.plain_moves.proofs.Sharing.{in_both}
 use Rattle.plain_moves.proofs.Parts.meets.Given as goal
 
 abbrev pub invariant-loop-k : goal.invariant-loop-k
 invariant-loop-k l = Passed (in_both l.self l.q) 53 l.k
-
-abbrev pub decreases-loop-k : goal.decreases-loop-k
-decreases-loop-k l = 53 - l.k

@@ -7,4 +7,4 @@ use Rattle.plain_moves.proofs.Sharing.{number_is}
 use Rattle.plain_moves.proofs.Parts.number.Goals as goal
 
 pub returns : goal.returns
-returns c = c.image.ensures ∙ ap (λ (f : Floor). image (plain_bits f)) c.floor-f.ensures ∙ number_is c.args.self
+returns c = c.image.ensures ∙ ap (λ (f : Floor). image (plain_bits f)) c.floor.ensures ∙ number_is c.args.self

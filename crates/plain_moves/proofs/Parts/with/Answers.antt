@@ -5,4 +5,4 @@ use Rattle.plain_moves.proofs.Parts.with.Goals as goal
 pub returns : goal.returns
 returns c =
     let a = c.args in
-    both_together a.self a.q c.cells_with-cells.ensures c.slots_with-slots.ensures
+    both_together a.self a.q c.cells_with.ensures c.slots_with.ensures

@@ -6,4 +6,4 @@ use Rattle.plain_moves.proofs.belts.run.Goals as goal
 pub returns : goal.returns
 returns c = let a = c.args in let g = c.well_formed in
     belts_run a.f (sized a.f g.0.1.1.0.1.0.1 g.0.1.1.1.0.1.0.1) a.row a.mask a.toward a.size
-    c.requires c.shifted-cells.ensures
+    c.requires c.shifted.ensures

@@ -5,6 +5,3 @@ use Rattle.plain_moves.proofs.shuttles.cells_after.Given as goal
 
 abbrev pub invariant-loop-row : goal.invariant-loop-row
 invariant-loop-row l = (l.new ≡ cells_after l.side l.mask l.toward l.cells (l.row - 1)) × (1 ≤ l.row) × (l.row ≤ 4)
-
-abbrev pub decreases-loop-row : goal.decreases-loop-row
-decreases-loop-row l = 4 - l.row

@@ -1,7 +1,7 @@
 -- `plain_moves::shuttles::slots_after` meets its contract: the loop makes a row at a time (proofs/Finding.antt). Assumes nothing.
-use mathlib.Core.Path.{refl}
+use mathlib.Core.Path.{refl, ap, ◌∙◌}
 use native.Mathlib.Omega.{arith}
-use Rattle.plain_moves.specs.Private.{slots_after}
+use Rattle.plain_moves.specs.Private.{slots_after, some_row}
 use Rattle.plain_moves.proofs.Finding.{source_row, slots_more, three_slots}
 use Rattle.plain_moves.proofs.shuttles.slots_after.Goals as goal
 
@@ -19,7 +19,7 @@ pub slot_from-requires : goal.slot_from-requires
 slot_from-requires c =
     let p = c.requires in
     let a = c.args in
-    (p.0, p.1, (omega (arith, c.source-from.ensures, source_row a.mask a.toward c.loop-row.row p.2 (omega arith))))
+    (p.0, p.1, (ap some_row c.source-from.ensures ∙ source_row a.mask a.toward c.loop-row.row p.2 (omega arith) (omega arith)))
 
 pub overflow_cast-new : goal.overflow_cast-new
 overflow_cast-new c = let p = c.requires in omega (arith, c.slot-at.ensures)

@@ -1,34 +1,33 @@
 -- `plain_station::Plain::accepted` meets its contract: by what the two searches have found. Assumes nothing.
-use Rattle.plain_station.proofs.Outcomes.{found, none_found}
+use Rattle.plain_station.proofs.Outcomes.{back, found, none_found}
 use Rattle.plain_station.specs.Plain.{packed_of, plain_outcome}
 use Rattle.station.specs.Calls.{refused, accepted}
 use Rattle.station.specs.Held.{overlaps_earlier, barred, why_not}
-use Rattle.rules.specs.Verdicts.{answer_for}
-use Rattle.rules.specs.declared.Verdict.{Verdict}
+use Rattle.rules.specs.Verdicts.{Verdict, answer_for}
 use Rattle.answers.specs.declared.Answer.TheVariants.{Overlap}
 use Rattle.answers.specs.declared.Answer.{Answer}
-use Rattle.std.proofs.Common.{ap, ◌∙◌}
+use Rattle.std.proofs.Common.{ap, ◌∙◌, rules}
 use Rattle.plain_station.proofs.Plain.accepted.Goals as goal
 
-pub returns-then-overlapping-count : goal.returns-then-overlapping-count
+pub returns-in-Some : goal.returns-in-Some
 unfolding accepted
-returns-then-overlapping-count c = c.refused.ensures.1 ∙ ap plain_outcome (found _ (overlaps_earlier _) _ Overlap _ c.least_overlapping-overlapping.ensures c.if-overlapping-count.true)
+returns-in-Some c = back c.args.self (search rules) _ ∙ ap plain_outcome (found _ (overlaps_earlier _) _ Overlap _ c.least_overlapping.ensures c.in-Some.is)
 
-pub returns-then-barred-count : goal.returns-then-barred-count
+pub returns-in-Some-least_barred : goal.returns-in-Some-least_barred
 unfolding accepted packed_of
-returns-then-barred-count c = let s = packed_of c.args.self in
-    c.refused-then-barred-count.ensures.1
+returns-in-Some-least_barred c = let s = packed_of c.args.self in
+    back c.args.self (search rules) _
     ∙ ap (λ (y : Answer). plain_outcome (refused s y))
-    (c.answer.ensures ∙ ap (λ (v : Verdict). answer_for v c.least_barred-barred.result)
+    (c.answer_for.ensures ∙ ap (λ (v : Verdict). answer_for v c.in-Some-least_barred.barred)
     c.verdict_at-verdict.ensures)
-    ∙ ap plain_outcome (found _ (barred _ s.bits) s (why_not _ s.bits) _ c.least_barred-barred.ensures c.if-barred-count.true
+    ∙ ap plain_outcome (found _ (barred _ s.bits) s (why_not _ s.bits) _ c.least_barred.ensures c.in-Some-least_barred.is
     ∙ none_found _ (overlaps_earlier _) s Overlap _
-    c.least_overlapping-overlapping.ensures
-    c.if-overlapping-count.false)
+    c.least_overlapping.ensures
+    c.in_default.is)
 
 pub returns : goal.returns
 unfolding accepted packed_of
 returns c = let s = packed_of c.args.self in
     c.opened.ensures
-    ∙ ap plain_outcome (none_found _ (barred _ s.bits) s (why_not _ s.bits) _ c.least_barred-barred.ensures c.if-barred-count.false
-    ∙ none_found _ (overlaps_earlier _) s Overlap _ c.least_overlapping-overlapping.ensures c.if-overlapping-count.false)
+    ∙ ap plain_outcome (none_found _ (barred _ s.bits) s (why_not _ s.bits) _ c.least_barred.ensures c.in_default-least_barred.is
+    ∙ none_found _ (overlaps_earlier _) s Overlap _ c.least_overlapping.ensures c.in_default.is)

@@ -9,7 +9,7 @@ use Rattle.plain_station.proofs.Plain.driven.Goals as goal
 pub returns-then-lift_in : goal.returns-then-lift_in
 unfolding plain_driven
 returns-then-lift_in c = let p = c.args.self in
-    c.refused.ensures.0 ∙ where_true (lift_in p.set p.count) (refused_plain p SetOutstanding) _ (sym c.lift_in.ensures ∙ c.if-lift_in.true)
+    where_true (lift_in p.set p.count) (refused_plain p SetOutstanding) _ (sym c.lift_in.ensures ∙ c.if-lift_in.true)
 
 pub returns : goal.returns
 unfolding plain_driven

@@ -13,18 +13,17 @@ use Rattle.plain_station.proofs.Plain.occurred.Goals as goal
 pub returns-then-not-in_turn : goal.returns-then-not-in_turn
 unfolding plain_occurred plain_entered
 returns-then-not-in_turn c = let a = c.args in
-    c.refused.ensures.0 ∙ where_false (in_turn a.e (plain_bits a.self.floor)) _ (refused_plain a.self OutOfTurn) (failed c.in_turn.ensures c.if-not-in_turn.true-raw)
+    where_false (in_turn a.e (plain_bits a.self.floor)) _ (refused_plain a.self OutOfTurn) (failed c.in_turn.ensures c.if-not-in_turn.true-raw)
 
-pub returns-then-apart : goal.returns-then-apart
+pub returns-then-self : goal.returns-then-self
 unfolding plain_occurred plain_entered
-returns-then-apart c = let a = c.args in
-    c.refused-then-apart.ensures.0
-    ∙ where_true a.self.apart.lift (refused_plain a.self (SetApart nowhere)) _ c.if-apart.true
+returns-then-self c = let a = c.args in
+    where_true a.self.apart.lift (refused_plain a.self (SetApart nowhere)) _ c.if-self.true
     ∙ where_true (in_turn a.e (plain_bits a.self.floor)) _ (refused_plain a.self OutOfTurn) (passed c.in_turn.ensures c.if-not-in_turn.false-raw)
 
 pub returns : goal.returns
 unfolding plain_occurred plain_entered
 returns c = let a = c.args in
     c.entered.ensures
-    ∙ where_false a.self.apart.lift (refused_plain a.self (SetApart nowhere)) _ c.if-apart.false
+    ∙ where_false a.self.apart.lift (refused_plain a.self (SetApart nowhere)) _ c.if-self.false
     ∙ where_true (in_turn a.e (plain_bits a.self.floor)) _ (refused_plain a.self OutOfTurn) (passed c.in_turn.ensures c.if-not-in_turn.false-raw)

@@ -1,18 +1,19 @@
--- `plain_station::sets::least_barred` meets its contract: each of those passed is allowed. Assumes nothing.
-use Rattle.plain_station.proofs.Searching.{verdict_seen}
-use Rattle.bits.proofs.Least.{start, turn, here, past}
+-- `plain_station::sets::least_barred` meets its contract. Assumes nothing.
+use Rattle.std.proofs.Common.{◌≡◌, true, false, arith, rules, tests}
+use Rattle.std.proofs.lemmas.Iterator.{first_from_Range, serves_from_Range}
+use Rattle.bits.specs.Bits.{image}
+use Rattle.plain.specs.Plain.{plain_bits}
+use Rattle.station.specs.Held.{barred}
+use Rattle.plain_station.proofs.Searching.{first_found, verdict_seen}
 use Rattle.plain_station.proofs.sets.least_barred.Goals as goal
 
-pub loop-i-init : goal.loop-i-init
-loop-i-init c = start _ _
-
-pub returns-then-not-allows : goal.returns-then-not-allows
-returns-then-not-allows c = here c.loop-i.invariant c.loop-i-test.true
-    (verdict_seen _ _ _ c.verdict_at.ensures c.allows.ensures c.if-not-allows.true-raw)
-
-pub loop-i-preserved : goal.loop-i-preserved
-loop-i-preserved c = turn c.loop-i.invariant c.loop-i-test.true
-    (verdict_seen _ _ _ c.verdict_at.ensures c.allows.ensures c.if-not-allows.false-raw)
+pub find-requires : goal.find-requires
+find-requires c = record { can = tt; finite = tt; callable = serves_from_Range (λ x q k. search (rules, tests)) (λ x low high. search rules) }
 
 pub returns : goal.returns
-returns c = past c.loop-i.invariant c.loop-i-test.false
+returns c =
+    let p = barred c.args.set (image (plain_bits c.args.floor)) in
+    first_found c.args.n p _
+    (first_from_Range _ _ _ _ (λ i. p i ≡ true) (λ i. p i ≡ false) c.find.ensures.ran
+    (λ x q k. grind (arith, tests, verdict_seen))
+    (λ x q k. (search rules, grind (arith, tests, verdict_seen))))

@@ -1,16 +1,17 @@
--- `plain_station::sets::least_overlapping` meets its contract: none of those passed overlaps an earlier one. Assumes nothing.
-use Rattle.bits.proofs.Least.{start, turn, here, past}
-use Rattle.std.proofs.Common.{sym, ◌∙◌}
+-- `plain_station::sets::least_overlapping` meets its contract. Assumes nothing.
+use Rattle.std.proofs.Common.{◌≡◌, true, false, arith, rules, tests}
+use Rattle.std.proofs.lemmas.Iterator.{first_from_Range, serves_from_Range}
+use Rattle.station.specs.Held.{overlaps_earlier}
+use Rattle.plain_station.proofs.Searching.{first_found}
 use Rattle.plain_station.proofs.sets.least_overlapping.Goals as goal
 
-pub loop-i-init : goal.loop-i-init
-loop-i-init c = start _ _
-
-pub returns-then-overlaps_earlier : goal.returns-then-overlaps_earlier
-returns-then-overlaps_earlier c = here c.loop-i.invariant c.loop-i-test.true (sym c.overlaps_earlier.ensures ∙ c.if-overlaps_earlier.true)
-
-pub loop-i-preserved : goal.loop-i-preserved
-loop-i-preserved c = turn c.loop-i.invariant c.loop-i-test.true (sym c.overlaps_earlier.ensures ∙ c.if-overlaps_earlier.false)
+pub find-requires : goal.find-requires
+find-requires c = record { can = tt; finite = tt; callable = serves_from_Range (λ x q k. search (rules, tests)) (λ x low high. search rules) }
 
 pub returns : goal.returns
-returns c = past c.loop-i.invariant c.loop-i-test.false
+returns c =
+    let p = overlaps_earlier c.args.set in
+    first_found c.args.n p _
+    (first_from_Range _ _ _ _ (λ i. p i ≡ true) (λ i. p i ≡ false) c.find.ensures.ran
+    (λ x q k. grind (arith, tests))
+    (λ x q k. (search rules, grind (arith, tests))))

@@ -1,18 +1,19 @@
--- `plain_station::sets::least_touching` meets its contract: none of those passed touches what is set apart. Assumes nothing.
-use Rattle.plain_station.proofs.Searching.{touch_seen}
-use Rattle.bits.proofs.Least.{start, turn, here, past}
+-- `plain_station::sets::least_touching` meets its contract. Assumes nothing.
+use Rattle.std.proofs.Common.{◌≡◌, true, false, arith, rules, tests}
+use Rattle.std.proofs.lemmas.Iterator.{first_from_Range, serves_from_Range}
+use Rattle.bits.specs.Bits.{image}
+use Rattle.plain_moves.specs.Moves.{parts_bits}
+use Rattle.station.specs.Held.{touches}
+use Rattle.plain_station.proofs.Searching.{first_found, touch_seen}
 use Rattle.plain_station.proofs.sets.least_touching.Goals as goal
 
-pub loop-i-init : goal.loop-i-init
-loop-i-init c = start _ _
-
-pub returns-then-meets : goal.returns-then-meets
-returns-then-meets c = here c.loop-i.invariant c.loop-i-test.true
-    (touch_seen _ _ _ c.area_at-area.ensures c.meets.ensures c.if-meets.true)
-
-pub loop-i-preserved : goal.loop-i-preserved
-loop-i-preserved c = turn c.loop-i.invariant c.loop-i-test.true
-    (touch_seen _ _ _ c.area_at-area.ensures c.meets.ensures c.if-meets.false)
+pub find-requires : goal.find-requires
+find-requires c = record { can = tt; finite = tt; callable = serves_from_Range (λ x q k. search (rules, tests)) (λ x low high. search rules) }
 
 pub returns : goal.returns
-returns c = past c.loop-i.invariant c.loop-i-test.false
+returns c =
+    let p = touches c.args.set (image (parts_bits c.args.apart)) in
+    first_found c.args.n p _
+    (first_from_Range _ _ _ _ (λ i. p i ≡ true) (λ i. p i ≡ false) c.find.ensures.ran
+    (λ x q k. grind (arith, tests, touch_seen))
+    (λ x q k. (search rules, grind (arith, tests, touch_seen))))

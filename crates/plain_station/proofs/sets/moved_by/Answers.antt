@@ -3,8 +3,8 @@ use Rattle.plain_station.proofs.Reading.{not_moved, its_move}
 use Rattle.std.proofs.Common.{◌∙◌, rules}
 use Rattle.plain_station.proofs.sets.moved_by.Goals as goal
 
-pub returns-in-Good : goal.returns-in-Good
-returns-in-Good c = c.moved.ensures ∙ its_move _ _ c.instruction.ensures _ (search rules) (search rules) _ c.in-Good.is
+pub returns-in-Some : goal.returns-in-Some
+returns-in-Some c = c.moved.ensures ∙ its_move _ _ c.instruction.ensures _ (search rules) (search rules) _ c.in-Some.is
 
-pub returns-in-Bad : goal.returns-in-Bad
-returns-in-Bad c = not_moved _ _ c.instruction.ensures _ (search rules) (search rules) c.in-Bad.is
+pub returns-in-None : goal.returns-in-None
+returns-in-None c = not_moved _ _ c.instruction.ensures _ (search rules) (search rules) c.in-None.is

@@ -1,20 +1,18 @@
--- `plain_station::sets::overlaps_earlier` meets its contract: it overlaps none of those passed. Assumes nothing.
-use Rattle.plain_station.proofs.Searching.{overlap_seen, overlap_found, overlap_missed}
-use Rattle.bits.proofs.Least.{start, turn}
+-- `plain_station::sets::overlaps_earlier` meets its contract. Assumes nothing.
+use Rattle.std.proofs.Common.{◌≡◌, true, false, refl, ◌∙◌, arith, rules, tests}
+use Rattle.std.proofs.lemmas.Iterator.{cases_from_any, serves_from_Range, YieldsList-from_range}
+use Rattle.plain_station.proofs.Searching.{any_found, overlaps_one, overlap_seen, overlap_is}
 use Rattle.plain_station.proofs.sets.overlaps_earlier.Goals as goal
 
-pub loop-j-init : goal.loop-j-init
-loop-j-init c = start _ _
-
-pub returns-then-meets : goal.returns-then-meets
-returns-then-meets c = overlap_found _ _ _ c.loop-j-test.true
-    (overlap_seen _ _ _ c.area_at-area.ensures c.area_at-earlier.ensures
-    c.meets.ensures c.if-meets.true)
-
-pub loop-j-preserved : goal.loop-j-preserved
-loop-j-preserved c = turn c.loop-j.invariant c.loop-j-test.true
-    (overlap_seen _ _ _ c.area_at-area.ensures c.area_at-earlier.ensures
-    c.meets.ensures c.if-meets.false)
+pub any-requires : goal.any-requires
+any-requires c = record { can = tt; finite = tt; callable = serves_from_Range (λ x q k. search (rules, tests)) (λ x low high. search rules) }
 
 pub returns : goal.returns
-returns c = overlap_missed _ _ c.loop-j.invariant c.loop-j-test.false
+returns c =
+    let n = c.args.i in
+    let p = overlaps_one c.args.set.now n in
+    any_found n p _
+    (cases_from_any _ _ _ (λ i. p i ≡ true) (λ i. p i ≡ false) c.any.ensures.ran (YieldsList-from_range 0 n n refl (omega arith))
+    (λ x q k. grind (arith, tests, overlap_seen))
+    (λ x q k. (search rules, grind (arith, tests, overlap_seen))))
+    ∙ overlap_is c.args.set.now n

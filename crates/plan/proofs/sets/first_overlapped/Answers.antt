@@ -7,15 +7,15 @@ use Rattle.plan.proofs.sets.first_overlapped.Goals as goal
 pub loop-j-init : goal.loop-j-init
 loop-j-init c = start _ _
 
-pub returns-then-own-other-ne0 : goal.returns-then-own-other-ne0
-returns-then-own-other-ne0 c =
+pub returns-then-own-parts_at-ne0 : goal.returns-then-own-parts_at-ne0
+returns-then-own-parts_at-ne0 c =
     here c.loop-j.invariant c.loop-j-test.true
-    (sym (overlap_so _ _ _ c.parts_at-own.ensures c.parts_at-other.ensures) ∙ meets_so _ c.if-own-other-ne0.true)
+    (sym (overlap_so _ _ _ c.parts_at-own.ensures c.parts_at.ensures) ∙ meets_so _ c.if-own-parts_at-ne0.true)
 
 pub loop-j-preserved : goal.loop-j-preserved
 loop-j-preserved c =
     turn c.loop-j.invariant c.loop-j-test.true
-    (sym (overlap_so _ _ _ c.parts_at-own.ensures c.parts_at-other.ensures) ∙ meets_not _ c.if-own-other-ne0.false)
+    (sym (overlap_so _ _ _ c.parts_at-own.ensures c.parts_at.ensures) ∙ meets_not _ c.if-own-parts_at-ne0.false)
 
 pub returns : goal.returns
 returns c = past c.loop-j.invariant c.loop-j-test.false

@@ -10,4 +10,4 @@ pub shift-requires : goal.shift-requires
 shift-requires c = (omega arith, omega arith)
 
 pub returns : goal.returns
-returns c = some_held _ _ _ _ _ c.least-to.ensures c.shift.ensures
+returns c = some_held _ _ _ _ _ c.min-to.ensures c.shift.ensures

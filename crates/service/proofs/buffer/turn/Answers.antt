@@ -10,5 +10,5 @@ slice_bounds-serve-end-2 c = sym (length-take-le _ _ (omega arith))
 
 pub returns : goal.returns
 returns c =
-    one_turn _ _ _ _ _ _ _ _ _ c.least-end.ensures
+    one_turn _ _ _ _ _ _ _ _ _ c.min-end.ensures
     c.serve-w.ensures c.hold-have.ensures

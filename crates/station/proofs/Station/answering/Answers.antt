@@ -7,7 +7,7 @@ use Rattle.std.proofs.Common.{ap, arith}
 use Rattle.station.proofs.Station.answering.Goals as goal
 
 pub returns-then-marks-all : goal.returns-then-marks-all
-returns-then-marks-all c = let a = c.args in ap (λ (s : Station). turn_of (taken s)) (last_answer a.self a.i a.r a.apart (mark_of _ (omega arith)) c.all_marks-all.ensures c.if-marks-all.true)
+returns-then-marks-all c = let a = c.args in rw c.holding.ensures (ap (λ (s : Station). turn_of (taken s)) (last_answer a.self a.i a.r a.apart (mark_of _ (omega arith)) c.all_marks-all.ensures c.if-marks-all.true))
 
 pub returns : goal.returns
-returns c = let a = c.args in ap (λ (s : Station). turn_of (taken s)) (one_answer a.self a.i a.r a.apart (mark_of _ (omega arith)) c.all_marks-all.ensures c.if-marks-all.false)
+returns c = let a = c.args in rw c.holding-2.ensures (ap (λ (s : Station). turn_of (taken s)) (one_answer a.self a.i a.r a.apart (mark_of _ (omega arith)) c.all_marks-all.ensures c.if-marks-all.false))

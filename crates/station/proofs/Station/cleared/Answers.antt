@@ -6,11 +6,8 @@ use Rattle.station.proofs.Station.cleared.Goals as goal
 
 pub returns-then-under_way-found : goal.returns-then-under_way-found
 unfolding cleared crosses_drive
-returns-then-under_way-found c = c.unmoved.ensures ∙ rw (sym (ap₂ ◌&&◌ c.under_way.ensures c.requires.3) ∙ c.if-under_way-found.true)
-
-pub spared-requires : goal.spared-requires
-spared-requires c = let p = c.requires in (p.0, p.1, p.2)
+returns-then-under_way-found c = c.unmoved.ensures ∙ rw (sym (ap₂ ◌&&◌ c.under_way.ensures c.requires.lift) ∙ c.if-under_way-found.true)
 
 pub returns : goal.returns
 unfolding cleared crosses_drive
-returns c = c.spared.ensures ∙ rw (sym (ap₂ ◌&&◌ c.under_way.ensures c.requires.3) ∙ c.if-under_way-found.false)
+returns c = c.spared.ensures ∙ rw (sym (ap₂ ◌&&◌ c.under_way.ensures c.requires.lift) ∙ c.if-under_way-found.false)

@@ -3,11 +3,11 @@ use Rattle.station.proofs.Moves.{held_after_lem}
 use Rattle.std.proofs.Common.{sym, ◌∙◌}
 use Rattle.station.proofs.held.after.Goals as goal
 
-pub returns-in-Record : goal.returns-in-Record
-returns-in-Record c = held_after_lem _ _ (sym c.in-Record.is ∙ c.code_moved.ensures)
+pub returns-in-Ok : goal.returns-in-Ok
+returns-in-Ok c = held_after_lem _ _ (sym c.in-Ok.is ∙ c.code_moved.ensures)
 
-pub returns-in-NotAllowed : goal.returns-in-NotAllowed
-returns-in-NotAllowed c = held_after_lem _ _ (sym c.in-NotAllowed.is ∙ c.code_moved.ensures)
+pub returns-in-Err-NotAllowed : goal.returns-in-Err-NotAllowed
+returns-in-Err-NotAllowed c = held_after_lem _ _ (sym c.in-Err-NotAllowed.is ∙ c.code_moved.ensures)
 
-pub returns-in-IllFormed : goal.returns-in-IllFormed
-returns-in-IllFormed c = held_after_lem _ _ (sym c.in-IllFormed.is ∙ c.code_moved.ensures)
+pub returns-in-Err-IllFormed : goal.returns-in-Err-IllFormed
+returns-in-Err-IllFormed c = held_after_lem _ _ (sym c.in-Err-IllFormed.is ∙ c.code_moved.ensures)

@@ -3,8 +3,8 @@ use Rattle.station.proofs.Areas.{held_lifts, none_lifts}
 use Rattle.std.proofs.Common.{sym, ◌∙◌}
 use Rattle.station.proofs.held.has_lift.Goals as goal
 
-pub returns-in-Good : goal.returns-in-Good
-returns-in-Good c = held_lifts c.args.x _ c.lifts.ensures (sym c.read-reading.ensures ∙ c.in-Good.is)
+pub returns-in-Some : goal.returns-in-Some
+returns-in-Some c = held_lifts c.args.x _ c.lifts.ensures (sym c.read.ensures ∙ c.in-Some.is)
 
-pub returns-in-Bad : goal.returns-in-Bad
-returns-in-Bad c = none_lifts c.args.x (sym c.read-reading.ensures ∙ c.in-Bad.is)
+pub returns-in-None : goal.returns-in-None
+returns-in-None c = none_lifts c.args.x (sym c.read.ensures ∙ c.in-None.is)

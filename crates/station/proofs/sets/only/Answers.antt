@@ -1,5 +1,5 @@
 -- `station::sets::only` meets its contract: the places passed are copied, the rest zero. Assumes nothing.
-use Rattle.std.proofs.Common.{◌-◌, arith}
+use Rattle.std.proofs.Common.{arith}
 use Rattle.station.proofs.Loops.{copy_start, copy_turn, copy_end, all_used}
 use Rattle.station.proofs.sets.only.Goals as goal
 

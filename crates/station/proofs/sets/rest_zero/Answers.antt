@@ -1,5 +1,4 @@
 -- `station::sets::rest_zero` meets its contract: what is gathered is zero if each place passed is. Assumes nothing.
-use Rattle.std.proofs.Common.{◌-◌}
 use Rattle.station.proofs.Loops.{zero_start, zero_turn, zero_all}
 use Rattle.station.proofs.sets.rest_zero.Goals as goal
 

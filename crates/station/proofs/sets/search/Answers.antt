@@ -1,5 +1,4 @@
 -- `station::sets::search` meets its contract: four searches in one, with the areas passed gathered in one mask. Assumes nothing.
-use Rattle.std.proofs.Common.{◌-◌}
 use Rattle.station.proofs.Loops.{search_starts, passes, searches, search_ends}
 use Rattle.station.proofs.Moves.{one_judgement}
 use Rattle.station.proofs.sets.search.Goals as goal

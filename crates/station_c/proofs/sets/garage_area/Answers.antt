@@ -14,7 +14,7 @@ returns c =
     area_told _ _ (omega (arith, c.if-area-lt-RECORD.false))
     (omega (arith, c.if-five-lt-CODE.false))
     c.area_in-m.ensures
-    c.area_said-a.ensures
-    c.area_bits-x.ensures
-    c.image_bytes-b.ensures c.say-2.ensures
+    c.area_said.ensures
+    c.area_bits.ensures
+    c.image_bytes.ensures c.say-2.ensures
     c.tell.ensures

@@ -16,21 +16,21 @@ pub returns-in_default : goal.returns-in_default
 returns-in_default c =
     pair_read _ _ (omega (arith, c.if-one-lt-CODE.false))
     (omega (arith, c.if-other-lt-CODE.false))
-    (sym c.in_default.is ∙ c.read_bytes-first.ensures) refl c.say-in_default.ensures
+    (sym c.in_default.is ∙ c.read_bytes.ensures) refl c.say-in_default.ensures
 
-pub returns-in_default-second : goal.returns-in_default-second
-returns-in_default-second c =
+pub returns-in_default-read_bytes : goal.returns-in_default-read_bytes
+returns-in_default-read_bytes c =
     pair_read _ _ (omega (arith, c.if-one-lt-CODE.false))
     (omega (arith, c.if-other-lt-CODE.false))
-    (sym c.in-Good.is ∙ c.read_bytes-first.ensures)
-    (sym c.in_default-second.is ∙ c.read_bytes-second.ensures) c.say-in_default-second.ensures
+    (sym c.in-Some.is ∙ c.read_bytes.ensures)
+    (sym c.in_default-read_bytes.is ∙ c.read_bytes-2.ensures) c.say-in_default-read_bytes.ensures
 
 pub returns : goal.returns
 returns c =
     pair_read _ _
     (omega (arith, c.if-one-lt-CODE.false))
     (omega (arith, c.if-other-lt-CODE.false))
-    (sym c.in-Good.is
-    ∙ c.read_bytes-first.ensures)
-    (sym c.in-Good-second.is ∙ c.read_bytes-second.ensures)
-    (c.say-2.ensures ∙ ap returned (c.sharing_said-a.ensures ∙ ap sharing_said c.overlap-s.ensures))
+    (sym c.in-Some.is
+    ∙ c.read_bytes.ensures)
+    (sym c.in-Some-read_bytes.is ∙ c.read_bytes-2.ensures)
+    (c.say-2.ensures ∙ ap returned (c.sharing_said.ensures ∙ ap sharing_said c.overlap.ensures))

@@ -4,7 +4,6 @@ use Rattle.bits.proofs.Least.{start, turn, here, past}
 use Rattle.rules.specs.Codes.{read_bytes}
 use lib.ListN.{drop}
 use mathlib.Core.Path.{◌≡◌, ◌∙◌, sym, ap}
-use Prim.Native.Nat.{◌-◌}
 use native.Mathlib.Omega.{arith}
 use Rattle.wire.proofs.kinds.least_bad.Goals as goal
 use Rattle.wire.proofs.kinds.least_bad.Goals.{After-is_bad}

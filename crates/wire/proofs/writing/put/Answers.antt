@@ -1,5 +1,4 @@
-use Rattle.wire.proofs.Room.{put_short, put_all}
-use borrow.Author.Tests.{le-ltb}
+use Rattle.wire.proofs.Room.{put_short, put_says, put_all}
 use Rattle.wire.proofs.writing.put.Goals as goal
 
 pub returns-then-room-src : goal.returns-then-room-src
@@ -11,4 +10,4 @@ pub returns : goal.returns
 returns c = let a = c.args in
     let h = c.if-room-src.false in
     let e = c.copy-size.ensures.all h in
-    (rw e.0 (simp (le-ltb _ _ h)), put_all a.src.now a.room.now _ h e.1)
+    (put_says a.src.now a.room.now h e.0, put_all a.src.now a.room.now _ h e.1)

@@ -1,4 +1,0 @@
-use Rattle.desk_service.proofs.called.Goals as goal
-
-pub returns : goal.returns
-returns c = rw c.reply_told-told.ensures

@@ -1,9 +1,0 @@
--- `journal_files::is_of` meets its contract. Assumes nothing.
-use Rattle.std.proofs.Common.{sym, ◌∙◌}
-use Rattle.journal_files.proofs.is_of.Goals as goal
-
-pub returns-then-is_text : goal.returns-then-is_text
-returns-then-is_text c = sym c.if-is_text.true ∙ c.is_text.ensures
-
-pub returns : goal.returns
-returns c = c.refused.ensures ∙ sym c.if-is_text.false ∙ c.is_text.ensures
