@@ -17,18 +17,6 @@ function refuse(why) {
 / (ptrtoaddr|ptrtoint|inttoptr|addrspacecast) / && !(copies && / = ptrtoaddr ptr /) { refuse("an address as a number") }
 copies { sub(/ = ptrtoaddr ptr /, " = ptrtoint ptr ") }
 / getelementptr / && !/ getelementptr (inbounds |nuw |nusw )*i8, / { refuse("places that are not counted in bytes") }
-# an address that may be missing: each part is loaded from its place on that machine, where the address is behind eight bytes
-/ = load \{ i8, ptr \}, ptr / {
-    room = $9
-    sub(/,$/, "", room)
-    if (room in rooms) refuse("the room of an address")
-    printf "  %s.there = load i8, ptr %s, align 8\n  %s.place = getelementptr i8, ptr %s, i64 8\n", $1, room, $1, room
-    printf "  %s.address = load ptr, ptr %s.place, align 8\n", $1, $1
-    printf "  %s.half = insertvalue { i8, ptr } poison, i8 %s.there, 0\n", $1, $1
-    printf "  %s = insertvalue { i8, ptr } %s.half, ptr %s.address, 1\n", $1, $1, $1
-    next
-}
-/ (store|load) \{[^}]*ptr/ && !/ \{ ptr, i64 \}/ { refuse("a value of several in memory") }
 / call [^@]*%[A-Za-z0-9._]+\(/ { refuse("a call by a pointer") }
 / call void @llvm\.mem/ && !/, i64 [0-9]+, i1 / && !copies { refuse("a run of no fixed size") }
 / ptr %/ {
