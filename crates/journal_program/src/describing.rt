@@ -130,7 +130,8 @@ fn tell(
     say_rest(rt, t, file, start, buf, room)
 }
 
-// Tells what the journal of this name is.
+// Tells what the journal of this name is. Its rooms are not to be in the frame of main, below which a journal is followed with others.
+#[inline(never)]
 pub fn describe(rt: &HostRuntime, name: &[u8]) -> streams::Result<()> {
     let file = reading::open(rt, name)?;
     let t = checksum::tables();

@@ -183,7 +183,8 @@ fn say_recorded(
     check_sound(rt, q, rest(t, q, buf))
 }
 
-// Writes the messages that a journal has recorded.
+// Writes the messages that a journal has recorded. Its rooms are not to be in the frame of main, either.
+#[inline(never)]
 pub fn recorded(rt: &HostRuntime, name: &[u8]) -> streams::Result<()> {
     let file = open(rt, name)?;
     let t = checksum::tables();
