@@ -93,30 +93,18 @@ module _ (x : Code) where
     mask : m ≡ image (area i)
     mask = a ∙ area_right i well
 
-    located_good : Some (record { instruction = i; area = m }) ≡ locate x
+    pub located_good : Some (record { instruction = i; area = m }) ≡ locate x
     unfolding locate
     located_good = ap (place i) mask ∙ ap (on_code (λ i. place i (image (area i))) None) (sym g)
 
-    area_good : Some m ≡ code_mask x
+    pub area_good : Some m ≡ code_mask x
     unfolding code_mask mask_of
     area_good = rw (g, well) (ap Some mask)
 
-  located_bad : read_code x ≡ None → None ≡ locate x
+  pub located_bad : read_code x ≡ None → None ≡ locate x
   unfolding locate
   located_bad g = rw g
 
-  area_bad : read_code x ≡ None → None ≡ code_mask x
+  pub area_bad : read_code x ≡ None → None ≡ code_mask x
   unfolding code_mask
   area_bad g = rw g
-
-  pub area_read : (y : Option Instruction) (m : Option ℕ) → y ≡ read_code x
-      → MatchOption y (m ≡ None) (λ i. IsSomeAnd m (λ n. n ≡ area_mask i)) → m ≡ code_mask x
-  area_read None m e c = c ∙ area_bad (sym e)
-  area_read (Some i) (Some n) e c = area_good i n (sym e) c
-  area_read (Some i) None e c = absurd c
-
-  pub located : (y : Option Instruction) (p : Option Located) → y ≡ read_code x
-      → MatchOption y (p ≡ None) (λ i. IsSomeAnd p (λ q. q ≡ record { instruction = i; area = area_mask i })) → p ≡ locate x
-  located None p e c = c ∙ located_bad (sym e)
-  located (Some i) (Some q) e c = ap Some c ∙ located_good i (area_mask i) (sym e) refl
-  located (Some i) None e c = absurd c

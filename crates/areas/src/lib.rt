@@ -191,14 +191,20 @@ fn with_area(instruction: Instruction) -> Located
 pub fn locate(x: Code) -> Option<Located>
     ensures { result ≡ locate x }
 {
-    rules::read(x).map(with_area)
+    match rules::read(x) {
+        Some(i) => Some(with_area(i)),
+        None => None,
+    }
 }
 
 // The area of the instruction that five bytes say.
 pub fn code_area(x: Code) -> Option<u64>
     ensures { result ≡ code_mask x }
 {
-    rules::read(x).map(area_mask)
+    let Some(i) = rules::read(x) else {
+        return None;
+    };
+    Some(area_mask(i))
 }
 
 // Whether the instructions that five bytes and five others say overlap.
@@ -206,8 +212,11 @@ pub fn code_area(x: Code) -> Option<u64>
 pub fn code_overlap(x: Code, y: Code) -> Sharing
     ensures { result ≡ code_sharing x y }
 {
-    match (rules::read(x), rules::read(y)) {
-        (Some(i), Some(j)) => overlap(i, j),
-        _ => Sharing::IllFormed,
+    let Some(i) = rules::read(x) else {
+        return Sharing::IllFormed;
+    };
+    match rules::read(y) {
+        Some(j) => overlap(i, j),
+        None => Sharing::IllFormed,
     }
 }

@@ -100,10 +100,9 @@ stand_all r a v h = sym (every_is 42 (right_at r a) (λ i l. not-false (right_at
 
 -- ---- numbers given twice
 
-pub repeats_is : (a : List ℕ) (j : ℕ) {b : Bool} → j < length a → b ≡ is_some (position (λ x. eqb x (get_or a j 0)) (take j a))
-    → not (eqb (get_or a j 0) 0) && b ≡ repeats a j
-repeats_is a j h e =
-    ap (λ (b : Bool). not (eqb (get_or a j 0) 0) && b) (e ∙ found_front (λ x. eqb x (get_or a j 0)) j a (omega arith))
+pub repeats_is : (a : List ℕ) (j : ℕ) {b : Bool} → (get_or a j 0 ≡ 0 → ⊥) → j < length a
+    → b ≡ is_some (position (λ x. eqb x (get_or a j 0)) (take j a)) → b ≡ repeats a j
+repeats_is a j z h e = rw (ne_eqb (get_or a j 0) 0 z) (e ∙ found_front (λ x. eqb x (get_or a j 0)) j a (omega arith))
 
 -- the first m of them repeat as in the whole
 repeats_front : (m : ℕ) (a : List ℕ) → m ≤ length a → some (length (take m a)) (repeats (take m a)) ≡ some m (repeats a)

@@ -162,7 +162,7 @@ fn repeats(ns: &[u32], j: usize) -> bool
     requires { j < length ns.now }
     ensures { result ≡ repeats ns.now j }
 {
-    (ns[j] != 0) & first(&ns[..j], ns[j]).is_some()
+    ns[j] != 0 && first(&ns[..j], ns[j]).is_some()
 }
 
 // Whether one of them does.

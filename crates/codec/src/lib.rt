@@ -42,6 +42,7 @@ pub fn four_at(run: &[u8], at: usize) -> u32
 }
 
 // The four bytes that say a number, the lowest first.
+#[tactic(auto, using(crate::proofs::LittleEndian::four_laid))]
 pub fn four_bytes(n: u32) -> [u8; 4]
     ensures { result ≡ little_endian 4 n }
 {

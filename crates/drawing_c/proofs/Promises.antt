@@ -1,5 +1,5 @@
 -- The promises of specs/Promises.antt. Assumes nothing.
-use mathlib.Core.Path.{◌≡◌, refl}
+use mathlib.Core.Path.{◌≡◌, refl, ap}
 use mathlib.Core.Logic.{◌⊎◌, inl, inr}
 use mathlib.Core.Bool.{Bool}
 use mathlib.Core.List.{List}
@@ -12,11 +12,13 @@ use Rattle.bits.specs.Bits.{bit, image}
 use Rattle.bits.proofs.Cases.{split}
 use Rattle.std.specs.declared.result.Result.{Result}
 use Rattle.std.specs.declared.result.Result.TheVariants.{Ok, Err}
+use Rattle.drawing.specs.declared.Unwritten.TheVariants.{HasNone, NoRoom}
 use Rattle.drawing.specs.declared.Unread.{Unread}
+use Rattle.drawing.specs.declared.Unread.TheVariants.{BadLine, Unsound}
 use Rattle.drawing.specs.Drawing.{drawn, has_drawing, writing_drawing}
 use Rattle.drawing.specs.Reading.{first_bad, bits_in, reading}
 use Rattle.drawing_c.specs.Entries.{written_number, drawn_into, found_number, found_place, found_said, record_kept, read_into}
-use Rattle.drawing_c.specs.Promises.{DrawingEntryUntouched, WrittenReadsBack, FoundReadsBack, DrawingNumbersReturned}
+use Rattle.drawing_c.specs.Promises.{DrawingEntryUntouched, WrittenReadsBack, FoundReadsBack, DrawingNumbersReturned, FoundExactly, WrittenExactly}
 
 -- ---- what writing and reading say, by cases
 
@@ -133,3 +135,33 @@ read_numbers w text room = split (ltb (length room) 8)
 
 pub numbers_returned : DrawingNumbersReturned
 numbers_returned = (write_numbers, read_numbers)
+
+-- ---- each number says one thing
+
+pub found_exactly : FoundExactly
+found_exactly (Ok r) = (
+  λ p. (λ h. absurd (let z : 0 ≡ 41 = h.0 in omega arith), λ e. absurd (let z : 0 ≡ 41 = ap found_number e in omega arith)),
+  (λ h. absurd (let z : 0 ≡ 15 = h in omega arith), λ e. absurd (let z : 0 ≡ 15 = ap found_number e in omega arith)),
+)
+found_exactly (Err (BadLine q)) = (
+  λ p. (λ h. ap (λ (k : ℕ). Err (BadLine k)) h.1, λ e. (refl, ap found_place e)),
+  (λ h. absurd (let z : 41 ≡ 15 = h in omega arith), λ e. absurd (let z : 41 ≡ 15 = ap found_number e in omega arith)),
+)
+found_exactly (Err Unsound) = (
+  λ p. (λ h. absurd (let z : 15 ≡ 41 = h.0 in omega arith), λ e. absurd (let z : 15 ≡ 41 = ap found_number e in omega arith)),
+  (λ h. refl, λ e. refl),
+)
+
+pub written_exactly : WrittenExactly
+written_exactly (Ok n) = (
+  (λ h. absurd (let z : 0 ≡ 15 = h in omega arith), λ e. absurd (let z : 0 ≡ 15 = ap written_number e in omega arith)),
+  (λ h. absurd (let z : 0 ≡ 17 = h in omega arith), λ e. absurd (let z : 0 ≡ 17 = ap written_number e in omega arith)),
+)
+written_exactly (Err HasNone) = (
+  (λ h. refl, λ e. refl),
+  (λ h. absurd (let z : 15 ≡ 17 = h in omega arith), λ e. absurd (let z : 15 ≡ 17 = ap written_number e in omega arith)),
+)
+written_exactly (Err NoRoom) = (
+  (λ h. absurd (let z : 17 ≡ 15 = h in omega arith), λ e. absurd (let z : 17 ≡ 15 = ap written_number e in omega arith)),
+  (λ h. refl, λ e. refl),
+)

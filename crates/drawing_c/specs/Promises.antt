@@ -1,5 +1,11 @@
 -- What is promised of the entries for drawings, of a record and, where `w` is true, of what is set apart. Proved in proofs/Promises.antt. Assumes nothing.
-use Rattle.std.specs.Prelude.{◌≡◌, ◌⊎◌, Bool, List, ℕ, ◌/◌, ◌%◌, ◌≤◌, ◌<◌, length}
+use Rattle.std.specs.Prelude.{◌≡◌, ◌↔◌, ◌⊎◌, Bool, List, ℕ, ◌/◌, ◌%◌, ◌≤◌, ◌<◌, length}
+use Rattle.std.specs.declared.result.Result.{Result}
+use Rattle.std.specs.declared.result.Result.TheVariants.{Ok, Err}
+use Rattle.drawing.specs.declared.Unwritten.{Unwritten}
+use Rattle.drawing.specs.declared.Unwritten.TheVariants.{HasNone, NoRoom}
+use Rattle.drawing.specs.declared.Unread.{Unread}
+use Rattle.drawing.specs.declared.Unread.TheVariants.{BadLine, Unsound}
 use Rattle.drawing.specs.Drawing.{writing_drawing}
 use Rattle.drawing.specs.Reading.{reading}
 use Rattle.drawing_c.specs.Entries.{written_number, written_size, drawn_into, found_number, found_place, read_into}
@@ -32,3 +38,13 @@ DrawingNumbersReturned =
     × ((w : Bool) (text room : List ℕ)
     → let n = (read_into w text room).says in
     ((n % 256 ≡ 41) × (n / 256 < 7)) ⊎ (((n % 256 ≡ 0) ⊎ (n % 256 ≡ 15) ⊎ (n % 256 ≡ 17)) × (n / 256 ≡ 255)))
+
+-- of what is read, 41 with a line says exactly that this line is the first bad one, and 15 exactly that nothing sound is drawn
+abbrev pub FoundExactly : Type 0
+FoundExactly =
+    (f : Result ℕ Unread)
+    → ((p : ℕ) → ((found_number f ≡ 41) × (found_place f ≡ p)) ↔ (f ≡ Err (BadLine p))) × ((found_number f ≡ 15) ↔ (f ≡ Err Unsound))
+
+-- of what is written, 15 says exactly that the number has no drawing, and 17 exactly that the room is too short
+abbrev pub WrittenExactly : Type 0
+WrittenExactly = (d : Result ℕ Unwritten) → ((written_number d ≡ 15) ↔ (d ≡ Err HasNone)) × ((written_number d ≡ 17) ↔ (d ≡ Err NoRoom))

@@ -7,7 +7,7 @@
 ghost use Rattle.std.specs.Prelude.{◌≤◌, length, IfOk};
 
 use drawing::{Hex, Unread};
-use streams::Result;
+use streams::{Result, Told};
 
 // The longest input that is read as hex: of one byte more no more is read, and a drawing is not so long.
 const LONGEST: usize = 65536;
@@ -30,7 +30,7 @@ const PAST_LAST: u8 = 6;
 fn read_all(rt: &HostRuntime, buf: &mut [u8]) -> Result<usize>
     ensures { IfOk result (λ n. n ≤ length buf.new) }
 {
-    streams::read_all(rt, &mut rt.stdin(), buf, b"draw: standard input")
+    streams::read_all(rt, &mut rt.stdin(), buf, b"draw: standard input").map_err(|_| Told)
 }
 
 // Writes the first n bytes of a text; where that fails, it is told.

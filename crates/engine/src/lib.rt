@@ -216,7 +216,8 @@ pub fn code_next(x: Code, r: u64) -> u64
     }
     match areas::locate(x) {
         Some(at) if whole(at.instruction) => next(at.instruction, at.area, r),
-        _ => r,
+        Some(_) => r,
+        None => r,
     }
 }
 

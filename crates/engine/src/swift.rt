@@ -131,7 +131,8 @@ fn rises(x: Code, r: u64) -> bool
     runs_lift(x) & !height_is(r, x.a) & !height_is(r, 2)
 }
 
-// The area of what the record is seen to allow.
+// The area of what the record is seen to allow. Its frame is not to be in that of a search through a set.
+#[inline(never)]
 pub fn area(x: Code, r: u64) -> Option<u64>
     ensures { IfSome result (λ a. record { area = a; good = true; allowed = true } ≡ judge x r) }
 {

@@ -3,40 +3,46 @@
 // from the paper. P1 to P12 are proved of the definitions in the crate examples.
 ghost use Rattle.std.specs.Prelude.{◌≤◌};
 
+use crate::writing::{number, text};
 use answers::NOWHERE;
 use rules::{Code, Instruction};
 use station::{Outcome, Picture, Report, Station};
-use std::io;
 use std::num::wrapping_sub_u16;
 
 // ---- what is written
 
 // An image as the paper writes it, the lowest byte first.
-fn show(rt: &HostRuntime, r: u64) -> io::Result<()> {
-    rt.write_all(b" |")?;
+fn show(rt: &HostRuntime, r: u64) {
+    text(rt, " |");
     for b in r.to_le_bytes() {
-        print!(rt; " {b:02X}")?;
+        let _ = print!(rt; " {b:02X}");
     }
-    Ok(())
 }
 
 // How many cars a record has, if it is sound.
-fn show_cars(rt: &HostRuntime, r: u64) -> io::Result<()> {
+fn show_cars(rt: &HostRuntime, r: u64) {
+    text(rt, " | ");
     match floor::cars(r) {
-        Some(n) => print!(rt; " | {n} cars"),
-        None => rt.write_all(b" | not sound"),
+        Some(n) => {
+            number(rt, n);
+            text(rt, " cars");
+        }
+        None => text(rt, "not sound"),
     }
 }
 
 // A call's answer: its number, and the place where it names one.
-pub fn told(rt: &HostRuntime, name: &str, o: Outcome) -> io::Result<Station> {
-    let number = o.answer.number();
-    print!(rt; " | {name}: {number}")?;
+pub fn told(rt: &HostRuntime, name: &str, o: Outcome) -> Station {
+    text(rt, " | ");
+    text(rt, name);
+    text(rt, ": ");
+    number(rt, o.answer.number() as u64);
     let place = o.answer.place();
     if place != NOWHERE {
-        print!(rt; " at {place}")?;
+        text(rt, " at ");
+        number(rt, place as u64);
     }
-    Ok(o.station)
+    o.station
 }
 
 // ---- calls
@@ -67,12 +73,12 @@ fn pair_of(i: Instruction, j: Instruction) -> [u8; 40] {
 }
 
 // One instruction is asked for.
-fn asked(rt: &HostRuntime, s: Station, name: &str, i: Instruction) -> io::Result<Station> {
+fn asked(rt: &HostRuntime, s: Station, name: &str, i: Instruction) -> Station {
     told(rt, name, s.request(1, set_of(i)))
 }
 
 // The result of an instruction of the present set.
-fn ended(rt: &HostRuntime, s: Station, name: &str, number: u8, ending: u8) -> io::Result<Station> {
+fn ended(rt: &HostRuntime, s: Station, name: &str, number: u8, ending: u8) -> Station {
     let issue = wrapping_sub_u16(s.next, 1);
     told(
         rt,
@@ -86,16 +92,16 @@ fn ended(rt: &HostRuntime, s: Station, name: &str, number: u8, ending: u8) -> io
 }
 
 // One instruction is asked for and done, and the record shown.
-fn moved(rt: &HostRuntime, s: Station, name: &str, i: Instruction) -> io::Result<Station> {
-    let t = asked(rt, s, name, i)?;
-    let u = ended(rt, t, "done", 0, 1)?;
-    show(rt, u.bits)?;
-    Ok(u)
+fn moved(rt: &HostRuntime, s: Station, name: &str, i: Instruction) -> Station {
+    let t = asked(rt, s, name, i);
+    let u = ended(rt, t, "done", 0, 1);
+    show(rt, u.bits);
+    u
 }
 
 // A start with this image.
-fn placed(rt: &HostRuntime, r: u64) -> io::Result<Station> {
-    show(rt, r)?;
+fn placed(rt: &HostRuntime, r: u64) -> Station {
+    show(rt, r);
     told(
         rt,
         "image",
@@ -105,38 +111,38 @@ fn placed(rt: &HostRuntime, r: u64) -> io::Result<Station> {
 
 // ---- the examples
 
-fn p1(rt: &HostRuntime) -> io::Result<()> {
-    rt.write_all(b"P1")?;
+fn p1(rt: &HostRuntime) {
+    text(rt, "P1");
     let s = Station::start();
-    show(rt, s.bits)?;
-    show_cars(rt, s.bits)?;
-    rt.write_all(b"\n")
+    show(rt, s.bits);
+    show_cars(rt, s.bits);
+    text(rt, "\n")
 }
 
-fn p2(rt: &HostRuntime) -> io::Result<Station> {
-    rt.write_all(b"P2")?;
-    let s = told(rt, "begin in", Station::start().event(1))?;
-    let t = told(rt, "done", s.event(3))?;
-    let u = told(rt, "begin in", t.event(1))?;
-    rt.write_all(b"\n")?;
-    Ok(u)
+fn p2(rt: &HostRuntime) -> Station {
+    text(rt, "P2");
+    let s = told(rt, "begin in", Station::start().event(1));
+    let t = told(rt, "done", s.event(3));
+    let u = told(rt, "begin in", t.event(1));
+    text(rt, "\n");
+    u
 }
 
-fn p3(rt: &HostRuntime) -> io::Result<()> {
-    rt.write_all(b"P3")?;
-    told(rt, "begin out", Station::start().event(2))?;
-    rt.write_all(b"\n")
+fn p3(rt: &HostRuntime) {
+    text(rt, "P3");
+    told(rt, "begin out", Station::start().event(2));
+    text(rt, "\n")
 }
 
-fn p4(rt: &HostRuntime, s: Station) -> io::Result<Station> {
-    rt.write_all(b"P4")?;
-    let t = moved(rt, s, "lift to basement", Instruction::Lift { height: 2 })?;
-    rt.write_all(b"\n")?;
-    Ok(t)
+fn p4(rt: &HostRuntime, s: Station) -> Station {
+    text(rt, "P4");
+    let t = moved(rt, s, "lift to basement", Instruction::Lift { height: 2 });
+    text(rt, "\n");
+    t
 }
 
-fn p5(rt: &HostRuntime, s: Station) -> io::Result<()> {
-    rt.write_all(b"P5")?;
+fn p5(rt: &HostRuntime, s: Station) {
+    text(rt, "P5");
     let t = moved(
         rt,
         s,
@@ -147,24 +153,24 @@ fn p5(rt: &HostRuntime, s: Station) -> io::Result<()> {
             toward: 0,
             size: 0,
         },
-    )?;
-    asked(rt, t, "lift to street", Instruction::Lift { height: 0 })?;
-    rt.write_all(b"\n")
+    );
+    asked(rt, t, "lift to street", Instruction::Lift { height: 0 });
+    text(rt, "\n")
 }
 
-fn p6(rt: &HostRuntime) -> io::Result<()> {
-    rt.write_all(b"P6")?;
-    let s = placed(rt, 0x49_1B00_0000_3C00)?;
-    show_cars(rt, s.bits)?;
-    let t = asked(rt, s, "lift to rotation", Instruction::Lift { height: 1 })?;
-    asked(rt, t, "lift to street", Instruction::Lift { height: 0 })?;
-    rt.write_all(b"\n")
+fn p6(rt: &HostRuntime) {
+    text(rt, "P6");
+    let s = placed(rt, 0x49_1B00_0000_3C00);
+    show_cars(rt, s.bits);
+    let t = asked(rt, s, "lift to rotation", Instruction::Lift { height: 1 });
+    asked(rt, t, "lift to street", Instruction::Lift { height: 0 });
+    text(rt, "\n")
 }
 
-fn p7(rt: &HostRuntime) -> io::Result<()> {
-    rt.write_all(b"P7")?;
-    placed(rt, 0x9_1B00_0000_0001)?;
-    rt.write_all(b"\n")
+fn p7(rt: &HostRuntime) {
+    text(rt, "P7");
+    placed(rt, 0x9_1B00_0000_0001);
+    text(rt, "\n")
 }
 
 // The left lowered shuttles of rows 1 and 2, higher.
@@ -175,26 +181,26 @@ const UP: Instruction = Instruction::Shuttles {
     toward: 1,
 };
 
-fn p8(rt: &HostRuntime) -> io::Result<()> {
-    rt.write_all(b"P8")?;
+fn p8(rt: &HostRuntime) {
+    text(rt, "P8");
     moved(
         rt,
-        placed(rt, 0x9_1B00_0000_0003)?,
+        placed(rt, 0x9_1B00_0000_0003),
         "left lowered rows 1 and 2 higher",
         UP,
-    )?;
-    rt.write_all(b"\n")
+    );
+    text(rt, "\n")
 }
 
-fn p9(rt: &HostRuntime) -> io::Result<()> {
-    rt.write_all(b"P9")?;
+fn p9(rt: &HostRuntime) {
+    text(rt, "P9");
     asked(
         rt,
-        placed(rt, 0x9_1B00_0000_0006)?,
+        placed(rt, 0x9_1B00_0000_0006),
         "left lowered rows 1 and 2 higher",
         UP,
-    )?;
-    rt.write_all(b"\n")
+    );
+    text(rt, "\n")
 }
 
 // The tilted shuttle of row 3 is lowered.
@@ -207,55 +213,55 @@ fn lowers(side: u8) -> Instruction {
 }
 
 // The second of the set with this result.
-fn p10(rt: &HostRuntime, name: &str, ending: u8) -> io::Result<()> {
-    rt.write_all(b"P10")?;
+fn p10(rt: &HostRuntime, name: &str, ending: u8) {
+    text(rt, "P10");
     let set = pair_of(lowers(0), lowers(1));
-    let s = told(rt, "both lowered", Station::start().request(2, set))?;
-    let t = ended(rt, s, "done", 0, 1)?;
-    let u = ended(rt, t, name, 1, ending)?;
-    show(rt, u.bits)?;
-    rt.write_all(b"\n")
+    let s = told(rt, "both lowered", Station::start().request(2, set));
+    let t = ended(rt, s, "done", 0, 1);
+    let u = ended(rt, t, name, 1, ending);
+    show(rt, u.bits);
+    text(rt, "\n")
 }
 
-fn p11(rt: &HostRuntime) -> io::Result<()> {
-    rt.write_all(b"P11")?;
+fn p11(rt: &HostRuntime) {
+    text(rt, "P11");
     moved(
         rt,
-        placed(rt, 0x29_1B00_0000_00C0)?,
+        placed(rt, 0x29_1B00_0000_00C0),
         "rotate",
         Instruction::Rotate,
-    )?;
-    rt.write_all(b"\nP11")?;
+    );
+    text(rt, "\nP11");
     asked(
         rt,
-        placed(rt, 0x29_1B00_0000_0180)?,
+        placed(rt, 0x29_1B00_0000_0180),
         "rotate",
         Instruction::Rotate,
-    )?;
-    rt.write_all(b"\n")
+    );
+    text(rt, "\n")
 }
 
-fn p12(rt: &HostRuntime) -> io::Result<()> {
-    rt.write_all(b"P12")?;
+fn p12(rt: &HostRuntime) {
+    text(rt, "P12");
     let set = pair_of(lowers(0), lowers(0));
-    told(rt, "same tilt twice", Station::start().request(2, set))?;
-    rt.write_all(b"\n")
+    told(rt, "same tilt twice", Station::start().request(2, set));
+    text(rt, "\n")
 }
 
 // Writes all.
-pub fn all(rt: &HostRuntime) -> io::Result<()> {
-    p1(rt)?;
-    let s = p2(rt)?;
-    p3(rt)?;
-    let t = p4(rt, s)?;
-    p5(rt, t)?;
-    p6(rt)?;
-    p7(rt)?;
-    p8(rt)?;
-    p9(rt)?;
-    p10(rt, "done", 1)?;
-    p10(rt, "failed", 0)?;
-    p11(rt)?;
-    p12(rt)?;
+pub fn all(rt: &HostRuntime) {
+    p1(rt);
+    let s = p2(rt);
+    p3(rt);
+    let t = p4(rt, s);
+    p5(rt, t);
+    p6(rt);
+    p7(rt);
+    p8(rt);
+    p9(rt);
+    p10(rt, "done", 1);
+    p10(rt, "failed", 0);
+    p11(rt);
+    p12(rt);
     crate::run_only::all(rt)
 }

@@ -1,8 +1,8 @@
 // One set of eight instructions on a floor with ten cars. Its results come in several orders, with the same car events among them (a car
 // is driven in, a driver who would drive out gives up, the next one drives out), and the last record is the same each time, and so
 // is what is set apart. The order is proved not to matter (station_laws); here it is seen in the code.
+use crate::writing::{hex, text};
 use station::{Outcome, Picture, Report, Station};
-use std::io;
 use std::num::wrapping_sub_u16;
 
 // The orders of the acts: a drive begins, in or out; it ends, done or not; or the result of the instruction with this digit.
@@ -89,30 +89,32 @@ fn run(order: &[u8]) -> Option<Station> {
 }
 
 // Writes the order, the last record and what is set apart, which are answered too.
-fn shown(rt: &HostRuntime, order: &[u8]) -> io::Result<Option<(u64, u64)>> {
-    rt.write_all(order)?;
+fn shown(rt: &HostRuntime, order: &[u8]) -> Option<(u64, u64)> {
+    let _ = rt.write_all(order);
     match run(order) {
         Some(Station { bits, apart, .. }) => {
-            println!(rt; " {bits:016x} {apart:016x}")?;
-            Ok(Some((bits, apart)))
+            hex(rt, bits);
+            hex(rt, apart);
+            text(rt, "\n");
+            Some((bits, apart))
         }
         None => {
-            rt.write_all(b" with a call refused\n")?;
-            Ok(None)
+            text(rt, " with a call refused\n");
+            None
         }
     }
 }
 
 // Writes all, and whether each order ends as the first does.
-pub fn all(rt: &HostRuntime) -> io::Result<()> {
-    let first = shown(rt, ORDERS[0])?;
+pub fn all(rt: &HostRuntime) {
+    let first = shown(rt, ORDERS[0]);
     let mut same = true;
     for order in &ORDERS[1..] {
-        same &= shown(rt, *order)? == first;
+        same &= shown(rt, *order) == first;
     }
     if same {
-        rt.write_all(b"same\n")
+        text(rt, "same\n")
     } else {
-        rt.write_all(b"different\n")
+        text(rt, "different\n")
     }
 }

@@ -2,7 +2,7 @@
 // contract can say; so what is to be written is asked for where it is handed over.
 #![tactic(auto)]
 
-ghost use Rattle.std.specs.Prelude.{◌≡◌, is_ok, IfOk, ◌++◌};
+ghost use Rattle.std.specs.Prelude.{◌≡◌, is_ok, IfOk, IfErr, ◌++◌};
 ghost use Rattle.io.specs.Counts.{IsPrefixLen};
 ghost use Rattle.checksum.specs.Slices.{crc_by};
 ghost use Rattle.commands.specs.Words.{is_text};
@@ -311,6 +311,12 @@ fn write_parts(
     write(rt, file, closing)
 }
 
+// An append could not be written, and that was told: the checksum that it was to have.
+#[derive(Clone, Copy, Debug, PartialEq, Eq)]
+pub struct Unwritten {
+    pub sum: u32,
+}
+
 // Writes an append of this kind behind one with this checksum, and returns its own.
 pub fn write_append(
     rt: &HostRuntime,
@@ -319,14 +325,16 @@ pub fn write_append(
     was: u32,
     kind: u8,
     bytes: &[u8],
-) -> streams::Result<u32>
-    ensures { IfOk result (λ sum. sum ≡ sum_after (crc_by t.now) was kind bytes.now) }
+) -> streams::Result<u32, Unwritten>
+    ensures { IfOk result (λ sum. sum ≡ sum_after (crc_by t.now) was kind bytes.now) × IfErr result (λ e. e.sum ≡ sum_after (crc_by t.now) was kind bytes.now) }
 {
     let opening = journal_file::opening(t, was, kind, bytes.len());
     let sum = journal_file::sum_after(t, was, kind, bytes);
     let closing = journal_file::closing(sum);
-    write_parts(rt, t, file, was, kind, &opening, bytes, &closing)?;
-    Ok(sum)
+    match write_parts(rt, t, file, was, kind, &opening, bytes, &closing) {
+        Ok(()) => Ok(sum),
+        Err(_) => Err(Unwritten { sum }),
+    }
 }
 
 // Writes four parts, which are the head of a garage with this name that begins with this station.

@@ -1,6 +1,7 @@
 // What stands behind the last append of a journal that is gone on with: it was never answered. It is kept in a file beside the journal, and
 // only once that is on the disk is it cut off.
 
+use super::not_open;
 use journal_reader::Reading;
 use std::fs::File;
 use std::io::Result;
@@ -67,7 +68,7 @@ fn cut(
     keep_torn(rt, name, rest)?;
     tell_torn(rt, place, rest.len(), name);
     let Some(open) = file else {
-        return Err(Told);
+        return Err(streams::fail(rt, b"station: the journal can't be cut", not_open()));
     };
     open.set_len(journal_files::place(place).cast_unsigned())
         .map_err(|e| streams::fail(rt, b"station: the journal can't be cut", e))

@@ -15,6 +15,7 @@ use std::fs::{File, read_link};
 use std::io::{Error, Result};
 use std::os::fd::AsRawFd;
 use std::path::PathBuf;
+use streams::Told;
 
 // The station, and the journal that makes it: whether one is kept, under which name the system has the file, how many bytes it has, the
 // checksum of its last append, and whether that is the mark of a session's end. Its bytes are all on the disk, and nothing else with them.
@@ -55,7 +56,7 @@ pub fn unkept() -> Journal
 const NOT_OPEN: i32 = 9;
 
 // Why nothing can be done with a file that is not open.
-fn not_open() -> Error {
+pub(crate) fn not_open() -> Error {
     Error::from_raw_os_error(NOT_OPEN)
 }
 
@@ -110,7 +111,9 @@ fn add_to(
 {
     let length = j.length.wrapping_add(bytes.len().wrapping_add(13));
     journal_files::check_length(rt, file, j.length)?;
-    let sum = journal_files::write_append(rt, t, file, was, kind, bytes)?;
+    let Ok(sum) = journal_files::write_append(rt, t, file, was, kind, bytes) else {
+        return Err(Told);
+    };
     check_there(rt, file, j.called, length)?;
     Ok(Journal {
         station: next,

@@ -140,7 +140,7 @@ fn write_mark(rt: &HostRuntime, t: &[u32], to: &File, e: End) -> streams::Result
     if e.older {
         return older::write_mark(rt, to);
     }
-    journal_files::write_append(rt, t, to, e.sum, 4, &[])?;
+    journal_files::write_append(rt, t, to, e.sum, 4, &[]).map_err(|_| Told)?;
     Ok(())
 }
 

@@ -63,9 +63,10 @@ impl Plain {
         requires { (self.count ≤ 8) × (i < self.count) }
         ensures { result ≡ plain_outcome (packed_calls.ended (packed_of self) i ending) }
     {
+        let set = self.set;
         match ending {
-            1 => self.answering(i, sets::moved_by(&self.set, i, self.floor), self.apart),
-            2 => self.answering(i, self.floor, self.apart.with(sets::area_at(&self.set, i))),
+            1 => self.answering(i, sets::moved_by(&set, i, self.floor), self.apart),
+            2 => self.answering(i, self.floor, self.apart.with(sets::area_at(&set, i))),
             _ => self.answering(i, self.floor, self.apart),
         }
     }

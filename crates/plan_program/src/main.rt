@@ -6,7 +6,7 @@
 ghost use Rattle.std.specs.Prelude.{◌≤◌, length, IfOk};
 
 use plan::{Judged, NONE_REFUSED};
-use streams::Result;
+use streams::{Result, Told};
 
 // One byte more than the longest plan that there can be: 18 bytes, and 255 sets of 1 + 5 * 255. Of a longer input no more is read: whatever
 // follows, bytes are left over.
@@ -16,7 +16,7 @@ const ROOM: usize = 325399;
 fn read_all(rt: &HostRuntime, buf: &mut [u8]) -> Result<usize>
     ensures { IfOk result (λ n. n ≤ length buf.new) }
 {
-    streams::read_all(rt, &mut rt.stdin(), buf, b"plan: standard input")
+    streams::read_all(rt, &mut rt.stdin(), buf, b"plan: standard input").map_err(|_| Told)
 }
 
 // Writes some text; where that fails, it is told.

@@ -1,145 +1,90 @@
 -- The loops over a set's forty bytes. Assumes nothing.
-use Rattle.std.proofs.Common.{◌≡◌, ℕ, suc, ◌+◌, ◌-◌, ◌*◌, ◌<◌, ◌≤◌, Bool, true, false, cond, not, ◌&&◌, ◌||◌, eqb, ltb, List, [], ◌∷◌, ◌++◌, length, get_or, take, set, replicate, sym, refl, ap, ◌∙◌, ap₂, append-nil, add-one, arith, length-take-le, take_all, take-suc, ltb-false, ltb-true, le-ltb, lt-ltb, eq-eqb, ne_eqb, eqb-true}
+use Rattle.std.proofs.Common.{◌≡◌, ℕ, suc, ◌+◌, ◌-◌, ◌*◌, ◌<◌, ◌≤◌, Bool, true, false, cond, not, ◌&&◌, ◌||◌, eqb, ltb, List, [], ◌∷◌, ◌++◌, length, get_or, take, set, replicate, sym, refl, ap, ◌∙◌, ap₂, append-nil, add-one, arith, length-take-le, take_all, take-suc, ltb-false, ltb-true, le-ltb, lt-ltb, eq-eqb, eqb-true}
 use mathlib.Core.Path.{fun_ext}
-use mathlib.Core.Bool.{and-false, not-not}
+use mathlib.Core.Bool.{and-false}
 use lib.Bits.{bit_and, bit_or, or_self, or_add_and, and_le_l, and_le_r}
 use lib.ListN.{get_or-eq_default}
 use lib.Seq.{set_at, append_snoc}
+use borrow.Author.Tests.{not-true}
 use Rattle.bits.specs.Bits.{bit}
 use Rattle.bits.specs.Search.{every, least}
-use Rattle.bits.proofs.Cases.{split, clash, alike, both, and_intro}
+use Rattle.bits.proofs.Cases.{split, alike, both, and_intro}
 use Rattle.bits.proofs.Search.{every_is}
 use Rattle.bits.proofs.Digits.{bit_none}
 use Rattle.bits.proofs.Least.{Sought, sought_start, sought_turn, sought_end}
-use Rattle.std.specs.declared.option.Option.{Option}
-use Rattle.std.specs.declared.option.Option.TheVariants.{Some, None}
-use Rattle.std.specs.Prelude.{is_some, is_none}
 use Rattle.rules.specs.declared.Code.{Code}
 use Rattle.station.specs.Held.{code_at, is_good, held_allowed, bad, touches, overlaps_earlier, barred, stranded, lift_in}
-use Rattle.station.specs.Private.{held_mask, areas, first_of, least_fault}
+use Rattle.station.specs.Private.{held_mask, areas, first_of}
 use Rattle.station.proofs.Areas.{areas_start, areas_turn, overlapping, parts_mask, touching, clear_of, lift_mask, lift_in_lem}
 use Rattle.station.proofs.Moves.{allowed_good}
 use Rattle.station.proofs.Padding.{five_at}
 
 -- ---- four searches in one
 
--- what is found, where it is known whether anything was before
-module _ (found : Option ℕ) (here none : Bool) (i : ℕ) (known : is_some found ≡ not none) where
-  asks : cond (here && none) (Some i) found ≡ first_of found here i
-  asks = ap (λ (b : Bool). cond (here && b) (Some i) found) (sym (not-not none) ∙ ap not (sym known))
+-- a test picks what stands for its answer
+pub where_true : (b : Bool) (x y : ℕ) → b ≡ true → x ≡ cond b x y
+where_true b x y e = rw e
 
-  pub first_here : here && none ≡ true → Some i ≡ first_of found here i
-  first_here t = rw t at asks
-
-  pub first_before : here && none ≡ false → found ≡ first_of found here i
-  first_before t = rw t at asks
-
--- what a search has found as a number: n where it has found nothing
-abbrev place_of : ℕ → Option ℕ → ℕ
-place_of n None = n
-place_of n (Some k) = k
-
-none_some : (k : ℕ) → None ≡ Some k → ⊥
-none_some k e = clash {b = true} refl (ap is_none e)
-
--- found is the least number below i that passes, if one does
-pub record Finds (p : ℕ → Bool) (n i : ℕ) (found : Option ℕ) : Type 0 where
-  pub sought : Sought p n i (place_of n found)
-  pub below : (k : ℕ) → found ≡ Some k → k < n
-
-finds_start : (p : ℕ → Bool) (n : ℕ) → Finds p n 0 None
-finds_start p n = record { sought = sought_start p n; below = λ k e. absurd (none_some k e) }
-
-finds_turn : (found : Option ℕ) {p : ℕ → Bool} {n i : ℕ} {b : Bool} → Finds p n i found → i < n → b ≡ p i → Finds p n (i + 1) (first_of found b i)
-finds_turn None {p} {n} {i} {b} v h e =
-    split b
-    (λ t. rw t (record {
-      sought = rw (t, eq-eqb n n refl) at (sought_turn v.sought h e);
-      below = λ k q. let z : i ≡ k = ap (place_of n) q in omega arith;
-    }))
-    (λ t. rw t (record { sought = rw t at (sought_turn v.sought h e); below = λ k q. absurd (none_some k q) }))
-finds_turn (Some k) {p} {n} {i} {b} v h e =
-    rw (and-false b)
-    (record {
-      sought = rw (ne_eqb k n (λ z. let l = v.below k refl in omega arith), and-false b) at (sought_turn v.sought h e);
-      below = v.below;
-    })
-
-finds_end : (found : Option ℕ) {p : ℕ → Bool} {n i : ℕ} → Finds p n i found → n ≤ i → found ≡ least_fault n p
-unfolding least_fault
-finds_end None {p} {n} v h = rw (le-ltb (least n p) n (omega (arith, sought_end v.sought h)))
-finds_end (Some k) {p} {n} v h = rw (← sought_end v.sought h, lt-ltb k n (v.below k refl))
-
--- what is found, and that nothing is
-pub fault_at : (n : ℕ) (p : ℕ → Bool) (k : ℕ) → least_fault n p ≡ Some k → (ltb (least n p) n ≡ true) × (least n p ≡ k)
-unfolding least_fault
-fault_at n p k e =
-    split (ltb (least n p) n)
-    (λ t. let q : Some (least n p) ≡ Some k = rw t at e in (t, ap (place_of 0) q))
-    (λ t. absurd (none_some k (rw t at e)))
-
-pub fault_none : (n : ℕ) (p : ℕ → Bool) → least_fault n p ≡ None → ltb (least n p) n ≡ false
-unfolding least_fault
-fault_none n p e =
-    split (ltb (least n p) n) (λ t. let q : Some (least n p) ≡ None = rw t at e in absurd (none_some (least n p) (sym q))) (λ t. t)
+pub where_false : (b : Bool) (x y : ℕ) → b ≡ false → y ≡ cond b x y
+where_false b x y e = rw e
 
 -- the areas of the instructions below i, and of these the least that is bad, that touches what is apart, that overlaps an earlier one, that
 -- has no mark and is not allowed
-pub record Searched (set : List ℕ) (n marks r apart seen : ℕ) (worst touched overlap closed : Option ℕ) (i : ℕ) : Type 0 where
+pub record Searched (set : List ℕ) (n marks r apart seen worst touched overlap closed i : ℕ) : Type 0 where
   pub gathered : seen ≡ areas set i
-  pub worse : Finds (bad set) n i worst
-  pub met : Finds (touches set apart) n i touched
-  pub over : Finds (overlaps_earlier set) n i overlap
-  pub shut : Finds (stranded marks set r) n i closed
+  pub worse : Sought (bad set) n i worst
+  pub met : Sought (touches set apart) n i touched
+  pub over : Sought (overlaps_earlier set) n i overlap
+  pub shut : Sought (stranded marks set r) n i closed
 
-pub search_starts : (set : List ℕ) (n marks r apart : ℕ) → Searched set n marks r apart 0 None None None None 0
+pub search_starts : (set : List ℕ) (n marks r apart : ℕ) → Searched set n marks r apart 0 n n n n 0
 search_starts set n marks r apart = record {
   gathered = areas_start set;
-  worse = finds_start _ n;
-  met = finds_start _ n;
-  over = finds_start _ n;
-  shut = finds_start _ n;
+  worse = sought_start _ n;
+  met = sought_start _ n;
+  over = sought_start _ n;
+  shut = sought_start _ n;
 }
 
-pub searches : {set : List ℕ} {n marks r apart seen i m : ℕ} {worst touched overlap closed p t q u : Option ℕ} {x : Code} {good ok mark : Bool}
+pub searches : {set : List ℕ} {n marks r apart seen worst touched overlap closed i m p t q u : ℕ} {x : Code} {good ok mark : Bool}
     → Searched set n marks r apart seen worst touched overlap closed i → i < n
     → x ≡ code_at set i → good ≡ is_good x → m ≡ held_mask x → ok ≡ held_allowed x (bit r) → mark ≡ bit marks i
-    → p ≡ first_of worst (not good) i → t ≡ first_of touched (not (eqb (bit_and m (bit_and apart parts_mask)) 0)) i
-    → q ≡ first_of overlap (not (eqb (bit_and m seen) 0)) i → u ≡ first_of closed (not mark && not ok) i
+    → p ≡ first_of worst n (not good) i → t ≡ first_of touched n (not (eqb (bit_and m (bit_and apart parts_mask)) 0)) i
+    → q ≡ first_of overlap n (not (eqb (bit_and m seen) 0)) i → u ≡ first_of closed n (not mark && not ok) i
     → Searched set n marks r apart (bit_or seen m) p t q u (i + 1)
 searches {set} {n} {marks} {r} {apart} {i = i} v h e g a o b d₁ d₄ d₂ d₃ = record {
   gathered = areas_turn set i v.gathered e a;
-  worse = rw d₁ (finds_turn _ v.worse h (ap not (g ∙ ap is_good e)));
-  met = rw d₄ (finds_turn _ v.met h (sym (touching set apart i e a)));
-  over = rw d₂ (finds_turn _ v.over h (sym (overlapping set i v.gathered e a)));
-  shut = rw d₃ (finds_turn _ v.shut h (ap₂ (λ (y b : Bool). not y && not b) b (o ∙ ap (λ (y : Code). held_allowed y (bit r)) e)));
+  worse = rw d₁ (sought_turn v.worse h (ap not (g ∙ ap is_good e)));
+  met = rw d₄ (sought_turn v.met h (sym (touching set apart i e a)));
+  over = rw d₂ (sought_turn v.over h (sym (overlapping set i v.gathered e a)));
+  shut = rw d₃ (sought_turn v.shut h (ap₂ (λ (y b : Bool). not y && not b) b (o ∙ ap (λ (y : Code). held_allowed y (bit r)) e)));
 }
 
 -- one that has no fault leaves what was found
-still : (found : Option ℕ) (i : ℕ) {b : Bool} → b ≡ false → found ≡ first_of found b i
-still found i e = rw e
+still : (found n i : ℕ) {b : Bool} → b ≡ false → found ≡ first_of found n b i
+still found n i e = rw e
 
-pub passes : {set : List ℕ} {n marks r apart seen i m : ℕ} {worst touched overlap closed : Option ℕ} {x : Code} {good ok : Bool}
+pub passes : {set : List ℕ} {n marks r apart seen worst touched overlap closed i m : ℕ} {x : Code} {good ok : Bool}
     → Searched set n marks r apart seen worst touched overlap closed i → i < n
     → x ≡ code_at set i → good ≡ is_good x → m ≡ held_mask x → ok ≡ held_allowed x (bit r)
     → ok ≡ true → bit_and m (bit_or seen (bit_and apart parts_mask)) ≡ 0
     → Searched set n marks r apart (bit_or seen m) worst touched overlap closed (i + 1)
-passes {marks = marks} {r} {apart} {seen} {i} {worst = worst} {touched} {overlap} {closed} {x = x} v h e g a o y z =
+passes {marks = marks} {r} {apart} {seen} {worst} {touched} {overlap} {closed} {i} {x = x} v h e g a o y z =
     let (t, w) = clear_of x seen (bit_and apart parts_mask) a z in
-    searches v h e g a o refl (still worst i (ap not (g ∙ allowed_good x (bit r) (sym o ∙ y)))) (still touched i t) (still overlap i w)
-    (still closed i (ap (λ (b : Bool). not (bit marks i) && not b) y ∙ and-false (not (bit marks i))))
+    searches v h e g a o refl (still worst _ i (ap not (g ∙ allowed_good x (bit r) (sym o ∙ y)))) (still touched _ i t) (still overlap _ i w)
+    (still closed _ i (ap (λ (b : Bool). not (bit marks i) && not b) y ∙ and-false (not (bit marks i))))
 
-pub search_ends : {set : List ℕ} {n marks r apart seen i : ℕ} {worst touched overlap closed : Option ℕ}
+pub search_ends : {set : List ℕ} {n marks r apart seen worst touched overlap closed i : ℕ}
     → Searched set n marks r apart seen worst touched overlap closed i → n ≤ i
-    → (worst ≡ least_fault n (bad set)) × (touched ≡ least_fault n (touches set apart)) × (overlap ≡ least_fault n (overlaps_earlier set))
-    × (closed ≡ least_fault n (stranded marks set r)) × (not (eqb (bit_and seen lift_mask) 0) ≡ lift_in set n)
+    → (worst ≡ least n (bad set)) × (touched ≡ least n (touches set apart)) × (overlap ≡ least n (overlaps_earlier set)) × (closed ≡ least n (stranded marks set r))
+    × (not (eqb (bit_and seen lift_mask) 0) ≡ lift_in set n)
 search_ends {set} {n} {seen = seen} {i = i} v h =
-    let end : i ≡ n = omega (arith, v.worse.sought.within) in
-    (finds_end _ v.worse h, finds_end _ v.met h, finds_end _ v.over h, finds_end _ v.shut h, lift_in_lem set n (v.gathered ∙ ap (areas set) end))
+    let end : i ≡ n = omega (arith, v.worse.within) in
+    (sought_end v.worse h, sought_end v.met h, sought_end v.over h, sought_end v.shut h, lift_in_lem set n (v.gathered ∙ ap (areas set) end))
 
 -- with no marks, each instruction is asked for
-pub none_marked : (set : List ℕ) (n r : ℕ) → least_fault n (stranded 0 set r) ≡ least_fault n (barred set r)
-none_marked set n r = ap (λ (p : ℕ → Bool). least_fault n p) (fun_ext (λ i. rw (bit_none i)))
+pub none_marked : (set : List ℕ) (n r : ℕ) → least n (stranded 0 set r) ≡ least n (barred set r)
+none_marked set n r = ap (λ (p : ℕ → Bool). least n p) (fun_ext (λ i. rw (bit_none i)))
 
 -- ---- the places past the first n instructions
 

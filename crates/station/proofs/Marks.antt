@@ -5,22 +5,19 @@ use mathlib.Core.Path.{fun_ext}
 use mathlib.Core.Bool.{and_assoc, and-false, or-true, not-not}
 use lib.Pow.{pow-lt}
 use lib.Bits.{bit_and, bit_or, and_le_r}
-use borrow.Author.Tests.{lt-leb, not-true, not-false}
+use borrow.Author.Tests.{lt-leb}
 use Rattle.bits.specs.Bits.{bit}
 use Rattle.bits.specs.Search.{some, every, least}
 use Rattle.bits.proofs.Cases.{split, clash, both, alike}
 use Rattle.bits.proofs.Search.{every_at, every_is}
 use Rattle.bits.proofs.Digits.{bit_ext, bit_past, bit_ones}
 use Rattle.bits.proofs.Operations.{bit_and_lem, bit_low}
-use Rattle.bits.proofs.Least.{least_le, every_least}
+use Rattle.bits.proofs.Least.{every_least}
 use Rattle.floor.specs.Tests.{holds, under_way}
 use Rattle.floor.specs.Sound.{sound}
-use Rattle.std.specs.declared.option.Option.{Option}
-use Rattle.std.specs.Prelude.{is_some}
 use Rattle.rules.specs.Codes.{most_in_set}
 use Rattle.station.specs.declared.Station.{Station}
 use Rattle.station.specs.Held.{code_at, held_allowed, bad, touches, overlaps_earlier, stranded, lift_in, crosses_drive}
-use Rattle.station.specs.Private.{least_fault}
 use Rattle.station.specs.Station.{closed, in_set, marked, place_used, fit, noting, answering}
 
 -- n marks are a byte
@@ -109,41 +106,30 @@ and_assoc_9 true true true true true true g h i = and_assoc g h i
 all_good : (n : ℕ) (p : ℕ → Bool) → eqb (least n p) n ≡ every n (λ i. not (p i))
 all_good n p = rw (← ap (λ (q : ℕ → Bool). least n q) (fun_ext (λ i. not-not (p i)))) (every_least n (λ i. not (p i)))
 
--- nothing is found where none is at fault
-none_found : (n : ℕ) (p : ℕ → Bool) {found : Option ℕ} {none : Bool} → found ≡ least_fault n p → is_some found ≡ not none → none ≡ every n (λ i. not (p i))
-unfolding least_fault
-none_found n p {found} {none} e f =
-    split (ltb (least n p) n)
-    (λ t. let z : true ≡ not none = rw t at (sym (ap is_some e) ∙ f) in
-    not-true none (sym z) ∙ sym (ne_eqb (least n p) n (λ x. let l = ltb-true (least n p) n t in omega arith)) ∙ all_good n p)
-    (λ t. let z : false ≡ not none = rw t at (sym (ap is_some e) ∙ f) in
-    not-false none (sym z)
-    ∙ sym (eq-eqb (least n p) n (let l = ltb-false (least n p) n t in omega (arith, least_le n p)))
-    ∙ all_good n p)
-
 -- what the code tests
-pub fit_is : (s : Station) (all_well all_apart all_ready : Bool) {fine rest driving lifts : Bool} {worst touched over shut : Option ℕ} {all : ℕ}
-    → s.count ≤ 8 → s.answered < 2 ^ 8
+pub fit_is : (s : Station) {fine rest driving lifts : Bool} {worst touched over shut all : ℕ} → s.count ≤ 8 → s.answered < 2 ^ 8
     → fine ≡ sound s.bits → all ≡ 2 ^ s.count - 1 → rest ≡ every 40 (λ k. place_used s k || eqb (get_or s.set k 0) 0)
     → driving ≡ holds under_way (bit s.bits)
-    → (worst ≡ least_fault s.count (bad s.set)) × (touched ≡ least_fault s.count (touches s.set 0)) × (over ≡ least_fault s.count (overlaps_earlier s.set))
-    × (shut ≡ least_fault s.count (stranded s.answered s.set s.bits)) × (lifts ≡ lift_in s.set s.count)
-    → is_some worst ≡ not all_well → is_some over ≡ not all_apart → is_some shut ≡ not all_ready
-    → fine && all_well && leb s.answered all && rest && (eqb s.count 0 || not (eqb (bit_and s.answered all) all))
-    && not (driving && lifts) && all_apart && all_ready && ltb s.apart (2 ^ 53) ≡ fit s
+    → (worst ≡ least s.count (bad s.set)) × (touched ≡ least s.count (touches s.set 0)) × (over ≡ least s.count (overlaps_earlier s.set))
+    × (shut ≡ least s.count (stranded s.answered s.set s.bits)) × (lifts ≡ lift_in s.set s.count)
+    → fine && eqb worst s.count && leb s.answered all && rest && (eqb s.count 0 || not (eqb (bit_and s.answered all) all))
+    && not (driving && lifts) && eqb over s.count && eqb shut s.count && ltb s.apart (2 ^ 53) ≡ fit s
 unfolding fit crosses_drive
-fit_is s all_well all_apart all_ready {fine} {rest} {driving} {lifts} {all = all} h l e₁ e₂ e₃ e₄ found f₁ f₂ f₃ =
-    and_assoc_9 fine all_well (leb s.answered all) rest (eqb s.count 0 || not (eqb (bit_and s.answered all) all))
-    (not (driving && lifts)) all_apart all_ready (ltb s.apart (2 ^ 53))
+fit_is s {fine} {rest} {driving} {lifts} {worst} {touched} {over} {shut} {all} h l e₁ e₂ e₃ e₄ found =
+    and_assoc_9 fine (eqb worst s.count) (leb s.answered all) rest (eqb s.count 0 || not (eqb (bit_and s.answered all) all))
+    (not (driving && lifts)) (eqb over s.count) (eqb shut s.count) (ltb s.apart (2 ^ 53))
     ∙ rw (
       e₁,
       e₂,
       e₃,
       e₄,
+      found.0,
+      found.2,
+      found.3,
       found.4,
-      none_found s.count (bad s.set) found.0 f₁,
-      none_found s.count (overlaps_earlier s.set) found.2 f₂,
-      none_found s.count (stranded s.answered s.set s.bits) found.3 f₃,
+      all_good s.count (bad s.set),
+      all_good s.count (overlaps_earlier s.set),
+      all_good s.count (stranded s.answered s.set s.bits),
       le-leb _ _ h,
       only_marked s.count s.answered l,
       some_not s.count (bit s.answered),

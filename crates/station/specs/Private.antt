@@ -1,5 +1,5 @@
 -- What the contracts of private functions cite; no public one rests on it. Assumes nothing.
-use Rattle.std.specs.Prelude.{◌≡◌, ℕ, zero, suc, ◌/◌, ◌%◌, Bool, true, false, cond, ◌&&◌, List, ◌==◌, nat_lt, bit_or, is_none}
+use Rattle.std.specs.Prelude.{◌≡◌, ℕ, zero, suc, ◌/◌, ◌%◌, Bool, true, false, cond, ◌&&◌, List, ◌==◌, bit_or}
 use Rattle.bits.specs.Bits.{image}
 use Rattle.bits.specs.Search.{least}
 use Rattle.bits.specs.Places.{elem}
@@ -34,17 +34,13 @@ abbrev pub mask_in : (Option ℕ) → ℕ
 mask_in (Some m) = m
 mask_in None = 0
 
--- a search that has found something, or nothing yet: it is i where it found nothing before and i is at fault
-abbrev pub first_of : Option ℕ → Bool → ℕ → Option ℕ
-first_of found here i = cond (here && is_none found) (Some i) found
-
--- the least of n numbers that is at fault, if there is one
-unfoldable pub least_fault : ℕ → (ℕ → Bool) → Option ℕ
-least_fault n fault = cond (nat_lt (least n fault) n) (Some (least n fault)) None
+-- a search that found something, or n: it is i where it found nothing before and i is at fault
+abbrev pub first_of : ℕ → ℕ → Bool → ℕ → ℕ
+first_of found n here i = cond (here && found == n) i found
 
 -- what a search through a set of n has found for a request
 pub record FaultsOf (s : Station) (n : ℕ) (set : List ℕ) (found : Faults) : Type 0 where
-  pub touching : found.touching ≡ least_fault n (touches set s.apart)
-  pub overlap : found.overlap ≡ least_fault n (overlaps_earlier set)
-  pub barred : found.barred ≡ least_fault n (barred set s.bits)
+  pub touching : found.touching ≡ least n (touches set s.apart)
+  pub overlap : found.overlap ≡ least n (overlaps_earlier set)
+  pub barred : found.barred ≡ least n (barred set s.bits)
   pub lift : found.lift ≡ lift_in set n

@@ -39,7 +39,8 @@ impl Station {
     fn driven(self, e: Event) -> Turn
         ensures { result ≡ turn_of (driven self e) }
     {
-        if sets::lift_in(&self.set, self.count) {
+        let set = self.set;
+        if sets::lift_in(&set, self.count) {
             return self.unmoved(Answer::SetOutstanding);
         }
         self.occurred(e)

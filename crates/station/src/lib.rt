@@ -134,19 +134,20 @@ impl Station {
     {
         let n = self.count;
         let marks = self.answered;
+        let set = self.set;
         if Station::MOST < n {
             return false;
         }
         let all = all_marks(n);
-        let found = sets::search(&self.set, n, marks, self.bits, 0);
+        let found = sets::search(&set, n, marks, self.bits, 0);
         floor::sound(self.bits)
-            & found.bad.is_none()
+            & (found.bad == n)
             & (marks <= all)
-            & sets::rest_zero(&self.set, n)
+            & sets::rest_zero(&set, n)
             & ((n == 0) | (marks & all != all))
             & !(floor::under_way(self.bits) & found.lift)
-            & found.overlap.is_none()
-            & found.barred.is_none()
+            & (found.overlap == n)
+            & (found.barred == n)
             & (self.apart < PARTS_END)
     }
 

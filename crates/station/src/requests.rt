@@ -15,12 +15,12 @@ impl Station {
         requires { FaultsOf self count set found }
         ensures { result ≡ turn_of (accepted self count set) }
     {
-        if let Some(i) = found.overlap {
-            return self.unmoved(Answer::Overlap(i));
+        if found.overlap < count {
+            return self.unmoved(Answer::Overlap(found.overlap));
         }
-        if let Some(i) = found.barred {
-            let verdict = engine::code_verdict(sets::code_at(&set, i), self.bits);
-            return self.unmoved(rules::answer_for(verdict, i));
+        if found.barred < count {
+            let verdict = engine::code_verdict(sets::code_at(&set, found.barred), self.bits);
+            return self.unmoved(rules::answer_for(verdict, found.barred));
         }
         Turn {
             count,
@@ -35,8 +35,8 @@ impl Station {
         requires { FaultsOf self count set found }
         ensures { result ≡ turn_of (spared self count set) }
     {
-        if let Some(i) = found.touching {
-            return self.unmoved(Answer::SetApart(i));
+        if found.touching < count {
+            return self.unmoved(Answer::SetApart(found.touching));
         }
         self.accepted(count, set, found)
     }
@@ -66,8 +66,8 @@ impl Station {
             return self.unmoved(Answer::EmptySet);
         }
         let found = sets::search(&set, count, 0, self.bits, self.apart);
-        if let Some(i) = found.bad {
-            return self.unmoved(Answer::BadField(i));
+        if found.bad < count {
+            return self.unmoved(Answer::BadField(found.bad));
         }
         self.cleared(count, set, found)
     }

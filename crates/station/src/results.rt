@@ -33,7 +33,8 @@ impl Station {
         requires { (self.count ≤ 8) × (i < self.count) }
         ensures { result ≡ unjudged self i ending (ended self i ending) }
     {
-        let x = sets::code_at(&self.set, i);
+        let set = self.set;
+        let x = sets::code_at(&set, i);
         if ending == 1 {
             return self.answering(i, engine::code_next(x, self.bits), self.apart);
         }
@@ -100,7 +101,8 @@ impl Station {
     {
         let told = self.settled(report);
         if (report.ending == 1) & (told.answer.number() == 0) {
-            let x = sets::code_at(&self.set, report.number);
+            let set = self.set;
+            let x = sets::code_at(&set, report.number);
             return Turn {
                 bits: held::after(x, self.bits),
                 ..told

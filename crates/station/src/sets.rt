@@ -1,9 +1,9 @@
 // A set of instructions as the station holds it, and the searches through it.
 ghost use Rattle.std.specs.Prelude.{◌≡◌, ◌-◌, ◌*◌, ◌||◌, ◌++◌, take, replicate, ◌==◌, nat_lt, slice_index};
-ghost use Rattle.bits.specs.Search.{every};
+ghost use Rattle.bits.specs.Search.{every, least};
 ghost use Rattle.station.specs.Held.{code_at, bad, touches, overlaps_earlier, stranded, lift_in};
 ghost use Rattle.station.specs.Turns.{kept_set};
-ghost use Rattle.station.specs.Private.{first_of, least_fault};
+ghost use Rattle.station.specs.Private.{first_of};
 
 use crate::held;
 use crate::held::PARTS;
@@ -33,37 +33,38 @@ pub fn code_at(set: &[u8; 40], i: u8) -> Code
     }
 }
 
-// Kept: two returns, since each has a wrong version of its own (must-fail/wrong_programs.edit).
-// What a search upward has found, with i at fault or not: the least one.
-fn first(found: Option<u8>, here: bool, i: u8) -> Option<u8>
-    ensures { result ≡ first_of found here i }
+// Kept: a number, here and in Faults, and no Option: four of these take more stack than the boards' tests allow (tests/board/limits). And
+// two returns, since each has a wrong version of its own (must-fail/wrong_programs.edit).
+// What a search upward has found, with i at fault or not: the least one, or n.
+fn first(found: u8, n: u8, here: bool, i: u8) -> u8
+    ensures { result ≡ first_of found n here i }
 {
-    if here & found.is_none() {
-        return Some(i);
+    if here & (found == n) {
+        return i;
     }
     found
 }
 
 // Of the first n instructions the least that is bad, the least that touches a part set apart, the least that overlaps an earlier one and, of
-// those without a mark, the least that is not allowed on the record r; and whether one has the lift in its area. Each is read once, and one
-// without a fault is passed at once.
+// those without a mark, the least that is not allowed on the record r, or n; and whether one has the lift in its area. Each is read once, and
+// one without a fault is passed at once.
 #[derive(Clone, Copy)]
 pub struct Faults {
-    pub bad: Option<u8>,
-    pub touching: Option<u8>,
-    pub overlap: Option<u8>,
-    pub barred: Option<u8>,
+    pub bad: u8,
+    pub touching: u8,
+    pub overlap: u8,
+    pub barred: u8,
     pub lift: bool,
 }
 
 pub fn search(set: &[u8; 40], n: u8, marks: u8, r: u64, apart: u64) -> Faults
-    ensures { (result.bad ≡ least_fault n (bad set.now)) × (result.touching ≡ least_fault n (touches set.now apart)) × (result.overlap ≡ least_fault n (overlaps_earlier set.now)) × (result.barred ≡ least_fault n (stranded marks set.now r)) × (result.lift ≡ lift_in set.now n) }
+    ensures { (result.bad ≡ least n (bad set.now)) × (result.touching ≡ least n (touches set.now apart)) × (result.overlap ≡ least n (overlaps_earlier set.now)) × (result.barred ≡ least n (stranded marks set.now r)) × (result.lift ≡ lift_in set.now n) }
 {
     let mut seen: u64 = 0;
-    let mut bad = None;
-    let mut touching = None;
-    let mut overlap = None;
-    let mut barred = None;
+    let mut bad = n;
+    let mut touching = n;
+    let mut overlap = n;
+    let mut barred = n;
     let held = apart & PARTS;
     for i in 0..n {
         let x = engine::judge(code_at(set, i), r);
@@ -73,10 +74,15 @@ pub fn search(set: &[u8; 40], n: u8, marks: u8, r: u64, apart: u64) -> Faults
                 continue;
             }
         }
-        bad = first(bad, !x.good, i);
-        touching = first(touching, x.area & held != 0, i);
-        overlap = first(overlap, x.area & seen != 0, i);
-        barred = first(barred, !bits::bit(marks as u64, i as u64) & !x.allowed, i);
+        bad = first(bad, n, !x.good, i);
+        touching = first(touching, n, x.area & held != 0, i);
+        overlap = first(overlap, n, x.area & seen != 0, i);
+        barred = first(
+            barred,
+            n,
+            !bits::bit(marks as u64, i as u64) & !x.allowed,
+            i,
+        );
         seen |= x.area;
     }
     Faults {

@@ -3,7 +3,7 @@
 // say.
 #![tactic(auto)]
 
-ghost use Rattle.std.specs.Prelude.{◌≤◌, length, IfOk};
+ghost use Rattle.std.specs.Prelude.{◌≤◌, length, IfOk, IfErr};
 ghost use Rattle.streams.specs.Input.{Fills};
 
 use std::io::{self, Cursor, Error, ErrorKind, Read, Write};
@@ -109,21 +109,27 @@ pub fn fill<R: Read>(
     }
 }
 
+// A read failed, and that was told; so many bytes had come before.
+#[derive(Clone, Copy, Debug, PartialEq, Eq)]
+pub struct Broken {
+    pub have: usize,
+}
+
 // Reads to the end of the input, or until the buffer is full, and says how many bytes came.
 pub fn read_all<R: Read>(
     rt: &HostRuntime,
     from: &mut R,
     buf: &mut [u8],
     name: &[u8],
-) -> Result<usize>
-    ensures { IfOk result (λ n. n ≤ length buf.new) }
+) -> Result<usize, Broken>
+    ensures { IfOk result (λ n. n ≤ length buf.new) × IfErr result (λ b. b.have ≤ length buf.new) }
 {
     let mut have: usize = 0;
     loop {
         match fill(rt, from, buf, have, name) {
             Ok(Some(end)) => have = end,
             Ok(None) | Err(Unread::Full) => return Ok(have),
-            Err(Unread::Failed) => return Err(Told),
+            Err(Unread::Failed) => return Err(Broken { have }),
         }
     }
 }

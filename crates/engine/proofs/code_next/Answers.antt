@@ -33,9 +33,9 @@ pub returns-in-Some-locate : goal.returns-in-Some-locate
 returns-in-Some-locate c =
     code_next_lem c.args.x _ (located_said c.args.x c.locate.ensures _ c.in-Some-locate.is) c.args.r (sym c.whole.ensures ∙ c.if-whole.true) _ c.next.ensures
 
-pub returns-in_default-locate : goal.returns-in_default-locate
-returns-in_default-locate c =
+pub returns-in-Some-2 : goal.returns-in-Some-2
+returns-in-Some-2 c =
     gap_next c.args.x _ (located_said c.args.x c.locate.ensures _ c.in-Some-locate.is) c.args.r (sym c.whole.ensures ∙ c.if-whole.false)
 
-pub returns-in_default-locate-2 : goal.returns-in_default-locate-2
-returns-in_default-locate-2 c = bad_next c.args.x (located_none c.args.x c.locate.ensures c.in_default-locate.is) c.args.r
+pub returns-in-None : goal.returns-in-None
+returns-in-None c = bad_next c.args.x (located_none c.args.x c.locate.ensures c.in-None.is) c.args.r

@@ -10,5 +10,5 @@ returns c = λ numbers after lent j adds. (
   λ k.
       adding c.args.t.now c.args.j.station c.args.next c.args.was c.args.j.length c.args.kind c.args.bytes.now
       c.ranges.was.fits c.ranges.kind.fits (λ i. omega (arith, c.type_inv.bytes i))
-      c.in_ok-sum.ensures refl refl numbers after lent j adds,
+      (rw c.in-Ok.is at c.write_append.ensures.0) refl refl numbers after lent j adds,
 )

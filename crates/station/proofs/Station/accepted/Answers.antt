@@ -1,27 +1,27 @@
 -- `station::Station::accepted` meets its contract: an overlap, why one is not allowed, or the set. Assumes nothing.
-use Rattle.std.proofs.Common.{sym, ◌∙◌}
 use Rattle.station.specs.Calls.{accepted}
-use Rattle.station.proofs.Loops.{fault_at, fault_none}
+use Rattle.std.proofs.Common.{◌∙◌, le-ltb, lt-ltb}
 use Rattle.station.proofs.Station.accepted.Goals as goal
 
-pub returns-in-Some : goal.returns-in-Some
+pub returns-then-found-count : goal.returns-then-found-count
 unfolding accepted
-returns-in-Some c =
-    let found = fault_at _ _ _ (sym c.requires.overlap ∙ c.in-Some.is) in
-    c.unmoved.ensures ∙ rw (found.0, found.1)
+returns-then-found-count c = c.unmoved.ensures ∙ rw (← c.requires.overlap, lt-ltb _ _ c.if-found-count.true)
 
-pub returns-in-Some-barred : goal.returns-in-Some-barred
+pub returns-then-found-count-2 : goal.returns-then-found-count-2
 unfolding accepted
-returns-in-Some-barred c =
-    let apart = fault_none _ _ (sym c.requires.overlap ∙ c.in_default.is) in
-    let found = fault_at _ _ _ (sym c.requires.barred ∙ c.in-Some-barred.is) in
-    c.unmoved-in-Some-barred.ensures ∙ rw (apart, found.0, c.answer_for.ensures, c.code_verdict-verdict.ensures, c.code_at.ensures, found.1)
+returns-then-found-count-2 c =
+    c.unmoved-then-found-count-2.ensures
+    ∙ rw (
+      ← c.requires.overlap,
+      le-ltb _ _ c.if-found-count.false,
+      ← c.requires.barred,
+      lt-ltb _ _ c.if-found-count-2.true,
+      c.answer_for.ensures,
+      c.code_verdict-verdict.ensures,
+      c.code_at.ensures,
+    )
 
 pub returns : goal.returns
 unfolding accepted
 returns c =
-    rw (
-      c.unmoved-2.ensures,
-      fault_none _ _ (sym c.requires.overlap ∙ c.in_default.is),
-      fault_none _ _ (sym c.requires.barred ∙ c.in_default-barred.is),
-    )
+    rw (c.unmoved-2.ensures, ← c.requires.overlap, le-ltb _ _ c.if-found-count.false, ← c.requires.barred, le-ltb _ _ c.if-found-count-2.false)

@@ -7,4 +7,4 @@ pub returns-then-n-gt-MOST : goal.returns-then-n-gt-MOST
 returns-then-n-gt-MOST c = unfit_is _ c.if-n-gt-MOST.true
 
 pub returns : goal.returns
-returns c = fit_is _ c.is_none.result c.is_none-2.result c.is_none-3.result c.if-n-gt-MOST.false (omega arith) c.sound.ensures c.all_marks-all.ensures c.rest_zero.ensures c.under_way.ensures c.search-found.ensures c.is_none.ensures c.is_none-2.ensures c.is_none-3.ensures
+returns c = fit_is _ c.if-n-gt-MOST.false (omega arith) c.sound.ensures c.all_marks-all.ensures c.rest_zero.ensures c.under_way.ensures c.search-found.ensures

@@ -1,15 +1,12 @@
 -- `station::Station::spared` meets its contract: what is set apart by what the search has found. Assumes nothing.
-use Rattle.std.proofs.Common.{sym, ◌∙◌}
 use Rattle.station.specs.Calls.{spared}
-use Rattle.station.proofs.Loops.{fault_at, fault_none}
+use Rattle.std.proofs.Common.{◌∙◌, le-ltb, lt-ltb}
 use Rattle.station.proofs.Station.spared.Goals as goal
 
-pub returns-in-Some : goal.returns-in-Some
+pub returns-then-found-count : goal.returns-then-found-count
 unfolding spared
-returns-in-Some c =
-    let found = fault_at _ _ _ (sym c.requires.touching ∙ c.in-Some.is) in
-    c.unmoved.ensures ∙ rw (found.0, found.1)
+returns-then-found-count c = c.unmoved.ensures ∙ rw (← c.requires.touching, lt-ltb _ _ c.if-found-count.true)
 
 pub returns : goal.returns
 unfolding spared
-returns c = c.accepted.ensures ∙ rw (fault_none _ _ (sym c.requires.touching ∙ c.in_default.is))
+returns c = c.accepted.ensures ∙ rw (← c.requires.touching, le-ltb _ _ c.if-found-count.false)
