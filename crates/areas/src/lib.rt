@@ -160,7 +160,7 @@ pub fn area(i: Instruction) -> Option<u64>
 pub fn overlap(i: Instruction, j: Instruction) -> Sharing
     ensures { result ≡ sharing_of i j }
 {
-    if !(rules::well_formed(i) && rules::well_formed(j)) {
+    if !(rules::well_formed(i) & rules::well_formed(j)) {
         return Sharing::IllFormed;
     }
     if area_mask(i) & area_mask(j) == 0 {
@@ -187,6 +187,7 @@ fn with_area(instruction: Instruction) -> Located
     }
 }
 
+// Kept: a match here and a return in code_area, so that a wrong version of each case is refused by itself.
 // Reads five bytes and takes the area of what they say: an instruction that was read is well formed, and is not tested again.
 pub fn locate(x: Code) -> Option<Located>
     ensures { result ≡ locate x }

@@ -147,7 +147,8 @@ impl Desk {
         cards::fits(self.station.bits, self.numbers)
     }
 
-    // Whether the desk can be trusted to go on.
+    // Whether the desk can be trusted to go on. What it needs is not to be in the frame of a call.
+    #[inline(never)]
     #[tactic(auto, unfolding(crate::specs::Desk::desk_fit))]
     pub fn fit(self) -> bool
         ensures { result ≡ desk_fit self }

@@ -1,18 +1,17 @@
 -- The promises of specs/Promises.antt. Assumes nothing.
-use mathlib.Core.Path.{◌≡◌, refl, ap}
-use mathlib.Core.Logic.{◌⊎◌, inl, inr}
-use mathlib.Core.Bool.{Bool}
+use mathlib.Core.Path.{◌≡◌, refl, sym, ap, ◌∙◌}
+use mathlib.Core.Logic.{◌↔◌, ◌⊎◌, inl, inr}
+use mathlib.Core.Bool.{Bool, true, false}
 use mathlib.Core.List.{List}
 use Prim.Native.Nat.{ℕ, ◌/◌, ◌%◌, ◌<◌}
 use native.Mathlib.Omega.{arith}
 use lib.Dec.{ltb}
 use lib.ListN.{length}
-use borrow.Author.Tests.{ltb-true, le-ltb, ne_eqb}
+use borrow.Author.Tests.{ltb-true, ltb-false, le-ltb}
 use Rattle.bits.specs.Bits.{bit, image}
-use Rattle.bits.proofs.Cases.{split}
+use Rattle.bits.proofs.Cases.{split, clash}
 use Rattle.std.specs.declared.result.Result.{Result}
 use Rattle.std.specs.declared.result.Result.TheVariants.{Ok, Err}
-use Rattle.drawing.specs.declared.Unwritten.TheVariants.{HasNone, NoRoom}
 use Rattle.drawing.specs.declared.Unread.{Unread}
 use Rattle.drawing.specs.declared.Unread.TheVariants.{BadLine, Unsound}
 use Rattle.drawing.specs.Drawing.{drawn, has_drawing, writing_drawing}
@@ -138,30 +137,51 @@ numbers_returned = (write_numbers, read_numbers)
 
 -- ---- each number says one thing
 
-pub found_exactly : FoundExactly
-found_exactly (Ok r) = (
+found_says : (f : Result ℕ Unread)
+    → ((p : ℕ) → ((found_number f ≡ 41) × (found_place f ≡ p)) ↔ (f ≡ Err (BadLine p))) × ((found_number f ≡ 15) ↔ (f ≡ Err Unsound))
+found_says (Ok r) = (
   λ p. (λ h. absurd (let z : 0 ≡ 41 = h.0 in omega arith), λ e. absurd (let z : 0 ≡ 41 = ap found_number e in omega arith)),
   (λ h. absurd (let z : 0 ≡ 15 = h in omega arith), λ e. absurd (let z : 0 ≡ 15 = ap found_number e in omega arith)),
 )
-found_exactly (Err (BadLine q)) = (
+found_says (Err (BadLine q)) = (
   λ p. (λ h. ap (λ (k : ℕ). Err (BadLine k)) h.1, λ e. (refl, ap found_place e)),
   (λ h. absurd (let z : 41 ≡ 15 = h in omega arith), λ e. absurd (let z : 41 ≡ 15 = ap found_number e in omega arith)),
 )
-found_exactly (Err Unsound) = (
+found_says (Err Unsound) = (
   λ p. (λ h. absurd (let z : 15 ≡ 41 = h.0 in omega arith), λ e. absurd (let z : 15 ≡ 41 = ap found_number e in omega arith)),
   (λ h. refl, λ e. refl),
 )
 
+pub found_exactly : FoundExactly
+found_exactly w text room l =
+    let (number, place) = found_reads_back w text room l in
+    let (line, unsound) = found_says (reading w text) in (
+      λ p. (λ h. (line p).0 (sym number ∙ h.0, sym place ∙ h.1), λ e. let (a, b) = (line p).1 e in (number ∙ a, place ∙ b)),
+      (λ h. unsound.0 (sym number ∙ h), λ e. number ∙ unsound.1 e),
+    )
+
+written_says : (w : Bool) (r : ℕ) (room : List ℕ)
+    → let d = (writing_drawing w r room).says in
+    ((written_number d ≡ 15) ↔ (has_drawing w r ≡ false))
+    × ((written_number d ≡ 17) ↔ ((has_drawing w r ≡ true) × (length room < length (drawn w (bit r)))))
+unfolding writing_drawing
+written_says w r room = split (has_drawing w r)
+    (λ s. split (ltb (length room) (length (drawn w (bit r))))
+    (λ t. rw (s, t) (
+      (λ h. absurd (let z : 17 ≡ 15 = h in omega arith), λ e. absurd (clash refl e)),
+      (λ h. (refl, ltb-true _ _ t), λ e. refl),
+    ))
+    (λ t. rw (s, t) (
+      (λ h. absurd (let z : 0 ≡ 15 = h in omega arith), λ e. absurd (clash refl e)),
+      (λ h. absurd (let z : 0 ≡ 17 = h in omega arith), λ e. absurd (omega (arith, ltb-false _ _ t, e.1))),
+    )))
+    (λ s. rw s (
+      (λ h. refl, λ e. refl),
+      (λ h. absurd (let z : 15 ≡ 17 = h in omega arith), λ e. absurd (clash e.0 refl)),
+    ))
+
 pub written_exactly : WrittenExactly
-written_exactly (Ok n) = (
-  (λ h. absurd (let z : 0 ≡ 15 = h in omega arith), λ e. absurd (let z : 0 ≡ 15 = ap written_number e in omega arith)),
-  (λ h. absurd (let z : 0 ≡ 17 = h in omega arith), λ e. absurd (let z : 0 ≡ 17 = ap written_number e in omega arith)),
-)
-written_exactly (Err HasNone) = (
-  (λ h. refl, λ e. refl),
-  (λ h. absurd (let z : 15 ≡ 17 = h in omega arith), λ e. absurd (let z : 15 ≡ 17 = ap written_number e in omega arith)),
-)
-written_exactly (Err NoRoom) = (
-  (λ h. absurd (let z : 17 ≡ 15 = h in omega arith), λ e. absurd (let z : 17 ≡ 15 = ap written_number e in omega arith)),
-  (λ h. refl, λ e. refl),
-)
+written_exactly w r room =
+    let number = (written_reads_back w r room).0 in
+    let (none, short) = written_says w r room in
+    ((λ h. none.0 (sym number ∙ h), λ e. number ∙ none.1 e), (λ h. short.0 (sym number ∙ h), λ e. number ∙ short.1 e))

@@ -1,12 +1,9 @@
 -- What is promised of the entries for drawings, of a record and, where `w` is true, of what is set apart. Proved in proofs/Promises.antt. Assumes nothing.
-use Rattle.std.specs.Prelude.{◌≡◌, ◌↔◌, ◌⊎◌, Bool, List, ℕ, ◌/◌, ◌%◌, ◌≤◌, ◌<◌, length}
-use Rattle.std.specs.declared.result.Result.{Result}
-use Rattle.std.specs.declared.result.Result.TheVariants.{Ok, Err}
-use Rattle.drawing.specs.declared.Unwritten.{Unwritten}
-use Rattle.drawing.specs.declared.Unwritten.TheVariants.{HasNone, NoRoom}
-use Rattle.drawing.specs.declared.Unread.{Unread}
+use Rattle.std.specs.Prelude.{◌≡◌, ◌↔◌, ◌⊎◌, Bool, true, false, List, ℕ, ◌/◌, ◌%◌, ◌≤◌, ◌<◌, length}
+use Rattle.std.specs.declared.result.Result.TheVariants.{Err}
+use Rattle.bits.specs.Bits.{bit}
 use Rattle.drawing.specs.declared.Unread.TheVariants.{BadLine, Unsound}
-use Rattle.drawing.specs.Drawing.{writing_drawing}
+use Rattle.drawing.specs.Drawing.{drawn, has_drawing, writing_drawing}
 use Rattle.drawing.specs.Reading.{reading}
 use Rattle.drawing_c.specs.Entries.{written_number, written_size, drawn_into, found_number, found_place, read_into}
 
@@ -39,12 +36,17 @@ DrawingNumbersReturned =
     → let n = (read_into w text room).says in
     ((n % 256 ≡ 41) × (n / 256 < 7)) ⊎ (((n % 256 ≡ 0) ⊎ (n % 256 ≡ 15) ⊎ (n % 256 ≡ 17)) × (n / 256 ≡ 255)))
 
--- of what is read, 41 with a line says exactly that this line is the first bad one, and 15 exactly that nothing sound is drawn
+-- of a drawing that is read, in room for a number, 41 with a line says exactly that this line is the first bad one, and 15 exactly that
+-- nothing sound is drawn
 abbrev pub FoundExactly : Type 0
 FoundExactly =
-    (f : Result ℕ Unread)
-    → ((p : ℕ) → ((found_number f ≡ 41) × (found_place f ≡ p)) ↔ (f ≡ Err (BadLine p))) × ((found_number f ≡ 15) ↔ (f ≡ Err Unsound))
+    (w : Bool) (s room : List ℕ) → 8 ≤ length room
+    → let n = (read_into w s room).says in
+    ((p : ℕ) → ((n % 256 ≡ 41) × (n / 256 ≡ p)) ↔ (reading w s ≡ Err (BadLine p))) × ((n % 256 ≡ 15) ↔ (reading w s ≡ Err Unsound))
 
--- of what is written, 15 says exactly that the number has no drawing, and 17 exactly that the room is too short
+-- of a number that is drawn, 15 says exactly that it has no drawing, and 17 exactly that it has one and the room is shorter
 abbrev pub WrittenExactly : Type 0
-WrittenExactly = (d : Result ℕ Unwritten) → ((written_number d ≡ 15) ↔ (d ≡ Err HasNone)) × ((written_number d ≡ 17) ↔ (d ≡ Err NoRoom))
+WrittenExactly =
+    (w : Bool) (r : ℕ) (room : List ℕ)
+    → let n = (drawn_into w r room).says in
+    ((n % 256 ≡ 15) ↔ (has_drawing w r ≡ false)) × ((n % 256 ≡ 17) ↔ ((has_drawing w r ≡ true) × (length room < length (drawn w (bit r)))))

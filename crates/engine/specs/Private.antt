@@ -1,14 +1,25 @@
--- What the contracts of private functions cite; no public one rests on it. The bits of the lift, and belts by areas that are looked up.
--- Assumes nothing.
+-- What the contracts of private functions cite; no public one rests on it. The verdict by a reason, the bits of the lift, and belts by areas
+-- that are looked up. Assumes nothing.
 use Rattle.std.specs.Prelude.{Bool, cond, not, ◌&&◌, List, [], ◌∷◌, ◌++◌, ℕ, ◌%◌, eqb, leb}
 use Rattle.std.specs.Int.Bits.{bit_and}
+use Rattle.std.specs.declared.option.Option.{Option}
+use Rattle.std.specs.declared.option.Option.TheVariants.{Some, None}
+use Rattle.std.specs.declared.result.Result.TheVariants.{Ok, Err}
 use Rattle.bits.specs.Bits.{bit, count}
 use Rattle.bits.specs.Places.{places}
 use Rattle.floor.specs.Floor.{lift_cells, raised_car, height_low, height_high, basement}
+use Rattle.answers.specs.declared.Reason.{Reason}
 use Rattle.rules.specs.declared.Code.{Code}
+use Rattle.rules.specs.declared.Refusal.{Refusal}
 use Rattle.rules.specs.Rules.{belts_named}
+use Rattle.rules.specs.Verdicts.{Verdict}
 use Rattle.areas.specs.Private.{belts_mask}
 use Rattle.rows.specs.Private.{gaps, others, cells_of_area, first_in, span_within}
+
+-- the verdict by the reason against it: allowed where there is none
+abbrev pub verdict_by : Option Reason → Verdict
+verdict_by None = Ok tt
+verdict_by (Some why) = Err (Refusal.NotAllowed why)
 
 -- the lift at a height, with a car or without: in the basement the car stands on its two cells
 abbrev pub lift_bits : ℕ → Bool → List ℕ

@@ -1,14 +1,14 @@
-// Instructions as rows of masks, made from their areas: what each asks of a record, in the rules' order.
+// Instructions as rows of masks, made from their areas: what each asks of a record, in the rules' order, and which fails first, if any.
 ghost use Rattle.std.specs.Prelude.{◌≡◌, ◌<◌, T};
 ghost use Rattle.rules.specs.declared.Instruction.{Instruction};
 ghost use Rattle.rules.specs.Named.{step};
 ghost use Rattle.rules.specs.Rules.{well_formed};
+ghost use Rattle.engine.specs.Private.{verdict_by};
 ghost use Rattle.rows.specs.Private.{judged_row, looks_asked, shifted, span_within, gaps, belts_row, shuttles_row, tilt_row, rotate_row};
 
 use super::masks::{CELLS, LOWERED, NEEDED, NEEDED_SET, SLOTS, TILTED};
 use answers::Reason;
 use floor::masks::{FIRST_SLOT, HEIGHT, HEIGHT_LOW, ROW_1, TURNING_CELLS};
-use rules::Refusal;
 
 // Kept: early is a bool, as in looks_asked, by which rows say what each instruction asks (specs/Private there).
 // What a row asks of a record: bits that are as needed, room that is there and free, and an even number of occupied cells, before the room
@@ -22,26 +22,26 @@ fn judged(
     pairs: u64,
     room: u64,
     late: Reason,
-) -> Result<(), Refusal>
-    ensures { result ≡ judged_row (looks_asked care need why early pairs room late) r }
+) -> Option<Reason>
+    ensures { verdict_by result ≡ judged_row (looks_asked care need why early pairs room late) r }
 {
     let even = bits::even(r, pairs);
     if r & care != need {
-        return Err(Refusal::NotAllowed(why));
+        return Some(why);
     }
     if early & !even {
-        return Err(Refusal::NotAllowed(Reason::OddCount));
+        return Some(Reason::OddCount);
     }
     if room == 0 {
-        return Err(Refusal::NotAllowed(late));
+        return Some(late);
     }
     if r & room != 0 {
-        return Err(Refusal::NotAllowed(late));
+        return Some(late);
     }
     if !early & !even {
-        return Err(Refusal::NotAllowed(Reason::OddCount));
+        return Some(Reason::OddCount);
     }
-    Ok(())
+    None
 }
 
 // By how many cells belts shift.
@@ -80,18 +80,18 @@ pub fn gaps(mask: u8) -> bool
 }
 
 // Belts: the slots and the lift's height are as needed, the end of the span is free, and in row 1 it holds pairs.
-pub fn belts_judged(r: u64, a: u64, row: u8, mask: u8, toward: u8, size: u8) -> Result<(), Refusal>
+pub fn belts_judged(r: u64, a: u64, row: u8, mask: u8, toward: u8, size: u8) -> Option<Reason>
     requires { T (well_formed (Instruction.Belts row mask toward size)) }
-    ensures { result ≡ judged_row (belts_row a row mask toward size) r }
+    ensures { verdict_by result ≡ judged_row (belts_row a row mask toward size) r }
 {
     if !((row == 1) | (size == 1)) {
-        return Err(Refusal::NotAllowed(Reason::HalfMove));
+        return Some(Reason::HalfMove);
     }
     if mask == 0 {
-        return Err(Refusal::NotAllowed(Reason::NothingNamed));
+        return Some(Reason::NothingNamed);
     }
     if gaps(mask) {
-        return Err(Refusal::NotAllowed(Reason::Gap));
+        return Some(Reason::Gap);
     }
     let span = a & CELLS;
     let room = span & !within(span, toward, step(row, size));
@@ -108,15 +108,15 @@ pub fn belts_judged(r: u64, a: u64, row: u8, mask: u8, toward: u8, size: u8) -> 
 }
 
 // Shuttles: the named slots are taken, a lowered one in row 1 has a pair, and the slot that is moved into is there and free.
-pub fn shuttles_judged(r: u64, a: u64, side: u8, mask: u8, orientation: u8) -> Result<(), Refusal>
+pub fn shuttles_judged(r: u64, a: u64, side: u8, mask: u8, orientation: u8) -> Option<Reason>
     requires { (side < 2) × (mask < 8) × (orientation < 2) }
-    ensures { result ≡ judged_row (shuttles_row a side mask orientation) r }
+    ensures { verdict_by result ≡ judged_row (shuttles_row a side mask orientation) r }
 {
     if mask == 0 {
-        return Err(Refusal::NotAllowed(Reason::NothingNamed));
+        return Some(Reason::NothingNamed);
     }
     if mask == 5 {
-        return Err(Refusal::NotAllowed(Reason::Gap));
+        return Some(Reason::Gap);
     }
     let rows = mask as u64;
     let named = rows << (FIRST_SLOT + orientation * 6 + side * 3);
@@ -133,8 +133,8 @@ pub fn shuttles_judged(r: u64, a: u64, side: u8, mask: u8, orientation: u8) -> R
 }
 
 // Tilting: from lowered, the side's three are lowered and the cells free; from tilted, the slot is taken and the lowered one free.
-pub fn tilt_judged(r: u64, a: u64, orientation: u8) -> Result<(), Refusal>
-    ensures { result ≡ judged_row (tilt_row a orientation) r }
+pub fn tilt_judged(r: u64, a: u64, orientation: u8) -> Option<Reason>
+    ensures { verdict_by result ≡ judged_row (tilt_row a orientation) r }
 {
     if orientation == 0 {
         let low = a & LOWERED;
@@ -163,8 +163,8 @@ pub fn tilt_judged(r: u64, a: u64, orientation: u8) -> Result<(), Refusal>
 }
 
 // Rotating: at rotation height with its six cells free.
-pub fn rotate_judged(r: u64) -> Result<(), Refusal>
-    ensures { result ≡ judged_row rotate_row r }
+pub fn rotate_judged(r: u64) -> Option<Reason>
+    ensures { verdict_by result ≡ judged_row rotate_row r }
 {
     judged(
         r,

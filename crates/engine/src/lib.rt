@@ -9,7 +9,9 @@ ghost use Rattle.rules.specs.Events.{in_turn, possible, places_open, after_event
 ghost use Rattle.rules.specs.Verdicts.{judged, verdict_of, moved_by, moved_of, driven_of, code_verdict, code_moved};
 ghost use Rattle.rows.specs.Private.{whole};
 ghost use Rattle.engine.specs.Judged.{judge, judged_as, code_next};
+ghost use Rattle.engine.specs.Private.{verdict_by};
 
+use answers::Reason;
 use rules::{Code, Event, Instruction, Refusal, Undriven};
 
 mod judging;
@@ -26,10 +28,21 @@ use moves::{belts_next, shuttles_next, tilt_next};
 
 // ---- instructions
 
-// What the conditions of a well-formed instruction say, given its area.
-fn told(i: Instruction, a: u64, r: u64) -> Result<(), Refusal>
+// The verdict by the reason against it, or by none. Down to here a reason stands alone: a verdict takes one register more to hand back, and
+// garage_next eight bytes of stack more (docs/BOARD.md).
+fn verdict_by(why: Option<Reason>) -> Result<(), Refusal>
+    ensures { result ≡ verdict_by why }
+{
+    match why {
+        None => Ok(()),
+        Some(why) => Err(Refusal::NotAllowed(why)),
+    }
+}
+
+// The first condition of a well-formed instruction that fails, if any, given its area.
+fn told(i: Instruction, a: u64, r: u64) -> Option<Reason>
     requires { (well_formed i ≡ true) × (a ≡ image (area i)) }
-    ensures { result ≡ judged (clauses i) (bit r) }
+    ensures { verdict_by result ≡ judged (clauses i) (bit r) }
 {
     match i {
         Instruction::Belts {
@@ -85,12 +98,15 @@ fn stepped(i: Instruction, a: u64, r: u64) -> Result<u64, Refusal>
 {
     match i {
         Instruction::Tilt { orientation, .. } => decided(
-            tilt_judged(r, a, orientation),
+            verdict_by(tilt_judged(r, a, orientation)),
             tilt_next(r, a, orientation),
         ),
-        Instruction::Lift { height } => decided(lift_judged(r, height), lift_next(r, height)),
+        Instruction::Lift { height } => decided(
+            verdict_by(lift_judged(r, height)),
+            lift_next(r, height),
+        ),
         _ => {
-            told(i, a, r)?;
+            verdict_by(told(i, a, r))?;
             Ok(next(i, a, r))
         }
     }
@@ -103,7 +119,7 @@ pub fn verdict(i: Instruction, r: u64) -> Result<(), Refusal>
     let Some(area) = areas::area(i) else {
         return Err(Refusal::IllFormed);
     };
-    told(i, area, r)
+    verdict_by(told(i, area, r))
 }
 
 // The record after an instruction, where it is allowed.
@@ -162,7 +178,7 @@ fn exact(op: u8, a: u8, b: u8, c: u8, d: u8, r: u64) -> Judged
     ensures { result ≡ judge (record { op = op; a = a; b = b; c = c; d = d }) r }
 {
     match areas::locate(Code { op, a, b, c, d }) {
-        Some(at) => judged_as(at.area, told(at.instruction, at.area, r)),
+        Some(at) => judged_as(at.area, verdict_by(told(at.instruction, at.area, r))),
         None => judged_as(0, Err(Refusal::IllFormed)),
     }
 }
@@ -188,7 +204,7 @@ pub fn code_verdict(x: Code, r: u64) -> Result<(), Refusal>
     let Some(said) = areas::locate(x) else {
         return Err(Refusal::IllFormed);
     };
-    told(said.instruction, said.area, r)
+    verdict_by(told(said.instruction, said.area, r))
 }
 
 // The belts or rows that an instruction names leave no gap.
@@ -216,6 +232,7 @@ pub fn code_next(x: Code, r: u64) -> u64
     }
     match areas::locate(x) {
         Some(at) if whole(at.instruction) => next(at.instruction, at.area, r),
+        // Kept: two arms, so that a wrong version of each is refused by itself.
         Some(_) => r,
         None => r,
     }

@@ -5,33 +5,32 @@ ghost use Rattle.bits.specs.Places.{places};
 ghost use Rattle.rules.specs.declared.Instruction.{Instruction};
 ghost use Rattle.rules.specs.Rules.{well_formed, clauses, next_record};
 ghost use Rattle.rules.specs.Verdicts.{judged};
-ghost use Rattle.engine.specs.Private.{lift_bits};
+ghost use Rattle.engine.specs.Private.{verdict_by, lift_bits};
 
 use super::masks::height_is;
 use answers::Reason;
 use floor::masks::{
     HEIGHT, HEIGHT_AT, LEFT_OF_LIFT, LIFT_AND_CELLS, LIFT_CELLS, RAISED, RAISED_CAR, RIGHT_OF_LIFT,
 };
-use rules::Refusal;
 
 // The height differs; in the basement the lift's two cells are free, or no car stands half on it: the cells on either side
 // hold an even number each.
-pub fn lift_judged(r: u64, height: u8) -> Result<(), Refusal>
-    ensures { result ≡ judged (clauses (Instruction.Lift height)) (bit r) }
+pub fn lift_judged(r: u64, height: u8) -> Option<Reason>
+    ensures { verdict_by result ≡ judged (clauses (Instruction.Lift height)) (bit r) }
 {
     if height_is(r, height) {
-        return Err(Refusal::NotAllowed(Reason::SameHeight));
+        return Some(Reason::SameHeight);
     }
     if !height_is(r, 2) {
-        return Ok(());
+        return None;
     }
     if bits::free(r, LIFT_CELLS) {
-        return Ok(());
+        return None;
     }
     if bits::even(r, LEFT_OF_LIFT) & bits::even(r, RIGHT_OF_LIFT) {
-        return Ok(());
+        return None;
     }
-    Err(Refusal::NotAllowed(Reason::OddCount))
+    Some(Reason::OddCount)
 }
 
 // The bits of the lift at a height, with a car or without: in the basement the car stands on its two cells.

@@ -65,6 +65,8 @@ fn run_3(mask: u8) -> Option<u64>
     })
 }
 
+// What it needs is not to be in the frame of `area`.
+#[inline(never)]
 fn run(row: u8, mask: u8) -> Option<u64>
     ensures { IfSome result (λ a. runs row mask a ≡ true) }
 {

@@ -43,6 +43,7 @@ impl Plain {
     }
 
     // A car event that is known, beside the set that is outstanding.
+    #[inline(never)]
     fn driven(self, e: Event) -> Result<PlainOutcome, Answer>
         ensures { handed self result ≡ plain_driven self e }
     {

@@ -67,7 +67,9 @@ fn byte_of(marks: [bool; 8]) -> u8
     byte
 }
 
-// The plain station of a station.
+// The plain station of a station. Kept out of the frame of a call, as `packed`, `asked`, `numbered` and `driven` are: with all five in it the
+// calls take a quarter more stack on boards (docs/DESIGN-PASS.md).
+#[inline(never)]
 pub fn of_station(s: Station) -> Plain
     ensures { result ≡ plain_of s }
 {
@@ -85,6 +87,7 @@ pub fn of_station(s: Station) -> Plain
 
 impl Plain {
     // The station that a plain one stands for.
+    #[inline(never)]
     pub fn packed(self) -> Station
         ensures { result ≡ packed_of self }
     {

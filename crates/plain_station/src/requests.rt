@@ -57,6 +57,7 @@ impl Plain {
     }
 
     // Before it: no set is outstanding, and 1 to 8 instructions are well formed.
+    #[inline(never)]
     fn asked(self, count: u8, set: [u8; 40]) -> Result<PlainOutcome, Answer>
         ensures { handed self result ≡ plain_requested self count set }
     {

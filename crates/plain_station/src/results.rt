@@ -79,6 +79,7 @@ impl Plain {
     }
 
     // A result by its instruction's number.
+    #[inline(never)]
     fn numbered(self, i: u8, ending: u8) -> Result<PlainOutcome, Answer>
         ensures { handed self result ≡ plain_outcome (packed_calls.numbered (packed_of self) i ending) }
     {

@@ -30,7 +30,8 @@ pub extern "C" fn plan_judge(plan: &[u8]) -> u32
     said(j.number, j.set)
 }
 
-// The grounds in bytes.
+// The grounds in bytes. What it needs is not to be in plan_explain's frame.
+#[inline(never)]
 fn grounds_bytes(g: Grounds) -> [u8; GROUNDS]
     ensures { result ≡ grounds_bytes g }
 {

@@ -10,7 +10,8 @@ use crate::held::PARTS;
 use floor::masks::LIFT;
 use rules::Code;
 
-// Instruction i of a set; past the eighth there are only zeros.
+// Instruction i of a set; past the eighth there are only zeros. What it needs is not to be in the frame of a search through a set.
+#[inline(never)]
 pub fn code_at(set: &[u8; 40], i: u8) -> Code
     ensures { result ≡ code_at set.now i }
 {

@@ -1,4 +1,5 @@
 -- `engine::verdict` meets its contract, by the area. Assumes nothing.
+use mathlib.Core.Path.{◌∙◌}
 use Rattle.rules.proofs.Answering.{ill_formed, is_verdict}
 use Rattle.engine.proofs.Answers.{masked, unmasked}
 use Rattle.engine.proofs.verdict.Goals as goal
@@ -10,4 +11,4 @@ pub told-requires : goal.told-requires
 told-requires c = masked c.args.i c.area.ensures _ c.in-Some.is
 
 pub returns : goal.returns
-returns c = is_verdict c.args.i c.args.r (masked c.args.i c.area.ensures _ c.in-Some.is).0 c.told.ensures
+returns c = is_verdict c.args.i c.args.r (masked c.args.i c.area.ensures _ c.in-Some.is).0 (c.verdict_by.ensures ∙ c.told.ensures)
