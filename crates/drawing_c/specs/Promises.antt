@@ -40,9 +40,9 @@ DrawingNumbersReturned =
 -- nothing sound is drawn
 abbrev pub FoundExactly : Type 0
 FoundExactly =
-    (w : Bool) (s room : List ℕ) → 8 ≤ length room
-    → let n = (read_into w s room).says in
-    ((p : ℕ) → ((n % 256 ≡ 41) × (n / 256 ≡ p)) ↔ (reading w s ≡ Err (BadLine p))) × ((n % 256 ≡ 15) ↔ (reading w s ≡ Err Unsound))
+    (w : Bool) (text : List ℕ) (room : List ℕ) → 8 ≤ length room
+    → let n = (read_into w text room).says in
+    ((p : ℕ) → ((n % 256 ≡ 41) × (n / 256 ≡ p)) ↔ (reading w text ≡ Err (BadLine p))) × ((n % 256 ≡ 15) ↔ (reading w text ≡ Err Unsound))
 
 -- of a number that is drawn, 15 says exactly that it has no drawing, and 17 exactly that it has one and the room is shorter
 abbrev pub WrittenExactly : Type 0
